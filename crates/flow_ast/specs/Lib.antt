@@ -1,0 +1,6 @@
+pub mod Tree
+pub mod Body
+pub mod Decls
+pub mod View
+pub mod StmtView
+pub mod DeclView

@@ -1,0 +1,20 @@
+// What is in force where an expression stands.
+
+use crate::decl::{ActorDecl, FunctionDecl, Param, RecordDecl};
+use crate::ty::Ty;
+
+/// The records, functions and actors of a program, and the variables in force.
+#[derive(Drop, Debug)]
+pub struct Scope {
+    pub records: Vec<RecordDecl>,
+    pub functions: Vec<FunctionDecl>,
+    pub actors: Vec<ActorDecl>,
+    pub vars: Vec<Param>,
+}
+
+/// The type of an expression, or that it has none.
+#[derive(Drop, Debug)]
+pub enum ExprType {
+    Is(Ty),
+    None,
+}
