@@ -4,3 +4,5 @@ pub mod Decls
 pub mod View
 pub mod StmtView
 pub mod DeclView
+pub mod Spelling
+pub mod Lexing

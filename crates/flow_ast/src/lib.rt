@@ -9,6 +9,7 @@ pub mod decl;
 pub mod expr;
 pub mod fault;
 pub mod scope;
+pub mod spelling;
 pub mod stmt;
 pub mod token;
 pub mod ty;
