@@ -1,11 +1,13 @@
 -- The tokens of a text, and its lexical refusal.
-use Rattle.std.specs.Prelude.{◌≡◌, ℕ, ◌+◌, ◌≤◌, ◌<◌, false, true, List, [], ◌∷◌, ◌++◌, length, take, drop, reverse, count_by}
+use Rattle.std.specs.Prelude.{◌≡◌, ℕ, ◌+◌, ◌≤◌, ◌<◌, false, true, List, [], ◌∷◌, ◌++◌, length, take, drop, reverse, count_by, Result, Ok, Err}
 use Rattle.std.specs.List.{prefix_len}
 use Rattle.std.specs.Prelude.{eqb}
 use Rattle.flow_base.specs.declared.place.Place.{Place}
 use Rattle.flow_ast.specs.declared.token.Token.{Token}
 use Rattle.flow_ast.specs.declared.token.Spot.{Spot}
 use Rattle.flow_ast.specs.declared.token.Tokens.{Tokens}
+use Rattle.flow_ast.specs.declared.fault.SourceFault.{SourceFault}
+use Rattle.flow_ast.specs.declared.fault.SourceFault.TheVariants.{Refused, AcrossWait, OutOfMemory}
 use Rattle.flow_ast.specs.declared.fault.Rule.{Rule}
 use Rattle.flow_ast.specs.declared.fault.Rule.TheVariants.{S}
 use Rattle.flow_ast.specs.Spelling.{Spells, IsBounded, IsLongest, Inside, NoPiece, in_line, begins_gap, gap_length}
@@ -77,3 +79,10 @@ pub record LexFault (bytes : List ℕ) (rule : Rule) (at : Place) : Type 0 where
   pub text : List ℕ
   pub reads : Reads [] bytes spots before text
   pub refused : Refusal before text rule at
+
+-- what reading a text answers: its tokens, or its lexical refusal
+abbrev pub Lexed : List ℕ → Result Tokens SourceFault → Type 0
+Lexed bytes (Ok tokens) = Lexes bytes tokens
+Lexed bytes (Err (Refused rule at)) = LexFault bytes rule at
+Lexed bytes (Err (AcrossWait at declared wait)) = ⊥
+Lexed bytes (Err OutOfMemory) = Unit {0}

@@ -1,5 +1,5 @@
 -- How each token is spelled, and what stands between tokens.
-use Rattle.std.specs.Prelude.{◌≡◌, ℕ, pos, ◌+◌, ◌*◌, ◌-◌, ◌^◌, ◌≤◌, ◌<◌, ◌≤ℤ◌, Bool, true, false, ◌&&◌, ◌||◌, eqb, nat_le, nat_lt, if◌then◌else◌, List, [], ◌∷◌, ◌++◌, length, take, IsTrue, Option, Some, None, codes}
+use Rattle.std.specs.Prelude.{◌≡◌, ℕ, ℤ, negsuc, pos, ◌+◌, ◌*◌, ◌-◌, ◌^◌, ◌≤◌, ◌<◌, Bool, true, false, ◌&&◌, ◌||◌, eqb, nat_le, nat_lt, if◌then◌else◌, List, [], ◌∷◌, ◌++◌, length, take, IsTrue, Option, Some, None, codes}
 use Rattle.std.specs.Option.{option_map}
 use Rattle.std.specs.List.{list_all, prefix_len}
 use Rattle.std.specs.Str.Parse.{digits_value}
@@ -127,10 +127,15 @@ Spells (Text t) w = (inside : List ℕ) × (w ≡ 34 ∷ (inside ++ 34 ∷ [])) 
 Spells (token.Word k) w = word_bytes k ≡ w
 Spells (token.Sign s) w = sign_bytes s ≡ w
 
+-- a 64-bit int
+abbrev pub IsInt : ℤ → Type 0
+IsInt (pos n) = n < 2 ^ 63
+IsInt (negsuc n) = n < 2 ^ 63
+
 -- The bounds of a token: 255 bytes of a name, the greatest 64-bit number, 65,535 bytes that a text holds.
 abbrev pub IsBounded : Token → Type 0
 IsBounded (Name n) = length n ≤ 255
-IsBounded (Number z) = z ≤ℤ pos (2 ^ 63 - 1)
+IsBounded (Number z) = IsInt z
 IsBounded (Text t) = length t ≤ 65535
 IsBounded (token.Word k) = Unit {0}
 IsBounded (token.Sign s) = Unit {0}
