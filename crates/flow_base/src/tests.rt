@@ -6,7 +6,7 @@ use crate::input::read_file;
 use crate::mem_files::MemFiles;
 use crate::mem_sink::MemSink;
 use crate::memory::NoMemory;
-use crate::name::Name;
+use crate::name::{Name, is_name};
 use crate::output::write_whole;
 use crate::sink::Sink;
 use crate::text::Text;
@@ -121,6 +121,7 @@ fn texts_and_names_hold_their_bytes(rt: HostRuntime) -> Result<(), NoMemory> {
     let alloc = rt.alloc();
     let text = Text::new(alloc, b"a\xffb")?.copy(alloc)?;
     assert!(rt; text.bytes() == b"a\xffb".as_slice());
+    assert!(rt; is_name(b"_x9") && !is_name(b"9x") && !is_name(b"a b") && !is_name(b""));
     let name = Name::new(alloc, b"_x9")?.copy(alloc)?;
     assert!(rt; name.bytes() == b"_x9".as_slice());
     Ok(())
