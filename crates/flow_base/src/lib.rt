@@ -2,9 +2,18 @@
 //! and the two sides of the outside world: files that are read and a sink that is written.
 #![tactic(auto)]
 
+mod calls;
 pub mod fault;
+pub mod files;
 pub mod ids;
+pub mod input;
+pub mod mem_files;
+pub mod mem_sink;
 pub mod memory;
 pub mod name;
+pub mod output;
 pub mod place;
+pub mod sink;
+#[cfg(test)]
+mod tests;
 pub mod text;

@@ -1,7 +1,8 @@
 // Names.
 
-ghost use Rattle.std.specs.Prelude.{◌≡◌, ℕ, ◌≤◌, List, length, IfOk, IsTrue};
-ghost use Rattle.flow_base.specs.Names.{IsName, letter, digit, name_byte};
+ghost use Rattle.std.specs.Prelude.{◌≡◌, ℕ, ◌≤◌, List, length, IfOk, IsTrue, ◌↔◌};
+ghost use Rattle.std.specs.List.{list_all};
+ghost use Rattle.flow_base.specs.Names.{IsName, is_name_text, letter, digit, name_byte};
 
 use crate::memory::NoMemory;
 use std::alloc::Global;
@@ -55,6 +56,30 @@ impl Name {
         Ok(Name {
             bytes: self.bytes.to_vec(alloc)?,
         })
+    }
+}
+
+/// Whether these bytes have the form of a name.
+pub fn is_name(bytes: &[u8]) -> bool
+    ensures { IsTrue result ↔ IsName bytes.now }
+{
+    bytes.len() <= Name::LIMIT && is_name_text(bytes)
+}
+
+// Letters and digits alone.
+fn are_name_bytes(bytes: &[u8]) -> bool
+    ensures { result ≡ list_all name_byte bytes.now }
+{
+    bytes.iter().all(|byte| is_name_byte(*byte))
+}
+
+// A letter, and then letters and digits.
+fn is_name_text(bytes: &[u8]) -> bool
+    ensures { result ≡ is_name_text bytes.now }
+{
+    match bytes {
+        [] => false,
+        [first, rest @ ..] => is_letter(*first) && are_name_bytes(rest),
     }
 }
 

@@ -1,0 +1,14 @@
+-- Bytes that are told, and parts of them.
+use Rattle.std.specs.Prelude.{◌≡◌, ℕ, ◌≤◌, List, ◌++◌, length, take, None, Some}
+use Rattle.std.specs.declared.option.Option.{Option}
+use Rattle.std.specs.Io.KnownBytes.{Appends}
+
+-- the bytes told grow by a first part of the piece
+abbrev pub AppendsPart : Option (List ℕ) → Option (List ℕ) → List ℕ → Type 0
+AppendsPart old new piece = (front back : List ℕ) × (piece ≡ front ++ back) × Appends old new front
+
+-- the bytes are the first n of those told, or all of them where there are fewer; of bytes that
+-- aren't told, they are at most n
+abbrev pub AreFirst : ℕ → Option (List ℕ) → List ℕ → Type 0
+AreFirst n None bytes = length bytes ≤ n
+AreFirst n (Some told) bytes = bytes ≡ take n told
