@@ -1,0 +1,34 @@
+-- The drawn words, each by its number: first those that are listed, then the outputs of a generator.
+use Rattle.std.specs.Prelude.{ℕ, ℤ, pos, ◌+◌, ◌+ℤ◌, ◌-◌, ◌%◌, List, length, slice_index, nat_lt, if◌then◌else◌}
+use Rattle.rand_pcg.specs.Lcg.{Lcg, started, increment_of, advance}
+use Rattle.rand_pcg.specs.Pcg.{multiplier_64, pcg32}
+
+-- the generator that `Lcg64Xsh32::new(seed, 54)` makes
+abbrev pub generator_of : ℕ → Lcg
+generator_of seed = started 64 multiplier_64 seed (increment_of 64 54)
+
+-- its output k, from 0: what it gives after k steps
+abbrev pub output_at : ℕ → ℕ → ℕ
+output_at seed k = (pcg32 (advance 64 multiplier_64 k (generator_of seed))).0
+
+-- word k, from 0: the listed word k, or, past the list, an output, counted from the end of the list
+abbrev pub word_at : ℕ → List ℕ → ℕ → ℕ
+word_at seed listed k = if nat_lt k (length listed) then slice_index listed k else output_at seed (k - length listed)
+
+-- what a contract sees of the draws: what fixes the words, and how many of them were taken
+pub record Drawn : Type 0 where
+  pub seed : ℕ
+  pub listed : List ℕ
+  pub used : ℕ
+
+-- the word that is taken next
+abbrev pub next_word : Drawn → ℕ
+next_word d = word_at d.seed d.listed d.used
+
+-- the draws when one more word was taken
+abbrev pub one_taken : Drawn → Drawn
+one_taken d = record d { used = d.used + 1 }
+
+-- the number that a word gives among the `width` numbers from `lo` on
+abbrev pub scaled : ℤ → ℕ → ℕ → ℤ
+scaled lo width word = lo +ℤ pos (word % width)
