@@ -1,0 +1,140 @@
+// Values.
+
+ghost use Rattle.std.specs.Prelude.{◌≡◌, ◌++◌, IfOk, OnOk, map};
+ghost use Rattle.flow_value.specs.Values.{refs_of};
+ghost use Rattle.flow_value.specs.View.{value_of, outcome_of, ref_of};
+
+use flow_base::ids::{CellId, ErrorCode};
+use flow_base::memory::NoMemory;
+use flow_base::text::Text;
+use std::alloc::Global;
+
+/// What a reference is: the promise side or the future side of a cell that takes a single result, or
+/// of a stream.
+#[derive(Clone, Copy, PartialEq, Eq, Debug)]
+pub enum Kind {
+    Promise,
+    Future,
+    PromiseStream,
+    FutureStream,
+}
+
+/// Which record a value is of: the predefined `Packet`, or the one at a place in the list of a
+/// program's records, from 0.
+#[derive(Clone, Copy, PartialEq, Eq, Debug)]
+pub enum RecordId {
+    Packet,
+    Declared(usize),
+}
+
+/// A value. A record has its fields in order; a reference names a cell.
+#[derive(Drop, Debug)]
+pub enum Value {
+    Int(i64),
+    Bool(bool),
+    Text(Text),
+    Void,
+    Error(ErrorCode),
+    Struct(RecordId, Vec<Value>),
+    Ref(Kind, CellId),
+}
+
+/// What a cell of a single result holds once it is set: a value, or an error.
+#[derive(Drop, Debug)]
+pub enum Outcome {
+    Value(Value),
+    Error(ErrorCode),
+}
+
+impl Value {
+    /// An equal value.
+    pub fn copy(&self, alloc: Global) -> Result<Value, NoMemory>
+        ensures { IfOk result (λ v. value_of v ≡ value_of self.now) }
+    {
+        match self {
+            Value::Int(n) => Ok(Value::Int(*n)),
+            Value::Bool(b) => Ok(Value::Bool(*b)),
+            Value::Text(text) => Ok(Value::Text(text.copy(alloc)?)),
+            Value::Void => Ok(Value::Void),
+            Value::Error(code) => Ok(Value::Error(*code)),
+            Value::Struct(record, fields) => {
+                let mut copies = Vec::new(alloc);
+                for field in fields {
+                    copies.push(field.copy(alloc)?)?;
+                }
+                Ok(Value::Struct(*record, copies))
+            }
+            Value::Ref(kind, cell) => Ok(Value::Ref(*kind, *cell)),
+        }
+    }
+
+    /// Its references, in the order of its fields: kind and cell.
+    pub fn refs(&self, alloc: Global) -> Result<Vec<(Kind, CellId)>, NoMemory>
+        ensures { IfOk result (λ v. map ref_of v.items ≡ refs_of (value_of self.now)) }
+    {
+        let mut found = Vec::new(alloc);
+        self.add_refs(&mut found)?;
+        Ok(found)
+    }
+
+    fn add_refs(&self, found: &mut Vec<(Kind, CellId)>) -> Result<(), NoMemory>
+        ensures { OnOk result (map ref_of found.new.items ≡ map ref_of found.old.items ++ refs_of (value_of self.now)) }
+    {
+        match self {
+            Value::Struct(_, fields) => {
+                for field in fields {
+                    field.add_refs(found)?;
+                }
+                Ok(())
+            }
+            Value::Ref(kind, cell) => {
+                found.push((*kind, *cell))?;
+                Ok(())
+            }
+            Value::Int(_) | Value::Bool(_) | Value::Text(_) | Value::Void | Value::Error(_) => {
+                Ok(())
+            }
+        }
+    }
+}
+
+impl Outcome {
+    /// An equal outcome.
+    pub fn copy(&self, alloc: Global) -> Result<Outcome, NoMemory>
+        ensures { IfOk result (λ o. outcome_of o ≡ outcome_of self.now) }
+    {
+        match self {
+            Outcome::Value(value) => Ok(Outcome::Value(value.copy(alloc)?)),
+            Outcome::Error(code) => Ok(Outcome::Error(*code)),
+        }
+    }
+}
+
+#[cfg(test)]
+mod tests {
+    use super::*;
+    use std::test::Fail;
+
+    fn record(alloc: Global, fields: [Value; 2]) -> Result<Value, NoMemory> {
+        Ok(Value::Struct(RecordId::Declared(3), Vec::from_array(alloc, fields)?))
+    }
+
+    #[test]
+    fn copies_and_lists_references(rt: HostRuntime) -> Result<(), Fail> {
+        let alloc = rt.alloc();
+        let inner = record(
+            alloc,
+            [
+                Value::Ref(Kind::Future, CellId(7)),
+                Value::Text(Text::new(alloc, b"abc")?),
+            ],
+        )?;
+        let outer = record(alloc, [inner, Value::Ref(Kind::PromiseStream, CellId(2))])?;
+        let found = outer.copy(alloc)?.refs(alloc)?;
+        let wanted = [(Kind::Future, CellId(7)), (Kind::PromiseStream, CellId(2))];
+        assert_eq!(rt; found.as_slice(), wanted.as_slice());
+        let outcome = Outcome::Value(Value::Int(-5)).copy(alloc)?;
+        assert!(rt; matches!(outcome, Outcome::Value(Value::Int(-5))));
+        Ok(())
+    }
+}
