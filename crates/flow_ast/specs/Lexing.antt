@@ -38,10 +38,11 @@ pub data Reads : (before text : List ℕ) → List Spot → (before' text' : Lis
       → Reads (before ++ take n text) (drop n text) spots before' text'
       → Reads before text (record { token = t; at = place_after before } ∷ spots) before' text'
 
--- the bytes are gaps and spellings in turn, each spelling the longest that begins there and within its bounds
-pub record Lexes (bytes : List ℕ) (tokens : Tokens) : Type 0 where
-  pub reads : Reads [] bytes tokens.spots.items bytes []
-  pub ends : tokens.end ≡ place_after bytes
+-- The bytes are gaps and spellings in turn, each spelling the longest that begins there and within its
+-- bounds; these are the tokens with their places, and the place after the last byte.
+pub record Lexes (bytes : List ℕ) (spots : List Spot) (end : Place) : Type 0 where
+  pub reads : Reads [] bytes spots bytes []
+  pub ends : end ≡ place_after bytes
 
 -- the text is over, or a line ends
 abbrev pub EndsLine : List ℕ → Type 0
@@ -82,7 +83,7 @@ pub record LexFault (bytes : List ℕ) (rule : Rule) (at : Place) : Type 0 where
 
 -- what reading a text answers: its tokens, or its lexical refusal
 abbrev pub Lexed : List ℕ → Result Tokens SourceFault → Type 0
-Lexed bytes (Ok tokens) = Lexes bytes tokens
+Lexed bytes (Ok tokens) = Lexes bytes tokens.spots.items tokens.end
 Lexed bytes (Err (Refused rule at)) = LexFault bytes rule at
 Lexed bytes (Err (AcrossWait at declared wait)) = ⊥
 Lexed bytes (Err OutOfMemory) = Unit {0}

@@ -3,8 +3,6 @@ use Rattle.std.proofs.Common.{◌≡◌, ℕ, ◌+◌, ◌-◌, ◌^◌, ◌≤�
 use Rattle.std.specs.Prelude.{eqb}
 use Rattle.std.proofs.lemmas.List.{append-nil, take-append-drop, length-reverse}
 use Rattle.std.proofs.lemmas.List.Sums.{count_by-le-length, prefix_len-le-length}
-use Rattle.std.specs.declared.alloc.Global.{Global}
-use Rattle.std.specs.declared.vec.Vec.{Vec}
 use Rattle.flow_base.specs.declared.place.Place.{Place}
 use Rattle.flow_ast.specs.declared.token.Token.{Token}
 use Rattle.flow_ast.specs.declared.token.Spot.{Spot}
@@ -64,11 +62,11 @@ pub fault_there : (bytes before text : List ℕ) (spots : List Spot) (rule : Rul
 fault_there bytes before text spots rule p r f = record { spots = spots; before = before; text = text; reads = r; refused = f }
 
 -- where no byte is left, the whole text was read
-pub read_whole : (bytes before text : List ℕ) (spots : Vec Spot Global) (at : Place) → Reads [] bytes spots.items before text → length text ≡ 0 → at ≡ place_after before
-    → Lexes bytes (record { spots = spots; end = at })
+pub read_whole : (bytes before text : List ℕ) (spots : List Spot) (at : Place) → Reads [] bytes spots before text → length text ≡ 0 → at ≡ place_after before
+    → Lexes bytes spots at
 read_whole bytes before text spots at r e p =
-    let w = whole_text bytes before text spots.items r e in
+    let w = whole_text bytes before text spots r e in
     record {
-      reads = subst (λ t. Reads [] bytes spots.items bytes t) w.1 (subst (λ b. Reads [] bytes spots.items b text) w.0 r);
+      reads = subst (λ t. Reads [] bytes spots bytes t) w.1 (subst (λ b. Reads [] bytes spots b text) w.0 r);
       ends = p ∙ ap place_after w.0;
     }

@@ -79,4 +79,4 @@ loop-rest-preserved c =
 pub returns : goal.returns
 returns c =
     let i = c.loop-rest.invariant in
-    read_whole c.args.bytes.now i.0 c.loop-rest.rest.now c.loop-rest.spots c.loop-rest.at i.2 (omega arith) i.1
+    read_whole c.args.bytes.now i.0 c.loop-rest.rest.now c.loop-rest.spots.items c.loop-rest.at i.2 (omega arith) i.1
