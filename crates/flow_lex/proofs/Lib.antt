@@ -6,3 +6,4 @@ pub mod Tables
 pub mod Pieces
 pub mod Tokens
 pub mod Reading
+pub mod Once

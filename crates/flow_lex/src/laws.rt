@@ -1,0 +1,9 @@
+// Laws of the definition of tokens.
+
+ghost use Rattle.std.specs.Prelude.{ℕ, List};
+ghost use Rattle.flow_lex.specs.Laws.{ReadsOnce};
+
+/// A text has one list of tokens at most, one lexical refusal at most, and never both.
+pub fn reads_once()
+    ensures { (bytes : List ℕ) → ReadsOnce bytes }
+{}
