@@ -1,0 +1,42 @@
+//! flow: one command line over real files and standard output.
+#![tactic(auto)]
+
+mod command;
+mod decide;
+mod outcome;
+mod program;
+mod real;
+mod report;
+#[cfg(test)]
+mod tests;
+mod top;
+
+use crate::real::{RealFiles, StandardOutput};
+use std::process::ExitCode;
+use std::{env, io};
+
+/// The words of the command line without the program's name.
+fn words(rt: &HostRuntime) -> io::Result<Vec<String>> {
+    let mut words = Vec::new(rt.alloc());
+    for word in env::args(rt)?.skip(1) {
+        words.push(word)?;
+    }
+    Ok(words)
+}
+
+fn main(rt: HostRuntime) -> ExitCode {
+    match words(&rt) {
+        Ok(words) => {
+            let mut files = RealFiles::new(&rt);
+            let mut out = StandardOutput::new(&rt);
+            ExitCode::from(top::flow_main(rt.alloc(), &words, &mut files, &mut out))
+        }
+        Err(error) => {
+            if error.kind() == io::ErrorKind::OutOfMemory {
+                ExitCode::from(7)
+            } else {
+                ExitCode::from(14)
+            }
+        }
+    }
+}

@@ -1,0 +1,139 @@
+// The real files and standard output: they count their failures, keep the names asked for, and tell
+// nothing of content.
+
+ghost use Rattle.std.specs.Prelude.{◌≡◌, length};
+
+use flow_base::fault::OutFault;
+use flow_base::files::Files;
+use flow_base::ids::FileNo;
+use flow_base::sink::Sink;
+use std::fs::File;
+use std::io;
+use std::io::{Read, Write};
+
+/// The files of the system.
+#[derive(Drop)]
+pub struct RealFiles<'a> {
+    rt: &'a HostRuntime,
+    open: Vec<File>,
+    names: Vec<String>,
+    asked: Vec<String>,
+    faults: u64,
+    ghost named: { length names.items ≡ length open.items },
+}
+
+impl<'a> RealFiles<'a> {
+    /// No file is open yet.
+    pub fn new(rt: &'a HostRuntime) -> RealFiles<'a> {
+        RealFiles {
+            rt,
+            open: Vec::new(rt.alloc()),
+            names: Vec::new(rt.alloc()),
+            asked: Vec::new(rt.alloc()),
+            faults: 0,
+        }
+    }
+}
+
+impl<'a> Files for RealFiles<'a> {
+    ghost use Rattle.std.specs.Prelude.{◌<◌, ℕ, map, string_bytes, length, None, List, [], slice_get};
+    ghost use Rattle.std.specs.Option.{option_map_or};
+
+    ghost content = { λ s name. None };
+
+    ghost left = { λ s name. None };
+
+    ghost is_open = { λ s k. k < length s.names.items };
+
+    ghost name_of = { λ s k. option_map_or string_bytes (slice_get s.names.items k) [] };
+
+    ghost asked = { λ s. map string_bytes s.asked.items };
+
+    ghost faults = { λ s. s.faults };
+
+    fn open_file(&mut self, name: &str) -> Result<FileNo, OutFault> {
+        let alloc = self.rt.alloc();
+        let Ok(own) = name.to_string(alloc) else {
+            return Err(OutFault::OutOfMemory);
+        };
+        let Ok(copy) = name.to_string(alloc) else {
+            return Err(OutFault::OutOfMemory);
+        };
+        if self.asked.reserve(1).is_err()
+            || self.names.reserve(1).is_err()
+            || self.open.reserve(1).is_err()
+        {
+            return Err(OutFault::OutOfMemory);
+        }
+        let Ok(number) = u32::try_from(self.open.len()) else {
+            return Err(OutFault::OutOfMemory);
+        };
+        self.asked.push_reserved(copy);
+        let Ok(file) = File::open(self.rt, name) else {
+            self.faults = self.faults.saturating_add(1);
+            return Err(OutFault::Failed);
+        };
+        self.open.push_reserved(file);
+        self.names.push_reserved(own);
+        Ok(FileNo(number))
+    }
+
+    fn read(&mut self, file: FileNo, buf: &mut [u8]) -> Result<usize, OutFault> {
+        match self.open[file.0 as usize].read(buf) {
+            Ok(count) => Ok(count),
+            Err(_) => {
+                self.faults = self.faults.saturating_add(1);
+                Err(OutFault::Failed)
+            }
+        }
+    }
+
+    fn faults(&self) -> u64 {
+        self.faults
+    }
+}
+
+/// Standard output.
+#[derive(Drop)]
+pub struct StandardOutput<'a> {
+    rt: &'a HostRuntime,
+    faults: u64,
+}
+
+impl<'a> StandardOutput<'a> {
+    /// Nothing is written yet.
+    pub fn new(rt: &'a HostRuntime) -> StandardOutput<'a> {
+        StandardOutput { rt, faults: 0 }
+    }
+}
+
+impl<'a> Sink for StandardOutput<'a> {
+    ghost use Rattle.std.specs.Prelude.{None};
+
+    ghost written = { λ s. None };
+
+    ghost faults = { λ s. s.faults };
+
+    fn write(&mut self, piece: &[u8]) -> Result<usize, OutFault> {
+        let Ok(count) = io::writer(self.rt).write(piece) else {
+            self.faults = self.faults.saturating_add(1);
+            return Err(OutFault::Failed);
+        };
+        if count == 0 {
+            self.faults = self.faults.saturating_add(1);
+        }
+        Ok(count)
+    }
+
+    fn flush(&mut self) -> Result<(), OutFault> {
+        let Ok(()) = io::writer(self.rt).flush() else {
+            self.faults = self.faults.saturating_add(1);
+            return Err(OutFault::Failed);
+        };
+        Ok(())
+    }
+
+    fn faults(&self) -> u64 {
+        self.faults
+    }
+}

@@ -1,0 +1,26 @@
+// The top call.
+
+ghost use Rattle.std.specs.Prelude.{map, string_bytes};
+ghost use Rattle.flow_top.specs.Run.{Answers};
+
+use crate::decide::decide;
+use crate::report::report;
+use flow_base::files::Files;
+use flow_base::sink::Sink;
+use std::alloc::Global;
+
+/// Does what the words of the command line say, without the program's name: reads files by their
+/// names, writes the output, and gives the status. `run P W` runs the program of the file P in the
+/// world of the file W and writes the trace.
+pub fn flow_main<F: Files, S: Sink>(
+    alloc: Global,
+    words: &[String],
+    files: &mut F,
+    out: &mut S,
+) -> u8
+    ensures { Answers (map string_bytes words.now) (F.content files.old) (F.asked files.old) (F.asked files.new) (F.faults files.old) (F.faults files.new)
+        (S.written out.old) (S.written out.new) (S.faults out.old) (S.faults out.new) result }
+{
+    let outcome = decide(alloc, words, files);
+    report(alloc, outcome, out)
+}

@@ -1,0 +1,7 @@
+//! Lines.
+#![tactic(auto)]
+
+pub mod buffer;
+pub mod line;
+mod pieces;
+pub mod quote;
