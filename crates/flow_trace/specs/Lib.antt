@@ -1,3 +1,5 @@
 pub mod Bytes
 pub mod Pieces
 pub mod Quote
+pub mod Reading
+pub mod Scan

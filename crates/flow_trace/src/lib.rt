@@ -5,3 +5,5 @@ pub mod line;
 mod buffer;
 mod pieces;
 pub mod quote;
+mod reading;
+mod scan;
