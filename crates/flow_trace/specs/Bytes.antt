@@ -122,3 +122,11 @@ IsField (text bytes) = (length bytes ≤ 65535) × AllByRecursion (λ b. b < 2 ^
 -- program are
 abbrev pub IsLine : Line → Type 0
 IsLine line = AllByRecursion IsField (fields line)
+
+-- lines of the same bytes are the same
+abbrev pub OneSpelling : Type 0
+OneSpelling = (a b : Line) → IsLine a → IsLine b → Bytes a ≡ Bytes b → a ≡ b
+
+-- so are lines that the same bytes spell, with or without a line feed
+abbrev pub OneLine : Type 0
+OneLine = (bytes : List ℕ) (a b : Line) → IsLine a → IsLine b → Spells a bytes → Spells b bytes → a ≡ b

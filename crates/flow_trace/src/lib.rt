@@ -2,8 +2,9 @@
 #![tactic(auto)]
 
 pub mod line;
-mod buffer;
+pub mod buffer;
 mod pieces;
 pub mod quote;
+pub mod read;
 mod reading;
 mod scan;
