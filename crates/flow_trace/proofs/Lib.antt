@@ -3,3 +3,4 @@ pub mod Printing
 pub mod Ranges
 pub mod ReadBack
 pub mod Scanning
+pub mod Texts

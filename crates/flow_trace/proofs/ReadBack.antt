@@ -1,13 +1,12 @@
 -- The line that is read of the words of a printed line is that line.
-use Rattle.std.proofs.Common.{◌≡◌, ◌≢◌, ℕ, suc, zero, ◌+◌, ◌-◌, ◌*◌, ◌/◌, ◌%◌, ◌^◌, ◌<◌, ◌≤◌, ℤ, pos, negsuc, List, [], ◌∷◌, ◌++◌, Bool, true, false, not, ◌&&◌, ◌||◌, cond, length, map, sym, ap, ◌∙◌, refl, subst, arith, decimal, append_assoc, append-nil, Some, None, codes, nat_lt, nat_le, bytes_eq, lit<, if◌then◌else◌}
+use Rattle.std.proofs.Common.{◌≡◌, ℕ, suc, ◌+◌, ◌-◌, ◌%◌, ◌^◌, ◌<◌, ◌≤◌, ℤ, pos, negsuc, List, [], ◌∷◌, ◌++◌, true, false, ◌&&◌, length, map, sym, ap, ◌∙◌, refl, arith, decimal, Some, None, nat_lt, nat_le, bytes_eq, lit<, if◌then◌else◌}
 use Rattle.std.specs.Fmt.{signed_decimal}
 use Rattle.std.specs.Bool.{◌==◌}
-use Rattle.std.specs.List.{fold, list_all, AllByRecursion}
 use Rattle.std.proofs.lemmas.Bool.{and_from, and_left, ne_eqb, cond-false, cond-true, lt-ltb, le-leb}
 use Rattle.std.proofs.lemmas.Fmt.{decimal_by_steps}
 use Rattle.flow_base.specs.Names.{IsName, is_name_text}
-use Rattle.flow_trace.specs.Bytes.{Field, text, fields, IsField, IsLine}
-use Rattle.flow_trace.specs.Reading.{digit, number_step, number_in, integer_in, at_least_zero, below_zero, line_from}
+use Rattle.flow_trace.specs.Bytes.{text, fields, IsField, IsLine}
+use Rattle.flow_trace.specs.Reading.{number_in, integer_in, at_least_zero, below_zero, line_from}
 use Rattle.flow_trace.specs.declared.line.Line.{Line}
 use Rattle.flow_trace.specs.declared.line.Line.TheVariants.{Head, Boot, Kill, Stop, Cut, Heal, DiskFail, Timer, Arrival, Read, Write, Sync, Size, Start, Wait, Take, Throw, Catch, Fail, Finish, Cancel, Broken, PrintInt, PrintBool, PrintText, Send, LostCut, LostDraw, Discard, Kept, Frame, Callback, EndIdle, EndBound, EndSpent, EndStop}
 use Rattle.flow_trace.proofs.Scanning.{word_of, number_in-decimal}
@@ -66,7 +65,7 @@ name_known bs name =
     cond-true (is_name_text bs && nat_le (length bs) 255) (Some bs) None
     (and_from (is_name_text bs) (nat_le (length bs) 255) name.form (le-leb (length bs) 255 name.short))
 
-text_known : (bs : List ℕ) → IsField (text bs) → (if nat_le (length bs) 65535 then Some bs else None) ≡ Some bs
+pub text_known : (bs : List ℕ) → IsField (text bs) → (if nat_le (length bs) 65535 then Some bs else None) ≡ Some bs
 text_known bs range = cond-true (nat_le (length bs) 65535) (Some bs) None (le-leb (length bs) 65535 range.0)
 
 pub line_back : (line : Line) → IsLine line → line_from (map word_of (fields line)) ≡ Some line

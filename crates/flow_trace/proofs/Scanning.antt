@@ -1,20 +1,20 @@
 -- What is scanned of the fields of a printed line.
-use Rattle.std.proofs.Common.{◌≡◌, ◌≢◌, ℕ, suc, zero, ◌+◌, ◌-◌, ◌*◌, ◌/◌, ◌%◌, ◌^◌, ◌<◌, ◌≤◌, ℤ, pos, negsuc, List, [], ◌∷◌, ◌++◌, Bool, true, false, not, ◌&&◌, ◌||◌, cond, length, map, sym, ap, ◌∙◌, refl, subst, arith, decimal, append_assoc, append-nil, IsTrue}
+use Rattle.std.proofs.Common.{◌≡◌, ℕ, suc, ◌+◌, ◌*◌, ◌/◌, ◌%◌, ◌^◌, ◌<◌, ℤ, pos, negsuc, List, [], ◌∷◌, ◌++◌, Bool, true, false, not, ◌&&◌, map, sym, ap, ◌∙◌, refl, arith, decimal, append_assoc, append-nil}
 use Rattle.std.specs.Fmt.{signed_decimal}
 use lib.Dec.{leb}
 use Rattle.std.specs.Bool.{◌==◌}
 use Rattle.std.specs.List.{fold, list_all, AllByRecursion}
 use Rattle.std.proofs.Math.Pow.{pow_mono}
-use Rattle.std.proofs.lemmas.Bool.{and_parts, and_from, not-true, not_from_false, cond-false, cond-true, cond_both, agree_below_at, eqb-true, false≢true, false_from_ne_true, or_left, lt-ltb, le-leb, leb-true}
+use Rattle.std.proofs.lemmas.Bool.{and_parts, and_from, not-true, not_from_false, cond-false, cond_both, agree_below_at, eqb-true, false≢true, false_from_ne_true, or_left, leb-true}
 use Rattle.std.proofs.lemmas.Fmt.{decimal_by_steps}
 use Rattle.std.proofs.lemmas.List.Folds.{list_all-append}
 use Rattle.std.proofs.lemmas.List.Sums.{fold-append}
-use Rattle.flow_base.specs.Names.{IsName, is_name_text, letter, digit as is_digit, name_byte}
+use Rattle.flow_base.specs.Names.{is_name_text, letter, digit as is_digit, name_byte}
 use Rattle.flow_trace.specs.Bytes.{Field, word, name, number, integer, text, spelled, spaced, joined, IsField}
 use Rattle.flow_trace.specs.Quote.{hex_digit, is_printable, spelled_byte, spelled_text, quoted}
-use Rattle.flow_trace.specs.Reading.{digit, number_step, number_in, integer_in, at_least_zero, below_zero}
-use Rattle.flow_trace.specs.Scan.{WordState, ScanState, no_word, add, hex_value, letter_value, step, step_in, scan, scan_start, words_in}
-use Rattle.flow_trace.specs.declared.scan.Mode.TheVariants.{Bare, Quoted, Escape, High, Low}
+use Rattle.flow_trace.specs.Reading.{number_step, number_in}
+use Rattle.flow_trace.specs.Scan.{WordState, ScanState, no_word, hex_value, step, scan, scan_start, words_in}
+use Rattle.flow_trace.specs.declared.scan.Mode.TheVariants.{Bare, Quoted}
 use lib.Signed.{mag}
 
 -- outside quotes, with a word
@@ -56,8 +56,8 @@ plain_decimal =
     decimal_by_steps (λ _ ds. list_all is_plain ds ≡ true)
     (λ n small. and_from (is_plain (48 + n)) true (digit_plain n small) refl)
     (λ n ds large before. list_all-append is_plain ds ((48 + n % 10) ∷ [])
-        ∙ and_from (list_all is_plain ds) (list_all is_plain ((48 + n % 10) ∷ [])) before
-        (and_from (is_plain (48 + n % 10)) true (digit_plain (n % 10) (omega arith)) refl))
+    ∙ and_from (list_all is_plain ds) (list_all is_plain ((48 + n % 10) ∷ [])) before
+    (and_from (is_plain (48 + n % 10)) true (digit_plain (n % 10) (omega arith)) refl))
 
 plain_signed : (z : ℤ) → mag z < 2 ^ 63 → list_all is_plain (signed_decimal z) ≡ true
 plain_signed (pos n) small = plain_decimal n (omega arith)
@@ -119,7 +119,7 @@ spelled_text_adds (b ∷ bs) small ws w =
     ∙ spelled_text_adds bs small.1 ws (w ++ b ∷ [])
     ∙ ap (inside ws) (append_assoc w (b ∷ []) bs)
 
-quoted_word : (bytes : List ℕ) → AllByRecursion (λ b. b < 2 ^ 8) bytes → (ws : List WordState)
+pub quoted_word : (bytes : List ℕ) → AllByRecursion (λ b. b < 2 ^ 8) bytes → (ws : List WordState)
     → fold step (outside ws no_word) (quoted bytes) ≡ outside ws (in_quotes bytes)
 quoted_word bytes small ws =
     fold-append step (inside ws []) (spelled_text bytes) (34 ∷ [])
@@ -192,5 +192,5 @@ number_in-decimal n small =
     decimal_by_steps (λ n ds. n < 2 ^ 64 → number_in ds ≡ n)
     (λ n one _. omega arith)
     (λ n ds large before fits. fold-append number_step 0 ds ((48 + n % 10) ∷ [])
-        ∙ ap (λ m. number_step m (48 + n % 10)) (before (omega (arith, fits))) ∙ number_step_digit n fits)
+    ∙ ap (λ m. number_step m (48 + n % 10)) (before (omega (arith, fits))) ∙ number_step_digit n fits)
     n small small

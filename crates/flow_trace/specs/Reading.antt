@@ -85,7 +85,7 @@ answer_from ws =
     else if is_word ws 3 (codes "sync") then Some (Sync n t p c (is_word ws 6 (codes "ok")))
     else if is_word ws 3 (codes "size") then Some (Size n t p c (size_at ws 6))
     else if is_word ws 3 (codes "read") then
-        (if quoted_at ws 6 then option_map (λ x. Read n t p c (Some x)) (text_at ws 6) else Some (Read n t p c None))
+    (if quoted_at ws 6 then option_map (λ x. Read n t p c (Some x)) (text_at ws 6) else Some (Read n t p c None))
     else None
 
 -- an event of one process
@@ -133,7 +133,7 @@ abbrev pub packet_from : List WordState → Option Line
 packet_from ws =
     if is_word ws 0 (codes "send") then send_from ws
     else if is_word ws 0 (codes "lost") then
-        Some (if is_word ws 2 (codes "cut") then LostCut (number_at ws 1) else LostDraw (number_at ws 1))
+    Some (if is_word ws 2 (codes "cut") then LostCut (number_at ws 1) else LostDraw (number_at ws 1))
     else if is_word ws 0 (codes "discard") then Some (Discard (number_at ws 1))
     else if is_word ws 0 (codes "kept") then kept_from ws
     else frame_from ws
@@ -175,3 +175,7 @@ line_from ws =
 -- the line that bytes would be
 abbrev pub line_in : List ℕ → Option Line
 line_in bytes = line_from (words_in bytes)
+
+-- the text that bytes would be in quotes
+abbrev pub text_in : List ℕ → Option (List ℕ)
+text_in bytes = text_at (words_in bytes) 0

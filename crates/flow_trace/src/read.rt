@@ -4,42 +4,15 @@ ghost use Rattle.std.specs.Prelude.{◌≡◌, ◌⊎◌, ◌↔◌, ℕ, List, 
 ghost use Rattle.flow_trace.specs.Bytes.{IsLine, Spells, OneSpelling, OneLine};
 ghost use Rattle.flow_trace.specs.Reading.{line_in};
 ghost use Rattle.flow_trace.specs.declared.line.Line.{Line};
-ghost use Rattle.flow_trace.specs.declared.read.LineFault.TheVariants.{Form, OutOfMemory};
+ghost use Rattle.flow_trace.specs.declared.fault.LineFault.TheVariants.{Form};
 
 use crate::buffer::{LineBuf, print_line};
+use crate::fault::LineFault;
 use crate::line::Line;
 use crate::reading::line_from;
 use crate::scan::split_words;
 use flow_base::memory::NoMemory;
 use std::alloc::Global;
-use std::error::Error;
-use std::fmt;
-
-/// Why no line was read: the bytes are no line's, or there was no memory.
-#[derive(Clone, Copy, PartialEq, Eq, Debug)]
-pub enum LineFault {
-    Form,
-    OutOfMemory,
-}
-
-impl fmt::Display for LineFault {
-    fn fmt<W: fmt::Write>(&self, f: &mut fmt::Formatter<W>) -> fmt::Result {
-        match self {
-            LineFault::Form => write!(f, "no line of a trace"),
-            LineFault::OutOfMemory => write!(f, "out of memory"),
-        }
-    }
-}
-
-impl Error for LineFault {}
-
-impl From<NoMemory> for LineFault {
-    ghost from_gives = { λ _ fault. fault ≡ OutOfMemory };
-
-    fn from(_error: NoMemory) -> LineFault {
-        LineFault::OutOfMemory
-    }
-}
 
 // Whether the bytes are those printed, but for the line feed at their end.
 fn is_cut(bytes: &[u8], printed: &[u8]) -> bool
@@ -90,5 +63,4 @@ pub fn read_line(alloc: Global, bytes: &[u8]) -> Result<Line, LineFault>
 pub fn one_spelling_each()
     ensures spelling { OneSpelling }
     ensures line { OneLine }
-{
-}
+{}

@@ -42,7 +42,9 @@ fn number_in(word: &[u8]) -> u64
 {
     let mut number = 0u64;
     for byte in word {
-        number = number.wrapping_mul(10).wrapping_add(u64::from(byte.wrapping_sub(b'0')));
+        number = number
+            .wrapping_mul(10)
+            .wrapping_add(u64::from(byte.wrapping_sub(b'0')));
     }
     number
 }
@@ -127,7 +129,8 @@ fn name_at(alloc: Global, words: &[Word], k: usize) -> Result<Option<Name>, NoMe
     }
 }
 
-fn text_at(alloc: Global, words: &[Word], k: usize) -> Result<Option<Text>, NoMemory>
+/// The text of the word at a place, if it is short enough for one.
+pub(crate) fn text_at(alloc: Global, words: &[Word], k: usize) -> Result<Option<Text>, NoMemory>
     ensures { IfOk result (λ text. text ≡ text_at words.now k) }
 {
     let bytes = bytes_at(words, k);
@@ -258,7 +261,12 @@ fn kept_from(alloc: Global, words: &[Word]) -> Result<Option<Line>, NoMemory>
     ensures { IfOk result (λ line. line ≡ kept_from words.now) }
 {
     match text_at(alloc, words, 1)? {
-        Some(file) => Ok(Some(Line::Kept(file, small_at(words, 2), small_at(words, 3), small_at(words, 4)))),
+        Some(file) => Ok(Some(Line::Kept(
+            file,
+            small_at(words, 2),
+            small_at(words, 3),
+            small_at(words, 4),
+        ))),
         None => Ok(None),
     }
 }
@@ -268,7 +276,12 @@ fn send_from(alloc: Global, words: &[Word]) -> Result<Option<Line>, NoMemory>
     ensures { IfOk result (λ line. line ≡ send_from words.now) }
 {
     match text_at(alloc, words, 4)? {
-        Some(text) => Ok(Some(Line::Send(number_at(words, 1), process_at(words, 2), port_at(words, 3), text))),
+        Some(text) => Ok(Some(Line::Send(
+            number_at(words, 1),
+            process_at(words, 2),
+            port_at(words, 3),
+            text,
+        ))),
         None => Ok(None),
     }
 }

@@ -196,7 +196,11 @@ impl Scanner {
     fn finish(self) -> Result<Vec<Word>, NoMemory>
         ensures { IfOk result (λ words. words.items ≡ self.words ++ self.word ∷ []) }
     {
-        let Scanner { mut words, word, .. } = self;
+        let Scanner {
+            mut words,
+            word,
+            ..
+        } = self;
         words.push(word)?;
         Ok(words)
     }

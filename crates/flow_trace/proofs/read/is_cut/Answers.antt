@@ -7,6 +7,7 @@ pub returns-then-last-eq10 : goal.returns-then-last-eq10
 returns-then-last-eq10 c =
     let bytes = c.args.bytes.now in
     let printed = c.args.printed.now in
-    let compared = bytes_eq-Decides bytes (take (length printed - 1) printed) in
-    ( λ same. cut_same bytes printed c.in-len1-up.len_at_least c.if-last-eq10.true (compared.0 (sym c.eq.ensures ∙ same))
-    , λ cut. c.eq.ensures ∙ compared.1 (cut_back bytes printed cut) )
+    let compared = bytes_eq-Decides bytes (take (length printed - 1) printed) in (
+      λ same. cut_same bytes printed c.in-len1-up.len_at_least c.if-last-eq10.true (compared.0 (sym c.eq.ensures ∙ same)),
+      λ cut. c.eq.ensures ∙ compared.1 (cut_back bytes printed cut),
+    )

@@ -1,7 +1,6 @@
-use Rattle.std.proofs.Common.{rules, ◌≡◌, ◌⊎◌, [], ◌∷◌, ◌++◌, List, ℕ, Some, sym, ◌∙◌, subst}
+use Rattle.std.proofs.Common.{rules, ◌≡◌, ◌⊎◌, [], ◌∷◌, ◌++◌, List, ℕ, sym, ◌∙◌, subst}
 use Rattle.std.proofs.lemmas.Bool.{false≢true}
-use Rattle.flow_trace.specs.Bytes.{Bytes, Spells}
-use Rattle.flow_trace.specs.Reading.{line_in}
+use Rattle.flow_trace.specs.Bytes.{Bytes}
 use Rattle.flow_trace.proofs.Lines.{no_line, same_line, other_line}
 use Rattle.flow_trace.proofs.read.read_line.Goals as goal
 
