@@ -1,3 +1,6 @@
 pub mod Bytes
+pub mod Out
 pub mod Pieces
 pub mod Quote
+pub mod Reading
+pub mod Scan

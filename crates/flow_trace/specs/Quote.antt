@@ -1,5 +1,6 @@
 -- Texts in quotes, with one spelling each.
-use Rattle.std.specs.Prelude.{ℕ, ◌+◌, ◌/◌, ◌%◌, Bool, ◌&&◌, ◌==◌, nat_lt, nat_le, List, [], ◌∷◌, ◌++◌, if◌then◌else◌}
+use Rattle.std.specs.List.{AllByRecursion}
+use Rattle.std.specs.Prelude.{◌≡◌, ◌^◌, ◌<◌, ◌≤◌, length, ℕ, ◌+◌, ◌/◌, ◌%◌, Bool, ◌&&◌, ◌==◌, nat_lt, nat_le, List, [], ◌∷◌, ◌++◌, if◌then◌else◌}
 
 -- a hexadecimal digit, in lower case
 abbrev pub hex_digit : ℕ → ℕ
@@ -27,3 +28,11 @@ spelled_text (b ∷ bs) = spelled_byte b ++ spelled_text bs
 -- a text in quotes
 abbrev pub quoted : List ℕ → List ℕ
 quoted text = 34 ∷ spelled_text text ++ 34 ∷ []
+
+-- the bytes of a text: at most 65,535, each below 256
+abbrev pub IsText : List ℕ → Type 0
+IsText bytes = (length bytes ≤ 65535) × AllByRecursion (λ b. b < 2 ^ 8) bytes
+
+-- texts of the same spelling are the same
+abbrev pub OneSpellingOfTexts : Type 0
+OneSpellingOfTexts = (a b : List ℕ) → IsText a → IsText b → quoted a ≡ quoted b → a ≡ b

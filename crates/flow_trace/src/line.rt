@@ -1,8 +1,12 @@
 // The lines of a trace.
 
+ghost use Rattle.std.specs.Prelude.{◌≡◌, IfOk};
+
 use flow_base::ids::{ActorId, CellId, ErrorCode, ProcId};
+use flow_base::memory::NoMemory;
 use flow_base::name::Name;
 use flow_base::text::Text;
+use std::alloc::Global;
 
 /// A line of a trace. Events begin with their number from 1 and their time; groups are numbered from 1,
 /// branches and callbacks from 0. The lines between two events belong to the process of the first.
@@ -80,4 +84,62 @@ pub enum Line {
     EndSpent,
     /// The trace ends since a monitor said so.
     EndStop(Name),
+}
+
+impl Line {
+    /// An equal line.
+    pub fn copy(&self, alloc: Global) -> Result<Line, NoMemory>
+        ensures { IfOk result (λ line. line ≡ self.now) }
+    {
+        match self {
+            Line::Head => Ok(Line::Head),
+            Line::Boot(n, t, p) => Ok(Line::Boot(*n, *t, *p)),
+            Line::Kill(n, t, p) => Ok(Line::Kill(*n, *t, *p)),
+            Line::Stop(n, t, p) => Ok(Line::Stop(*n, *t, *p)),
+            Line::Cut(n, t, p, q) => Ok(Line::Cut(*n, *t, *p, *q)),
+            Line::Heal(n, t, p, q) => Ok(Line::Heal(*n, *t, *p, *q)),
+            Line::DiskFail(n, t, p, k) => Ok(Line::DiskFail(*n, *t, *p, *k)),
+            Line::Timer(n, t, p, c) => Ok(Line::Timer(*n, *t, *p, *c)),
+            Line::Arrival(n, t, q, m) => Ok(Line::Arrival(*n, *t, *q, *m)),
+            Line::Read(n, t, p, c, Some(text)) => Ok(Line::Read(
+                *n,
+                *t,
+                *p,
+                *c,
+                Some(text.copy(alloc)?),
+            )),
+            Line::Read(n, t, p, c, None) => Ok(Line::Read(*n, *t, *p, *c, None)),
+            Line::Write(n, t, p, c, ok) => Ok(Line::Write(*n, *t, *p, *c, *ok)),
+            Line::Sync(n, t, p, c, ok) => Ok(Line::Sync(*n, *t, *p, *c, *ok)),
+            Line::Size(n, t, p, c, size) => Ok(Line::Size(*n, *t, *p, *c, *size)),
+            Line::Start(a, class) => Ok(Line::Start(*a, class.copy(alloc)?)),
+            Line::Wait(a, group) => Ok(Line::Wait(*a, *group)),
+            Line::Take(a, group, branch) => Ok(Line::Take(*a, *group, *branch)),
+            Line::Throw(a, e) => Ok(Line::Throw(*a, *e)),
+            Line::Catch(a, e) => Ok(Line::Catch(*a, *e)),
+            Line::Fail(a, e) => Ok(Line::Fail(*a, *e)),
+            Line::Finish(a) => Ok(Line::Finish(*a)),
+            Line::Cancel(a) => Ok(Line::Cancel(*a)),
+            Line::Broken(c) => Ok(Line::Broken(*c)),
+            Line::PrintInt(a, value) => Ok(Line::PrintInt(*a, *value)),
+            Line::PrintBool(a, value) => Ok(Line::PrintBool(*a, *value)),
+            Line::PrintText(a, text) => Ok(Line::PrintText(*a, text.copy(alloc)?)),
+            Line::Send(m, q, port, text) => Ok(Line::Send(*m, *q, *port, text.copy(alloc)?)),
+            Line::LostCut(m) => Ok(Line::LostCut(*m)),
+            Line::LostDraw(m) => Ok(Line::LostDraw(*m)),
+            Line::Discard(m) => Ok(Line::Discard(*m)),
+            Line::Kept(file, offset, len, kept) => Ok(Line::Kept(
+                file.copy(alloc)?,
+                *offset,
+                *len,
+                *kept,
+            )),
+            Line::Frame(p, a, class, group) => Ok(Line::Frame(*p, *a, class.copy(alloc)?, *group)),
+            Line::Callback(p, a, k, c) => Ok(Line::Callback(*p, *a, *k, *c)),
+            Line::EndIdle => Ok(Line::EndIdle),
+            Line::EndBound => Ok(Line::EndBound),
+            Line::EndSpent => Ok(Line::EndSpent),
+            Line::EndStop(monitor) => Ok(Line::EndStop(monitor.copy(alloc)?)),
+        }
+    }
 }

@@ -1,5 +1,4 @@
-use Rattle.std.proofs.Common.{◌≡◌, ◌+◌, ◌++◌, ◌∙◌, ap, sym, rules, arith, append_assoc, length, length-append}
-use Rattle.flow_trace.specs.Quote.{spelled_text, spelled_byte}
+use Rattle.std.proofs.Common.{◌≡◌, ◌+◌, ◌∙◌, ap, arith, append_assoc, length, length-append}
 use Rattle.flow_trace.proofs.Printing.{spelled_text_more}
 use Rattle.flow_trace.proofs.buffer.LineBuf.put_quoted.Goals as goal
 
