@@ -1,0 +1,5 @@
+pub mod Lines
+pub mod Directives
+pub mod Worlds
+pub mod Reading
+pub mod Laws

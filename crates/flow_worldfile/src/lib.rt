@@ -1,0 +1,11 @@
+//! World files: the texts that describe a simulated world, read exactly by their grammar, and printed
+//! in one spelling that is read back.
+#![tactic(auto)]
+
+pub mod directive;
+mod forms;
+mod lines;
+pub mod world;
+
+pub use directive::{Directive, Order};
+pub use world::{Act, At, World0, WorldFault};
