@@ -2,4 +2,5 @@ pub mod Lines
 pub mod Directives
 pub mod Worlds
 pub mod Reading
+pub mod Drafts
 pub mod Laws

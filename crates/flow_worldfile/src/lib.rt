@@ -3,6 +3,7 @@
 #![tactic(auto)]
 
 pub mod directive;
+mod draft;
 mod forms;
 mod lines;
 pub mod world;
