@@ -1,3 +1,4 @@
 pub mod LineLemmas
 pub mod Numbers
 pub mod FieldLemmas
+pub mod FormLemmas

@@ -2,7 +2,7 @@
 
 ghost use Rattle.std.specs.Prelude.{◌≡◌, ◌↔◌, ◌<◌, ◌≤◌, IsTrue};
 ghost use Rattle.flow_worldfile.specs.Directives.{IsSpan, OrderInRange, InRange, OrderNames, Names};
-ghost use Rattle.flow_worldfile.specs.Worlds.{order_of};
+ghost use Rattle.flow_worldfile.specs.Worlds.{order_of, processes_in};
 
 use crate::world::Act;
 use flow_base::ids::ProcId;
@@ -92,6 +92,16 @@ impl Directive {
             Directive::Loss(n) => *n <= 1000,
             Directive::Word(n) => *n < 1 << 32,
             Directive::At(time, order) => *time <= 1 << 62 && order.is_in_range(),
+        }
+    }
+
+    /// The count of processes that it says.
+    pub fn processes(&self) -> Option<u128>
+        ensures { result ≡ processes_in self.now }
+    {
+        match self {
+            Directive::Processes(count) => Some(*count),
+            _ => None,
         }
     }
 
