@@ -2,3 +2,4 @@ pub mod LineLemmas
 pub mod Numbers
 pub mod FieldLemmas
 pub mod FormLemmas
+pub mod SaidLemmas
