@@ -3,3 +3,4 @@ pub mod Numbers
 pub mod FieldLemmas
 pub mod FormLemmas
 pub mod SaidLemmas
+pub mod JudgeLemmas

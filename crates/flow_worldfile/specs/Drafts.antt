@@ -5,9 +5,9 @@ use Rattle.flow_worldfile.specs.declared.directive.Directive.{Directive}
 use Rattle.flow_worldfile.specs.declared.directive.Directive.TheVariants.{Seed, Processes, Events, Turns, Latency, DiskDelay, Loss, Word, At}
 use Rattle.flow_worldfile.specs.declared.world.WorldFault.{WorldFault}
 use Rattle.flow_worldfile.specs.declared.world.WorldFault.TheVariants.{Form, Range, Twice, NoProcess, TooLarge, OutOfMemory}
-use Rattle.flow_worldfile.specs.Lines.{IsPassedOver}
-use Rattle.flow_worldfile.specs.Worlds.{Said, timed}
-use Rattle.flow_worldfile.specs.Reading.{Rule, W1, W2, W3, W4, Keeps, Breaks}
+use Rattle.flow_worldfile.specs.Lines.{lines, IsPassedOver}
+use Rattle.flow_worldfile.specs.Worlds.{Said, said, timed}
+use Rattle.flow_worldfile.specs.Reading.{Rule, W1, W2, W3, W4, Keeps, Breaks, Judges, accepted, refused}
 
 -- a draft, as what was said
 abbrev pub drafted : Draft → Said
@@ -44,3 +44,13 @@ LineRead count k old line (Err (Twice n)) new = (n ≡ k) × Breaks count old li
 LineRead count k old line (Err (NoProcess n)) new = (n ≡ k) × Breaks count old line W4
 LineRead count k old line (Err TooLarge) new = ⊥
 LineRead count k old line (Err OutOfMemory) new = Unit {0}
+
+-- what is read of the lines of a text, where there are `count` processes
+abbrev pub LinesRead : ℕ → List ℕ → Result Draft WorldFault → Type 0
+LinesRead count bytes (Ok draft) = (ds : List Directive) × Judges count 1 [] (lines bytes) (accepted ds) × (drafted draft ≡ said ds)
+LinesRead count bytes (Err (Form n)) = Judges count 1 [] (lines bytes) (refused n W1)
+LinesRead count bytes (Err (Range n)) = Judges count 1 [] (lines bytes) (refused n W2)
+LinesRead count bytes (Err (Twice n)) = Judges count 1 [] (lines bytes) (refused n W3)
+LinesRead count bytes (Err (NoProcess n)) = Judges count 1 [] (lines bytes) (refused n W4)
+LinesRead count bytes (Err TooLarge) = ⊥
+LinesRead count bytes (Err OutOfMemory) = Unit {0}
