@@ -38,9 +38,13 @@ abbrev pub field_text : Field → List ℕ
 field_text (text bytes) = bytes
 field_text (number n) = decimal n
 
--- how a line is printed: one space between the fields, and a line feed
+-- how fields are printed: with one space between them
+abbrev pub fields_text : List Field → List ℕ
+fields_text fs = join_with_byte 32 (map field_text fs)
+
+-- how a line is printed, with its line feed
 abbrev pub line_text : Directive → List ℕ
-line_text d = join_with_byte 32 (map field_text (form d)) ++ 10 ∷ []
+line_text d = fields_text (form d) ++ 10 ∷ []
 
 -- delays are drawn from the lower number on, up to the higher one
 abbrev pub IsSpan : ℕ → ℕ → Type 0

@@ -6,6 +6,7 @@ pub mod directive;
 mod draft;
 mod forms;
 mod lines;
+mod printing;
 mod reading;
 pub mod world;
 
