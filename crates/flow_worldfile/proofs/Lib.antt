@@ -4,3 +4,4 @@ pub mod FieldLemmas
 pub mod FormLemmas
 pub mod SaidLemmas
 pub mod JudgeLemmas
+pub mod TextLemmas

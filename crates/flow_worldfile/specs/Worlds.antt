@@ -43,9 +43,9 @@ seen w = record {
   processes = w.processes;
   events = w.events;
   turns = w.turns;
-  latency = (w.latency.0, w.latency.1);
+  latency = w.latency;
   loss = w.loss;
-  diskdelay = (w.diskdelay.0, w.diskdelay.1);
+  diskdelay = w.diskdelay;
   script = map timed w.script.items;
 }
 
@@ -132,10 +132,17 @@ world_of s = record {
   script = s.script;
 }
 
+-- the lines that print what may be said once
+abbrev pub settings : World → List Directive
+settings w = Seed w.seed ∷ Processes w.processes ∷ Events w.events ∷ Turns w.turns ∷ Latency w.latency.0 w.latency.1
+    ∷ DiskDelay w.diskdelay.0 w.diskdelay.1 ∷ Loss w.loss ∷ []
+
+abbrev pub at_line : ℕ × Order → Directive
+at_line at = At at.0 at.1
+
 -- the lines that print a world
 abbrev pub directives : World → List Directive
-directives w = (Seed w.seed ∷ Processes w.processes ∷ Events w.events ∷ Turns w.turns ∷ Latency w.latency.0 w.latency.1
-    ∷ DiskDelay w.diskdelay.0 w.diskdelay.1 ∷ Loss w.loss ∷ []) ++ (map Word w.words ++ map (λ at. At at.0 at.1) w.script)
+directives w = settings w ++ (map Word w.words ++ map at_line w.script)
 
 -- the text that prints a world
 abbrev pub world_text : World → List ℕ
@@ -152,5 +159,5 @@ pub record IsInRange (w : World) : Type 0 where
   pub latency : InRange (Latency w.latency.0 w.latency.1)
   pub loss : InRange (Loss w.loss)
   pub diskdelay : InRange (DiskDelay w.diskdelay.0 w.diskdelay.1)
-  pub script : AllByRecursion (λ at. InRange (At at.0 at.1) × Names w.processes (At at.0 at.1)) w.script
+  pub script : AllByRecursion (λ at. InRange (at_line at) × Names w.processes (at_line at)) w.script
   pub script_short : length w.script ≤ 10000
