@@ -18,11 +18,11 @@ chosen true n piece word e = absurd (cc)
 chosen false n piece word e = cc
 
 -- a field that is a word's text is that word
-is_word : (piece word : List ℕ) → field_of piece ≡ text word → piece ≡ word
+pub is_word : (piece word : List ℕ) → field_of piece ≡ text word → piece ≡ word
 is_word piece word e = chosen (is_number piece) _ piece word e
 
 -- the first field of a line is the first of the form
-first_is : {f g : Field} {fs gs : List Field} → f ∷ fs ≡ g ∷ gs → f ≡ g
+pub first_is : {f g : Field} {fs gs : List Field} → f ∷ fs ≡ g ∷ gs → f ≡ g
 first_is e = cc
 
 -- two words that differ

@@ -5,3 +5,6 @@ pub mod FormLemmas
 pub mod SaidLemmas
 pub mod JudgeLemmas
 pub mod TextLemmas
+pub mod OneVerdict
+pub mod PrintedLemmas
+pub mod ReadsBack

@@ -13,7 +13,7 @@ use Rattle.flow_worldfile.specs.Lines.{is_number}
 tests_digits : IsDigitsTest (λ ds. list_all is_ascii_digit ds ≡ true)
 tests_digits = search rules
 
-digits : IsNumeralModel (λ ds. list_all is_ascii_digit ds ≡ true) (digits_value 10)
+pub digits : IsNumeralModel (λ ds. list_all is_ascii_digit ds ≡ true) (digits_value 10)
 digits = numerals_by_value _ tests_digits
 
 value_of_digit : (c : ℕ) → IsInRange 48 57 c → digit_value c ≡ c - 48

@@ -15,7 +15,7 @@ other kind [] d none = ap (λ o. cons_option o []) none
 other kind (e ∷ ds) d none = ap (cons_option (kind e)) (other kind ds d none)
 
 -- one more line of the kind
-same : {X : Type 0} (kind : Directive → Option X) (ds : List Directive) (d : Directive) (x : X) → kind d ≡ Some x → filter_map kind (ds ++ d ∷ []) ≡ filter_map kind ds ++ x ∷ []
+pub same : {X : Type 0} (kind : Directive → Option X) (ds : List Directive) (d : Directive) (x : X) → kind d ≡ Some x → filter_map kind (ds ++ d ∷ []) ≡ filter_map kind ds ++ x ∷ []
 same kind ds d x some = filter_map-append kind ds (d ∷ []) ∙ ap (λ o. filter_map kind ds ++ cons_option o []) some
 
 head_of_one : {X : Type 0} (xs : List X) (x : X) → is_some (head xs) ≡ false → head (xs ++ x ∷ []) ≡ Some x

@@ -5,6 +5,7 @@
 pub mod directive;
 mod draft;
 mod forms;
+pub mod laws;
 mod lines;
 mod printing;
 mod reading;

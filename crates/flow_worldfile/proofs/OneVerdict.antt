@@ -1,0 +1,119 @@
+-- A text has one verdict.
+use Rattle.std.proofs.Common.{◌≡◌, ℕ, ◌+◌, ◌⊎◌, inl, inr, Bool, true, false, true≢false, List, [], ◌∷◌, ◌++◌, map, get_or, eqb, ap, subst, sym, ◌∙◌, refl, codes}
+use Rattle.std.specs.Bool.{IsTrue}
+use Rattle.flow_worldfile.specs.declared.directive.Directive.{Directive}
+use Rattle.flow_worldfile.specs.declared.directive.Directive.TheVariants.{Seed, Processes, Events, Turns, Latency, DiskDelay, Loss, Word, At}
+use Rattle.flow_worldfile.specs.Lines.{Field, text, field_of, pieces, lines, begins_comment, IsPassedOver}
+use Rattle.flow_worldfile.specs.Directives.{form, HasForm, InRange, Names}
+use Rattle.flow_worldfile.specs.Worlds.{Said, said}
+use Rattle.flow_worldfile.specs.Reading.{Rule, W1, W2, W3, W4, IsWithin, is_repeated, Keeps, Breaks, Verdict, accepted, refused, Judges, Counts, IsCount, IsJudged}
+use Rattle.flow_worldfile.specs.Laws.{OneVerdict}
+use Rattle.flow_worldfile.proofs.FieldLemmas.{is_word, first_is}
+use Rattle.flow_worldfile.proofs.FormLemmas.{one_form}
+
+-- a comment's first field is no word of a form
+no_word : (piece word : List ℕ) → IsTrue (eqb (get_or piece 0 0) 35) → eqb (get_or word 0 0) 35 ≡ false → field_of piece ≡ text word → ⊥
+no_word piece word hash other e =
+    let is : eqb (get_or piece 0 0) 35 ≡ eqb (get_or word 0 0) 35 = ap (λ bytes. eqb (get_or bytes 0 0) 35) (is_word piece word e) in
+    absurd (cc)
+
+formless_pieces : (ps : List (List ℕ)) → IsTrue (begins_comment ps) → (d : Directive) → map field_of ps ≡ form d → ⊥
+formless_pieces [] over (Seed n) e = absurd (cc)
+formless_pieces [] over (Processes n) e = absurd (cc)
+formless_pieces [] over (Events n) e = absurd (cc)
+formless_pieces [] over (Turns n) e = absurd (cc)
+formless_pieces [] over (Latency lo hi) e = absurd (cc)
+formless_pieces [] over (DiskDelay lo hi) e = absurd (cc)
+formless_pieces [] over (Loss n) e = absurd (cc)
+formless_pieces [] over (Word n) e = absurd (cc)
+formless_pieces [] over (At t order) e = absurd (cc)
+formless_pieces (piece ∷ more) over (Seed n) e = no_word piece _ over refl (first_is e)
+formless_pieces (piece ∷ more) over (Processes n) e = no_word piece _ over refl (first_is e)
+formless_pieces (piece ∷ more) over (Events n) e = no_word piece _ over refl (first_is e)
+formless_pieces (piece ∷ more) over (Turns n) e = no_word piece _ over refl (first_is e)
+formless_pieces (piece ∷ more) over (Latency lo hi) e = no_word piece _ over refl (first_is e)
+formless_pieces (piece ∷ more) over (DiskDelay lo hi) e = no_word piece _ over refl (first_is e)
+formless_pieces (piece ∷ more) over (Loss n) e = no_word piece _ over refl (first_is e)
+formless_pieces (piece ∷ more) over (Word n) e = no_word piece _ over refl (first_is e)
+formless_pieces (piece ∷ more) over (At t order) e = no_word piece _ over refl (first_is e)
+
+-- a line that is passed over has no form
+pub over_formless : (line : List ℕ) (d : Directive) → IsPassedOver line → HasForm line d → ⊥
+over_formless line d over said = formless_pieces (pieces line) over d said
+
+-- a line that is passed over breaks no rule
+over_or_breaks : (count : ℕ) (s : Said) (line : List ℕ) (rule : Rule) → IsPassedOver line → Breaks count s line rule → ⊥
+over_or_breaks count s line W1 over h = h.0 over
+over_or_breaks count s line W2 over h = over_formless line h.0 over h.1
+over_or_breaks count s line W3 over h = over_formless line h.0 over h.1
+over_or_breaks count s line W4 over h = over_formless line h.0 over h.1
+
+once_or_twice : (s : Said) (d e : Directive) → d ≡ e → is_repeated s d ≡ false → IsTrue (is_repeated s e) → ⊥
+once_or_twice s d e same once twice = absurd (cc (ap (is_repeated s) same))
+
+-- where a line has a form, W1 isn't broken; and so on
+formed : (count : ℕ) (s : Said) (line : List ℕ) (d : Directive) → HasForm line d → Breaks count s line W1 → ⊥
+formed count s line d said h = h.1 d said
+
+fitting : (count : ℕ) (s : Said) (line : List ℕ) (d : Directive) → HasForm line d → IsWithin s d → Breaks count s line W2 → ⊥
+fitting count s line d said within h = h.2 (subst (IsWithin s) (one_form line d h.0 said h.1) within)
+
+single : (count : ℕ) (s : Said) (line : List ℕ) (d : Directive) → HasForm line d → is_repeated s d ≡ false → Breaks count s line W3 → ⊥
+single count s line d said once h = once_or_twice s d h.0 (one_form line d h.0 said h.1) once h.3
+
+-- a line that keeps the rules breaks none
+keeps_or_breaks : (count : ℕ) (s : Said) (line : List ℕ) (d : Directive) (rule : Rule) → Keeps count s line d → Breaks count s line rule → ⊥
+keeps_or_breaks count s line d W1 keeps h = formed count s line d keeps.form h
+keeps_or_breaks count s line d W2 keeps h = fitting count s line d keeps.form keeps.within h
+keeps_or_breaks count s line d W3 keeps h = single count s line d keeps.form keeps.once h
+keeps_or_breaks count s line d W4 keeps h = h.4 (subst (Names count) (one_form line d h.0 keeps.form h.1) keeps.names)
+
+-- a line breaks one rule, as its first
+one_rule : (count : ℕ) (s : Said) (line : List ℕ) (p q : Rule) → Breaks count s line p → Breaks count s line q → p ≡ q
+one_rule count s line W1 W1 g h = refl
+one_rule count s line W1 W2 g h = absurd (formed count s line h.0 h.1 g)
+one_rule count s line W1 W3 g h = absurd (formed count s line h.0 h.1 g)
+one_rule count s line W1 W4 g h = absurd (formed count s line h.0 h.1 g)
+one_rule count s line W2 W1 g h = absurd (formed count s line g.0 g.1 h)
+one_rule count s line W2 W2 g h = refl
+one_rule count s line W2 W3 g h = absurd (fitting count s line h.0 h.1 h.2 g)
+one_rule count s line W2 W4 g h = absurd (fitting count s line h.0 h.1 h.2 g)
+one_rule count s line W3 W1 g h = absurd (formed count s line g.0 g.1 h)
+one_rule count s line W3 W2 g h = absurd (fitting count s line g.0 g.1 g.2 h)
+one_rule count s line W3 W3 g h = refl
+one_rule count s line W3 W4 g h = absurd (single count s line h.0 h.1 h.3 g)
+one_rule count s line W4 W1 g h = absurd (formed count s line g.0 g.1 h)
+one_rule count s line W4 W2 g h = absurd (fitting count s line g.0 g.1 g.2 h)
+one_rule count s line W4 W3 g h = absurd (single count s line g.0 g.1 g.3 h)
+one_rule count s line W4 W4 g h = refl
+
+-- the verdict on some lines
+judged_once : (count k : ℕ) (before : List Directive) (ls : List (List ℕ)) (v w : Verdict) → Judges count k before ls v → Judges count k before ls w → v ≡ w
+judged_once count k before [] v w g h = g ∙ sym h
+judged_once count k before (line ∷ more) v w (inl over) (inl passed) = judged_once count (k + 1) before more v w over.1 passed.1
+judged_once count k before (line ∷ more) v w (inl over) (inr (inl (d, keeps, h))) = absurd (over_formless line d over.0 keeps.form)
+judged_once count k before (line ∷ more) v w (inl over) (inr (inr (rule, breaks, is))) = absurd (over_or_breaks count _ line rule over.0 breaks)
+judged_once count k before (line ∷ more) v w (inr (inl (d, keeps, g))) (inl over) = absurd (over_formless line d over.0 keeps.form)
+judged_once count k before (line ∷ more) v w (inr (inl (d, keeps, g))) (inr (inl (e, kept, h))) =
+    let same : e ≡ d = one_form line e d kept.form keeps.form in
+    judged_once count (k + 1) (before ++ d ∷ []) more v w g (subst (λ x. Judges count (k + 1) (before ++ x ∷ []) more w) same h)
+judged_once count k before (line ∷ more) v w (inr (inl (d, keeps, g))) (inr (inr (rule, breaks, is))) = absurd (keeps_or_breaks count _ line d rule keeps breaks)
+judged_once count k before (line ∷ more) v w (inr (inr (rule, breaks, is))) (inl over) = absurd (over_or_breaks count _ line rule over.0 breaks)
+judged_once count k before (line ∷ more) v w (inr (inr (rule, breaks, is))) (inr (inl (d, keeps, h))) = absurd (keeps_or_breaks count _ line d rule keeps breaks)
+judged_once count k before (line ∷ more) v w (inr (inr (p, breaks, is))) (inr (inr (q, broken, said))) =
+    is ∙ ap (refused k) (one_rule count _ line p q breaks broken) ∙ sym said
+
+-- the count of processes
+one_count : (ls : List (List ℕ)) (m n : ℕ) → IsCount ls m → IsCount ls n → m ≡ n
+one_count [] m n g h = g ∙ sym h
+one_count (line ∷ more) m n (inl g) (inl h) =
+    let same : Processes m ≡ Processes n = one_form line (Processes m) (Processes n) g.0 h.0 in
+    cc
+one_count (line ∷ more) m n (inl g) (inr h) = absurd (h.0 m g)
+one_count (line ∷ more) m n (inr g) (inl h) = absurd (g.0 n h)
+one_count (line ∷ more) m n (inr g) (inr h) = one_count more m n g.1 h.1
+
+pub one_verdict : OneVerdict
+one_verdict bytes v w (m, counted, judged) (n, there, again) =
+    let same : n ≡ m = one_count (lines bytes) n m there counted in
+    judged_once m 1 [] (lines bytes) v w judged (subst (λ count. Judges count 1 [] (lines bytes) w) same again)
