@@ -8,3 +8,5 @@ pub mod TextLemmas
 pub mod OneVerdict
 pub mod PrintedLemmas
 pub mod ReadsBack
+pub mod KeptLemmas
+pub mod AnswerLemmas

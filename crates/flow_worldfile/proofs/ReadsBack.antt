@@ -1,5 +1,5 @@
 -- The printed text of a world is a file of that world.
-use Rattle.std.proofs.Common.{◌≡◌, ℕ, ◌+◌, ◌<◌, ◌≤◌, ◌^◌, ◌⊎◌, inl, inr, Bool, true, false, List, [], ◌∷◌, ◌++◌, map, length, Option, Some, ap, sym, ◌∙◌, refl, subst, append_assoc, append-nil, length-append, arith, codes}
+use Rattle.std.proofs.Common.{◌≡◌, ℕ, ◌+◌, ◌<◌, ◌≤◌, ◌^◌, ◌⊎◌, inl, inr, Bool, true, false, List, [], ◌∷◌, ◌++◌, map, length, Option, Some, ap, sym, ◌∙◌, refl, subst, append_assoc, append-nil, arith, codes}
 use Rattle.std.specs.List.{list_all, flat_map, filter_map, AllByRecursion}
 use Rattle.std.proofs.lemmas.List.Elements.{filter_map-append}
 use Rattle.flow_worldfile.specs.declared.directive.Order.{Order}
@@ -11,7 +11,7 @@ use Rattle.flow_worldfile.specs.Directives.{order_form, form, fields_text, line_
 use Rattle.flow_worldfile.specs.Worlds.{World, said, world_of, word_in, order_in, settings, at_line, directives, world_text, IsInRange}
 use Rattle.flow_worldfile.specs.Reading.{HasRoom, is_repeated, accepted, Judges, Counts, IsCount, IsFileOf}
 use Rattle.flow_worldfile.specs.Laws.{ReadsBack}
-use Rattle.flow_worldfile.proofs.SaidLemmas.{same}
+use Rattle.flow_worldfile.proofs.SaidLemmas.{one_longer}
 use Rattle.flow_worldfile.proofs.FormLemmas.{one_form}
 use Rattle.flow_worldfile.proofs.PrintedLemmas.{Prints, number_prints, word_prints, fields_again, fields_printed, is_printed, printed_line}
 
@@ -80,11 +80,6 @@ all_print : (count : ℕ) → count ≤ 64 → (before ds : List Directive) → 
 unfolding Follows
 all_print count few before [] follows = tt
 all_print count few before (d ∷ ds) follows = (form_prints count few d follows.0 follows.3, all_print count few (before ++ d ∷ []) ds follows.4)
-
--- one more of a kind
-one_longer : {X : Type 0} (kind : Directive → Option X) (ds : List Directive) (d : Directive) (x : X) → kind d ≡ Some x
-    → length (filter_map kind (ds ++ d ∷ [])) ≡ length (filter_map kind ds) + 1
-one_longer kind ds d x e = ap length (same kind ds d x e) ∙ length-append (filter_map kind ds) (x ∷ [])
 
 words_follow : (count : ℕ) (before : List Directive) (ws : List ℕ) → AllByRecursion (λ n. InRange (Word n)) ws
     → length (filter_map word_in before) + length ws ≤ 100000 → Follows count before (map Word ws)

@@ -1,5 +1,5 @@
 -- What lines say, when one more is said.
-use Rattle.std.proofs.Common.{◌≡◌, ℕ, Bool, true, false, List, [], ◌∷◌, ◌++◌, Option, Some, None, ap, sym, ◌∙◌, refl, arith}
+use Rattle.std.proofs.Common.{◌≡◌, ℕ, ◌+◌, length, length-append, Bool, true, false, List, [], ◌∷◌, ◌++◌, Option, Some, None, ap, sym, ◌∙◌, refl, arith}
 use Rattle.std.specs.Option.{is_some}
 use Rattle.std.specs.List.{filter_map, cons_option}
 use Rattle.std.proofs.lemmas.List.Elements.{filter_map-append}
@@ -10,23 +10,28 @@ use Rattle.flow_worldfile.specs.Reading.{is_repeated}
 use Rattle.flow_worldfile.specs.Drafts.{added}
 
 -- a line of another kind
-other : {X : Type 0} (kind : Directive → Option X) (ds : List Directive) (d : Directive) → kind d ≡ None → filter_map kind (ds ++ d ∷ []) ≡ filter_map kind ds
+pub other : {X : Type 0} (kind : Directive → Option X) (ds : List Directive) (d : Directive) → kind d ≡ None → filter_map kind (ds ++ d ∷ []) ≡ filter_map kind ds
 other kind [] d none = ap (λ o. cons_option o []) none
 other kind (e ∷ ds) d none = ap (cons_option (kind e)) (other kind ds d none)
 
 -- one more line of the kind
-pub same : {X : Type 0} (kind : Directive → Option X) (ds : List Directive) (d : Directive) (x : X) → kind d ≡ Some x → filter_map kind (ds ++ d ∷ []) ≡ filter_map kind ds ++ x ∷ []
+same : {X : Type 0} (kind : Directive → Option X) (ds : List Directive) (d : Directive) (x : X) → kind d ≡ Some x → filter_map kind (ds ++ d ∷ []) ≡ filter_map kind ds ++ x ∷ []
 same kind ds d x some = filter_map-append kind ds (d ∷ []) ∙ ap (λ o. filter_map kind ds ++ cons_option o []) some
+
+-- how many of a kind there are then
+pub one_longer : {X : Type 0} (kind : Directive → Option X) (ds : List Directive) (d : Directive) (x : X) → kind d ≡ Some x
+    → length (filter_map kind (ds ++ d ∷ [])) ≡ length (filter_map kind ds) + 1
+one_longer kind ds d x e = ap length (same kind ds d x e) ∙ length-append (filter_map kind ds) (x ∷ [])
 
 head_of_one : {X : Type 0} (xs : List X) (x : X) → is_some (head xs) ≡ false → head (xs ++ x ∷ []) ≡ Some x
 head_of_one [] x none = refl
 head_of_one (y ∷ ys) x none = absurd (cc)
 
 -- the first line of the kind
-newly : {X : Type 0} (kind : Directive → Option X) (ds : List Directive) (d : Directive) (x : X) → is_some (first kind ds) ≡ false → kind d ≡ Some x → first kind (ds ++ d ∷ []) ≡ Some x
+pub newly : {X : Type 0} (kind : Directive → Option X) (ds : List Directive) (d : Directive) (x : X) → is_some (first kind ds) ≡ false → kind d ≡ Some x → first kind (ds ++ d ∷ []) ≡ Some x
 newly kind ds d x none some = ap head (same kind ds d x some) ∙ head_of_one (filter_map kind ds) x none
 
-still : {X : Type 0} (kind : Directive → Option X) (ds : List Directive) (d : Directive) → kind d ≡ None → first kind (ds ++ d ∷ []) ≡ first kind ds
+pub still : {X : Type 0} (kind : Directive → Option X) (ds : List Directive) (d : Directive) → kind d ≡ None → first kind (ds ++ d ∷ []) ≡ first kind ds
 still kind ds d none = ap head (other kind ds d none)
 
 -- the parts of what is said

@@ -1,8 +1,9 @@
 // Reading a world file.
 
-ghost use Rattle.std.specs.Prelude.{ℕ, ◌≤◌, length, MatchOption};
+ghost use Rattle.std.specs.Prelude.{ℕ, ◌≤◌, ◌≡◌, length, MatchOption, MatchResult, IfOk};
 ghost use Rattle.flow_worldfile.specs.Lines.{lines};
-ghost use Rattle.flow_worldfile.specs.Reading.{Counts, IsCount, most_bytes, Answers};
+ghost use Rattle.flow_worldfile.specs.Reading.{Counts, IsCount, IsFileOf, most_bytes, Answers};
+ghost use Rattle.flow_worldfile.specs.Worlds.{World, seen, IsInRange};
 ghost use Rattle.flow_worldfile.specs.Drafts.{LinesRead};
 
 use crate::draft::Draft;
@@ -65,9 +66,8 @@ fn read_lines(alloc: Global, text: &[u8], count: u8) -> Result<Draft, WorldFault
     Ok(draft)
 }
 
-/// The world of a world file. A refusal names the first line that breaks a rule, and the first rule
-/// that this line breaks. Passed over are lines that are empty but for spaces, or begin with `#`.
-pub fn read_world(alloc: Global, bytes: &[u8]) -> Result<World0, WorldFault>
+/// The world of a text, or why it is no world file.
+fn world_in(alloc: Global, bytes: &[u8]) -> Result<World0, WorldFault>
     ensures { Answers bytes.now result }
 {
     if bytes.len() > MOST_BYTES {
@@ -77,4 +77,18 @@ pub fn read_world(alloc: Global, bytes: &[u8]) -> Result<World0, WorldFault>
         Ok(draft) => Ok(draft.world()),
         Err(fault) => Err(fault),
     }
+}
+
+/// The world of a world file. A refusal names the first line that breaks a rule, and the first rule
+/// that this line breaks. Passed over are lines that are empty but for spaces, or begin with `#`.
+#[tactic(auto, using(crate::proofs::AnswerLemmas::in_range))]
+pub fn read_world(alloc: Global, bytes: &[u8]) -> Result<World0, WorldFault>
+    ensures answers { Answers bytes.now result }
+    ensures in_range { IfOk result (λ world. IsInRange (seen world)) }
+
+    // A world file is read, unless it is too large or memory is wanting.
+    ensures read { (w : World) → IsFileOf bytes.now w → length bytes.now ≤ most_bytes
+        → MatchResult result (λ world. seen world ≡ w) (λ fault. fault ≡ WorldFault.OutOfMemory) }
+{
+    world_in(alloc, bytes)
 }
