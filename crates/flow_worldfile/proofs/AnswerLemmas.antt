@@ -1,10 +1,9 @@
 -- What follows from an answer for a text.
-use Rattle.std.proofs.Common.{◌≡◌, ℕ, List, ◌<◌, ◌≤◌, length, Result, Ok, Err, ap, sym, ◌∙◌, refl, arith}
+use Rattle.std.proofs.Common.{◌≡◌, ℕ, List, ◌≤◌, length, Result, Ok, Err, ap, sym, ◌∙◌, refl, arith}
 use Rattle.std.specs.Result.{IfOk, MatchResult}
 use Rattle.flow_worldfile.specs.declared.world.World0.{World0}
 use Rattle.flow_worldfile.specs.declared.world.WorldFault.{WorldFault}
 use Rattle.flow_worldfile.specs.declared.world.WorldFault.TheVariants.{Form, Range, Twice, NoProcess, TooLarge, OutOfMemory}
-use Rattle.flow_worldfile.specs.declared.directive.Directive.{Directive}
 use Rattle.flow_worldfile.specs.Worlds.{World, seen, said, world_of, IsInRange}
 use Rattle.flow_worldfile.specs.Reading.{Rule, W1, W2, W3, W4, accepted, refused, IsFileOf, IsRefused, Answers, most_bytes}
 use Rattle.flow_worldfile.proofs.OneVerdict.{one_verdict}

@@ -6,7 +6,7 @@ use Rattle.flow_worldfile.specs.declared.directive.Order.TheVariants.{Kill, Stop
 use Rattle.flow_worldfile.specs.declared.directive.Directive.{Directive}
 use Rattle.flow_worldfile.specs.declared.directive.Directive.TheVariants.{Seed, Processes, Events, Turns, Latency, DiskDelay, Loss, Word, At}
 use Rattle.flow_worldfile.specs.Lines.{Field, text, number}
-use Rattle.flow_worldfile.specs.Directives.{order_form, form, HasForm, InRange}
+use Rattle.flow_worldfile.specs.Directives.{form, HasForm, InRange}
 use Rattle.flow_worldfile.specs.Worlds.{processes_in}
 use Rattle.flow_worldfile.specs.Reading.{Counts}
 

@@ -1,11 +1,11 @@
 -- The verdict on a text, from the verdict on its last lines.
-use Rattle.std.proofs.Common.{◌≡◌, ℕ, ◌+◌, ◌⊎◌, inl, inr, false, List, [], ◌∷◌, ◌++◌, Ok, Err, Result, length, ap, subst, sym, ◌∙◌, refl, arith}
+use Rattle.std.proofs.Common.{◌≡◌, ℕ, ◌+◌, ◌⊎◌, inl, inr, List, [], ◌∷◌, ◌++◌, Err, ap, subst, sym, ◌∙◌, refl}
 use Rattle.flow_worldfile.specs.declared.directive.Directive.{Directive}
 use Rattle.flow_worldfile.specs.declared.world.WorldFault.{WorldFault}
 use Rattle.flow_worldfile.specs.declared.world.WorldFault.TheVariants.{Form, Range, Twice, NoProcess, TooLarge, OutOfMemory}
 use Rattle.flow_worldfile.specs.Lines.{lines, IsPassedOver}
 use Rattle.flow_worldfile.specs.Worlds.{Said, said}
-use Rattle.flow_worldfile.specs.Reading.{Rule, W1, W2, W3, W4, Keeps, Breaks, Verdict, accepted, refused, Judges}
+use Rattle.flow_worldfile.specs.Reading.{Rule, W1, W2, W3, W4, Keeps, Breaks, Verdict, refused, Judges}
 use Rattle.flow_worldfile.specs.Drafts.{added, LineRead, LinesRead}
 use Rattle.flow_worldfile.proofs.SaidLemmas.{said_more}
 

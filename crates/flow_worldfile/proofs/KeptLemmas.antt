@@ -1,5 +1,5 @@
 -- What was read is in range.
-use Rattle.std.proofs.Common.{◌≡◌, ℕ, ◌+◌, ◌<◌, ◌≤◌, ◌⊎◌, inl, inr, Bool, true, false, List, [], ◌∷◌, ◌++◌, length, Option, Some, None, ap, sym, ◌∙◌, refl, subst, append_assoc, append-nil, arith}
+use Rattle.std.proofs.Common.{◌≡◌, ℕ, ◌+◌, ◌≤◌, inl, inr, false, List, [], ◌∷◌, ◌++◌, length, Option, Some, None, ap, sym, ◌∙◌, refl, subst, append_assoc, append-nil, arith}
 use Rattle.std.specs.Option.{unwrap_or, is_some}
 use Rattle.std.specs.List.{filter_map, cons_option, AllByRecursion}
 use Rattle.std.proofs.lemmas.List.Elements.{filter_map-append}
@@ -9,7 +9,7 @@ use Rattle.flow_worldfile.specs.declared.directive.Directive.TheVariants.{Seed, 
 use Rattle.flow_worldfile.specs.Lines.{lines}
 use Rattle.flow_worldfile.specs.Directives.{HasForm, InRange, Names}
 use Rattle.flow_worldfile.specs.Worlds.{World, said, world_of, head, first, seed_in, processes_in, events_in, turns_in, latency_in, diskdelay_in, loss_in, word_in, order_in, at_line, IsInRange}
-use Rattle.flow_worldfile.specs.Reading.{HasRoom, Keeps, accepted, refused, Judges, Counts, IsCount, IsFileOf}
+use Rattle.flow_worldfile.specs.Reading.{HasRoom, Keeps, accepted, Judges, IsCount, IsFileOf}
 use Rattle.flow_worldfile.proofs.SaidLemmas.{other, newly, still, one_longer}
 use Rattle.flow_worldfile.proofs.FormLemmas.{one_form, count_said}
 use Rattle.flow_worldfile.proofs.OneVerdict.{over_formless}
@@ -192,7 +192,7 @@ kept_in_range count ds kept is =
       loss = first_in loss_in Loss loss_is InRange ds within 0 (omega arith);
       diskdelay = first_in diskdelay_in (λ (p : ℕ × ℕ). DiskDelay p.0 p.1) diskdelay_is InRange ds within (1, 2) (omega arith, omega arith);
       script = subst (λ n. AllByRecursion (λ at. InRange (at_line at) × Names n (at_line at)) (filter_map order_in ds)) (sym is)
-        (all_in order_in at_line order_is (λ d. InRange d × Names count d) ds kept.each);
+          (all_in order_in at_line order_is (λ d. InRange d × Names count d) ds kept.each);
       script_short = kept.script;
     }
 

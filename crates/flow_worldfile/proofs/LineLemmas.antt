@@ -1,6 +1,6 @@
 -- A text and its parts between a byte's places.
-use Rattle.std.proofs.Common.{◌≡◌, ℕ, ◌+◌, ◌-◌, ◌<◌, ◌≤◌, Bool, true, false, cond, eqb, ltb, Option, Some, None, List, [], ◌∷◌, length, take, drop, ap, ◌∙◌, sym, refl, arith}
-use Rattle.std.specs.List.{slice_split, position, position_or_len, All}
+use Rattle.std.proofs.Common.{◌≡◌, ℕ, ◌+◌, ◌-◌, ◌<◌, Bool, eqb, Some, None, List, [], ◌∷◌, length, take, drop, ap, ◌∙◌, sym, refl, arith}
+use Rattle.std.specs.List.{slice_split, position, position_or_len}
 use Rattle.std.specs.Str.Lines.{lines, lines_of_parts, strip_carriage_return}
 use Rattle.std.proofs.lemmas.List.{take_rest}
 use Rattle.std.proofs.lemmas.List.Splits.{slice_split_none, slice_split_first, length-slice_split}

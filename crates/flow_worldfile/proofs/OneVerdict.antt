@@ -1,12 +1,12 @@
 -- A text has one verdict.
-use Rattle.std.proofs.Common.{◌≡◌, ℕ, ◌+◌, ◌⊎◌, inl, inr, Bool, true, false, true≢false, List, [], ◌∷◌, ◌++◌, map, get_or, eqb, ap, subst, sym, ◌∙◌, refl, codes}
+use Rattle.std.proofs.Common.{◌≡◌, ℕ, ◌+◌, inl, inr, false, List, [], ◌∷◌, ◌++◌, map, get_or, eqb, ap, subst, sym, ◌∙◌, refl}
 use Rattle.std.specs.Bool.{IsTrue}
 use Rattle.flow_worldfile.specs.declared.directive.Directive.{Directive}
 use Rattle.flow_worldfile.specs.declared.directive.Directive.TheVariants.{Seed, Processes, Events, Turns, Latency, DiskDelay, Loss, Word, At}
-use Rattle.flow_worldfile.specs.Lines.{Field, text, field_of, pieces, lines, begins_comment, IsPassedOver}
-use Rattle.flow_worldfile.specs.Directives.{form, HasForm, InRange, Names}
+use Rattle.flow_worldfile.specs.Lines.{text, field_of, pieces, lines, begins_comment, IsPassedOver}
+use Rattle.flow_worldfile.specs.Directives.{form, HasForm, Names}
 use Rattle.flow_worldfile.specs.Worlds.{Said, said}
-use Rattle.flow_worldfile.specs.Reading.{Rule, W1, W2, W3, W4, IsWithin, is_repeated, Keeps, Breaks, Verdict, accepted, refused, Judges, Counts, IsCount, IsJudged}
+use Rattle.flow_worldfile.specs.Reading.{Rule, W1, W2, W3, W4, IsWithin, is_repeated, Keeps, Breaks, Verdict, refused, Judges, IsCount}
 use Rattle.flow_worldfile.specs.Laws.{OneVerdict}
 use Rattle.flow_worldfile.proofs.FieldLemmas.{is_word, first_is}
 use Rattle.flow_worldfile.proofs.FormLemmas.{one_form}

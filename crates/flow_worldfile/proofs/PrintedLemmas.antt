@@ -1,17 +1,15 @@
 -- What is printed, read again: fields, lines and texts.
-use Rattle.std.proofs.Common.{◌≡◌, ◌≢◌, ℕ, zero, suc, ◌+◌, ◌-◌, ◌<◌, ◌≤◌, ◌^◌, Bool, true, false, true≢false, ◌&&◌, cond, inl, inr, eqb, ltb, ltb-true, List, [], ◌∷◌, ◌++◌, map, filter, length, take, get_or, ap, sym, ◌∙◌, refl, ap₂, lt-ltb, append_assoc, arith, rules, codes}
-use Rattle.std.specs.Bool.{IsTrue}
+use Rattle.std.proofs.Common.{◌≡◌, ℕ, zero, suc, ◌-◌, ◌<◌, ◌≤◌, ◌^◌, Bool, true, false, true≢false, ◌&&◌, cond, inl, inr, eqb, ltb, ltb-true, List, [], ◌∷◌, ◌++◌, map, filter, length, take, get_or, ap, sym, ◌∙◌, refl, ap₂, lt-ltb, append_assoc, arith}
 use Rattle.std.specs.Char.{is_ascii_digit}
-use Rattle.std.specs.List.{slice_split, join_with_byte, list_all, flat_map, All, AllByRecursion}
+use Rattle.std.specs.List.{slice_split, join_with_byte, list_all, All, AllByRecursion}
 use Rattle.std.specs.Str.Parse.{digits_value}
 use Rattle.std.specs.Str.Lines.{strip_carriage_return}
 use Rattle.std.specs.Fmt.{decimal}
 use Rattle.std.proofs.lemmas.Bool.Decides.{eqb_tells}
 use Rattle.std.proofs.lemmas.Fmt.{digits_decimal, digits_value-decimal, decimal_nonempty, length-decimal-le}
 use Rattle.std.proofs.lemmas.List.Splits.{slice_split_none, slice_split_at}
-use Rattle.flow_worldfile.specs.declared.directive.Directive.{Directive}
-use Rattle.flow_worldfile.specs.Lines.{Field, text, number, is_number, field_of, pieces, fields, lines}
-use Rattle.flow_worldfile.specs.Directives.{field_text, fields_text, form, line_text, HasForm}
+use Rattle.flow_worldfile.specs.Lines.{Field, text, number, is_number, field_of, fields, lines}
+use Rattle.flow_worldfile.specs.Directives.{field_text, fields_text}
 use Rattle.flow_worldfile.proofs.Numbers.{digits}
 use Rattle.flow_worldfile.proofs.LineLemmas.{next_line}
 

@@ -1,19 +1,19 @@
 -- The printed text of a world is a file of that world.
-use Rattle.std.proofs.Common.{◌≡◌, ℕ, ◌+◌, ◌<◌, ◌≤◌, ◌^◌, ◌⊎◌, inl, inr, Bool, true, false, List, [], ◌∷◌, ◌++◌, map, length, Option, Some, ap, sym, ◌∙◌, refl, subst, append_assoc, append-nil, arith, codes}
-use Rattle.std.specs.List.{list_all, flat_map, filter_map, AllByRecursion}
+use Rattle.std.proofs.Common.{◌≡◌, ℕ, ◌+◌, ◌≤◌, inl, inr, false, List, [], ◌∷◌, ◌++◌, map, length, ap, sym, ◌∙◌, refl, subst, append_assoc, append-nil, arith, codes}
+use Rattle.std.specs.List.{flat_map, filter_map, AllByRecursion}
 use Rattle.std.proofs.lemmas.List.Elements.{filter_map-append}
 use Rattle.flow_worldfile.specs.declared.directive.Order.{Order}
 use Rattle.flow_worldfile.specs.declared.directive.Order.TheVariants.{Kill, Stop, Boot, Cut, Heal, DiskFail}
 use Rattle.flow_worldfile.specs.declared.directive.Directive.{Directive}
 use Rattle.flow_worldfile.specs.declared.directive.Directive.TheVariants.{Seed, Processes, Events, Turns, Latency, DiskDelay, Loss, Word, At}
-use Rattle.flow_worldfile.specs.Lines.{Field, fields, lines}
+use Rattle.flow_worldfile.specs.Lines.{lines}
 use Rattle.flow_worldfile.specs.Directives.{order_form, form, fields_text, line_text, HasForm, OrderInRange, InRange, OrderNames, Names}
 use Rattle.flow_worldfile.specs.Worlds.{World, said, world_of, word_in, order_in, settings, at_line, directives, world_text, IsInRange}
-use Rattle.flow_worldfile.specs.Reading.{HasRoom, is_repeated, accepted, Judges, Counts, IsCount, IsFileOf}
+use Rattle.flow_worldfile.specs.Reading.{HasRoom, is_repeated, accepted, Judges, IsCount}
 use Rattle.flow_worldfile.specs.Laws.{ReadsBack}
 use Rattle.flow_worldfile.proofs.SaidLemmas.{one_longer}
 use Rattle.flow_worldfile.proofs.FormLemmas.{one_form}
-use Rattle.flow_worldfile.proofs.PrintedLemmas.{Prints, number_prints, word_prints, fields_again, fields_printed, is_printed, printed_line}
+use Rattle.flow_worldfile.proofs.PrintedLemmas.{Prints, number_prints, word_prints, fields_again, fields_printed, printed_line}
 
 -- a printed line, without its line feed
 abbrev line_of : Directive → List ℕ
@@ -71,10 +71,12 @@ judged_all : (count k : ℕ) → count ≤ 64 → (before ds : List Directive) �
 unfolding Follows
 judged_all count k few before [] follows = ap accepted (append-nil before)
 judged_all count k few before (d ∷ ds) follows =
-    inr (inl (d,
+    inr (inl (
+      d,
       record { form = form_again d (form_prints count few d follows.0 follows.3); within = (follows.0, follows.1); once = follows.2; names = follows.3 },
       subst (λ l. Judges count (k + 1) (before ++ d ∷ []) (map line_of ds) (accepted l)) (append_assoc before (d ∷ []) ds)
-        (judged_all count (k + 1) few (before ++ d ∷ []) ds follows.4)))
+          (judged_all count (k + 1) few (before ++ d ∷ []) ds follows.4),
+    ))
 
 all_print : (count : ℕ) → count ≤ 64 → (before ds : List Directive) → Follows count before ds → AllByRecursion (λ d. AllByRecursion Prints (form d)) ds
 unfolding Follows
@@ -116,30 +118,59 @@ no_words (at ∷ ats) = no_words ats
 
 settings_follow : (w : World) → IsInRange w → Follows w.processes [] (settings w)
 unfolding Follows
-settings_follow w within =
-    (within.seed, tt, refl, tt, (within.processes, tt, refl, tt, (within.events, tt, refl, tt, (within.turns, tt, refl, tt,
-    (within.latency, tt, refl, tt, (within.diskdelay, tt, refl, tt, (within.loss, tt, refl, tt, tt)))))))
+settings_follow w within = (
+  within.seed,
+  tt,
+  refl,
+  tt,
+  (
+    within.processes,
+    tt,
+    refl,
+    tt,
+    (
+      within.events,
+      tt,
+      refl,
+      tt,
+      (
+        within.turns,
+        tt,
+        refl,
+        tt,
+        (within.latency, tt, refl, tt, (within.diskdelay, tt, refl, tt, (within.loss, tt, refl, tt, tt))),
+      ),
+    ),
+  ),
+)
 
 world_follows : (w : World) → IsInRange w → Follows w.processes [] (directives w)
 world_follows w within =
     let none : length (filter_map order_in (settings w ++ map Word w.words)) ≡ 0 = ap length (no_orders w.words) in
     follows_on w.processes [] (settings w) (map Word w.words ++ map at_line w.script) (settings_follow w within)
     (follows_on w.processes (settings w) (map Word w.words) (map at_line w.script)
-      (words_follow w.processes (settings w) w.words within.words (omega (arith, within.words_few)))
-      (script_follows w.processes (settings w ++ map Word w.words) w.script within.script (omega (arith, none, within.script_short))))
+    (words_follow w.processes (settings w) w.words within.words (omega (arith, within.words_few)))
+    (script_follows w.processes (settings w ++ map Word w.words) w.script within.script (omega (arith, none, within.script_short))))
 
 -- the world that the printed lines say
 world_said : (w : World) → w ≡ world_of (said (directives w))
 world_said w =
     let words : w.words ≡ filter_map word_in (map Word w.words ++ map at_line w.script) =
     sym (filter_map-append word_in (map Word w.words) (map at_line w.script)
-      ∙ ap (λ l. filter_map word_in (map Word w.words) ++ l) (no_words w.script) ∙ append-nil _ ∙ words_said w.words) in
+    ∙ ap (λ l. filter_map word_in (map Word w.words) ++ l) (no_words w.script) ∙ append-nil _ ∙ words_said w.words) in
     let script : w.script ≡ filter_map order_in (map Word w.words ++ map at_line w.script) =
     sym (filter_map-append order_in (map Word w.words) (map at_line w.script)
-      ∙ ap (λ l. l ++ filter_map order_in (map at_line w.script)) (no_orders w.words) ∙ orders_said w.script) in
+    ∙ ap (λ l. l ++ filter_map order_in (map at_line w.script)) (no_orders w.words) ∙ orders_said w.script) in
     λ i. record {
-      seed = w.seed; words = words i; processes = w.processes; events = w.events; turns = w.turns; latency = w.latency; loss = w.loss;
-      diskdelay = w.diskdelay; script = script i;
+      seed = w.seed;
+      words = words i;
+      processes = w.processes;
+      events = w.events;
+      turns = w.turns;
+      latency = w.latency;
+      loss = w.loss;
+      diskdelay = w.diskdelay;
+      script = script i;
     }
 
 -- the first line gives no count of processes, and the second does
@@ -155,8 +186,12 @@ pub reads_back : ReadsBack
 reads_back w within =
     let few : w.processes ≤ 64 = within.processes.1 in
     let follows = world_follows w within in
-    let again : lines (world_text w) ≡ map line_of (directives w) = lines_again (directives w) (all_print w.processes few [] (directives w) follows) in
-    (directives w,
-      (w.processes, subst (λ ls. IsCount ls w.processes) (sym again) (world_count w within),
-        subst (λ ls. Judges w.processes 1 [] ls (accepted (directives w))) (sym again) (judged_all w.processes 1 few [] (directives w) follows)),
-      world_said w)
+    let again : lines (world_text w) ≡ map line_of (directives w) = lines_again (directives w) (all_print w.processes few [] (directives w) follows) in (
+      directives w,
+      (
+        w.processes,
+        subst (λ ls. IsCount ls w.processes) (sym again) (world_count w within),
+        subst (λ ls. Judges w.processes 1 [] ls (accepted (directives w))) (sym again) (judged_all w.processes 1 few [] (directives w) follows),
+      ),
+      world_said w,
+    )

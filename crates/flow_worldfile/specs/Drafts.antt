@@ -1,5 +1,5 @@
 -- What the reader keeps of the lines that it has read.
-use Rattle.std.specs.Prelude.{◌≡◌, ℕ, ◌⊎◌, List, [], ◌∷◌, ◌++◌, map, Option, Some, Result, Ok, Err}
+use Rattle.std.specs.Prelude.{◌≡◌, ℕ, ◌⊎◌, List, [], ◌∷◌, ◌++◌, map, Some, Result, Ok, Err}
 use Rattle.flow_worldfile.specs.declared.draft.Draft.{Draft}
 use Rattle.flow_worldfile.specs.declared.directive.Directive.{Directive}
 use Rattle.flow_worldfile.specs.declared.directive.Directive.TheVariants.{Seed, Processes, Events, Turns, Latency, DiskDelay, Loss, Word, At}
@@ -7,7 +7,7 @@ use Rattle.flow_worldfile.specs.declared.world.WorldFault.{WorldFault}
 use Rattle.flow_worldfile.specs.declared.world.WorldFault.TheVariants.{Form, Range, Twice, NoProcess, TooLarge, OutOfMemory}
 use Rattle.flow_worldfile.specs.Lines.{lines, IsPassedOver}
 use Rattle.flow_worldfile.specs.Worlds.{Said, said, timed}
-use Rattle.flow_worldfile.specs.Reading.{Rule, W1, W2, W3, W4, Keeps, Breaks, Judges, accepted, refused}
+use Rattle.flow_worldfile.specs.Reading.{W1, W2, W3, W4, Keeps, Breaks, Judges, accepted, refused}
 
 -- a draft, as what was said
 abbrev pub drafted : Draft → Said

@@ -7,7 +7,7 @@ use Rattle.flow_worldfile.specs.declared.world.WorldFault.{WorldFault}
 use Rattle.flow_worldfile.specs.declared.world.WorldFault.TheVariants.{Form, Range, Twice, NoProcess, TooLarge, OutOfMemory}
 use Rattle.flow_worldfile.specs.Lines.{lines, IsPassedOver}
 use Rattle.flow_worldfile.specs.Directives.{HasForm, InRange, Names}
-use Rattle.flow_worldfile.specs.Worlds.{Said, said, World, world_of, seen}
+use Rattle.flow_worldfile.specs.Worlds.{Said, said, World, world_of, seen, most_words, most_orders}
 
 -- the rules that a line keeps
 pub data Rule : Type 0 where
@@ -18,8 +18,8 @@ pub data Rule : Type 0 where
 
 -- one more such line may stand after what was said
 abbrev pub HasRoom : Said → Directive → Type 0
-HasRoom s (Word n) = length s.words < 100000
-HasRoom s (At t order) = length s.script < 10000
+HasRoom s (Word n) = length s.words < most_words
+HasRoom s (At t order) = length s.script < most_orders
 HasRoom s _ = Unit {0}
 
 -- such a line stood already, and may not stand again

@@ -1,7 +1,6 @@
 -- What the lines of a world file say together.
-use Rattle.std.specs.Prelude.{◌≡◌, ℕ, ◌≤◌, ◌<◌, Bool, false, List, [], ◌∷◌, ◌++◌, length, map, Option, Some, None, is_some, unwrap_or, IsTrue}
+use Rattle.std.specs.Prelude.{ℕ, ◌≤◌, List, [], ◌∷◌, ◌++◌, length, map, Option, Some, None, unwrap_or}
 use Rattle.std.specs.List.{filter_map, flat_map, AllByRecursion}
-use Rattle.flow_base.specs.declared.ids.ProcId.{ProcId}
 use Rattle.flow_worldfile.specs.declared.world.Act.{Act}
 use Rattle.flow_worldfile.specs.declared.world.Act.TheVariants as act
 use Rattle.flow_worldfile.specs.declared.world.At as declared
@@ -148,11 +147,18 @@ directives w = settings w ++ (map Word w.words ++ map at_line w.script)
 abbrev pub world_text : World → List ℕ
 world_text w = flat_map line_text (directives w)
 
+-- the greatest numbers of words and of orders
+abbrev pub most_words : ℕ
+most_words = 100000
+
+abbrev pub most_orders : ℕ
+most_orders = 10000
+
 -- a world whose fields are in the ranges of the lines that say them, and whose script names its processes alone
 pub record IsInRange (w : World) : Type 0 where
   pub seed : InRange (Seed w.seed)
   pub words : AllByRecursion (λ n. InRange (Word n)) w.words
-  pub words_few : length w.words ≤ 100000
+  pub words_few : length w.words ≤ most_words
   pub processes : InRange (Processes w.processes)
   pub events : InRange (Events w.events)
   pub turns : InRange (Turns w.turns)
@@ -160,4 +166,4 @@ pub record IsInRange (w : World) : Type 0 where
   pub loss : InRange (Loss w.loss)
   pub diskdelay : InRange (DiskDelay w.diskdelay.0 w.diskdelay.1)
   pub script : AllByRecursion (λ at. InRange (at_line at) × Names w.processes (at_line at)) w.script
-  pub script_short : length w.script ≤ 10000
+  pub script_short : length w.script ≤ most_orders

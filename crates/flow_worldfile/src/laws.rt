@@ -6,11 +6,9 @@ ghost use Rattle.flow_worldfile.specs.Laws.{OneVerdict, ReadsBack};
 /// both.
 pub fn one_verdict()
     ensures { OneVerdict }
-{
-}
+{}
 
 /// The printed text of a world in range is a world file of that world.
 pub fn reads_back()
     ensures { ReadsBack }
-{
-}
+{}

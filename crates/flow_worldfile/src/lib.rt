@@ -12,4 +12,9 @@ mod reading;
 pub mod world;
 
 pub use directive::{Directive, Order};
+pub use printing::print_world;
+pub use reading::read_world;
 pub use world::{Act, At, World0, WorldFault};
+
+#[cfg(test)]
+mod tests;

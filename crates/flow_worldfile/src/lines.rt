@@ -114,5 +114,9 @@ fn value_of(piece: &[u8]) -> u128
 pub fn number_of(piece: &[u8]) -> Option<u128>
     ensures { MatchOption result (field_of piece.now ≡ text piece.now) (λ n. field_of piece.now ≡ number n) }
 {
-    if is_numeral(piece) { Some(value_of(piece)) } else { None }
+    if is_numeral(piece) {
+        Some(value_of(piece))
+    } else {
+        None
+    }
 }

@@ -1,5 +1,4 @@
-use Rattle.std.proofs.Common.{◌+◌, ◌≤◌, length, arith}
-use Rattle.flow_worldfile.specs.Drafts.{drafted}
+use Rattle.std.proofs.Common.{arith}
 use Rattle.flow_worldfile.proofs.JudgeLemmas.{next_line_read, line_fails}
 use Rattle.flow_worldfile.proofs.reading.read_lines.Goals as goal
 
