@@ -45,14 +45,6 @@ no_long_order word m n cut heal fail (Heal p q) e = heal (is_word word _ (first_
 no_long_order word m n cut heal fail (DiskFail p k) e = fail (is_word word _ (first_is e))
 no_long_order word m n cut heal fail _ e = absurd (cc)
 
-pub no_order_empty : (line : List ℕ) → pieces line ≡ [] → (order : Order) → fields line ≢ order_form order
-no_order_empty line none (Kill p) e = absurd (cc)
-no_order_empty line none (Stop p) e = absurd (cc)
-no_order_empty line none (Boot p) e = absurd (cc)
-no_order_empty line none (Cut p q) e = absurd (cc)
-no_order_empty line none (Heal p q) e = absurd (cc)
-no_order_empty line none (DiskFail p n) e = absurd (cc)
-
 -- no order has other fields behind its word than one number or two
 pub no_order : (line piece : List ℕ) (more : List ℕ) → pieces line ≡ piece ∷ pieces more
     → ((n : ℕ) → fields more ≢ number n ∷ []) → ((m n : ℕ) → fields more ≢ number m ∷ number n ∷ [])
@@ -72,6 +64,9 @@ not_empty (Boot p) e = absurd (cc)
 not_empty (Cut p q) e = absurd (cc)
 not_empty (Heal p q) e = absurd (cc)
 not_empty (DiskFail p n) e = absurd (cc)
+
+pub no_order_empty : (line : List ℕ) → pieces line ≡ [] → (order : Order) → fields line ≢ order_form order
+no_order_empty line none order e = not_empty order (sym (ap (map field_of) none) ∙ e)
 
 not_number : (n : ℕ) (more : List Field) (order : Order) → number n ∷ more ≢ order_form order
 not_number n more (Kill p) e = absurd (cc)

@@ -1,5 +1,5 @@
 -- What was read is in range.
-use Rattle.std.proofs.Common.{◌≡◌, ℕ, ◌+◌, ◌≤◌, inl, inr, false, List, [], ◌∷◌, ◌++◌, length, Option, Some, None, ap, sym, ◌∙◌, refl, subst, append_assoc, append-nil, arith}
+use Rattle.std.proofs.Common.{◌≡◌, ℕ, ◌+◌, ◌≤◌, inl, inr, ◌<◌, true, false, List, [], ◌∷◌, ◌++◌, length, Option, Some, None, ap, sym, ◌∙◌, refl, subst, append_assoc, append-nil, arith}
 use Rattle.std.specs.Option.{unwrap_or, is_some}
 use Rattle.std.specs.List.{filter_map, cons_option, AllByRecursion}
 use Rattle.std.proofs.lemmas.List.Elements.{filter_map-append}
@@ -8,7 +8,7 @@ use Rattle.flow_worldfile.specs.declared.directive.Directive.{Directive}
 use Rattle.flow_worldfile.specs.declared.directive.Directive.TheVariants.{Seed, Processes, Events, Turns, Latency, DiskDelay, Loss, Word, At}
 use Rattle.flow_worldfile.specs.Lines.{lines}
 use Rattle.flow_worldfile.specs.Directives.{HasForm, InRange, Names}
-use Rattle.flow_worldfile.specs.Worlds.{World, said, world_of, head, first, seed_in, processes_in, events_in, turns_in, latency_in, diskdelay_in, loss_in, word_in, order_in, at_line, IsInRange}
+use Rattle.flow_worldfile.specs.Worlds.{World, said, world_of, head, first, seed_in, processes_in, events_in, turns_in, latency_in, diskdelay_in, loss_in, word_in, order_in, at_line, most_words, most_orders, IsInRange}
 use Rattle.flow_worldfile.specs.Reading.{HasRoom, Keeps, accepted, Judges, IsCount, IsFileOf}
 use Rattle.flow_worldfile.proofs.SaidLemmas.{other, newly, still, one_longer}
 use Rattle.flow_worldfile.proofs.FormLemmas.{one_form, count_said}
@@ -17,41 +17,38 @@ use Rattle.flow_worldfile.proofs.OneVerdict.{over_formless}
 -- lines in their ranges, and no more of them than may stand
 record Kept (count : ℕ) (ds : List Directive) : Type 0 where
   each : AllByRecursion (λ d. InRange d × Names count d) ds
-  words : length (filter_map word_in ds) ≤ 100000
-  script : length (filter_map order_in ds) ≤ 10000
+  words : length (filter_map word_in ds) ≤ most_words
+  script : length (filter_map order_in ds) ≤ most_orders
 
 each_more : {X : Type 0} (P : X → Type 0) (xs : List X) (x : X) → AllByRecursion P xs → P x → AllByRecursion P (xs ++ x ∷ [])
 each_more P [] x all here = (here, tt)
 each_more P (y ∷ ys) x all here = (all.0, each_more P ys x all.1 here)
 
--- the room for words, and for orders
-words_within : (ds : List Directive) (d : Directive) → HasRoom (said ds) d → length (filter_map word_in ds) ≤ 100000 → length (filter_map word_in (ds ++ d ∷ [])) ≤ 100000
-words_within ds (Word n) room few = let longer = one_longer word_in ds (Word n) n refl in omega arith
-words_within ds (Seed n) room few = subst (λ xs. length xs ≤ 100000) (sym (other word_in ds (Seed n) refl)) few
-words_within ds (Processes n) room few = subst (λ xs. length xs ≤ 100000) (sym (other word_in ds (Processes n) refl)) few
-words_within ds (Events n) room few = subst (λ xs. length xs ≤ 100000) (sym (other word_in ds (Events n) refl)) few
-words_within ds (Turns n) room few = subst (λ xs. length xs ≤ 100000) (sym (other word_in ds (Turns n) refl)) few
-words_within ds (Latency lo hi) room few = subst (λ xs. length xs ≤ 100000) (sym (other word_in ds (Latency lo hi) refl)) few
-words_within ds (DiskDelay lo hi) room few = subst (λ xs. length xs ≤ 100000) (sym (other word_in ds (DiskDelay lo hi) refl)) few
-words_within ds (Loss n) room few = subst (λ xs. length xs ≤ 100000) (sym (other word_in ds (Loss n) refl)) few
-words_within ds (At t order) room few = subst (λ xs. length xs ≤ 100000) (sym (other word_in ds (At t order) refl)) few
+-- where one more is added only below the limit, there are no more than the limit
+no_more : {X : Type 0} (kind : Directive → Option X) (limit : ℕ) (ds : List Directive) (d : Directive)
+    → (is_some (kind d) ≡ true → length (filter_map kind ds) < limit) → length (filter_map kind ds) ≤ limit
+    → length (filter_map kind (ds ++ d ∷ [])) ≤ limit
+no_more {X} kind limit ds d room few = step (kind d) refl
+  where
+    step : (o : Option X) → kind d ≡ o → length (filter_map kind (ds ++ d ∷ [])) ≤ limit
+    step None e = subst (λ xs. length xs ≤ limit) (sym (other kind ds d e)) few
+    step (Some x) e =
+        let below : length (filter_map kind ds) < limit = room (ap is_some e) in
+        omega (arith, one_longer kind ds d x e)
 
-script_within : (ds : List Directive) (d : Directive) → HasRoom (said ds) d → length (filter_map order_in ds) ≤ 10000 → length (filter_map order_in (ds ++ d ∷ [])) ≤ 10000
-script_within ds (At t order) room few = let longer = one_longer order_in ds (At t order) (t, order) refl in omega arith
-script_within ds (Seed n) room few = subst (λ xs. length xs ≤ 10000) (sym (other order_in ds (Seed n) refl)) few
-script_within ds (Processes n) room few = subst (λ xs. length xs ≤ 10000) (sym (other order_in ds (Processes n) refl)) few
-script_within ds (Events n) room few = subst (λ xs. length xs ≤ 10000) (sym (other order_in ds (Events n) refl)) few
-script_within ds (Turns n) room few = subst (λ xs. length xs ≤ 10000) (sym (other order_in ds (Turns n) refl)) few
-script_within ds (Latency lo hi) room few = subst (λ xs. length xs ≤ 10000) (sym (other order_in ds (Latency lo hi) refl)) few
-script_within ds (DiskDelay lo hi) room few = subst (λ xs. length xs ≤ 10000) (sym (other order_in ds (DiskDelay lo hi) refl)) few
-script_within ds (Loss n) room few = subst (λ xs. length xs ≤ 10000) (sym (other order_in ds (Loss n) refl)) few
-script_within ds (Word n) room few = subst (λ xs. length xs ≤ 10000) (sym (other order_in ds (Word n) refl)) few
+word_room : (ds : List Directive) (d : Directive) → HasRoom (said ds) d → is_some (word_in d) ≡ true → length (filter_map word_in ds) < most_words
+word_room ds (Word n) room is = room
+word_room ds _ room is = absurd (cc)
+
+order_room : (ds : List Directive) (d : Directive) → HasRoom (said ds) d → is_some (order_in d) ≡ true → length (filter_map order_in ds) < most_orders
+order_room ds (At t order) room is = room
+order_room ds _ room is = absurd (cc)
 
 kept_more : (count : ℕ) (ds : List Directive) (line : List ℕ) (d : Directive) → Keeps count (said ds) line d → Kept count ds → Kept count (ds ++ d ∷ [])
 kept_more count ds line d keeps kept = record {
   each = each_more (λ d. InRange d × Names count d) ds d kept.each (keeps.within.0, keeps.names);
-  words = words_within ds d keeps.within.1 kept.words;
-  script = script_within ds d keeps.within.1 kept.script;
+  words = no_more word_in most_words ds d (word_room ds d keeps.within.1) kept.words;
+  script = no_more order_in most_orders ds d (order_room ds d keeps.within.1) kept.script;
 }
 
 -- accepted lines are kept

@@ -8,7 +8,7 @@ use Rattle.flow_worldfile.specs.declared.directive.Directive.{Directive}
 use Rattle.flow_worldfile.specs.declared.directive.Directive.TheVariants.{Seed, Processes, Events, Turns, Latency, DiskDelay, Loss, Word, At}
 use Rattle.flow_worldfile.specs.Lines.{lines}
 use Rattle.flow_worldfile.specs.Directives.{order_form, form, fields_text, line_text, HasForm, OrderInRange, InRange, OrderNames, Names}
-use Rattle.flow_worldfile.specs.Worlds.{World, said, world_of, word_in, order_in, settings, at_line, directives, world_text, IsInRange}
+use Rattle.flow_worldfile.specs.Worlds.{World, said, world_of, word_in, order_in, settings, at_line, directives, world_text, most_words, most_orders, IsInRange}
 use Rattle.flow_worldfile.specs.Reading.{HasRoom, is_repeated, accepted, Judges, IsCount}
 use Rattle.flow_worldfile.specs.Laws.{ReadsBack}
 use Rattle.flow_worldfile.proofs.SaidLemmas.{one_longer}
@@ -84,7 +84,7 @@ all_print count few before [] follows = tt
 all_print count few before (d ∷ ds) follows = (form_prints count few d follows.0 follows.3, all_print count few (before ++ d ∷ []) ds follows.4)
 
 words_follow : (count : ℕ) (before : List Directive) (ws : List ℕ) → AllByRecursion (λ n. InRange (Word n)) ws
-    → length (filter_map word_in before) + length ws ≤ 100000 → Follows count before (map Word ws)
+    → length (filter_map word_in before) + length ws ≤ most_words → Follows count before (map Word ws)
 unfolding Follows
 words_follow count before [] all few = tt
 words_follow count before (n ∷ ws) all few =
@@ -92,7 +92,7 @@ words_follow count before (n ∷ ws) all few =
     (all.0, omega arith, refl, tt, words_follow count (before ++ Word n ∷ []) ws all.1 (omega arith))
 
 script_follows : (count : ℕ) (before : List Directive) (ats : List (ℕ × Order)) → AllByRecursion (λ at. InRange (at_line at) × Names count (at_line at)) ats
-    → length (filter_map order_in before) + length ats ≤ 10000 → Follows count before (map at_line ats)
+    → length (filter_map order_in before) + length ats ≤ most_orders → Follows count before (map at_line ats)
 unfolding Follows
 script_follows count before [] all few = tt
 script_follows count before (at ∷ ats) all few =

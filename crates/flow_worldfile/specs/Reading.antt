@@ -9,7 +9,9 @@ use Rattle.flow_worldfile.specs.Lines.{lines, IsPassedOver}
 use Rattle.flow_worldfile.specs.Directives.{HasForm, InRange, Names}
 use Rattle.flow_worldfile.specs.Worlds.{Said, said, World, world_of, seen, most_words, most_orders}
 
--- the rules that a line keeps
+-- The rules that a line keeps, under the numbers that a refusal shows. W1: it has one of the forms. W2: its
+-- numbers are in their ranges, and it is not one too many. W3: what may be said once isn't said again. W4: the
+-- processes that it names are there.
 pub data Rule : Type 0 where
   W1 : Rule
   W2 : Rule
