@@ -1,107 +1,76 @@
 -- A text has one verdict.
-use Rattle.std.proofs.Common.{◌≡◌, ℕ, ◌+◌, inl, inr, false, List, [], ◌∷◌, ◌++◌, map, get_or, eqb, ap, subst, sym, ◌∙◌, refl}
-use Rattle.std.specs.Bool.{IsTrue}
+use Rattle.std.proofs.Common.{◌≡◌, ℕ, ◌+◌, ◌⊎◌, inl, inr, List, [], ◌∷◌, ◌++◌, length, ap, ap₂, subst, sym, ◌∙◌, refl}
 use Rattle.flow_worldfile.specs.declared.directive.Directive.{Directive}
-use Rattle.flow_worldfile.specs.declared.directive.Directive.TheVariants.{Seed, Processes, Events, Turns, Latency, DiskDelay, Loss, Word, At}
-use Rattle.flow_worldfile.specs.Lines.{text, field_of, pieces, lines, begins_comment, IsPassedOver}
-use Rattle.flow_worldfile.specs.Directives.{form, HasForm, Names}
-use Rattle.flow_worldfile.specs.Worlds.{Said, said}
-use Rattle.flow_worldfile.specs.Reading.{Rule, W1, W2, W3, W4, IsWithin, is_repeated, Keeps, Breaks, Verdict, refused, Judges, IsCount}
+use Rattle.flow_worldfile.specs.declared.directive.Directive.TheVariants.{Processes}
+use Rattle.flow_worldfile.specs.Lines.{lines}
+use Rattle.flow_worldfile.specs.Worlds.{said}
+use Rattle.flow_worldfile.specs.Reading.{Rule, Breaks, Say, AllKept, IsFirstFault, Verdict, accepted, refused, Judges, IsCount}
 use Rattle.flow_worldfile.specs.Laws.{OneVerdict}
-use Rattle.flow_worldfile.proofs.FieldLemmas.{is_word, first_is}
 use Rattle.flow_worldfile.proofs.FormLemmas.{one_form}
+use Rattle.flow_worldfile.proofs.RuleLemmas.{over_or_breaks, keeps_or_breaks, one_rule}
+use Rattle.flow_worldfile.proofs.SayLemmas.{say_once, say_split}
+use Rattle.flow_worldfile.proofs.KeptLemmas.{kept_at}
 
--- a comment's first field is no word of a form
-no_word : (piece word : List ℕ) → IsTrue (eqb (get_or piece 0 0) 35) → eqb (get_or word 0 0) 35 ≡ false → field_of piece ≡ text word → ⊥
-no_word piece word hash other e =
-    let is : eqb (get_or piece 0 0) 35 ≡ eqb (get_or word 0 0) 35 = ap (λ bytes. eqb (get_or bytes 0 0) 35) (is_word piece word e) in
-    absurd (cc)
+-- no line of those that keep the rules breaks one
+no_fault_there : (count : ℕ) (line : List ℕ) (mid : List (List ℕ)) (before there es : List Directive) (rule : Rule) → es ≡ before ++ there
+    → Say (line ∷ mid) there → AllKept count es → Breaks count (said before) line rule → ⊥
+no_fault_there count line mid before there es rule is (inl over) kept breaks = over_or_breaks count (said before) line rule over.0 breaks
+no_fault_there count line mid before there es rule is (inr h) kept breaks =
+    let all : es ≡ before ++ h.0 ∷ h.1 = is ∙ ap (λ l. before ++ l) h.2 in
+    keeps_or_breaks count (said before) line h.0 rule (kept_at count line before h.0 h.1 h.3 (subst (AllKept count) all kept)) breaks
 
-formless_pieces : (ps : List (List ℕ)) → IsTrue (begins_comment ps) → (d : Directive) → map field_of ps ≡ form d → ⊥
-formless_pieces [] over (Seed n) e = absurd (cc)
-formless_pieces [] over (Processes n) e = absurd (cc)
-formless_pieces [] over (Events n) e = absurd (cc)
-formless_pieces [] over (Turns n) e = absurd (cc)
-formless_pieces [] over (Latency lo hi) e = absurd (cc)
-formless_pieces [] over (DiskDelay lo hi) e = absurd (cc)
-formless_pieces [] over (Loss n) e = absurd (cc)
-formless_pieces [] over (Word n) e = absurd (cc)
-formless_pieces [] over (At t order) e = absurd (cc)
-formless_pieces (piece ∷ more) over (Seed n) e = no_word piece _ over refl (first_is e)
-formless_pieces (piece ∷ more) over (Processes n) e = no_word piece _ over refl (first_is e)
-formless_pieces (piece ∷ more) over (Events n) e = no_word piece _ over refl (first_is e)
-formless_pieces (piece ∷ more) over (Turns n) e = no_word piece _ over refl (first_is e)
-formless_pieces (piece ∷ more) over (Latency lo hi) e = no_word piece _ over refl (first_is e)
-formless_pieces (piece ∷ more) over (DiskDelay lo hi) e = no_word piece _ over refl (first_is e)
-formless_pieces (piece ∷ more) over (Loss n) e = no_word piece _ over refl (first_is e)
-formless_pieces (piece ∷ more) over (Word n) e = no_word piece _ over refl (first_is e)
-formless_pieces (piece ∷ more) over (At t order) e = no_word piece _ over refl (first_is e)
+no_fault_within : (count : ℕ) (front : List (List ℕ)) (line : List ℕ) (mid : List (List ℕ)) (before es : List Directive) (rule : Rule)
+    → Say (front ++ line ∷ mid) es → AllKept count es → Say front before → Breaks count (said before) line rule → ⊥
+no_fault_within count front line mid before es rule says kept first breaks =
+    let s = say_split front (line ∷ mid) es says in
+    let same : s.here ≡ before = say_once front s.here before s.says_front first in
+    no_fault_there count line mid before s.there es rule (s.is ∙ ap (λ l. l ++ s.there) same) s.says_others kept breaks
 
--- a line that is passed over has no form
-pub over_formless : (line : List ℕ) (d : Directive) → IsPassedOver line → HasForm line d → ⊥
-over_formless line d over said = formless_pieces (pieces line) over d said
+-- two places in one list
+meet : {X : Type 0} (a b : List X) (x y : X) (xs ys : List X) → a ++ x ∷ xs ≡ b ++ y ∷ ys
+    → ((a ≡ b) × (x ≡ y)) ⊎ (((mid : List X) × (b ≡ a ++ x ∷ mid)) ⊎ ((mid : List X) × (a ≡ b ++ y ∷ mid)))
+meet [] [] x y xs ys e = inl (refl, cc)
+meet [] (z ∷ zs) x y xs ys e =
+    let same : z ≡ x = cc in
+    inr (inl (zs, ap (λ h. h ∷ zs) same))
+meet (w ∷ ws) [] x y xs ys e =
+    let same : w ≡ y = cc in
+    inr (inr (ws, ap (λ h. h ∷ ws) same))
+meet (w ∷ ws) (z ∷ zs) x y xs ys e =
+    let heads : w ≡ z = cc in
+    let tails : ws ++ x ∷ xs ≡ zs ++ y ∷ ys = cc in
+    elim (meet ws zs x y xs ys tails) [
+      | inl h ↦ inl (ap₂ (λ p ps. p ∷ ps) heads h.0, h.1)
+      | inr h ↦ elim h [
+        | inl m ↦ inr (inl (m.0, ap₂ (λ p ps. p ∷ ps) (sym heads) m.1))
+        | inr m ↦ inr (inr (m.0, ap₂ (λ p ps. p ∷ ps) heads m.1))
+      ]
+    ]
 
--- a line that is passed over breaks no rule
-over_or_breaks : (count : ℕ) (s : Said) (line : List ℕ) (rule : Rule) → IsPassedOver line → Breaks count s line rule → ⊥
-over_or_breaks count s line W1 over h = h.0 over
-over_or_breaks count s line W2 over h = over_formless line h.0 over h.1
-over_or_breaks count s line W3 over h = over_formless line h.0 over h.1
-over_or_breaks count s line W4 over h = over_formless line h.0 over h.1
+-- the first line that breaks a rule, and the rule
+one_fault : (count : ℕ) (ls : List (List ℕ)) (j k : ℕ) (p q : Rule) → IsFirstFault count ls j p → IsFirstFault count ls k q → refused j p ≡ refused k q
+one_fault count ls j k p q f g =
+    elim (meet f.front g.front f.line g.line f.more g.more (sym f.splits ∙ g.splits)) [
+      | inl same ↦
+          let before : g.before ≡ f.before = say_once g.front g.before f.before g.says (subst (λ l. Say l f.before) same.0 f.says) in
+          let breaks : Breaks count (said f.before) f.line q =
+          subst (λ l. Breaks count (said f.before) l q) (sym same.1) (subst (λ l. Breaks count (said l) g.line q) before g.breaks) in
+          ap₂ refused (f.number ∙ ap (λ l. length l + 1) same.0 ∙ sym g.number) (one_rule count (said f.before) f.line p q f.breaks breaks)
+      | inr h ↦ elim h [
+        | inl m ↦ absurd (no_fault_within count f.front f.line m.0 f.before g.before p (subst (λ l. Say l g.before) m.1 g.says) g.kept f.says f.breaks)
+        | inr m ↦ absurd (no_fault_within count g.front g.line m.0 g.before f.before q (subst (λ l. Say l f.before) m.1 f.says) f.kept g.says g.breaks)
+      ]
+    ]
 
-once_or_twice : (s : Said) (d e : Directive) → d ≡ e → is_repeated s d ≡ false → IsTrue (is_repeated s e) → ⊥
-once_or_twice s d e same once twice = absurd (cc (ap (is_repeated s) same))
+not_both : (count : ℕ) (ls : List (List ℕ)) (ds : List Directive) (k : ℕ) (rule : Rule) → Say ls ds → AllKept count ds → IsFirstFault count ls k rule → ⊥
+not_both count ls ds k rule says kept f =
+    no_fault_within count f.front f.line f.more f.before ds rule (subst (λ l. Say l ds) f.splits says) kept f.says f.breaks
 
--- where a line has a form, W1 isn't broken; and so on
-formed : (count : ℕ) (s : Said) (line : List ℕ) (d : Directive) → HasForm line d → Breaks count s line W1 → ⊥
-formed count s line d said h = h.1 d said
-
-fitting : (count : ℕ) (s : Said) (line : List ℕ) (d : Directive) → HasForm line d → IsWithin s d → Breaks count s line W2 → ⊥
-fitting count s line d said within h = h.2 (subst (IsWithin s) (one_form line d h.0 said h.1) within)
-
-single : (count : ℕ) (s : Said) (line : List ℕ) (d : Directive) → HasForm line d → is_repeated s d ≡ false → Breaks count s line W3 → ⊥
-single count s line d said once h = once_or_twice s d h.0 (one_form line d h.0 said h.1) once h.3
-
--- a line that keeps the rules breaks none
-keeps_or_breaks : (count : ℕ) (s : Said) (line : List ℕ) (d : Directive) (rule : Rule) → Keeps count s line d → Breaks count s line rule → ⊥
-keeps_or_breaks count s line d W1 keeps h = formed count s line d keeps.form h
-keeps_or_breaks count s line d W2 keeps h = fitting count s line d keeps.form keeps.within h
-keeps_or_breaks count s line d W3 keeps h = single count s line d keeps.form keeps.once h
-keeps_or_breaks count s line d W4 keeps h = h.4 (subst (Names count) (one_form line d h.0 keeps.form h.1) keeps.names)
-
--- a line breaks one rule, as its first
-one_rule : (count : ℕ) (s : Said) (line : List ℕ) (p q : Rule) → Breaks count s line p → Breaks count s line q → p ≡ q
-one_rule count s line W1 W1 g h = refl
-one_rule count s line W1 W2 g h = absurd (formed count s line h.0 h.1 g)
-one_rule count s line W1 W3 g h = absurd (formed count s line h.0 h.1 g)
-one_rule count s line W1 W4 g h = absurd (formed count s line h.0 h.1 g)
-one_rule count s line W2 W1 g h = absurd (formed count s line g.0 g.1 h)
-one_rule count s line W2 W2 g h = refl
-one_rule count s line W2 W3 g h = absurd (fitting count s line h.0 h.1 h.2 g)
-one_rule count s line W2 W4 g h = absurd (fitting count s line h.0 h.1 h.2 g)
-one_rule count s line W3 W1 g h = absurd (formed count s line g.0 g.1 h)
-one_rule count s line W3 W2 g h = absurd (fitting count s line g.0 g.1 g.2 h)
-one_rule count s line W3 W3 g h = refl
-one_rule count s line W3 W4 g h = absurd (single count s line h.0 h.1 h.3 g)
-one_rule count s line W4 W1 g h = absurd (formed count s line g.0 g.1 h)
-one_rule count s line W4 W2 g h = absurd (fitting count s line g.0 g.1 g.2 h)
-one_rule count s line W4 W3 g h = absurd (single count s line g.0 g.1 g.3 h)
-one_rule count s line W4 W4 g h = refl
-
--- the verdict on some lines
-judged_once : (count k : ℕ) (before : List Directive) (ls : List (List ℕ)) (v w : Verdict) → Judges count k before ls v → Judges count k before ls w → v ≡ w
-judged_once count k before [] v w g h = g ∙ sym h
-judged_once count k before (line ∷ more) v w (inl over) (inl passed) = judged_once count (k + 1) before more v w over.1 passed.1
-judged_once count k before (line ∷ more) v w (inl over) (inr (inl (d, keeps, h))) = absurd (over_formless line d over.0 keeps.form)
-judged_once count k before (line ∷ more) v w (inl over) (inr (inr (rule, breaks, is))) = absurd (over_or_breaks count _ line rule over.0 breaks)
-judged_once count k before (line ∷ more) v w (inr (inl (d, keeps, g))) (inl over) = absurd (over_formless line d over.0 keeps.form)
-judged_once count k before (line ∷ more) v w (inr (inl (d, keeps, g))) (inr (inl (e, kept, h))) =
-    let same : e ≡ d = one_form line e d kept.form keeps.form in
-    judged_once count (k + 1) (before ++ d ∷ []) more v w g (subst (λ x. Judges count (k + 1) (before ++ x ∷ []) more w) same h)
-judged_once count k before (line ∷ more) v w (inr (inl (d, keeps, g))) (inr (inr (rule, breaks, is))) = absurd (keeps_or_breaks count _ line d rule keeps breaks)
-judged_once count k before (line ∷ more) v w (inr (inr (rule, breaks, is))) (inl over) = absurd (over_or_breaks count _ line rule over.0 breaks)
-judged_once count k before (line ∷ more) v w (inr (inr (rule, breaks, is))) (inr (inl (d, keeps, h))) = absurd (keeps_or_breaks count _ line d rule keeps breaks)
-judged_once count k before (line ∷ more) v w (inr (inr (p, breaks, is))) (inr (inr (q, broken, said))) =
-    is ∙ ap (refused k) (one_rule count _ line p q breaks broken) ∙ sym said
+judged_once : (count : ℕ) (ls : List (List ℕ)) (v w : Verdict) → Judges count ls v → Judges count ls w → v ≡ w
+judged_once count ls (accepted ds) (accepted es) g h = ap accepted (say_once ls ds es g.0 h.0)
+judged_once count ls (accepted ds) (refused k rule) g h = absurd (not_both count ls ds k rule g.0 g.1 h)
+judged_once count ls (refused k rule) (accepted es) g h = absurd (not_both count ls es k rule h.0 h.1 g)
+judged_once count ls (refused j p) (refused k q) g h = one_fault count ls j k p q g h
 
 -- the count of processes
 one_count : (ls : List (List ℕ)) (m n : ℕ) → IsCount ls m → IsCount ls n → m ≡ n
@@ -116,4 +85,4 @@ one_count (line ∷ more) m n (inr g) (inr h) = one_count more m n g.1 h.1
 pub one_verdict : OneVerdict
 one_verdict bytes v w (m, counted, judged) (n, there, again) =
     let same : n ≡ m = one_count (lines bytes) n m there counted in
-    judged_once m 1 [] (lines bytes) v w judged (subst (λ count. Judges count 1 [] (lines bytes) w) same again)
+    judged_once m (lines bytes) v w judged (subst (λ count. Judges count (lines bytes) w) same again)

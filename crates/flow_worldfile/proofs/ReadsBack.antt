@@ -1,6 +1,6 @@
 -- The printed text of a world is a file of that world.
-use Rattle.std.proofs.Common.{◌≡◌, ℕ, ◌+◌, ◌≤◌, inl, inr, false, List, [], ◌∷◌, ◌++◌, map, length, ap, sym, ◌∙◌, refl, subst, append_assoc, append-nil, arith, codes}
-use Rattle.std.specs.List.{flat_map, filter_map, AllByRecursion}
+use Rattle.std.proofs.Common.{◌≡◌, ℕ, ◌≤◌, inl, inr, List, [], ◌∷◌, ◌++◌, map, length, Option, None, ap, sym, ◌∙◌, refl, subst, append-nil, arith, codes}
+use Rattle.std.specs.List.{flat_map, filter_map, cons_option, AllByRecursion}
 use Rattle.std.proofs.lemmas.List.Elements.{filter_map-append}
 use Rattle.flow_worldfile.specs.declared.directive.Order.{Order}
 use Rattle.flow_worldfile.specs.declared.directive.Order.TheVariants.{Kill, Stop, Boot, Cut, Heal, DiskFail}
@@ -8,10 +8,10 @@ use Rattle.flow_worldfile.specs.declared.directive.Directive.{Directive}
 use Rattle.flow_worldfile.specs.declared.directive.Directive.TheVariants.{Seed, Processes, Events, Turns, Latency, DiskDelay, Loss, Word, At}
 use Rattle.flow_worldfile.specs.Lines.{lines}
 use Rattle.flow_worldfile.specs.Directives.{order_form, form, fields_text, line_text, HasForm, OrderInRange, InRange, OrderNames, Names}
-use Rattle.flow_worldfile.specs.Worlds.{World, said, world_of, word_in, order_in, settings, at_line, directives, world_text, most_words, most_orders, IsInRange}
-use Rattle.flow_worldfile.specs.Reading.{HasRoom, is_repeated, accepted, Judges, IsCount}
+use Rattle.flow_worldfile.specs.Worlds.{World, said, world_of, seed_in, processes_in, events_in, turns_in, latency_in, diskdelay_in, loss_in, word_in, order_in, at_line, directives, world_text, IsInRange}
+use Rattle.flow_worldfile.specs.Reading.{Say, AllKept, IsCount}
 use Rattle.flow_worldfile.specs.Laws.{ReadsBack}
-use Rattle.flow_worldfile.proofs.SaidLemmas.{one_longer}
+use Rattle.flow_worldfile.proofs.KeptLemmas.{all_with}
 use Rattle.flow_worldfile.proofs.FormLemmas.{one_form}
 use Rattle.flow_worldfile.proofs.PrintedLemmas.{Prints, number_prints, word_prints, fields_again, fields_printed, printed_line}
 
@@ -55,112 +55,91 @@ lines_again [] all = refl
 lines_again (d ∷ ds) all =
     printed_line (line_of d) (flat_map line_text ds) (fields_printed (form d) all.0) ∙ ap (λ ls. line_of d ∷ ls) (lines_again ds all.1)
 
--- these lines keep the rules, each after those before it
-Follows : ℕ → List Directive → List Directive → Type 0
-Follows count before [] = Unit {0}
-Follows count before (d ∷ ds) = InRange d × HasRoom (said before) d × (is_repeated (said before) d ≡ false) × Names count d × Follows count (before ++ d ∷ []) ds
+-- printed lines say what they were printed from
+says_again : (ds : List Directive) → AllByRecursion (λ d. AllByRecursion Prints (form d)) ds → Say (map line_of ds) ds
+says_again [] all = refl
+says_again (d ∷ ds) all = inr (d, ds, refl, form_again d all.0, says_again ds all.1)
 
-follows_on : (count : ℕ) (before xs ys : List Directive) → Follows count before xs → Follows count (before ++ xs) ys → Follows count before (xs ++ ys)
-unfolding Follows
-follows_on count before [] ys first then_ = subst (λ l. Follows count l ys) (append-nil before) then_
-follows_on count before (x ∷ xs) ys first then_ =
-    (first.0, first.1, first.2, first.3, follows_on count (before ++ x ∷ []) xs ys first.4 (subst (λ l. Follows count l ys) (sym (append_assoc before (x ∷ []) xs)) then_))
+all_print : (count : ℕ) → count ≤ 64 → (ds : List Directive) → AllByRecursion InRange ds → AllByRecursion (Names count) ds → AllByRecursion (λ d. AllByRecursion Prints (form d)) ds
+all_print count few [] within named = tt
+all_print count few (d ∷ ds) within named = (form_prints count few d within.0 named.0, all_print count few ds within.1 named.1)
 
--- lines that keep the rules are accepted
-judged_all : (count k : ℕ) → count ≤ 64 → (before ds : List Directive) → Follows count before ds → Judges count k before (map line_of ds) (accepted (before ++ ds))
-unfolding Follows
-judged_all count k few before [] follows = ap accepted (append-nil before)
-judged_all count k few before (d ∷ ds) follows =
-    inr (inl (
-      d,
-      record { form = form_again d (form_prints count few d follows.0 follows.3); within = (follows.0, follows.1); once = follows.2; names = follows.3 },
-      subst (λ l. Judges count (k + 1) (before ++ d ∷ []) (map line_of ds) (accepted l)) (append_assoc before (d ∷ []) ds)
-          (judged_all count (k + 1) few (before ++ d ∷ []) ds follows.4),
-    ))
+-- what holds of each item holds of what is made of it
+all_made : {X Y : Type 0} (P : Y → Type 0) (f : X → Y) (xs : List X) → AllByRecursion (λ x. P (f x)) xs → AllByRecursion P (map f xs)
+all_made P f [] all = tt
+all_made P f (x ∷ xs) all = (all.0, all_made P f xs all.1)
 
-all_print : (count : ℕ) → count ≤ 64 → (before ds : List Directive) → Follows count before ds → AllByRecursion (λ d. AllByRecursion Prints (form d)) ds
-unfolding Follows
-all_print count few before [] follows = tt
-all_print count few before (d ∷ ds) follows = (form_prints count few d follows.0 follows.3, all_print count few (before ++ d ∷ []) ds follows.4)
+firsts : {X : Type 0} (P Q : X → Type 0) (xs : List X) → AllByRecursion (λ x. P x × Q x) xs → AllByRecursion P xs
+firsts P Q [] all = tt
+firsts P Q (x ∷ xs) all = (all.0.0, firsts P Q xs all.1)
 
-words_follow : (count : ℕ) (before : List Directive) (ws : List ℕ) → AllByRecursion (λ n. InRange (Word n)) ws
-    → length (filter_map word_in before) + length ws ≤ most_words → Follows count before (map Word ws)
-unfolding Follows
-words_follow count before [] all few = tt
-words_follow count before (n ∷ ws) all few =
-    let longer : length (filter_map word_in (before ++ Word n ∷ [])) ≡ length (filter_map word_in before) + 1 = one_longer word_in before (Word n) n refl in
-    (all.0, omega arith, refl, tt, words_follow count (before ++ Word n ∷ []) ws all.1 (omega arith))
+seconds : {X : Type 0} (P Q : X → Type 0) (xs : List X) → AllByRecursion (λ x. P x × Q x) xs → AllByRecursion Q xs
+seconds P Q [] all = tt
+seconds P Q (x ∷ xs) all = (all.0.1, seconds P Q xs all.1)
 
-script_follows : (count : ℕ) (before : List Directive) (ats : List (ℕ × Order)) → AllByRecursion (λ at. InRange (at_line at) × Names count (at_line at)) ats
-    → length (filter_map order_in before) + length ats ≤ most_orders → Follows count before (map at_line ats)
-unfolding Follows
-script_follows count before [] all few = tt
-script_follows count before (at ∷ ats) all few =
-    let longer : length (filter_map order_in (before ++ at_line at ∷ [])) ≡ length (filter_map order_in before) + 1 = one_longer order_in before (at_line at) at refl in
-    (all.0.0, omega arith, refl, all.0.1, script_follows count (before ++ at_line at ∷ []) ats all.1 (omega arith))
+no_names : (count : ℕ) (ws : List ℕ) → AllByRecursion (λ n. Names count (Word n)) ws
+no_names count [] = tt
+no_names count (n ∷ ws) = (tt, no_names count ws)
+
+-- lines of another kind
+none_of : {X Y : Type 0} (kind : Directive → Option Y) (f : X → Directive) (xs : List X) → ((x : X) → kind (f x) ≡ None) → filter_map kind (map f xs) ≡ []
+none_of kind f [] none = refl
+none_of kind f (x ∷ xs) none = ap (λ o. cons_option o (filter_map kind (map f xs))) (none x) ∙ none_of kind f xs none
+
+-- there are no settings among words and orders
+only_once : {Y : Type 0} (kind : Directive → Option Y) (ws : List ℕ) (ats : List (ℕ × Order)) → ((n : ℕ) → kind (Word n) ≡ None) → ((at : ℕ × Order) → kind (at_line at) ≡ None)
+    → filter_map kind (map Word ws ++ map at_line ats) ≡ []
+only_once kind ws ats w a =
+    filter_map-append kind (map Word ws) (map at_line ats) ∙ ap (λ l. l ++ filter_map kind (map at_line ats)) (none_of kind Word ws w) ∙ none_of kind at_line ats a
 
 -- what words and orders say
 words_said : (ws : List ℕ) → filter_map word_in (map Word ws) ≡ ws
 words_said [] = refl
 words_said (n ∷ ws) = ap (λ l. n ∷ l) (words_said ws)
 
-no_orders : (ws : List ℕ) → filter_map order_in (map Word ws) ≡ []
-no_orders [] = refl
-no_orders (n ∷ ws) = no_orders ws
-
 orders_said : (ats : List (ℕ × Order)) → filter_map order_in (map at_line ats) ≡ ats
 orders_said [] = refl
 orders_said (at ∷ ats) = ap (λ l. at ∷ l) (orders_said ats)
 
-no_words : (ats : List (ℕ × Order)) → filter_map word_in (map at_line ats) ≡ []
-no_words [] = refl
-no_words (at ∷ ats) = no_words ats
+-- the words and the orders that the printed lines say
+printed_words : (w : World) → filter_map word_in (map Word w.words ++ map at_line w.script) ≡ w.words
+printed_words w =
+    filter_map-append word_in (map Word w.words) (map at_line w.script)
+    ∙ ap (λ l. filter_map word_in (map Word w.words) ++ l) (none_of word_in at_line w.script (λ at. refl)) ∙ append-nil _ ∙ words_said w.words
 
-settings_follow : (w : World) → IsInRange w → Follows w.processes [] (settings w)
-unfolding Follows
-settings_follow w within = (
-  within.seed,
-  tt,
-  refl,
-  tt,
-  (
-    within.processes,
-    tt,
-    refl,
-    tt,
-    (
-      within.events,
-      tt,
-      refl,
-      tt,
-      (
-        within.turns,
-        tt,
-        refl,
-        tt,
-        (within.latency, tt, refl, tt, (within.diskdelay, tt, refl, tt, (within.loss, tt, refl, tt, tt))),
-      ),
-    ),
-  ),
-)
+printed_script : (w : World) → filter_map order_in (map Word w.words ++ map at_line w.script) ≡ w.script
+printed_script w =
+    filter_map-append order_in (map Word w.words) (map at_line w.script)
+    ∙ ap (λ l. l ++ filter_map order_in (map at_line w.script)) (none_of order_in Word w.words (λ n. refl)) ∙ orders_said w.script
 
-world_follows : (w : World) → IsInRange w → Follows w.processes [] (directives w)
-world_follows w within =
-    let none : length (filter_map order_in (settings w ++ map Word w.words)) ≡ 0 = ap length (no_orders w.words) in
-    follows_on w.processes [] (settings w) (map Word w.words ++ map at_line w.script) (settings_follow w within)
-    (follows_on w.processes (settings w) (map Word w.words) (map at_line w.script)
-    (words_follow w.processes (settings w) w.words within.words (omega (arith, within.words_few)))
-    (script_follows w.processes (settings w ++ map Word w.words) w.script within.script (omega (arith, none, within.script_short))))
+-- the printed lines keep the rules
+world_kept : (w : World) → IsInRange w → AllKept w.processes (directives w)
+world_kept w within =
+    let rest = map Word w.words ++ map at_line w.script in
+    let ranges : AllByRecursion InRange rest = all_with InRange (map Word w.words) (map at_line w.script) (all_made InRange Word w.words within.words)
+    (all_made InRange at_line w.script (firsts (λ at. InRange (at_line at)) (λ at. Names w.processes (at_line at)) w.script within.script)) in
+    let names : AllByRecursion (Names w.processes) rest = all_with (Names w.processes) (map Word w.words) (map at_line w.script)
+    (all_made (Names w.processes) Word w.words (no_names w.processes w.words))
+    (all_made (Names w.processes) at_line w.script (seconds (λ at. InRange (at_line at)) (λ at. Names w.processes (at_line at)) w.script within.script)) in
+    record {
+      ranges = (within.seed, (within.processes, (within.events, (within.turns, (within.latency, (within.diskdelay, (within.loss, ranges)))))));
+      names = (tt, (tt, (tt, (tt, (tt, (tt, (tt, names)))))));
+      seed = omega (arith, ap length (only_once seed_in w.words w.script (λ n. refl) (λ at. refl)));
+      processes = omega (arith, ap length (only_once processes_in w.words w.script (λ n. refl) (λ at. refl)));
+      events = omega (arith, ap length (only_once events_in w.words w.script (λ n. refl) (λ at. refl)));
+      turns = omega (arith, ap length (only_once turns_in w.words w.script (λ n. refl) (λ at. refl)));
+      latency = omega (arith, ap length (only_once latency_in w.words w.script (λ n. refl) (λ at. refl)));
+      diskdelay = omega (arith, ap length (only_once diskdelay_in w.words w.script (λ n. refl) (λ at. refl)));
+      loss = omega (arith, ap length (only_once loss_in w.words w.script (λ n. refl) (λ at. refl)));
+      words = omega (arith, ap length (printed_words w), within.words_few);
+      script = omega (arith, ap length (printed_script w), within.script_short);
+    }
 
 -- the world that the printed lines say
 world_said : (w : World) → w ≡ world_of (said (directives w))
 world_said w =
-    let words : w.words ≡ filter_map word_in (map Word w.words ++ map at_line w.script) =
-    sym (filter_map-append word_in (map Word w.words) (map at_line w.script)
-    ∙ ap (λ l. filter_map word_in (map Word w.words) ++ l) (no_words w.script) ∙ append-nil _ ∙ words_said w.words) in
-    let script : w.script ≡ filter_map order_in (map Word w.words ++ map at_line w.script) =
-    sym (filter_map-append order_in (map Word w.words) (map at_line w.script)
-    ∙ ap (λ l. l ++ filter_map order_in (map at_line w.script)) (no_orders w.words) ∙ orders_said w.script) in
+    let words : w.words ≡ filter_map word_in (map Word w.words ++ map at_line w.script) = sym (printed_words w) in
+    let script : w.script ≡ filter_map order_in (map Word w.words ++ map at_line w.script) = sym (printed_script w) in
     λ i. record {
       seed = w.seed;
       words = words i;
@@ -185,13 +164,14 @@ world_count w within =
 pub reads_back : ReadsBack
 reads_back w within =
     let few : w.processes ≤ 64 = within.processes.1 in
-    let follows = world_follows w within in
-    let again : lines (world_text w) ≡ map line_of (directives w) = lines_again (directives w) (all_print w.processes few [] (directives w) follows) in (
+    let kept = world_kept w within in
+    let prints = all_print w.processes few (directives w) kept.ranges kept.names in
+    let again : lines (world_text w) ≡ map line_of (directives w) = lines_again (directives w) prints in (
       directives w,
       (
         w.processes,
         subst (λ ls. IsCount ls w.processes) (sym again) (world_count w within),
-        subst (λ ls. Judges w.processes 1 [] ls (accepted (directives w))) (sym again) (judged_all w.processes 1 few [] (directives w) follows),
+        (subst (λ ls. Say ls (directives w)) (sym again) (says_again (directives w) prints), kept),
       ),
       world_said w,
     )

@@ -8,7 +8,7 @@ use Rattle.flow_worldfile.specs.declared.directive.Directive.{Directive}
 use Rattle.flow_worldfile.specs.declared.directive.Directive.TheVariants.{Seed, Processes, Events, Turns, Latency, DiskDelay, Loss, Word, At}
 use Rattle.flow_worldfile.specs.Lines.{Field, text, number, fields}
 
--- the end of an `at` line
+-- the last fields of an `at` line
 abbrev pub order_form : Order → List Field
 order_form (Kill p) = text (codes "kill") ∷ number p ∷ []
 order_form (Stop p) = text (codes "stop") ∷ number p ∷ []
@@ -46,10 +46,11 @@ fields_text fs = join_with_byte 32 (map field_text fs)
 abbrev pub line_text : Directive → List ℕ
 line_text d = fields_text (form d) ++ 10 ∷ []
 
--- delays are drawn from the lower number on, up to the higher one
+-- delays are drawn from the lower number on, and stay below the higher one
 abbrev pub IsSpan : ℕ → ℕ → Type 0
 IsSpan lo hi = (lo < hi) × (hi ≤ 1000000000)
 
+-- the numbers of an order are in their ranges, but for numbers of processes
 abbrev pub OrderInRange : Order → Type 0
 OrderInRange (DiskFail p n) = n ≤ 1000000
 OrderInRange _ = Unit {0}
@@ -75,6 +76,7 @@ OrderNames count (Cut p q) = (p < count) × (q < count)
 OrderNames count (Heal p q) = (p < count) × (q < count)
 OrderNames count (DiskFail p n) = p < count
 
+-- the same of a line
 abbrev pub Names : ℕ → Directive → Type 0
 Names count (At t order) = OrderNames count order
 Names count _ = Unit {0}

@@ -47,10 +47,10 @@ LineRead count k old line (Err OutOfMemory) new = Unit {0}
 
 -- what is read of the lines of a text, where there are `count` processes
 abbrev pub LinesRead : ℕ → List ℕ → Result Draft WorldFault → Type 0
-LinesRead count bytes (Ok draft) = (ds : List Directive) × Judges count 1 [] (lines bytes) (accepted ds) × (drafted draft ≡ said ds)
-LinesRead count bytes (Err (Form n)) = Judges count 1 [] (lines bytes) (refused n W1)
-LinesRead count bytes (Err (Range n)) = Judges count 1 [] (lines bytes) (refused n W2)
-LinesRead count bytes (Err (Twice n)) = Judges count 1 [] (lines bytes) (refused n W3)
-LinesRead count bytes (Err (NoProcess n)) = Judges count 1 [] (lines bytes) (refused n W4)
+LinesRead count bytes (Ok draft) = (ds : List Directive) × Judges count (lines bytes) (accepted ds) × (drafted draft ≡ said ds)
+LinesRead count bytes (Err (Form n)) = Judges count (lines bytes) (refused n W1)
+LinesRead count bytes (Err (Range n)) = Judges count (lines bytes) (refused n W2)
+LinesRead count bytes (Err (Twice n)) = Judges count (lines bytes) (refused n W3)
+LinesRead count bytes (Err (NoProcess n)) = Judges count (lines bytes) (refused n W4)
 LinesRead count bytes (Err TooLarge) = ⊥
 LinesRead count bytes (Err OutOfMemory) = Unit {0}

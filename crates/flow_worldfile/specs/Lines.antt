@@ -23,16 +23,19 @@ pub data Field : Type 0 where
 abbrev pub is_number : List ℕ → Bool
 is_number bytes = nat_lt 0 (length bytes) && nat_le (length bytes) 20 && list_all is_ascii_digit bytes
 
+-- what the bytes of a field are
 abbrev pub field_of : List ℕ → Field
 field_of bytes = if is_number bytes then number (digits_value 10 bytes) else text bytes
 
+-- the fields of a line
 abbrev pub fields : List ℕ → List Field
 fields line = map field_of (pieces line)
 
+-- there is no field, or the first begins with `#`
 abbrev pub begins_comment : List (List ℕ) → Bool
 begins_comment [] = true
 begins_comment (piece ∷ more) = slice_index piece 0 == 35
 
--- a line that has no field, or whose first field begins with `#`, is passed over
+-- a line of spaces alone, and one whose first byte that is no space is `#`, is passed over
 abbrev pub IsPassedOver : List ℕ → Type 0
 IsPassedOver line = IsTrue (begins_comment (pieces line))

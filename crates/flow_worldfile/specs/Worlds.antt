@@ -23,6 +23,7 @@ pub record World : Type 0 where
   pub diskdelay : ℕ × ℕ
   pub script : List (ℕ × Order)
 
+-- an act, as a line orders it
 abbrev pub order_of : Act → Order
 order_of (act.Kill p) = Kill p.0
 order_of (act.Stop p) = Stop p.0
@@ -31,6 +32,7 @@ order_of (act.Cut p q) = Cut p.0 q.0
 order_of (act.Heal p q) = Heal p.0 q.0
 order_of (act.DiskFail p n) = DiskFail p.0 n
 
+-- an act of a script with its time
 abbrev pub timed : declared.At → ℕ × Order
 timed at = (at.time, order_of at.act)
 
@@ -48,7 +50,7 @@ seen w = record {
   script = map timed w.script.items;
 }
 
--- what some lines say: for each kind that may stand once, what its first line says; words and orders all
+-- What lines may say: of each kind that stands once one thing or nothing, and any words and orders.
 pub record Said : Type 0 where
   pub seed : Option ℕ
   pub processes : Option ℕ
@@ -60,42 +62,52 @@ pub record Said : Type 0 where
   pub words : List ℕ
   pub script : List (ℕ × Order)
 
+-- the number of a `seed` line
 abbrev pub seed_in : Directive → Option ℕ
 seed_in (Seed n) = Some n
 seed_in _ = None
 
+-- the number of a `processes` line
 abbrev pub processes_in : Directive → Option ℕ
 processes_in (Processes n) = Some n
 processes_in _ = None
 
+-- the number of an `events` line
 abbrev pub events_in : Directive → Option ℕ
 events_in (Events n) = Some n
 events_in _ = None
 
+-- the number of a `turns` line
 abbrev pub turns_in : Directive → Option ℕ
 turns_in (Turns n) = Some n
 turns_in _ = None
 
+-- the numbers of a `latency` line
 abbrev pub latency_in : Directive → Option (ℕ × ℕ)
 latency_in (Latency lo hi) = Some (lo, hi)
 latency_in _ = None
 
+-- the numbers of a `diskdelay` line
 abbrev pub diskdelay_in : Directive → Option (ℕ × ℕ)
 diskdelay_in (DiskDelay lo hi) = Some (lo, hi)
 diskdelay_in _ = None
 
+-- the number of a `loss` line
 abbrev pub loss_in : Directive → Option ℕ
 loss_in (Loss n) = Some n
 loss_in _ = None
 
+-- the number of a `word` line
 abbrev pub word_in : Directive → Option ℕ
 word_in (Word n) = Some n
 word_in _ = None
 
+-- the time and the order of an `at` line
 abbrev pub order_in : Directive → Option (ℕ × Order)
 order_in (At t order) = Some (t, order)
 order_in _ = None
 
+-- the first item of a list
 abbrev pub head : {X : Type 0} → List X → Option X
 head [] = None
 head (x ∷ xs) = Some x
@@ -104,6 +116,7 @@ head (x ∷ xs) = Some x
 abbrev pub first : {X : Type 0} → (Directive → Option X) → List Directive → Option X
 first kind ds = head (filter_map kind ds)
 
+-- what some lines say together
 abbrev pub said : List Directive → Said
 said ds = record {
   seed = first seed_in ds;
@@ -136,6 +149,7 @@ abbrev pub settings : World → List Directive
 settings w = Seed w.seed ∷ Processes w.processes ∷ Events w.events ∷ Turns w.turns ∷ Latency w.latency.0 w.latency.1
     ∷ DiskDelay w.diskdelay.0 w.diskdelay.1 ∷ Loss w.loss ∷ []
 
+-- the line that orders an act at its time
 abbrev pub at_line : ℕ × Order → Directive
 at_line at = At at.0 at.1
 
@@ -147,10 +161,11 @@ directives w = settings w ++ (map Word w.words ++ map at_line w.script)
 abbrev pub world_text : World → List ℕ
 world_text w = flat_map line_text (directives w)
 
--- the greatest numbers of words and of orders
+-- the greatest number of words
 abbrev pub most_words : ℕ
 most_words = 100000
 
+-- the greatest number of orders
 abbrev pub most_orders : ℕ
 most_orders = 10000
 
