@@ -1,6 +1,7 @@
 // Simulated worlds, as world files describe them.
 
-ghost use Rattle.std.specs.Prelude.{◌≡◌};
+ghost use Rattle.std.specs.Prelude.{◌≡◌, Some};
+ghost use Rattle.flow_worldfile.specs.Faults.{fault_text};
 ghost use Rattle.flow_worldfile.specs.declared.world.WorldFault.TheVariants.{OutOfMemory};
 
 use flow_base::ids::ProcId;
@@ -64,13 +65,15 @@ pub enum WorldFault {
 }
 
 impl fmt::Display for WorldFault {
+    ghost output = { λ fault. Some (fault_text fault) };
+
     fn fmt<W: fmt::Write>(&self, f: &mut fmt::Formatter<W>) -> fmt::Result {
         match self {
             WorldFault::Form(line) => write!(f, "W1 at line {line}"),
             WorldFault::Range(line) => write!(f, "W2 at line {line}"),
             WorldFault::Twice(line) => write!(f, "W3 at line {line}"),
             WorldFault::NoProcess(line) => write!(f, "W4 at line {line}"),
-            WorldFault::TooLarge => write!(f, "too large"),
+            WorldFault::TooLarge => write!(f, "L10"),
             WorldFault::OutOfMemory => write!(f, "out of memory"),
         }
     }
