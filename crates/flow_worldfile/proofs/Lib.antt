@@ -1,0 +1,14 @@
+pub mod LineLemmas
+pub mod Numbers
+pub mod FieldLemmas
+pub mod FormLemmas
+pub mod RuleLemmas
+pub mod SaidLemmas
+pub mod SayLemmas
+pub mod KeptLemmas
+pub mod JudgeLemmas
+pub mod OneVerdict
+pub mod TextLemmas
+pub mod PrintedLemmas
+pub mod ReadsBack
+pub mod AnswerLemmas
