@@ -4,3 +4,6 @@ pub mod Decls
 pub mod View
 pub mod StmtView
 pub mod DeclView
+pub mod TypingNames
+pub mod Typing
+pub mod TypingView

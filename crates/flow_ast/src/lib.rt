@@ -8,7 +8,9 @@
 pub mod decl;
 pub mod expr;
 pub mod fault;
+pub mod predefined;
 pub mod scope;
 pub mod stmt;
 pub mod token;
 pub mod ty;
+pub mod typing;
