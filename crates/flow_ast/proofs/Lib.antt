@@ -1,1 +1,4 @@
 pub mod Views
+pub mod TypingLists
+pub mod TypingScope
+pub mod TypingArgs

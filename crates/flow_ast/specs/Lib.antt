@@ -6,3 +6,6 @@ pub mod StmtView
 pub mod DeclView
 pub mod Spelling
 pub mod Lexing
+pub mod TypingNames
+pub mod Typing
+pub mod TypingView

@@ -8,8 +8,10 @@
 pub mod decl;
 pub mod expr;
 pub mod fault;
+pub mod predefined;
 pub mod scope;
 pub mod spelling;
 pub mod stmt;
 pub mod token;
 pub mod ty;
+pub mod typing;
