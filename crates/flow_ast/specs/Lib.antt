@@ -4,3 +4,6 @@ pub mod Decls
 pub mod View
 pub mod StmtView
 pub mod DeclView
+pub mod GrammarToken
+pub mod Grammar
+pub mod GrammarAnswer
