@@ -5,3 +5,4 @@ pub mod Goes
 pub mod Complete
 pub mod Fits
 pub mod Outcomes
+pub mod ExprSteps

@@ -1,6 +1,6 @@
 // What a token is to an expression.
 
-ghost use Rattle.std.specs.Prelude.{◌≡◌, slice_get};
+ghost use Rattle.std.specs.Prelude.{◌≡◌, ◌<◌, OnSome, length, slice_get};
 ghost use Rattle.std.specs.Option.{option_map};
 ghost use Rattle.flow_exprs.specs.Kinds.{sign_kind, word_kind, kind_of, kind_at};
 
@@ -109,7 +109,8 @@ pub fn of_token(token: &Token) -> Kind
 
 /// What the token at this place is, if there is one.
 pub fn at(spots: &[Spot], at: usize) -> Option<Kind>
-    ensures { result ≡ kind_at spots.now at }
+    ensures kind { result ≡ kind_at spots.now at }
+    ensures within { OnSome result (at < length spots.now) }
 {
     match spots.get(at) {
         Some(spot) => Some(of_token(&spot.token)),

@@ -1,5 +1,6 @@
 //! Expressions and types, read from tokens by the grammar of `flow_ast`.
 #![tactic(auto)]
 
+pub mod expr;
 pub mod kind;
 pub mod stop;
