@@ -42,22 +42,22 @@ use Rattle.flow_exprs.proofs.Outcomes.{turn_alive, ended_reads, short_missing, d
 pub not_true : false ≡ true → ⊥
 not_true h = cc
 
-abbrev first : List Spot → Option Spot
+abbrev pub first : List Spot → Option Spot
 first [] = None
 first (x ∷ xs) = Some x
 
-first_drop : (xs : List Spot) (i : ℕ) → first (drop i xs) ≡ slice_get xs i
+pub first_drop : (xs : List Spot) (i : ℕ) → first (drop i xs) ≡ slice_get xs i
 first_drop [] zero = refl
 first_drop [] (suc i) = refl
 first_drop (x ∷ xs) zero = refl
 first_drop (x ∷ xs) (suc i) = first_drop xs i
 
-drop_some : (xs : List Spot) (i : ℕ) (x : Spot) → slice_get xs i ≡ Some x → drop i xs ≡ x ∷ drop (i + 1) xs
+pub drop_some : (xs : List Spot) (i : ℕ) (x : Spot) → slice_get xs i ≡ Some x → drop i xs ≡ x ∷ drop (i + 1) xs
 drop_some [] i x h = absurd (cc)
 drop_some (y ∷ ys) zero x h = let e : y ≡ x = cc in ap (λ z. z ∷ ys) e
 drop_some (y ∷ ys) (suc i) x h = let e : suc (i + 1) ≡ suc i + 1 = omega arith in drop_some ys i x h ∙ ap (λ n. x ∷ drop n (y ∷ ys)) e
 
-and_false : (a b : ℕ) (c : Bool) → b < a → nat_le a b && c ≡ false
+pub and_false : (a b : ℕ) (c : Bool) → b < a → nat_le a b && c ≡ false
 and_false a b c h = grind arith
 
 record Here (spots : List Spot) (i : ℕ) (k : Kind) : Type 0 where

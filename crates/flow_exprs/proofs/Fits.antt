@@ -56,14 +56,14 @@ keep_zero : (xs : List Marked) (j : ℕ) → j ≡ 0 → FirstKeep j xs
 keep_zero xs zero e = tt
 keep_zero xs (suc j) e = absurd (omega arith)
 
-keep_is : (i j : ℕ) (xs : List Marked) → i ≡ j → FirstKeep i xs → FirstKeep j xs
+pub keep_is : (i j : ℕ) (xs : List Marked) → i ≡ j → FirstKeep i xs → FirstKeep j xs
 keep_is i j xs e k = subst (λ n. FirstKeep n xs) e k
 
-keep_first : (j : ℕ) (x : Marked) (xs : List Marked) → FirstKeep j (x ∷ xs) → (0 < j → AllInLimits 5 x.parts) × FirstKeep (j - 1) xs
+pub keep_first : (j : ℕ) (x : Marked) (xs : List Marked) → FirstKeep j (x ∷ xs) → (0 < j → AllInLimits 5 x.parts) × FirstKeep (j - 1) xs
 keep_first zero x xs k = ((λ h. absurd (omega arith)), keep_zero xs (0 - 1) (omega arith))
 keep_first (suc j) x xs k = ((λ h. k.0), let e : j ≡ suc j - 1 = omega arith in keep_is j (suc j - 1) xs e k.1)
 
-keep_append : (j : ℕ) (xs ys : List Marked) → FirstKeep j (xs ++ ys) → FirstKeep j xs × FirstKeep (j - length xs) ys
+pub keep_append : (j : ℕ) (xs ys : List Marked) → FirstKeep j (xs ++ ys) → FirstKeep j xs × FirstKeep (j - length xs) ys
 keep_append zero xs ys k = (tt, keep_zero ys (0 - length xs) (omega arith))
 keep_append (suc j) [] ys k = (tt, let e : suc j ≡ suc j - 0 = omega arith in keep_is (suc j) (suc j - 0) ys e k)
 keep_append (suc j) (x ∷ xs) ys k =

@@ -6,3 +6,5 @@ pub mod Complete
 pub mod Fits
 pub mod Outcomes
 pub mod ExprSteps
+pub mod TypeLaws
+pub mod TypeSteps

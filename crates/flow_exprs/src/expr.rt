@@ -491,7 +491,7 @@ fn arguments(alloc: Global, spots: &[Spot], from: usize, depth: u32) -> Result<R
 }
 
 // The refusal of a text whose reading stopped so.
-fn refusal(tokens: &Tokens, stop: Stop) -> SourceFault
+pub fn refusal(tokens: &Tokens, stop: Stop) -> SourceFault
     ensures { RefusalIs tokens.now stop result }
 {
     match stop {

@@ -4,3 +4,4 @@
 pub mod expr;
 pub mod kind;
 pub mod stop;
+pub mod ty;
