@@ -2,3 +2,4 @@ pub mod Views
 pub mod TypingLists
 pub mod TypingScope
 pub mod TypingArgs
+pub mod GrammarLists

@@ -9,3 +9,6 @@ pub mod Lexing
 pub mod TypingNames
 pub mod Typing
 pub mod TypingView
+pub mod GrammarToken
+pub mod Grammar
+pub mod GrammarAnswer

@@ -1,0 +1,5 @@
+pub mod Kinds
+pub mod Machine
+pub mod Answer
+pub mod TypeMachine
+pub mod TypeAnswer

@@ -1,0 +1,7 @@
+//! Expressions and types, read from tokens by the grammar of `flow_ast`.
+#![tactic(auto)]
+
+pub mod expr;
+pub mod kind;
+pub mod stop;
+pub mod ty;
