@@ -1,5 +1,5 @@
 -- What was decided, from what was read.
-use Rattle.std.proofs.Common.{◌≡◌, ℕ, ◌+◌, ◌≤◌, ◌<◌, List, [], ◌∷◌, ◌++◌, map, length, get_or, refl, sym, ap, ap₂, ◌∙◌, subst, arith, rules, true, append_assoc, ◌⊎◌, inl, inr, Ok, Err, Option, Some, None, Vec, Global, Result, IfOk, codes}
+use Rattle.std.proofs.Common.{◌≡◌, ℕ, ◌≤◌, List, [], ◌∷◌, ◌++◌, map, length, get_or, refl, sym, ap, ap₂, ◌∙◌, subst, arith, rules, true, append_assoc, inl, inr, Ok, Err, Option, Some, None, Vec, Global, Result, IfOk}
 use Rattle.std.specs.Prelude.{MatchOption, bytes_eq}
 use Rattle.std.proofs.lemmas.Slice.Eq.{bytes_eq-Decides}
 use Rattle.std.proofs.lemmas.List.{append-nil}
@@ -16,9 +16,8 @@ use Rattle.flow_ast.specs.declared.fault.Rule.{Rule}
 use Rattle.flow_ast.specs.Lexing.{Lexes, LexFault}
 use Rattle.flow_lex.proofs.Once.{reads_once}
 use Rattle.flow_parse.specs.Form.{HasForm}
-use Rattle.flow_top.specs.declared.outcome.Outcome.TheVariants.{Usage, ReadFault, OutOfMemory, Unbuilt, Ran}
-use Rattle.flow_top.specs.Words.{AreRun, is_option}
-use Rattle.flow_top.specs.Run.{Prints, Due, usage, no_program, no_world, ran, AskedSome, none, program, both, Decided, due, read_fault, no_memory, outcome_of}
+use Rattle.flow_top.specs.Words.{AreRun}
+use Rattle.flow_top.specs.Run.{Prints, none, program, both, Decided, read_fault, no_memory, outcome_of}
 
 -- a text that is refused by the lexer, or whose tokens haven't the form, is not run
 pub prints_lexed : (bytes : List ℕ) (texts : List (List ℕ)) (rule : Rule) (at : Place) → LexFault bytes rule at → Prints bytes texts → ⊥

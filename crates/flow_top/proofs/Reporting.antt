@@ -1,7 +1,7 @@
 -- What was told, from what was written.
-use Rattle.std.proofs.Common.{◌≡◌, ℕ, ◌+◌, ◌≤◌, ◌<◌, List, [], ◌∷◌, ◌++◌, length, take, drop, get_or, refl, sym, ap, ◌∙◌, subst, arith, append_assoc, Option, Ok, Err, Result}
+use Rattle.std.proofs.Common.{◌≡◌, ℕ, ◌+◌, ◌≤◌, ◌<◌, List, [], ◌∷◌, ◌++◌, length, take, drop, get_or, refl, sym, ap, ◌∙◌, subst, arith, append_assoc, Option}
 use Rattle.std.specs.Io.KnownBytes.{Appends}
-use Rattle.std.proofs.KnownBytes.{Appends-trans, Appends-nil}
+use Rattle.std.proofs.KnownBytes.{Appends-trans}
 use Rattle.std.proofs.lemmas.List.{append-nil, take-append-drop, take_more, drop_more}
 use Rattle.flow_base.specs.Bytes.{AppendsPart}
 use Rattle.flow_base.specs.Faults.{Rose}
@@ -10,7 +10,7 @@ use Rattle.flow_base.specs.declared.fault.OutFault.TheVariants.{Failed, OutOfMem
 use Rattle.flow_trace.specs.Bytes.{Bytes}
 use Rattle.flow_trace.specs.declared.line.Line.{Line}
 use Rattle.flow_top.specs.declared.outcome.Outcome.{Outcome}
-use Rattle.flow_top.specs.Run.{bytes_of, text_of, status_of, fault_status_of, Reported, whole, write_fault, no_memory}
+use Rattle.flow_top.specs.Run.{bytes_of, text_of, fault_status_of, Reported, write_fault, no_memory}
 
 pub bytes_append : (xs ys : List Line) → bytes_of (xs ++ ys) ≡ bytes_of xs ++ bytes_of ys
 bytes_append [] ys = refl

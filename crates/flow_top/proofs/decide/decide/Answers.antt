@@ -1,10 +1,9 @@
-use Rattle.std.proofs.Common.{◌≡◌, ◌<◌, ◌≤◌, ℕ, List, [], ◌∷◌, ◌++◌, Err, refl, ap, subst, sym, ◌∙◌, length, arith, Option}
-use Rattle.std.specs.Prelude.{MatchOption}
+use Rattle.std.proofs.Common.{ℕ, [], Err, ap, subst, sym, ◌∙◌, length, arith}
 use Rattle.std.specs.declared.vec.Vec.{Vec}
 use Rattle.std.specs.declared.alloc.Global.{Global}
 use Rattle.std.proofs.lemmas.List.{append-nil}
 use Rattle.flow_base.specs.Bytes.{AreFirst}
-use Rattle.flow_top.specs.Run.{Decided, Prints, usage, no_program, no_world, ran, program, due, no_memory}
+use Rattle.flow_top.specs.Run.{Decided, usage, no_program, no_world, ran, program, due, no_memory}
 use Rattle.flow_top.proofs.Deciding.{two_names, first_fault, second_fault, nothing, judged_none, judged_some}
 use Rattle.flow_top.proofs.decide.decide.Goals as goal
 

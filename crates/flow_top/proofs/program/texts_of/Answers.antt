@@ -1,4 +1,4 @@
-use Rattle.std.proofs.Common.{◌≡◌, ◌≤◌, Err, subst, length, arith}
+use Rattle.std.proofs.Common.{◌≤◌, Err, subst, length, arith}
 use Rattle.flow_ast.specs.Lexing.{Lexed}
 use Rattle.flow_parse.specs.Form.{HasForm}
 use Rattle.flow_top.proofs.Deciding.{prints_lexed, judged, Judges}

@@ -1,4 +1,4 @@
-use Rattle.std.proofs.Common.{◌∙◌, arith, ap, sym}
+use Rattle.std.proofs.Common.{◌∙◌, arith, ap}
 use Rattle.flow_trace.specs.Bytes.{Bytes}
 use Rattle.flow_top.proofs.Reporting.{line_more, line_part}
 use Rattle.flow_top.proofs.report.put_lines.Goals as goal

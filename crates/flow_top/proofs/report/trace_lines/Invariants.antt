@@ -1,4 +1,4 @@
-use Rattle.std.proofs.Common.{◌≡◌, ◌++◌, ◌∷◌, [], map, codes}
+use Rattle.std.proofs.Common.{◌≡◌, ◌∷◌, map, codes}
 use Rattle.flow_trace.specs.declared.line.Line.TheVariants.{Head, Boot, Start, PrintText}
 use Rattle.flow_top.specs.Run.{main_actor}
 use Rattle.flow_top.proofs.report.trace_lines.Given as goal
