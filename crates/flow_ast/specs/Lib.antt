@@ -7,3 +7,5 @@ pub mod DeclView
 pub mod GrammarToken
 pub mod Grammar
 pub mod GrammarAnswer
+pub mod GrammarStmt
+pub mod GrammarDecl
