@@ -1,7 +1,6 @@
 -- Marked tokens as lists.
-use Rattle.std.proofs.Common.{◌≡◌, ℕ, suc, ◌+◌, ◌≤◌, List, [], ◌∷◌, ◌++◌, length, refl, sym, ap, ◌∙◌, arith}
-use Rattle.flow_ast.specs.declared.token.Spot.{Spot}
-use Rattle.flow_ast.specs.GrammarToken.{Part, Declaration, Statement, Node, Variable, Branch, Marked, begin, spots_of, InLimits, AllInLimits, Keeps}
+use Rattle.std.proofs.Common.{◌≡◌, ℕ, suc, List, [], ◌∷◌, ◌++◌, length, refl, ap}
+use Rattle.flow_ast.specs.GrammarToken.{Part, Marked, begin, spots_of, InLimits, Keeps}
 
 pub spots_append : (xs ys : List Marked) → spots_of (xs ++ ys) ≡ spots_of xs ++ spots_of ys
 spots_append [] ys = refl

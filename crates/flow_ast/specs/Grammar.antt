@@ -11,7 +11,7 @@ use Rattle.flow_ast.specs.declared.expr.Op.{Op}
 use Rattle.flow_ast.specs.declared.expr.Op.TheVariants.{Or, And, Eq, Ne, Lt, Le, Gt, Ge, Add, Sub, Mul, Div, Rem}
 use Rattle.flow_ast.specs.declared.ty.Ident.{Ident}
 use Rattle.flow_ast.specs.Tree.{TypeTree, IntType, BoolType, StringType, VoidType, ErrorType, NamedType, FutureType, FutureStreamType, PromiseType, PromiseStreamType, ExprTree, ExprTrees, IntExpr, TextExpr, BoolExpr, VoidExpr, VarExpr, CallExpr, FieldExpr, MethodExpr, NotExpr, NegExpr, BinaryExpr, ParenExpr, NoExprs, MoreExprs}
-use Rattle.flow_ast.specs.GrammarToken.{Part, Node, Marked, opens, begin}
+use Rattle.flow_ast.specs.GrammarToken.{Node, Marked, opens, begin}
 
 -- a sign, a word or a name with which no part begins
 abbrev pub sign_at : Sign → Place → Marked

@@ -12,3 +12,5 @@ pub mod TypingView
 pub mod GrammarToken
 pub mod Grammar
 pub mod GrammarAnswer
+pub mod GrammarStmt
+pub mod GrammarDecl

@@ -1,27 +1,20 @@
 -- What is derived the machine reads.
-use Rattle.std.proofs.Common.{◌≡◌, ℕ, zero, suc, ◌+◌, ◌≤◌, ◌<◌, max, List, [], ◌∷◌, ◌++◌, refl, sym, ap, ◌∙◌, subst, arith, append_assoc, Bool, true, false, cond, ◌⊎◌, inl, inr}
-use Rattle.std.specs.Prelude.{nat_lt, nat_le, ◌&&◌}
-use Rattle.std.proofs.lemmas.Bool.{cases_lt}
-use Rattle.std.proofs.lemmas.List.{append-nil}
+use Rattle.std.proofs.Common.{◌≡◌, ℕ, suc, ◌≤◌, ◌<◌, List, [], ◌∷◌, ◌++◌, refl, sym, ap, ◌∙◌, subst, arith, append_assoc}
 use Rattle.flow_base.specs.declared.place.Place.{Place}
-use Rattle.flow_ast.specs.declared.token.Token.{Token}
 use Rattle.flow_ast.specs.declared.token.Token.TheVariants as token
-use Rattle.flow_ast.specs.declared.token.Word.{Word}
 use Rattle.flow_ast.specs.declared.token.Word.TheVariants as word
-use Rattle.flow_ast.specs.declared.token.Sign.{Sign}
 use Rattle.flow_ast.specs.declared.token.Sign.TheVariants as sign
 use Rattle.flow_ast.specs.declared.token.Spot.{Spot}
 use Rattle.flow_ast.specs.declared.expr.Op.{Op}
 use Rattle.flow_ast.specs.declared.expr.Op.TheVariants.{Or, And, Eq, Ne, Lt, Le, Gt, Ge, Add, Sub, Mul, Div, Rem}
-use Rattle.flow_ast.specs.declared.ty.Ident.{Ident}
-use Rattle.flow_ast.specs.Tree.{ExprTree, ExprTrees, IntExpr, TextExpr, BoolExpr, VoidExpr, VarExpr, CallExpr, FieldExpr, MethodExpr, NotExpr, NegExpr, BinaryExpr, ParenExpr, NoExprs, MoreExprs}
-use Rattle.flow_ast.specs.GrammarToken.{Part, Node, Marked, opens, begin, spots_of, InLimits, Keeps, Good}
-use Rattle.flow_ast.specs.Grammar.{sign_at, word_at, name_at, node_sign, node_word, node_name, level, op_sign, ExprRule, number, text, truth, falsehood, void, variable, call, paren, field, method, negation, minus, binary, ArgsRule, no_args, some_args, MoreArgsRule, end_args, more_args}
-use Rattle.flow_ast.proofs.GrammarLists.{spots_append, spots_begin, keeps_append, keeps_begin}
+use Rattle.flow_ast.specs.Tree.{ExprTree, ExprTrees, IntExpr, TextExpr, BoolExpr, VoidExpr, VarExpr, CallExpr, FieldExpr, MethodExpr, NotExpr, NegExpr, BinaryExpr, ParenExpr, NoExprs}
+use Rattle.flow_ast.specs.GrammarToken.{Node, Marked, begin, spots_of}
+use Rattle.flow_ast.specs.Grammar.{sign_at, name_at, level, op_sign, ExprRule, number, text, truth, falsehood, void, variable, call, paren, field, method, negation, minus, binary, ArgsRule, no_args, some_args, MoreArgsRule, end_args, more_args}
+use Rattle.flow_ast.proofs.GrammarLists.{spots_append, spots_begin}
 use Rattle.flow_exprs.specs.declared.kind.Kind.{Kind}
 use Rattle.flow_exprs.specs.declared.kind.Kind.TheVariants as kind
-use Rattle.flow_exprs.specs.Kinds.{kind_of, sign_kind, word_kind}
-use Rattle.flow_exprs.specs.Machine.{leaf, word_leaf, name_bytes, ident, Head, Function, Method, called, Unary, Negation, Minus, unary, Stack, Top, InParen, InUnary, InTwo, InArgs, State, Want, Have, WantArgs, WantName, WantOpen, WantClose, Dead, push, closed_tree, closed_stack, after_close, after_comma, after_open, sign_first, step_kind, step, height, heights, head_height, hole, fits_stack, fits, Below}
+use Rattle.flow_exprs.specs.Kinds.{kind_of, sign_kind}
+use Rattle.flow_exprs.specs.Machine.{Head, Function, Method, called, Unary, Negation, Minus, unary, Stack, Top, InParen, InUnary, InTwo, InArgs, State, Want, Have, WantArgs, Dead, push, closed_tree, closed_stack, after_open, step_kind, step, Below}
 use Rattle.flow_exprs.specs.Answer.{NotCallable, KindStops}
 use Rattle.flow_exprs.proofs.Sound.{spot, sign_spot, name_spot, join, join_push, join_none}
 use Rattle.flow_exprs.proofs.Steps.{nat_lt_ge, nat_lt_lt, level_small}

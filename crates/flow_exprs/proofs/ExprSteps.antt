@@ -1,5 +1,5 @@
 -- The steps of the functions that read expressions against the machine's.
-use Rattle.std.proofs.Common.{◌≡◌, ℕ, zero, suc, ◌+◌, ◌-◌, ◌≤◌, ◌<◌, max, List, [], ◌∷◌, ◌++◌, length, drop, refl, sym, ap, ◌∙◌, subst, arith, append_assoc, Bool, true, false, cond, ◌⊎◌, inl, inr, slice_get, add-one}
+use Rattle.std.proofs.Common.{◌≡◌, ℕ, zero, suc, ◌+◌, ◌≤◌, ◌<◌, max, List, [], ◌∷◌, ◌++◌, length, drop, refl, sym, ap, ◌∙◌, subst, arith, Bool, true, false, cond, ◌⊎◌, inl, inr, slice_get, add-one}
 use Rattle.std.specs.Prelude.{nat_lt, nat_le, ◌&&◌}
 use Rattle.std.specs.Option.{option_map}
 use Rattle.std.specs.declared.option.Option.{Option}
@@ -15,7 +15,7 @@ use Rattle.flow_ast.specs.declared.token.Sign.{Sign}
 use Rattle.flow_ast.specs.declared.token.Sign.TheVariants as sign
 use Rattle.flow_ast.specs.declared.token.Spot.{Spot}
 use Rattle.flow_ast.specs.declared.expr.Op.{Op}
-use Rattle.flow_ast.specs.declared.expr.Op.TheVariants.{Or, And, Eq, Ne, Lt, Le, Gt, Ge, Add, Sub, Mul, Div, Rem}
+use Rattle.flow_ast.specs.declared.expr.Op.TheVariants.{Sub}
 use Rattle.flow_ast.specs.declared.ty.Ident.{Ident}
 use Rattle.flow_ast.specs.Tree.{ExprTree, ExprTrees, IntExpr, TextExpr, BoolExpr, VoidExpr, VarExpr, CallExpr, FieldExpr, MethodExpr, NotExpr, NegExpr, BinaryExpr, ParenExpr, NoExprs, MoreExprs}
 use Rattle.flow_ast.specs.declared.expr.Expr.{Expr}
@@ -30,14 +30,14 @@ use Rattle.flow_exprs.specs.declared.kind.Kind.TheVariants as kind
 use Rattle.flow_exprs.specs.declared.stop.Stop.{Stop}
 use Rattle.flow_exprs.specs.declared.stop.Stop.TheVariants.{Short, Deep, NoMemory}
 use Rattle.flow_exprs.specs.Kinds.{kind_of, sign_kind, kind_at}
-use Rattle.flow_exprs.specs.Machine.{leaf, word_leaf, name_bytes, ident, Head, Function, Method, called, Unary, Negation, Minus, unary, Stack, Top, InParen, InUnary, InTwo, InArgs, State, Want, Have, WantArgs, WantName, WantOpen, WantClose, Dead, push, closed_tree, closed_stack, after_open, sign_first, step_kind, step, height, heights, head_height, hole, fits_stack, fits, Outcome, Ended, ShortAt, DeepAt, at_end, halt, turn, run, Below}
+use Rattle.flow_exprs.specs.Machine.{leaf, word_leaf, name_bytes, ident, Head, Function, Method, called, Unary, Negation, Minus, unary, Stack, Top, InParen, InUnary, InTwo, InArgs, State, Want, Have, WantArgs, WantName, WantOpen, WantClose, Dead, push, closed_stack, step_kind, step, height, heights, head_height, hole, fits_stack, fits, Outcome, Ended, ShortAt, DeepAt, halt, turn, run, Below}
 use Rattle.flow_exprs.specs.Answer.{NotCallable, KindStops, Stops, Fit, Reads, Goes, ReadsArgs, Ends, Refuses, RefusesArgs, next_op, leaf_of_word, leaf_of, leaf_in, leaf_at, ident_of, ident_in, ident_at, NoSign, RefusalIs}
 use Rattle.flow_exprs.proofs.Sound.{heights_push, called_height, height_some}
 use Rattle.flow_exprs.proofs.Steps.{nat_lt_ge, level_small}
 use Rattle.flow_exprs.proofs.Goes.{Alive}
 use Rattle.flow_exprs.proofs.Complete.{open_dead, two_step, unary_step, open_tree, open_stack, below_more, kind_stops_more, args_want, NotClose}
 use Rattle.flow_exprs.proofs.Fits.{and_true}
-use Rattle.flow_exprs.proofs.Outcomes.{turn_alive, ended_reads, short_missing, deep_refused}
+use Rattle.flow_exprs.proofs.Outcomes.{turn_alive, short_missing, deep_refused}
 
 pub not_true : false ≡ true → ⊥
 not_true h = cc
@@ -725,9 +725,9 @@ module _ (spots : List Spot) where
   others_refused i n d k h s e = no_operand spots i n d k h s (λ b. elim e [
     | inl q ↦ subst (Begins spots) q b
     | inr w ↦ elim w [
-        | inl q ↦ subst (Begins spots) q b
-        | inr v ↦ elim v [ | inl q ↦ subst (Begins spots) q b | inr q ↦ subst (Begins spots) q b ]
-      ]
+      | inl q ↦ subst (Begins spots) q b
+      | inr v ↦ elim v [ inl q ↦ subst (Begins spots) q b | inr q ↦ subst (Begins spots) q b ]
+    ]
   ])
 
   -- the whole

@@ -1,33 +1,22 @@
 -- Where the parts that have begun keep the limit of depth, the machine fits.
-use Rattle.std.proofs.Common.{◌≡◌, ℕ, zero, suc, ◌+◌, ◌≤◌, ◌<◌, max, List, [], ◌∷◌, ◌++◌, refl, sym, ap, ◌∙◌, subst, arith, append_assoc, Bool, true, false, cond, ◌⊎◌, inl, inr}
-use Rattle.std.specs.Prelude.{nat_lt, nat_le, ◌&&◌}
-use Rattle.std.proofs.lemmas.Bool.{cases_lt}
-use Rattle.std.proofs.lemmas.List.{append-nil}
+use Rattle.std.proofs.Common.{◌≡◌, ℕ, zero, suc, ◌+◌, ◌≤◌, ◌<◌, max, List, [], ◌∷◌, ◌++◌, refl, sym, ap, ◌∙◌, subst, arith, append_assoc, Bool, true, false}
+use Rattle.std.specs.Prelude.{nat_le, ◌&&◌}
 use Rattle.flow_base.specs.declared.place.Place.{Place}
-use Rattle.flow_ast.specs.declared.token.Token.{Token}
 use Rattle.flow_ast.specs.declared.token.Token.TheVariants as token
-use Rattle.flow_ast.specs.declared.token.Word.{Word}
 use Rattle.flow_ast.specs.declared.token.Word.TheVariants as word
-use Rattle.flow_ast.specs.declared.token.Sign.{Sign}
 use Rattle.flow_ast.specs.declared.token.Sign.TheVariants as sign
 use Rattle.flow_ast.specs.declared.token.Spot.{Spot}
 use Rattle.flow_ast.specs.declared.expr.Op.{Op}
-use Rattle.flow_ast.specs.declared.expr.Op.TheVariants.{Or, And, Eq, Ne, Lt, Le, Gt, Ge, Add, Sub, Mul, Div, Rem}
-use Rattle.flow_ast.specs.declared.ty.Ident.{Ident}
 use Rattle.flow_ast.specs.Tree.{ExprTree, ExprTrees, IntExpr, TextExpr, BoolExpr, VoidExpr, VarExpr, CallExpr, FieldExpr, MethodExpr, NotExpr, NegExpr, BinaryExpr, ParenExpr, NoExprs, MoreExprs}
-use Rattle.flow_ast.specs.GrammarToken.{Part, Node, Marked, opens, begin, spots_of, InLimits, Keeps, Good}
-use Rattle.flow_ast.specs.Grammar.{sign_at, word_at, name_at, node_sign, node_word, node_name, level, op_sign, ExprRule, number, text, truth, falsehood, void, variable, call, paren, field, method, negation, minus, binary, ArgsRule, no_args, some_args, MoreArgsRule, end_args, more_args}
-use Rattle.flow_ast.proofs.GrammarLists.{spots_append, spots_begin, keeps_append, keeps_begin}
-use Rattle.flow_exprs.specs.declared.kind.Kind.{Kind}
-use Rattle.flow_exprs.specs.declared.kind.Kind.TheVariants as kind
-use Rattle.flow_exprs.specs.Kinds.{kind_of, sign_kind, word_kind}
-use Rattle.flow_exprs.specs.Machine.{leaf, word_leaf, name_bytes, ident, Head, Function, Method, called, Unary, Negation, Minus, unary, Stack, Top, InParen, InUnary, InTwo, InArgs, State, Want, Have, WantArgs, WantName, WantOpen, WantClose, Dead, push, closed_tree, closed_stack, after_close, after_comma, after_open, sign_first, step_kind, step, height, heights, head_height, hole, fits_stack, fits, Below}
+use Rattle.flow_ast.specs.GrammarToken.{Part, Node, Marked, opens, begin, spots_of}
+use Rattle.flow_ast.specs.Grammar.{sign_at, name_at, node_sign, node_word, node_name, level, op_sign, ExprRule, number, text, truth, falsehood, void, variable, call, paren, field, method, negation, minus, binary, ArgsRule, no_args, some_args, MoreArgsRule, end_args, more_args}
+use Rattle.flow_ast.proofs.GrammarLists.{spots_append, spots_begin}
+use Rattle.flow_exprs.specs.Kinds.{kind_of}
+use Rattle.flow_exprs.specs.Machine.{Head, Function, Method, called, Unary, Negation, Minus, unary, Stack, InParen, InUnary, InTwo, InArgs, State, Want, Have, WantArgs, WantName, WantOpen, WantClose, push, step, height, heights, head_height, hole, fits_stack, fits, Below}
 use Rattle.std.proofs.Common.{◌-◌, length, length-append}
 use Rattle.flow_ast.specs.GrammarToken.{AllInLimits}
-use Rattle.flow_exprs.specs.Answer.{NotCallable, KindStops}
-use Rattle.flow_exprs.proofs.Sound.{spot, sign_spot, name_spot, join, join_push, join_none, heights_push, called_height, height_some}
-use Rattle.flow_exprs.proofs.Steps.{nat_lt_ge, nat_lt_lt, level_small}
-use Rattle.flow_exprs.proofs.Complete.{FirstStops, Follows, NotOpen, NotClose, Starts, starts, kind_op, two_step, unary_step, below_more, below_seven, sign_step, first_stops, follows_more, follows_op, args_want, comma_follows}
+use Rattle.flow_exprs.proofs.Sound.{sign_spot, name_spot, join, join_push, join_none, heights_push, called_height, height_some}
+use Rattle.flow_exprs.proofs.Complete.{FirstStops, Follows, Starts, starts, two_step, unary_step, below_more, below_seven, sign_step, first_stops, follows_more, follows_op, args_want, comma_follows}
 
 -- along the next j tokens the machine fits
 abbrev pub Along : ℕ → State → List Spot → Type 0
@@ -128,11 +117,12 @@ mutual
   fit {n} {d} (void p q r) K b hd fs zero rest f = λ k c. tt
   fit {n} {d} (void p q r) K b hd fs (suc j) rest f = λ k c.
       let le : d ≤ 64 = k.0.0 (omega arith) in
-      let e : suc j - 3 ≡ j - 1 - 1 = omega arith in
-      (and_true (hole K) 64 (fits_stack K) (omega arith) fs,
-      along_step j (WantOpen K) (sign_spot sign.OpenRound q) (sign_spot sign.CloseRound r ∷ rest) (λ h. and_true (hole K) 64 (fits_stack K) (omega arith) fs)
-      (along_step (j - 1) (WantClose K) (sign_spot sign.CloseRound r) rest (λ h. and_true (hole K + 1) 65 (fits_stack K) (omega arith) fs)
-      (along_is (suc j - 3) (j - 1 - 1) (Have VoidExpr K) rest e (c (omega arith)))))
+      let e : suc j - 3 ≡ j - 1 - 1 = omega arith in (
+        and_true (hole K) 64 (fits_stack K) (omega arith) fs,
+        along_step j (WantOpen K) (sign_spot sign.OpenRound q) (sign_spot sign.CloseRound r ∷ rest) (λ h. and_true (hole K) 64 (fits_stack K) (omega arith) fs)
+            (along_step (j - 1) (WantClose K) (sign_spot sign.CloseRound r) rest (λ h. and_true (hole K + 1) 65 (fits_stack K) (omega arith) fs)
+            (along_is (suc j - 3) (j - 1 - 1) (Have VoidExpr K) rest e (c (omega arith)))),
+      )
   fit {n} {d} (call h p q args r e) K b hd fs zero rest f = λ k c. tt
   fit {n} {d} {xs} (call {ts = ts} h p q args r e) K b hd fs (suc j) rest f = goal_is d (CallExpr h ts) K (suc j) rest xs (node_name d h ∷ sign_at sign.OpenRound p ∷ (args ++ sign_at sign.CloseRound q ∷ [])) e (λ k c.
       let le : d ≤ 64 = k.0.0 (omega arith) in
@@ -140,11 +130,12 @@ mutual
       let k1 = keep_first j (sign_at sign.OpenRound p) (args ++ sign_at sign.CloseRound q ∷ []) k.1 in
       let k2 = keep_append (j - 1) args (sign_at sign.CloseRound q ∷ []) k1.1 in
       let flat : spots_of args ++ (s ∷ rest) ≡ spots_of (args ++ sign_at sign.CloseRound q ∷ []) ++ rest = sym (ap (λ z. z ++ rest) (spots_append args (sign_at sign.CloseRound q ∷ [])) ∙ append_assoc (spots_of args) (s ∷ []) rest) in
-      let i : suc j - suc (suc (length (args ++ sign_at sign.CloseRound q ∷ []))) ≡ j - 1 - length args - 1 = omega (arith, length-append args (sign_at sign.CloseRound q ∷ [])) in
-      (and_true (hole K + 1) 65 (fits_stack K) (omega arith) fs,
-      along_step j (Have (VarExpr h) K) (sign_spot sign.OpenRound p) (spots_of (args ++ sign_at sign.CloseRound q ∷ []) ++ rest) (λ z. and_true (hole K + 0) 64 (fits_stack K) (omega arith) fs)
-      (subst (Along (j - 1) (WantArgs (Function h) K)) flat
-      (fit_args r (Function h) K q rest (omega arith) fs (omega arith) (omega arith) (j - 1) k2.0 (λ m. along_is (suc j - suc (suc (length (args ++ sign_at sign.CloseRound q ∷ [])))) (j - 1 - length args - 1) (Have (CallExpr h ts) K) rest i (c (omega arith)))))))
+      let i : suc j - suc (suc (length (args ++ sign_at sign.CloseRound q ∷ []))) ≡ j - 1 - length args - 1 = omega (arith, length-append args (sign_at sign.CloseRound q ∷ [])) in (
+        and_true (hole K + 1) 65 (fits_stack K) (omega arith) fs,
+        along_step j (Have (VarExpr h) K) (sign_spot sign.OpenRound p) (spots_of (args ++ sign_at sign.CloseRound q ∷ []) ++ rest) (λ z. and_true (hole K + 0) 64 (fits_stack K) (omega arith) fs)
+            (subst (Along (j - 1) (WantArgs (Function h) K)) flat
+            (fit_args r (Function h) K q rest (omega arith) fs (omega arith) (omega arith) (j - 1) k2.0 (λ m. along_is (suc j - suc (suc (length (args ++ sign_at sign.CloseRound q ∷ [])))) (j - 1 - length args - 1) (Have (CallExpr h ts) K) rest i (c (omega arith))))),
+      ))
   fit {n} {d} {xs} (paren {t = t} p q of r e) K b hd fs j rest f = goal_is d (ParenExpr t) K j rest xs (node_sign d sign.OpenRound p ∷ (of ++ sign_at sign.CloseRound q ∷ [])) e (λ k c.
       let s = sign_spot sign.CloseRound q in
       let k1 = keep_first j (node_sign d sign.OpenRound p) (of ++ sign_at sign.CloseRound q ∷ []) k in
@@ -153,11 +144,13 @@ mutual
       let i : j - suc (length (of ++ sign_at sign.CloseRound q ∷ [])) ≡ j - 1 - length of - 1 = omega (arith, length-append of (sign_at sign.CloseRound q ∷ [])) in
       let in_limit : 0 < j → hole K ≤ 64 = λ z. let w : d ≤ 64 = (k1.0 z).0 (omega arith) in omega arith in
       let fs' : 0 < j → nat_le (hole K) 64 && fits_stack K ≡ true = λ z. and_true (hole K) 64 (fits_stack K) (in_limit z) fs in
-      along_some j (Want K) (sign_spot sign.OpenRound p) (spots_of (of ++ sign_at sign.CloseRound q ∷ []) ++ rest) (λ z.
-      (fs' z, subst (Along (j - 1) (Want (InParen K))) flat
-      (fit r (InParen K) tt (omega arith) (fs' z) (j - 1) (s ∷ rest) (tt, tt) k2.0 (λ m.
-      along_step (j - 1 - length of) (Have t (InParen K)) s rest (λ y. and_true (hole K + suc (height t)) 65 (fits_stack K) (omega arith) fs)
-      (along_is (j - suc (length (of ++ sign_at sign.CloseRound q ∷ []))) (j - 1 - length of - 1) (Have (ParenExpr t) K) rest i (c (omega arith))))))))
+      along_some j (Want K) (sign_spot sign.OpenRound p) (spots_of (of ++ sign_at sign.CloseRound q ∷ []) ++ rest) (λ z. (
+        fs' z,
+        subst (Along (j - 1) (Want (InParen K))) flat
+            (fit r (InParen K) tt (omega arith) (fs' z) (j - 1) (s ∷ rest) (tt, tt) k2.0 (λ m.
+            along_step (j - 1 - length of) (Have t (InParen K)) s rest (λ y. and_true (hole K + suc (height t)) 65 (fits_stack K) (omega arith) fs)
+            (along_is (j - suc (length (of ++ sign_at sign.CloseRound q ∷ []))) (j - 1 - length of - 1) (Have (ParenExpr t) K) rest i (c (omega arith))))),
+      )))
   fit {n} {d} {xs} (field {t = t} p x of r e) K b hd fs j rest f =
       let l = sign_at sign.Dot p ∷ name_at x ∷ [] in
       goal_is d (FieldExpr t x) K j rest xs (begin (Node d) of ++ l) e (λ k c.
@@ -197,19 +190,23 @@ mutual
       let i : j - suc (length of) ≡ j - 1 - length of = omega arith in
       let in_limit : 0 < j → hole K ≤ 64 = λ z. let w : d ≤ 64 = (k1.0 z).0 (omega arith) in omega arith in
       let fs' : 0 < j → nat_le (hole K) 64 && fits_stack K ≡ true = λ z. and_true (hole K) 64 (fits_stack K) (in_limit z) fs in
-      along_some j (Want K) (sign_spot sign.Not p) (spots_of of ++ rest) (λ z.
-      (fs' z, fit r (InUnary Negation K) (omega arith) (omega arith) (fs' z) (j - 1) rest (follows_more n 6 rest le f) k1.1 (λ m.
-      along_unary (j - 1 - length of) Negation t K rest (first_stops n 7 t rest (omega arith) f)
-      (along_is (j - suc (length of)) (j - 1 - length of) (Have (NotExpr t) K) rest i (c (omega arith)))))))
+      along_some j (Want K) (sign_spot sign.Not p) (spots_of of ++ rest) (λ z. (
+        fs' z,
+        fit r (InUnary Negation K) (omega arith) (omega arith) (fs' z) (j - 1) rest (follows_more n 6 rest le f) k1.1 (λ m.
+            along_unary (j - 1 - length of) Negation t K rest (first_stops n 7 t rest (omega arith) f)
+            (along_is (j - suc (length of)) (j - 1 - length of) (Have (NotExpr t) K) rest i (c (omega arith)))),
+      )))
   fit {n} {d} {xs} (minus {t = t} p of le r e) K b hd fs j rest f = goal_is d (NegExpr t) K j rest xs (node_sign d sign.Minus p ∷ of) e (λ k c.
       let k1 = keep_first j (node_sign d sign.Minus p) of k in
       let i : j - suc (length of) ≡ j - 1 - length of = omega arith in
       let in_limit : 0 < j → hole K ≤ 64 = λ z. let w : d ≤ 64 = (k1.0 z).0 (omega arith) in omega arith in
       let fs' : 0 < j → nat_le (hole K) 64 && fits_stack K ≡ true = λ z. and_true (hole K) 64 (fits_stack K) (in_limit z) fs in
-      along_some j (Want K) (sign_spot sign.Minus p) (spots_of of ++ rest) (λ z.
-      (fs' z, fit r (InUnary Minus K) (omega arith) (omega arith) (fs' z) (j - 1) rest (follows_more n 6 rest le f) k1.1 (λ m.
-      along_unary (j - 1 - length of) Minus t K rest (first_stops n 7 t rest (omega arith) f)
-      (along_is (j - suc (length of)) (j - 1 - length of) (Have (NegExpr t) K) rest i (c (omega arith)))))))
+      along_some j (Want K) (sign_spot sign.Minus p) (spots_of of ++ rest) (λ z. (
+        fs' z,
+        fit r (InUnary Minus K) (omega arith) (omega arith) (fs' z) (j - 1) rest (follows_more n 6 rest le f) k1.1 (λ m.
+            along_unary (j - 1 - length of) Minus t K rest (first_stops n 7 t rest (omega arith) f)
+            (along_is (j - suc (length of)) (j - 1 - length of) (Have (NegExpr t) K) rest i (c (omega arith)))),
+      )))
   fit {n} {d} {xs} (binary {a = x} {b = y} op p left right le r s e) K b hd fs j rest f =
       let l = sign_at (op_sign op) p ∷ right in
       goal_is d (BinaryExpr op x y) K j rest xs (begin (Node d) left ++ l) e (λ k c.

@@ -1,35 +1,21 @@
 -- Where the machine stops is where the grammar says.
-use Rattle.std.proofs.Common.{◌≡◌, ℕ, zero, suc, ◌+◌, ◌≤◌, ◌<◌, max, List, [], ◌∷◌, ◌++◌, refl, sym, ap, ◌∙◌, subst, arith, append_assoc, Bool, true, false, cond, ◌⊎◌, inl, inr}
-use Rattle.std.specs.Prelude.{nat_lt, nat_le, ◌&&◌}
-use Rattle.std.proofs.lemmas.Bool.{cases_lt}
+use Rattle.std.proofs.Common.{◌≡◌, ℕ, zero, suc, ◌+◌, ◌≤◌, ◌<◌, List, [], ◌∷◌, ◌++◌, refl, sym, ap, ◌∙◌, subst, arith, Bool, true, false, cond, ◌⊎◌, inl, inr}
+use Rattle.std.specs.Prelude.{nat_le}
 use Rattle.std.proofs.lemmas.List.{append-nil}
 use Rattle.flow_base.specs.declared.place.Place.{Place}
-use Rattle.flow_ast.specs.declared.token.Token.{Token}
-use Rattle.flow_ast.specs.declared.token.Token.TheVariants as token
-use Rattle.flow_ast.specs.declared.token.Word.{Word}
-use Rattle.flow_ast.specs.declared.token.Word.TheVariants as word
-use Rattle.flow_ast.specs.declared.token.Sign.{Sign}
-use Rattle.flow_ast.specs.declared.token.Sign.TheVariants as sign
 use Rattle.flow_ast.specs.declared.token.Spot.{Spot}
-use Rattle.flow_ast.specs.declared.expr.Op.{Op}
-use Rattle.flow_ast.specs.declared.expr.Op.TheVariants.{Or, And, Eq, Ne, Lt, Le, Gt, Ge, Add, Sub, Mul, Div, Rem}
-use Rattle.flow_ast.specs.declared.ty.Ident.{Ident}
-use Rattle.flow_ast.specs.Tree.{ExprTree, ExprTrees, IntExpr, TextExpr, BoolExpr, VoidExpr, VarExpr, CallExpr, FieldExpr, MethodExpr, NotExpr, NegExpr, BinaryExpr, ParenExpr, NoExprs, MoreExprs}
-use Rattle.flow_ast.specs.GrammarToken.{Part, Node, Marked, opens, begin, spots_of, InLimits, Keeps, Good}
-use Rattle.flow_ast.specs.Grammar.{sign_at, word_at, name_at, node_sign, node_word, node_name, level, op_sign, ExprRule, number, text, truth, falsehood, void, variable, call, paren, field, method, negation, minus, binary, ArgsRule, no_args, some_args, MoreArgsRule, end_args, more_args}
-use Rattle.flow_ast.proofs.GrammarLists.{spots_append, spots_begin, keeps_append, keeps_begin}
-use Rattle.flow_exprs.specs.declared.kind.Kind.{Kind}
-use Rattle.flow_exprs.specs.declared.kind.Kind.TheVariants as kind
-use Rattle.flow_exprs.specs.Kinds.{kind_of, sign_kind, word_kind}
-use Rattle.flow_exprs.specs.Machine.{leaf, word_leaf, name_bytes, ident, Head, Function, Method, called, Unary, Negation, Minus, unary, Stack, Top, InParen, InUnary, InTwo, InArgs, State, Want, Have, WantArgs, WantName, WantOpen, WantClose, Dead, push, closed_tree, closed_stack, after_close, after_comma, after_open, sign_first, step_kind, step, height, heights, head_height, hole, fits_stack, fits, Below}
-use Rattle.std.proofs.Common.{◌-◌, length, take, drop, length-append, slice_get}
+use Rattle.flow_ast.specs.Tree.{ExprTree, NotExpr, NegExpr, BinaryExpr}
+use Rattle.flow_ast.specs.GrammarToken.{Marked, spots_of, Keeps, Good}
+use Rattle.flow_ast.specs.Grammar.{level, ExprRule}
+use Rattle.flow_ast.proofs.GrammarLists.{spots_append}
+use Rattle.flow_exprs.specs.Machine.{Negation, Minus, Stack, Top, InParen, InUnary, InTwo, InArgs, State, Want, Have, WantArgs, WantName, WantOpen, WantClose, Dead, closed_tree, closed_stack, step, height, hole, fits_stack, fits}
+use Rattle.std.proofs.Common.{◌-◌, length, take, drop}
 use Rattle.flow_ast.specs.declared.token.Tokens.{Tokens}
 use Rattle.flow_ast.specs.GrammarToken.{Derives}
-use Rattle.flow_ast.specs.GrammarAnswer.{place_at, ReadsAll, TooDeep, IsRead, IsMissing, IsTooDeep}
-use Rattle.flow_ast.proofs.GrammarLists.{length_spots}
+use Rattle.flow_ast.specs.GrammarAnswer.{place_at, ReadsAll, IsRead, IsMissing, IsTooDeep}
 use Rattle.flow_exprs.specs.Machine.{Outcome, Ended, ShortAt, DeepAt, at_end, halt, turn, run}
 use Rattle.flow_exprs.proofs.Sound.{HasRead, HaveRead, Front}
-use Rattle.flow_exprs.proofs.Steps.{nat_lt_ge, Closed, closed}
+use Rattle.flow_exprs.proofs.Steps.{nat_lt_ge, closed}
 use Rattle.flow_exprs.proofs.Reading.{and_left, and_right, le_true}
 use Rattle.flow_exprs.proofs.Goes.{Alive, good_state, feed, has_read, feed_dead, feed_append, alive_or_dead, whole_derived}
 use Rattle.flow_exprs.proofs.Complete.{settle, reads}
@@ -74,27 +60,45 @@ runs [] S k a f = inl (record { count = 0; within = omega arith; alive = a; fit 
 runs (x ∷ xs) S k a f =
     elim (alive_or_dead (step S x)) [
       | inr d ↦ inl (record {
-          count = 0; within = omega arith; alive = a; fit = f; stuck = λ h. d;
-          is = turn_dead k S (step S x) (run (suc k) (step S x) xs) d ∙ (let e : k ≡ k + 0 = omega arith in ap (λ n. halt n S) e);
-        })
+        count = 0;
+        within = omega arith;
+        alive = a;
+        fit = f;
+        stuck = λ h. d;
+        is = turn_dead k S (step S x) (run (suc k) (step S x) xs) d ∙ (let e : k ≡ k + 0 = omega arith in ap (λ n. halt n S) e);
+      })
       | inl l ↦ elim (bool_cases (fits (step S x))) [
-          | inr over ↦ inr (record {
-              count = 0; within = omega arith; before = a; alive = l; fit = f; deep = over;
-              is = turn_alive k S (step S x) (run (suc k) (step S x) xs) l ∙ ap (λ b. cond b (run (suc k) (step S x) xs) (DeepAt k)) over ∙ (let e : k ≡ k + 0 = omega arith in ap DeepAt e);
-            })
-          | inl okay ↦
-              let same : run k S (x ∷ xs) ≡ run (suc k) (step S x) xs = turn_alive k S (step S x) (run (suc k) (step S x) xs) l ∙ ap (λ b. cond b (run (suc k) (step S x) xs) (DeepAt k)) okay in
-              elim (runs xs (step S x) (suc k) l okay) [
-                | inl h ↦ inl (record {
-                    count = suc h.count; within = omega (arith, h.within); alive = h.alive; fit = h.fit; stuck = λ z. h.stuck (omega arith);
-                    is = same ∙ h.is ∙ (let e : suc k + h.count ≡ k + suc h.count = omega arith in ap (λ n. halt n (feed (step S x) (take h.count xs))) e);
-                  })
-                | inr h ↦ inr (record {
-                    count = suc h.count; within = omega (arith, h.within); before = h.before; alive = h.alive; fit = h.fit; deep = h.deep;
-                    is = same ∙ h.is ∙ (let e : suc k + h.count ≡ k + suc h.count = omega arith in ap DeepAt e);
-                  })
-              ]
-        ]
+        | inr over ↦ inr (record {
+          count = 0;
+          within = omega arith;
+          before = a;
+          alive = l;
+          fit = f;
+          deep = over;
+          is = turn_alive k S (step S x) (run (suc k) (step S x) xs) l ∙ ap (λ b. cond b (run (suc k) (step S x) xs) (DeepAt k)) over ∙ (let e : k ≡ k + 0 = omega arith in ap DeepAt e);
+        })
+        | inl okay ↦
+            let same : run k S (x ∷ xs) ≡ run (suc k) (step S x) xs = turn_alive k S (step S x) (run (suc k) (step S x) xs) l ∙ ap (λ b. cond b (run (suc k) (step S x) xs) (DeepAt k)) okay in
+            elim (runs xs (step S x) (suc k) l okay) [
+              | inl h ↦ inl (record {
+                count = suc h.count;
+                within = omega (arith, h.within);
+                alive = h.alive;
+                fit = h.fit;
+                stuck = λ z. h.stuck (omega arith);
+                is = same ∙ h.is ∙ (let e : suc k + h.count ≡ k + suc h.count = omega arith in ap (λ n. halt n (feed (step S x) (take h.count xs))) e);
+              })
+              | inr h ↦ inr (record {
+                count = suc h.count;
+                within = omega (arith, h.within);
+                before = h.before;
+                alive = h.alive;
+                fit = h.fit;
+                deep = h.deep;
+                is = same ∙ h.is ∙ (let e : suc k + h.count ≡ k + suc h.count = omega arith in ap DeepAt e);
+              })
+            ]
+      ]
     ]
 
 record AtEnd (k : ℕ) (t : ExprTree) (Q : Stack) (u : ExprTree) (j : ℕ) : Type 0 where
@@ -290,13 +294,13 @@ deep_refused t from d at j e p =
     elim (runs xs (Want (Top d)) from tt refl) [
       | inl h ↦ absurd (halt_deep (from + h.count) (feed (Want (Top d)) (take h.count xs)) j (sym h.is ∙ e))
       | inr h ↦ record {
-          number = h.count;
-          deep = record {
-            within = h.within;
-            read = good_at d 2 (take (suc h.count) xs) h.alive (λ z. absurd (omega arith));
-            before = good_at d 5 (take h.count xs) h.before (λ z. h.fit);
-            deep = λ g. true_false (fits (feed (Want (Top d)) (take (suc h.count) xs))) (good_fits d (take (suc h.count) xs) g) h.deep;
-          };
-          place = p ∙ ap (place_at t) (sym (deep_same (from + h.count) j (sym h.is ∙ e)));
-        }
+        number = h.count;
+        deep = record {
+          within = h.within;
+          read = good_at d 2 (take (suc h.count) xs) h.alive (λ z. absurd (omega arith));
+          before = good_at d 5 (take h.count xs) h.before (λ z. h.fit);
+          deep = λ g. true_false (fits (feed (Want (Top d)) (take (suc h.count) xs))) (good_fits d (take (suc h.count) xs) g) h.deep;
+        };
+        place = p ∙ ap (place_at t) (sym (deep_same (from + h.count) j (sym h.is ∙ e)));
+      }
     ]

@@ -1,28 +1,24 @@
 -- The machine goes on with what it has read, and what it has read can be completed.
-use Rattle.std.proofs.Common.{◌≡◌, ℕ, zero, suc, ◌+◌, ◌≤◌, ◌<◌, max, List, [], ◌∷◌, ◌++◌, refl, sym, ap, ◌∙◌, subst, arith, append_assoc, Bool, true, false, cond, ◌⊎◌, inl, inr}
-use Rattle.std.specs.Prelude.{nat_lt, nat_le, ◌&&◌}
-use Rattle.std.proofs.lemmas.Bool.{cases_lt}
+use Rattle.std.proofs.Common.{◌≡◌, ℕ, suc, ◌+◌, ◌≤◌, max, List, [], ◌∷◌, ◌++◌, refl, sym, ap, ◌∙◌, subst, arith, append_assoc, Bool, true}
+use Rattle.std.specs.Prelude.{nat_le, ◌&&◌}
 use Rattle.std.proofs.lemmas.List.{append-nil}
 use Rattle.flow_base.specs.declared.place.Place.{Place}
 use Rattle.flow_ast.specs.declared.token.Token.{Token}
 use Rattle.flow_ast.specs.declared.token.Token.TheVariants as token
-use Rattle.flow_ast.specs.declared.token.Word.{Word}
 use Rattle.flow_ast.specs.declared.token.Word.TheVariants as word
-use Rattle.flow_ast.specs.declared.token.Sign.{Sign}
 use Rattle.flow_ast.specs.declared.token.Sign.TheVariants as sign
 use Rattle.flow_ast.specs.declared.token.Spot.{Spot}
 use Rattle.flow_ast.specs.declared.expr.Op.{Op}
-use Rattle.flow_ast.specs.declared.expr.Op.TheVariants.{Or, And, Eq, Ne, Lt, Le, Gt, Ge, Add, Sub, Mul, Div, Rem}
-use Rattle.flow_ast.specs.declared.ty.Ident.{Ident}
-use Rattle.flow_ast.specs.Tree.{ExprTree, ExprTrees, IntExpr, TextExpr, BoolExpr, VoidExpr, VarExpr, CallExpr, FieldExpr, MethodExpr, NotExpr, NegExpr, BinaryExpr, ParenExpr, NoExprs, MoreExprs}
-use Rattle.flow_ast.specs.GrammarToken.{Part, Node, Marked, opens, begin, spots_of, InLimits, Keeps, Good}
-use Rattle.flow_ast.specs.Grammar.{sign_at, word_at, name_at, node_sign, node_word, node_name, level, op_sign, ExprRule, number, text, truth, falsehood, void, variable, call, paren, field, method, negation, minus, binary, ArgsRule, no_args, some_args, MoreArgsRule, end_args, more_args}
+use Rattle.flow_ast.specs.declared.expr.Op.TheVariants.{Sub}
+use Rattle.flow_ast.specs.Tree.{ExprTree, ExprTrees, IntExpr, TextExpr, BoolExpr, VoidExpr, VarExpr, CallExpr, FieldExpr, MethodExpr, NotExpr, NegExpr, BinaryExpr, ParenExpr, NoExprs}
+use Rattle.flow_ast.specs.GrammarToken.{Node, Marked, begin, spots_of, Keeps, Good}
+use Rattle.flow_ast.specs.Grammar.{sign_at, node_sign, level, op_sign, ExprRule, paren, negation, minus, binary, ArgsRule, end_args}
 use Rattle.flow_ast.proofs.GrammarLists.{spots_append, spots_begin, keeps_append, keeps_begin}
 use Rattle.flow_exprs.specs.declared.kind.Kind.{Kind}
 use Rattle.flow_exprs.specs.declared.kind.Kind.TheVariants as kind
-use Rattle.flow_exprs.specs.Kinds.{kind_of, sign_kind, word_kind}
-use Rattle.flow_exprs.specs.Machine.{leaf, word_leaf, name_bytes, ident, Head, Function, Method, called, Unary, Negation, Minus, unary, Stack, Top, InParen, InUnary, InTwo, InArgs, State, Want, Have, WantArgs, WantName, WantOpen, WantClose, Dead, push, closed_tree, closed_stack, after_close, after_comma, after_open, sign_first, step_kind, step, height, heights, head_height, hole, fits_stack, fits, Below}
-use Rattle.flow_exprs.proofs.Sound.{spot, sign_spot, name_spot, Own, HeadOwn, ArgsOwn, Front, need, CallOwn, HaveRead, HasRead, KindSpot, kind_spot, join, join_push, join_none, heights_push, called_height, height_some, not_own, minus_own, two_own, field_own, paren_own, void_own, name_own}
+use Rattle.flow_exprs.specs.Kinds.{kind_of}
+use Rattle.flow_exprs.specs.Machine.{ident, Head, Function, Method, called, Negation, Minus, Stack, Top, InParen, InUnary, InTwo, InArgs, State, Want, Have, WantArgs, WantName, WantOpen, WantClose, Dead, push, closed_tree, closed_stack, after_close, after_comma, after_open, sign_first, step_kind, step, height, heights, head_height, hole, fits_stack}
+use Rattle.flow_exprs.proofs.Sound.{spot, sign_spot, name_spot, Front, need, CallOwn, HaveRead, HasRead, KindSpot, kind_spot, join_none, height_some, field_own, paren_own, void_own, name_own}
 use Rattle.flow_exprs.proofs.Steps.{Closed, closed, level_small, need_small, need_below, first_args, next_args, call_none, call_some, function_head, method_head}
 
 called_callee : (h : Head) (ts : ExprTrees) (toks : List Spot) → CallOwn (called h ts) toks
@@ -61,18 +57,29 @@ comma_step base t (InUnary u K) toks x p e c = tt
 comma_step base t (InTwo op l K) toks x p e c = tt
 comma_step base t (InArgs h ts K) toks x p e c =
     let s = c.stack in (
-      s.0, s.1, s.2 ++ (c.own ++ sign_spot sign.Comma p ∷ []), s.3, s.4, (λ d. next_args d ts t s.2 c.own p (s.5 d) (c.rule d)),
+      s.0,
+      s.1,
+      s.2 ++ (c.own ++ sign_spot sign.Comma p ∷ []),
+      s.3,
+      s.4,
+      (λ d. next_args d ts t s.2 c.own p (s.5 d) (c.rule d)),
       ap (λ y. toks ++ spot y p ∷ []) e ∙ ap (λ z. z ++ sign_spot sign.Comma p ∷ []) (c.is ∙ ap (λ z. z ++ c.own) s.6) ∙ simp append_assoc,
     )
 
 open_step : (base : ℕ) (t : ExprTree) (K : Stack) (toks : List Spot) (x : Token) (p : Place) → x ≡ token.Sign sign.OpenRound → HaveRead base t K toks → HasRead base (after_open t K) (toks ++ spot x p ∷ [])
 open_step base (VarExpr v) K toks x p e h = (
-  h.front, name_spot v ∷ sign_spot sign.OpenRound p ∷ [], h.stack, (λ d. function_head d v p),
+  h.front,
+  name_spot v ∷ sign_spot sign.OpenRound p ∷ [],
+  h.stack,
+  (λ d. function_head d v p),
   ap (λ y. toks ++ spot y p ∷ []) e ∙ ap (λ z. z ++ sign_spot sign.OpenRound p ∷ []) (h.is ∙ ap (λ z. h.front ++ z) h.callee) ∙ append_assoc h.front (name_spot v ∷ []) (sign_spot sign.OpenRound p ∷ []),
 )
 open_step base (FieldExpr t v) K toks x p e h =
     let c = h.callee in (
-      h.front, c.0 ++ (sign_spot sign.Dot c.1 ∷ name_spot v ∷ sign_spot sign.OpenRound p ∷ []), h.stack, (λ d. method_head d t v c.0 c.1 p (c.2 7 (suc d))),
+      h.front,
+      c.0 ++ (sign_spot sign.Dot c.1 ∷ name_spot v ∷ sign_spot sign.OpenRound p ∷ []),
+      h.stack,
+      (λ d. method_head d t v c.0 c.1 p (c.2 7 (suc d))),
       ap (λ y. toks ++ spot y p ∷ []) e ∙ ap (λ z. z ++ sign_spot sign.OpenRound p ∷ []) (h.is ∙ ap (λ z. h.front ++ z) c.3) ∙ simp append_assoc,
     )
 open_step base (IntExpr n) K toks x p e h = tt
@@ -109,12 +116,21 @@ have_step base t K kind.Open toks x p e h = open_step base t K toks x p e h
 have_step base t K kind.Close toks x p e h = close_step base (closed_tree 0 t K) (closed_stack 0 K) toks x p e (closed base 0 t K toks (omega arith) h)
 have_step base t K kind.Comma toks x p e h = comma_step base (closed_tree 0 t K) (closed_stack 0 K) toks x p e (closed base 0 t K toks (omega arith) h)
 have_step base t K kind.Dot toks x p e h = (
-  h.front, h.own, p, h.stack, h.rule,
+  h.front,
+  h.own,
+  p,
+  h.stack,
+  h.rule,
   ap (λ y. toks ++ spot y p ∷ []) e ∙ ap (λ z. z ++ sign_spot sign.Dot p ∷ []) h.is ∙ append_assoc h.front h.own (sign_spot sign.Dot p ∷ []),
 )
 have_step base t K (kind.Op op) toks x p e h =
     let c = closed base (level op) t K toks (level_small op) h in (
-      c.front, c.own, p, c.stack, c.rule, c.below,
+      c.front,
+      c.own,
+      p,
+      c.stack,
+      c.rule,
+      c.below,
       ap (λ y. toks ++ spot y p ∷ []) e ∙ ap (λ z. z ++ sign_spot (op_sign op) p ∷ []) c.is ∙ append_assoc c.front c.own (sign_spot (op_sign op) p ∷ []),
     )
 have_step base t K _ toks x p e h = tt
@@ -231,8 +247,8 @@ plug n base (InTwo op l K) front f h t read rest r k =
     (binary op p o.marked (read ++ rest) (need_below (level op) K f.5) o.rule r (append_assoc left (sign_at (op_sign op) p ∷ read) rest))
     (keeps_append n left (sign_at (op_sign op) p ∷ read) (keeps_begin n (Node (hole K)) o.marked (λ i. omega (arith, le i, height_some l)) (o.keeps n (λ i. omega (arith, le i)))) (tt, k)) in
     let e : a ++ spots_of (left ++ (sign_at (op_sign op) p ∷ read)) ≡ front ++ spots_of read =
-        ap (λ z. a ++ z) (spots_append left (sign_at (op_sign op) p ∷ read) ∙ ap (λ z. z ++ (sign_spot (op_sign op) p ∷ spots_of read)) (spots_begin (Node (hole K)) o.marked ∙ o.is))
-        ∙ sym (ap (λ z. z ++ spots_of read) f.6 ∙ simp append_assoc) in
+    ap (λ z. a ++ z) (spots_append left (sign_at (op_sign op) p ∷ read) ∙ ap (λ z. z ++ (sign_spot (op_sign op) p ∷ spots_of read)) (spots_begin (Node (hole K)) o.marked ∙ o.is))
+    ∙ sym (ap (λ z. z ++ spots_of read) f.6 ∙ simp append_assoc) in
     subst (Good (ExprRule 0 base) n) e g
 plug n base (InArgs c ts K) front f h t read rest r k =
     let a = f.0 in let b = f.1 in
@@ -248,6 +264,6 @@ plug n base (InArgs c ts K) front f h t read rest r k =
     (subst (λ z. ExprRule (need K) (hole K) z (called c (push ts t))) flat (x.rule (need K) (record { line = 0; column = 0; byte = 0 }) (y.marked ++ (read ++ rest)) (push ts t) args'))
     (keeps_append n x.marked (y.marked ++ read) (x.keeps n (λ i. omega (arith, le i))) (keeps_append n y.marked read (y.keeps n (λ i. omega (arith, le i))) k)) in
     let e : a ++ spots_of (x.marked ++ (y.marked ++ read)) ≡ front ++ spots_of read =
-        ap (λ z. a ++ z) (spots_append x.marked (y.marked ++ read) ∙ ap (λ z. z ++ spots_of (y.marked ++ read)) x.is ∙ ap (λ z. b ++ z) (spots_append y.marked read ∙ ap (λ z. z ++ spots_of read) y.is))
-        ∙ sym (ap (λ z. z ++ spots_of read) f.6 ∙ simp append_assoc) in
+    ap (λ z. a ++ z) (spots_append x.marked (y.marked ++ read) ∙ ap (λ z. z ++ spots_of (y.marked ++ read)) x.is ∙ ap (λ z. b ++ z) (spots_append y.marked read ∙ ap (λ z. z ++ spots_of read) y.is))
+    ∙ sym (ap (λ z. z ++ spots_of read) f.6 ∙ simp append_assoc) in
     subst (Good (ExprRule 0 base) n) e g

@@ -1,8 +1,6 @@
 -- The machine that reads types follows the grammar.
 use Rattle.std.proofs.Common.{◌≡◌, ℕ, zero, suc, ◌+◌, ◌-◌, ◌≤◌, ◌<◌, List, [], ◌∷◌, ◌++◌, length, take, drop, refl, sym, ap, ◌∙◌, subst, arith, append_assoc, Bool, true, false, cond, ◌⊎◌, inl, inr, length-append}
 use Rattle.std.specs.Prelude.{nat_le, ◌&&◌}
-use Rattle.std.specs.declared.option.Option.{Option}
-use Rattle.std.specs.declared.option.Option.TheVariants.{None, Some}
 use Rattle.std.proofs.lemmas.List.{append-nil}
 use Rattle.flow_base.specs.declared.place.Place.{Place}
 use Rattle.flow_ast.specs.declared.token.Token.{Token}
@@ -13,18 +11,18 @@ use Rattle.flow_ast.specs.declared.token.Sign.{Sign}
 use Rattle.flow_ast.specs.declared.token.Sign.TheVariants as sign
 use Rattle.flow_ast.specs.declared.token.Spot.{Spot}
 use Rattle.flow_ast.specs.declared.token.Tokens.{Tokens}
-use Rattle.flow_ast.specs.Tree.{TypeTree, IntType, BoolType, StringType, VoidType, ErrorType, NamedType, FutureType, FutureStreamType, PromiseType, PromiseStreamType}
-use Rattle.flow_ast.specs.GrammarToken.{Part, Node, Marked, opens, begin, spots_of, InLimits, AllInLimits, Keeps, Good, Derives}
+use Rattle.flow_ast.specs.Tree.{TypeTree, IntType, BoolType, StringType, VoidType, ErrorType, NamedType}
+use Rattle.flow_ast.specs.GrammarToken.{Node, Marked, spots_of, AllInLimits, Keeps, Good, Derives}
 use Rattle.flow_ast.specs.Grammar.{sign_at, node_word, node_name, Wrapper, FutureOf, FutureStreamOf, PromiseOf, PromiseStreamOf, wrapper_word, wrapped, TypeRule, int_type, bool_type, string_type, void_type, error_type, named_type, wrapped_type}
-use Rattle.flow_ast.specs.GrammarAnswer.{place_at, ReadsAll, TooDeep, IsRead, IsMissing, IsTooDeep}
+use Rattle.flow_ast.specs.GrammarAnswer.{place_at, ReadsAll, IsRead, IsMissing, IsTooDeep}
 use Rattle.flow_ast.proofs.GrammarLists.{spots_append, keeps_append}
 use Rattle.flow_exprs.specs.declared.ty.TypeKind.{TypeKind}
 use Rattle.flow_exprs.specs.declared.ty.TypeKind.TheVariants.{Plain, Future, FutureStream, Promise, PromiseStream, Less, Greater, Other}
-use Rattle.flow_exprs.specs.TypeMachine.{type_word_kind, type_sign_kind, type_kind_of, plain_of_word, plain_of, type_or_void, Around, Bottom, Inside, TypeState, WantType, WantLess, HaveType, DeadType, type_greater, want_type, want_less, have_type, type_step_kind, type_step, type_height, type_hole, around_fits, type_fits, TypeOutcome, TypeEnded, TypeShort, TypeDeep, type_halt, type_turn, type_run}
-use Rattle.flow_exprs.proofs.Sound.{spot, sign_spot, name_spot}
+use Rattle.flow_exprs.specs.TypeMachine.{type_word_kind, type_sign_kind, type_kind_of, plain_of, type_or_void, Around, Bottom, Inside, TypeState, WantType, WantLess, HaveType, DeadType, type_greater, type_step_kind, type_step, type_height, type_hole, around_fits, type_fits, TypeOutcome, TypeEnded, TypeShort, TypeDeep, type_halt, type_turn, type_run}
+use Rattle.flow_exprs.proofs.Sound.{spot, sign_spot}
 use Rattle.flow_exprs.proofs.Reading.{and_left, and_right, le_true}
 use Rattle.flow_exprs.proofs.Goes.{nowhere}
-use Rattle.flow_exprs.proofs.Fits.{and_true, FirstKeep, keep_first, keep_append, keep_is}
+use Rattle.flow_exprs.proofs.Fits.{and_true, FirstKeep, keep_first, keep_append}
 
 abbrev word_spot : Word → Place → Spot
 word_spot w p = spot (token.Word w) p
@@ -241,12 +239,17 @@ fit_type {d} {xs} (wrapped_type {t = t} w p q r of rule e) K hd fs j rest k c =
     (along_step j (WantType K) (word_spot (wrapper_word w) p) (sign_spot sign.Less q ∷ (spots_of of ++ (sign_spot sign.Greater r ∷ rest))) (λ z.
     let le : d ≤ 64 = (k1.0 z).0 (omega arith) in
     let fs' : nat_le (type_hole K) 64 && around_fits K ≡ true = and_true (type_hole K) 64 (around_fits K) (omega arith) fs in
-    subst (λ S. (type_fits S ≡ true) × AlongType (j - 1) S (sign_spot sign.Less q ∷ (spots_of of ++ (sign_spot sign.Greater r ∷ rest)))) (sym (wrapper_step w K p))
-    (fs', along_step (j - 1) (WantLess w K) (sign_spot sign.Less q) (spots_of of ++ (sign_spot sign.Greater r ∷ rest)) (λ y.
-    (fs', fit_type rule (Inside w K) (omega arith) fs' (j - 1 - 1) (sign_spot sign.Greater r ∷ rest) k3.0 (λ m.
-    along_step (j - 1 - 1 - length of) (HaveType t (Inside w K)) (sign_spot sign.Greater r) rest (λ v.
-    (and_true (type_hole K + type_height (wrapped w t)) 65 (around_fits K) (omega (arith, wrapped_height w t)) fs,
-    along_is (j - length xs) (j - 1 - 1 - length of - 1) (HaveType (wrapped w t) K) rest i (c (omega (arith, wrapped_height w t)))))))))))
+    subst (λ S. (type_fits S ≡ true) × AlongType (j - 1) S (sign_spot sign.Less q ∷ (spots_of of ++ (sign_spot sign.Greater r ∷ rest)))) (sym (wrapper_step w K p)) (
+      fs',
+      along_step (j - 1) (WantLess w K) (sign_spot sign.Less q) (spots_of of ++ (sign_spot sign.Greater r ∷ rest)) (λ y. (
+        fs',
+        fit_type rule (Inside w K) (omega arith) fs' (j - 1 - 1) (sign_spot sign.Greater r ∷ rest) k3.0 (λ m.
+            along_step (j - 1 - 1 - length of) (HaveType t (Inside w K)) (sign_spot sign.Greater r) rest (λ v. (
+              and_true (type_hole K + type_height (wrapped w t)) 65 (around_fits K) (omega (arith, wrapped_height w t)) fs,
+              along_is (j - length xs) (j - 1 - 1 - length of - 1) (HaveType (wrapped w t) K) rest i (c (omega (arith, wrapped_height w t))),
+            ))),
+      )),
+    )))
 
 -- where a run stops
 feed_dead_type : (xs : List Spot) → feed_type DeadType xs ≡ DeadType
@@ -295,27 +298,45 @@ runs_type [] S k a f = inl (record { count = 0; within = omega arith; alive = a;
 runs_type (x ∷ xs) S k a f =
     elim (alive_or_dead_type (type_step S x)) [
       | inr d ↦ inl (record {
-          count = 0; within = omega arith; alive = a; fit = f; stuck = λ h. d;
-          is = ap (λ Q. type_turn k S Q (type_run (suc k) (type_step S x) xs)) d ∙ (let e : k ≡ k + 0 = omega arith in ap (λ n. type_halt n S) e);
-        })
+        count = 0;
+        within = omega arith;
+        alive = a;
+        fit = f;
+        stuck = λ h. d;
+        is = ap (λ Q. type_turn k S Q (type_run (suc k) (type_step S x) xs)) d ∙ (let e : k ≡ k + 0 = omega arith in ap (λ n. type_halt n S) e);
+      })
       | inl l ↦ elim (bool_cases (type_fits (type_step S x))) [
-          | inr over ↦ inr (record {
-              count = 0; within = omega arith; before = a; alive = l; fit = f; deep = over;
-              is = type_turn_alive k S (type_step S x) (type_run (suc k) (type_step S x) xs) l ∙ ap (λ b. cond b (type_run (suc k) (type_step S x) xs) (TypeDeep k)) over ∙ (let e : k ≡ k + 0 = omega arith in ap TypeDeep e);
-            })
-          | inl okay ↦
-              let same : type_run k S (x ∷ xs) ≡ type_run (suc k) (type_step S x) xs = type_turn_alive k S (type_step S x) (type_run (suc k) (type_step S x) xs) l ∙ ap (λ b. cond b (type_run (suc k) (type_step S x) xs) (TypeDeep k)) okay in
-              elim (runs_type xs (type_step S x) (suc k) l okay) [
-                | inl h ↦ inl (record {
-                    count = suc h.count; within = omega (arith, h.within); alive = h.alive; fit = h.fit; stuck = λ z. h.stuck (omega arith);
-                    is = same ∙ h.is ∙ (let e : suc k + h.count ≡ k + suc h.count = omega arith in ap (λ n. type_halt n (feed_type (type_step S x) (take h.count xs))) e);
-                  })
-                | inr h ↦ inr (record {
-                    count = suc h.count; within = omega (arith, h.within); before = h.before; alive = h.alive; fit = h.fit; deep = h.deep;
-                    is = same ∙ h.is ∙ (let e : suc k + h.count ≡ k + suc h.count = omega arith in ap TypeDeep e);
-                  })
-              ]
-        ]
+        | inr over ↦ inr (record {
+          count = 0;
+          within = omega arith;
+          before = a;
+          alive = l;
+          fit = f;
+          deep = over;
+          is = type_turn_alive k S (type_step S x) (type_run (suc k) (type_step S x) xs) l ∙ ap (λ b. cond b (type_run (suc k) (type_step S x) xs) (TypeDeep k)) over ∙ (let e : k ≡ k + 0 = omega arith in ap TypeDeep e);
+        })
+        | inl okay ↦
+            let same : type_run k S (x ∷ xs) ≡ type_run (suc k) (type_step S x) xs = type_turn_alive k S (type_step S x) (type_run (suc k) (type_step S x) xs) l ∙ ap (λ b. cond b (type_run (suc k) (type_step S x) xs) (TypeDeep k)) okay in
+            elim (runs_type xs (type_step S x) (suc k) l okay) [
+              | inl h ↦ inl (record {
+                count = suc h.count;
+                within = omega (arith, h.within);
+                alive = h.alive;
+                fit = h.fit;
+                stuck = λ z. h.stuck (omega arith);
+                is = same ∙ h.is ∙ (let e : suc k + h.count ≡ k + suc h.count = omega arith in ap (λ n. type_halt n (feed_type (type_step S x) (take h.count xs))) e);
+              })
+              | inr h ↦ inr (record {
+                count = suc h.count;
+                within = omega (arith, h.within);
+                before = h.before;
+                alive = h.alive;
+                fit = h.fit;
+                deep = h.deep;
+                is = same ∙ h.is ∙ (let e : suc k + h.count ≡ k + suc h.count = omega arith in ap TypeDeep e);
+              })
+            ]
+      ]
     ]
 
 pub type_settles : {d : ℕ} {xs : List Marked} {t : TypeTree} → TypeRule d xs t → feed_type (WantType (Bottom d)) (spots_of xs) ≡ HaveType t (Bottom d)
@@ -449,13 +470,13 @@ deep_type t from d at j e p =
     elim (runs_type xs (WantType (Bottom d)) from tt refl) [
       | inl h ↦ absurd (halt_deep (from + h.count) (feed_type (WantType (Bottom d)) (take h.count xs)) j (sym h.is ∙ e))
       | inr h ↦ record {
-          number = h.count;
-          deep = record {
-            within = h.within;
-            read = good_at_type d 2 (take (suc h.count) xs) h.alive (λ z. absurd (omega arith));
-            before = good_at_type d 5 (take h.count xs) h.before (λ z. h.fit);
-            deep = λ g. true_false (type_fits (feed_type (WantType (Bottom d)) (take (suc h.count) xs))) (good_fits_type d (take (suc h.count) xs) g) h.deep;
-          };
-          place = p ∙ ap (place_at t) (sym (deep_same (from + h.count) j (sym h.is ∙ e)));
-        }
+        number = h.count;
+        deep = record {
+          within = h.within;
+          read = good_at_type d 2 (take (suc h.count) xs) h.alive (λ z. absurd (omega arith));
+          before = good_at_type d 5 (take h.count xs) h.before (λ z. h.fit);
+          deep = λ g. true_false (type_fits (feed_type (WantType (Bottom d)) (take (suc h.count) xs))) (good_fits_type d (take (suc h.count) xs) g) h.deep;
+        };
+        place = p ∙ ap (place_at t) (sym (deep_same (from + h.count) j (sym h.is ∙ e)));
+      }
     ]

@@ -1,6 +1,6 @@
 -- The steps of the functions that read types against the machine's.
-use Rattle.std.proofs.Common.{◌≡◌, ℕ, zero, suc, ◌+◌, ◌-◌, ◌≤◌, ◌<◌, List, [], ◌∷◌, ◌++◌, length, drop, refl, sym, ap, ◌∙◌, subst, arith, Bool, true, false, cond, ◌⊎◌, inl, inr, slice_get, add-one}
-use Rattle.std.specs.Prelude.{nat_le, ◌&&◌, Err}
+use Rattle.std.proofs.Common.{◌≡◌, ℕ, suc, ◌+◌, ◌≤◌, ◌<◌, List, [], ◌∷◌, length, drop, refl, sym, ap, ◌∙◌, subst, arith, true, false, cond, ◌⊎◌, slice_get, add-one}
+use Rattle.std.specs.Prelude.{Err}
 use Rattle.std.specs.Option.{option_map}
 use Rattle.std.specs.declared.option.Option.{Option}
 use Rattle.std.specs.declared.option.Option.TheVariants.{None, Some}
@@ -16,18 +16,18 @@ use Rattle.flow_ast.specs.declared.token.Tokens.{Tokens}
 use Rattle.flow_ast.specs.declared.fault.SourceFault.{SourceFault}
 use Rattle.flow_ast.specs.Tree.{TypeTree, IntType, BoolType, StringType, VoidType, ErrorType, NamedType}
 use Rattle.flow_ast.specs.View.{type_of}
-use Rattle.flow_ast.specs.Grammar.{Wrapper, FutureOf, FutureStreamOf, PromiseOf, PromiseStreamOf, wrapped, TypeRule}
+use Rattle.flow_ast.specs.Grammar.{Wrapper, TypeRule}
 use Rattle.flow_ast.specs.GrammarAnswer.{place_at, ReaderAnswer}
 use Rattle.flow_exprs.specs.declared.stop.Stop.{Stop}
 use Rattle.flow_exprs.specs.declared.stop.Stop.TheVariants.{Short, Deep, NoMemory}
 use Rattle.flow_exprs.specs.declared.ty.TypeKind.{TypeKind}
 use Rattle.flow_exprs.specs.declared.ty.TypeKind.TheVariants as kind
 use Rattle.flow_exprs.specs.Answer.{RefusalIs}
-use Rattle.flow_exprs.specs.TypeMachine.{type_word_kind, type_sign_kind, type_kind_of, type_kind_at, plain_of_word, plain_of, plain_in, plain_at, type_or_void, IsWrapper, wrapper_of, wrapped_by, Around, Bottom, Inside, TypeState, WantType, WantLess, HaveType, DeadType, type_greater, type_step_kind, type_step, type_height, type_hole, around_fits, type_fits, TypeOutcome, TypeEnded, TypeShort, TypeDeep, type_halt, type_turn, type_run}
+use Rattle.flow_exprs.specs.TypeMachine.{type_word_kind, type_sign_kind, type_kind_of, type_kind_at, plain_of_word, plain_of, plain_in, plain_at, type_or_void, IsWrapper, wrapper_of, wrapped_by, Around, Bottom, Inside, TypeState, WantType, WantLess, HaveType, DeadType, type_step_kind, type_step, type_height, type_hole, around_fits, type_fits, TypeOutcome, TypeEnded, TypeDeep, type_halt, type_turn, type_run}
 use Rattle.flow_exprs.specs.TypeAnswer.{TypeFit, ReadsType, TypeEnds, RefusesType}
 use Rattle.flow_exprs.proofs.Fits.{and_true}
-use Rattle.flow_exprs.proofs.ExprSteps.{first, first_drop, drop_some, and_false, not_true}
-use Rattle.flow_exprs.proofs.TypeLaws.{AliveType, type_turn_alive, wrapped_height, ended_type, short_type, deep_type}
+use Rattle.flow_exprs.proofs.ExprSteps.{first, first_drop, drop_some, and_false}
+use Rattle.flow_exprs.proofs.TypeLaws.{AliveType, type_turn_alive, wrapped_height, short_type, deep_type}
 
 here_in : (o : Option Spot) (k : TypeKind) → option_map (λ s. type_kind_of s.token) o ≡ Some k → (x : Spot) × (o ≡ Some x) × (type_kind_of x.token ≡ k)
 here_in None k h = absurd (cc)
@@ -45,10 +45,12 @@ module _ (spots : List Spot) where
   one_kind : (i : ℕ) (S : TypeState) (k : TypeKind) → type_kind_at spots i ≡ Some k → (x : Spot) × (slice_get spots i ≡ Some x) × (type_run i S (drop i spots) ≡ type_turn i S (type_step_kind S k x) (type_run (i + 1) (type_step_kind S k x) (drop (i + 1) spots)))
   one_kind i S k h =
       let r = here_in (slice_get spots i) k h in
-      let x = r.0 in
-      (x, r.1,
-      ap (λ z. type_run i S z) (drop_some spots i x r.1) ∙ ap (λ n. type_turn i S (type_step S x) (type_run n (type_step S x) (drop (i + 1) spots))) (sym (add-one i))
-      ∙ ap (λ q. type_turn i S (type_step_kind S q x) (type_run (i + 1) (type_step_kind S q x) (drop (i + 1) spots))) r.2)
+      let x = r.0 in (
+        x,
+        r.1,
+        ap (λ z. type_run i S z) (drop_some spots i x r.1) ∙ ap (λ n. type_turn i S (type_step S x) (type_run n (type_step S x) (drop (i + 1) spots))) (sym (add-one i))
+            ∙ ap (λ q. type_turn i S (type_step_kind S q x) (type_run (i + 1) (type_step_kind S q x) (drop (i + 1) spots))) r.2,
+      )
 
   go : (i : ℕ) (S T : TypeState) (k : TypeKind) → type_kind_at spots i ≡ Some k → ((x : Spot) → slice_get spots i ≡ Some x → type_step_kind S k x ≡ T) → AliveType T → type_fits T ≡ true → type_run i S (drop i spots) ≡ type_run (i + 1) T (drop (i + 1) spots)
   go i S T k h t a f =

@@ -1,5 +1,5 @@
 -- What the functions that read expressions answer.
-use Rattle.std.specs.Prelude.{◌≡◌, ℕ, suc, ◌+◌, ◌≤◌, ◌<◌, List, [], ◌∷◌, true, false, nat_lt, if◌then◌else◌, drop, length, Result, Ok, Err, slice_get}
+use Rattle.std.specs.Prelude.{◌≡◌, ℕ, ◌+◌, ◌≤◌, ◌<◌, List, true, false, nat_lt, if◌then◌else◌, drop, length, Result, Ok, Err, slice_get}
 use Rattle.std.specs.declared.option.Option.{Option}
 use Rattle.std.specs.declared.option.Option.TheVariants.{None, Some}
 use Rattle.flow_base.specs.declared.place.Place.{Place}
@@ -19,14 +19,14 @@ use Rattle.flow_ast.specs.declared.ty.Ident.{Ident}
 use Rattle.flow_ast.specs.View.{expr_of, exprs_of}
 use Rattle.flow_exprs.specs.declared.expr.Read.{Read}
 use Rattle.flow_exprs.specs.declared.expr.ReadArgs.{ReadArgs}
-use Rattle.flow_ast.specs.Tree.{ExprTree, ExprTrees, IntExpr, TextExpr, BoolExpr, VoidExpr, VarExpr, CallExpr, FieldExpr, MethodExpr, NotExpr, NegExpr, BinaryExpr, ParenExpr}
+use Rattle.flow_ast.specs.Tree.{ExprTree, ExprTrees, IntExpr, TextExpr, BoolExpr, VarExpr, FieldExpr}
 use Rattle.flow_ast.specs.Grammar.{level}
 use Rattle.flow_exprs.specs.declared.kind.Kind.{Kind}
 use Rattle.flow_exprs.specs.declared.kind.Kind.TheVariants as kind
 use Rattle.flow_exprs.specs.declared.stop.Stop.{Stop}
 use Rattle.flow_exprs.specs.declared.stop.Stop.TheVariants.{Short, Deep, NoMemory}
 use Rattle.flow_exprs.specs.Kinds.{kind_at}
-use Rattle.flow_exprs.specs.Machine.{Stack, State, Want, Have, Head, WantArgs, called, height, heights, head_height, hole, fits, fits_stack, Outcome, ShortAt, DeepAt, run, Below}
+use Rattle.flow_exprs.specs.Machine.{Stack, Want, Have, Head, WantArgs, called, height, heights, head_height, hole, fits_stack, Outcome, ShortAt, DeepAt, run, Below}
 
 -- an opening bracket behind this expression makes no call
 abbrev pub NotCallable : ExprTree → Type 0

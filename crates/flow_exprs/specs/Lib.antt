@@ -3,3 +3,4 @@ pub mod Machine
 pub mod Answer
 pub mod TypeMachine
 pub mod TypeAnswer
+pub mod Laws

@@ -215,13 +215,7 @@ fn expression(
 
 // The operand, with the sign that follows it and the operand behind that.
 #[cycle(parse)]
-fn with_right(
-    alloc: Global,
-    spots: &[Spot],
-    left: Read,
-    op: Op,
-    depth: u32,
-) -> Result<Read, Stop>
+fn with_right(alloc: Global, spots: &[Spot], left: Read, op: Op, depth: u32) -> Result<Read, Stop>
     requires within { left.to < length spots.now }
     requires sign { kind_at spots.now left.to ≡ Some (Kind.Op op) }
     requires measured { left.high ≡ height (expr_of left.expr) }
@@ -294,13 +288,7 @@ fn minus(alloc: Global, spots: &[Spot], from: usize, depth: u32) -> Result<Read,
 }
 
 #[cycle(parse)]
-fn postfix(
-    alloc: Global,
-    spots: &[Spot],
-    from: usize,
-    kind: Kind,
-    depth: u32,
-) -> Result<Read, Stop>
+fn postfix(alloc: Global, spots: &[Spot], from: usize, kind: Kind, depth: u32) -> Result<Read, Stop>
     requires within { from < length spots.now }
     requires here { kind_at spots.now from ≡ Some kind }
     requires unsigned { NoSign kind }
@@ -345,13 +333,7 @@ fn with_suffix(alloc: Global, spots: &[Spot], left: Read, depth: u32) -> Result<
 }
 
 #[cycle(parse)]
-fn primary(
-    alloc: Global,
-    spots: &[Spot],
-    from: usize,
-    kind: Kind,
-    depth: u32,
-) -> Result<Read, Stop>
+fn primary(alloc: Global, spots: &[Spot], from: usize, kind: Kind, depth: u32) -> Result<Read, Stop>
     requires within { from < length spots.now }
     requires here { kind_at spots.now from ≡ Some kind }
     requires unsigned { NoSign kind }

@@ -1,4 +1,4 @@
-use Rattle.std.proofs.Common.{◌≡◌, ℕ, ◌+◌, ◌*◌, ◌-◌, ◌<◌, ◌≤◌, length, drop}
+use Rattle.std.proofs.Common.{◌+◌, ◌*◌, ◌-◌, length}
 use Rattle.flow_ast.specs.View.{expr_of, exprs_of}
 use Rattle.flow_exprs.specs.Answer.{Reads}
 use Rattle.flow_exprs.proofs.ExprSteps.{Args}

@@ -1,8 +1,8 @@
-use Rattle.std.proofs.Common.{rules, ◌≡◌, ℕ, ◌+◌, sym, ap, ◌∙◌, arith}
+use Rattle.std.proofs.Common.{sym, ap, ◌∙◌}
 use Rattle.std.specs.Option.{option_map}
 use Rattle.flow_ast.specs.View.{expr_of}
 use Rattle.flow_exprs.specs.declared.kind.Kind.TheVariants.{Leaf}
-use Rattle.flow_exprs.proofs.ExprSteps.{too_deep, leaf_reads, leaf_some}
+use Rattle.flow_exprs.proofs.ExprSteps.{too_deep, leaf_reads}
 use Rattle.flow_exprs.proofs.expr.leaf.Goals as goal
 
 pub returns-then-depth-gt-DEPTH : goal.returns-then-depth-gt-DEPTH

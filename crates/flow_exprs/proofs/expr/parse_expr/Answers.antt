@@ -1,4 +1,4 @@
-use Rattle.std.proofs.Common.{◌≡◌, sym, ap, ◌∙◌, subst, arith}
+use Rattle.std.proofs.Common.{subst}
 use Rattle.flow_ast.specs.View.{expr_of}
 use Rattle.flow_exprs.specs.Answer.{Reads, Refuses}
 use Rattle.flow_exprs.proofs.Outcomes.{ended_reads}

@@ -1,5 +1,4 @@
-use Rattle.std.proofs.Common.{refl, rules, ◌≡◌, ℕ, ◌+◌, sym, ap, ◌∙◌, arith}
-use Rattle.flow_ast.specs.View.{expr_of}
+use Rattle.std.proofs.Common.{refl}
 use Rattle.flow_exprs.specs.declared.kind.Kind.TheVariants.{Void}
 use Rattle.flow_exprs.proofs.ExprSteps.{too_deep, void_reads, void_no_open, void_no_close, not_true}
 use Rattle.flow_exprs.proofs.expr.void.Goals as goal

@@ -1,4 +1,4 @@
-use Rattle.std.proofs.Common.{◌≡◌, sym, ap, ◌∙◌, subst}
+use Rattle.std.proofs.Common.{subst}
 use Rattle.flow_ast.specs.View.{type_of}
 use Rattle.flow_exprs.specs.TypeAnswer.{ReadsType, RefusesType}
 use Rattle.flow_exprs.proofs.TypeLaws.{ended_type}

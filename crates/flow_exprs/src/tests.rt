@@ -1,0 +1,337 @@
+// Texts and what they are read as.
+
+use crate::expr::parse_expr;
+use crate::ty::parse_type;
+use flow_ast::expr::{Expr, Op};
+use flow_ast::fault::{Rule, SourceFault};
+use flow_ast::token::{Sign, Spot, Token, Tokens, Word};
+use flow_base::memory::NoMemory;
+use flow_base::name::Name;
+use flow_base::place::Place;
+use std::alloc::Global;
+use std::test::Fail;
+
+fn sign(word: &str) -> Option<Sign> {
+    match word.as_bytes() {
+        b"(" => Some(Sign::OpenRound),
+        b")" => Some(Sign::CloseRound),
+        b"<" => Some(Sign::Less),
+        b">" => Some(Sign::Greater),
+        b"," => Some(Sign::Comma),
+        b";" => Some(Sign::Semicolon),
+        b"." => Some(Sign::Dot),
+        b"==" => Some(Sign::Equal),
+        b"!=" => Some(Sign::NotEqual),
+        b"<=" => Some(Sign::LessEqual),
+        b">=" => Some(Sign::GreaterEqual),
+        b"&&" => Some(Sign::AndAnd),
+        b"||" => Some(Sign::OrOr),
+        b"!" => Some(Sign::Not),
+        b"+" => Some(Sign::Plus),
+        b"-" => Some(Sign::Minus),
+        b"*" => Some(Sign::Star),
+        b"/" => Some(Sign::Slash),
+        b"%" => Some(Sign::Percent),
+        _ => None,
+    }
+}
+
+fn token(alloc: Global, word: &str) -> Result<Token, NoMemory> {
+    if let Some(sign) = sign(word) {
+        return Ok(Token::Sign(sign));
+    }
+    match word.as_bytes() {
+        b"true" => Ok(Token::Word(Word::Yes)),
+        b"Void" => Ok(Token::Word(Word::Void)),
+        b"int" => Ok(Token::Word(Word::Int)),
+        b"Future" => Ok(Token::Word(Word::Future)),
+        b"PromiseStream" => Ok(Token::Word(Word::PromiseStream)),
+        b"1" => Ok(Token::Number(1)),
+        b"2" => Ok(Token::Number(2)),
+        b"3" => Ok(Token::Number(3)),
+        _ => Ok(Token::Name(Name::new(alloc, b"a")?)),
+    }
+}
+
+// The words of a text as tokens; the column of each is its number from 0.
+fn tokens(alloc: Global, text: &str) -> Result<Tokens, NoMemory> {
+    let mut spots = Vec::new(alloc);
+    let mut column = 0;
+    for word in text.split_whitespace() {
+        let at = Place {
+            line: 1,
+            column,
+            byte: 0,
+        };
+        spots.push(Spot {
+            token: token(alloc, word)?,
+            at,
+        })?;
+        if column < 1000 {
+            column += 1;
+        }
+    }
+    Ok(Tokens {
+        spots,
+        end: Place {
+            line: 2,
+            column,
+            byte: 0,
+        },
+    })
+}
+
+// A text again and again, and one behind it.
+fn repeated(alloc: Global, part: &str, count: usize, last: &str) -> Result<String, NoMemory> {
+    let mut text = String::new(alloc);
+    for _ in 0..count {
+        text.push_str(part)?;
+    }
+    text.push_str(last)?;
+    Ok(text)
+}
+
+fn op_text(op: Op) -> &'static str {
+    match op {
+        Op::Or => "||",
+        Op::And => "&&",
+        Op::Eq => "==",
+        Op::Ne => "!=",
+        Op::Lt => "<",
+        Op::Le => "<=",
+        Op::Gt => ">",
+        Op::Ge => ">=",
+        Op::Add => "+",
+        Op::Sub => "-",
+        Op::Mul => "*",
+        Op::Div => "/",
+        Op::Rem => "%",
+    }
+}
+
+// The tree of an expression: an operand by its first letter, a node by its sign and its parts.
+#[cycle(shape)]
+fn shape(expr: &Expr, out: &mut String) -> Result<(), NoMemory> {
+    match expr {
+        Expr::Int(n) => out.push_str(if *n == 1 { "1" } else { "2" })?,
+        Expr::Text(_) => out.push_str("t")?,
+        Expr::Bool(_) => out.push_str("b")?,
+        Expr::VoidValue => out.push_str("v")?,
+        Expr::Var(_) => out.push_str("a")?,
+        Expr::Call(_, args) => {
+            out.push_str("[call")?;
+            shapes(args, out)?;
+            out.push_str("]")?;
+        }
+        Expr::Field(of, _) => {
+            out.push_str("[.")?;
+            shape(of, out)?;
+            out.push_str("]")?;
+        }
+        Expr::Method(of, _, args) => {
+            out.push_str("[method")?;
+            shape(of, out)?;
+            shapes(args, out)?;
+            out.push_str("]")?;
+        }
+        Expr::Not(of) => {
+            out.push_str("[!")?;
+            shape(of, out)?;
+            out.push_str("]")?;
+        }
+        Expr::Neg(of) => {
+            out.push_str("[-")?;
+            shape(of, out)?;
+            out.push_str("]")?;
+        }
+        Expr::Binary(op, left, right) => {
+            out.push_str("[")?;
+            out.push_str(op_text(*op))?;
+            shape(left, out)?;
+            shape(right, out)?;
+            out.push_str("]")?;
+        }
+        Expr::Paren(of) => {
+            out.push_str("(")?;
+            shape(of, out)?;
+            out.push_str(")")?;
+        }
+    }
+    Ok(())
+}
+
+#[cycle(shape)]
+fn shapes(exprs: &[Expr], out: &mut String) -> Result<(), NoMemory> {
+    for expr in exprs {
+        shape(expr, out)?;
+    }
+    Ok(())
+}
+
+// Whether a text at this depth is read as this tree, up to this token.
+fn reads(alloc: Global, text: &str, depth: u32, wanted: &str, to: usize) -> bool {
+    let Ok(tokens) = tokens(alloc, text) else {
+        return false;
+    };
+    if depth > 64 {
+        return false;
+    }
+    let Ok((expr, end)) = parse_expr(alloc, &tokens, 0, depth) else {
+        return false;
+    };
+    let mut out = String::new(alloc);
+    let Ok(()) = shape(&expr, &mut out) else {
+        return false;
+    };
+    out.as_str() == wanted && end == to
+}
+
+// Whether a text at this depth is read up to this token.
+fn accepts(alloc: Global, text: &str, depth: u32, to: usize) -> bool {
+    let Ok(tokens) = tokens(alloc, text) else {
+        return false;
+    };
+    if depth > 64 {
+        return false;
+    }
+    match parse_expr(alloc, &tokens, 0, depth) {
+        Ok((_, end)) => end == to,
+        Err(_) => false,
+    }
+}
+
+// Whether a text at this depth is refused by this rule at the token of this number.
+fn refuses(alloc: Global, text: &str, depth: u32, rule: Rule, column: u32) -> bool {
+    let Ok(tokens) = tokens(alloc, text) else {
+        return false;
+    };
+    if depth > 64 {
+        return false;
+    }
+    match parse_expr(alloc, &tokens, 0, depth) {
+        Err(SourceFault::Refused { rule: r, at }) => r == rule && at.column == column,
+        _ => false,
+    }
+}
+
+// Whether a text at this depth is a type up to this token.
+fn is_type(alloc: Global, text: &str, depth: u32, to: usize) -> bool {
+    let Ok(tokens) = tokens(alloc, text) else {
+        return false;
+    };
+    if depth > 64 {
+        return false;
+    }
+    match parse_type(alloc, &tokens, 0, depth) {
+        Ok((_, end)) => end == to,
+        Err(_) => false,
+    }
+}
+
+fn refuses_type(alloc: Global, text: &str, depth: u32, rule: Rule, column: u32) -> bool {
+    let Ok(tokens) = tokens(alloc, text) else {
+        return false;
+    };
+    if depth > 64 {
+        return false;
+    }
+    match parse_type(alloc, &tokens, 0, depth) {
+        Err(SourceFault::Refused { rule: r, at }) => r == rule && at.column == column,
+        _ => false,
+    }
+}
+
+#[test]
+fn reads_levels(rt: HostRuntime) -> Result<(), Fail> {
+    let a = rt.alloc();
+    assert!(rt; reads(a, "1 - 2 - 2", 1, "[-[-12]2]", 5));
+    assert!(rt; reads(a, "1 + 2 * 2", 1, "[+1[*22]]", 5));
+    assert!(rt; reads(a, "1 * 2 + 2", 1, "[+[*12]2]", 5));
+    assert!(rt;
+        reads(
+            a,
+            "a || a && a == a < a + a * a",
+            1,
+            "[||a[&&a[==a[<a[+a[*aa]]]]]]",
+            13
+        )
+    );
+    assert!(rt;
+        reads(
+            a,
+            "a * a + a < a == a && a || a",
+            1,
+            "[||[&&[==[<[+[*aa]a]a]a]a]a]",
+            13
+        )
+    );
+    assert!(rt; reads(a, "a != a >= a > a <= a", 1, "[!=a[<=[>[>=aa]a]a]]", 9));
+    assert!(rt; reads(a, "a / a % a", 1, "[%[/aa]a]", 5));
+    assert!(rt; reads(a, "! - a . a", 1, "[![-[.a]]]", 5));
+    assert!(rt; reads(a, "- 1 * ! a", 1, "[*[-1][!a]]", 5));
+    assert!(rt; reads(a, "( a ) . a ( 1 , 2 ) . a", 1, "[.[method(a)12]]", 12));
+    assert!(rt;
+        reads(
+            a,
+            "a ( ) . a ( Void ( ) , true )",
+            1,
+            "[method[call]vb]",
+            11
+        )
+    );
+    assert!(rt; reads(a, "a a", 1, "a", 1));
+    assert!(rt; reads(a, "( a ) ( a )", 1, "(a)", 3));
+    Ok(())
+}
+
+#[test]
+fn refuses_places(rt: HostRuntime) -> Result<(), Fail> {
+    let a = rt.alloc();
+    assert!(rt; refuses(a, "", 1, Rule::S(5), 0));
+    assert!(rt; refuses(a, ";", 64, Rule::S(5), 0));
+    assert!(rt; refuses(a, "1 +", 1, Rule::S(5), 2));
+    assert!(rt; refuses(a, "( 1 ;", 1, Rule::S(5), 2));
+    assert!(rt; refuses(a, "a ( 1 ;", 1, Rule::S(5), 3));
+    assert!(rt; refuses(a, "a ( 1 , )", 1, Rule::S(5), 4));
+    assert!(rt; refuses(a, "a . 1", 1, Rule::S(5), 2));
+    assert!(rt; refuses(a, "Void ; )", 1, Rule::S(5), 1));
+    assert!(rt; refuses(a, "Void ( ;", 1, Rule::S(5), 2));
+    assert!(rt; reads(a, "a", 64, "a", 1));
+    assert!(rt; refuses(a, "a + 1", 64, Rule::L(5), 1));
+    assert!(rt; refuses(a, "a . a", 64, Rule::L(5), 1));
+    assert!(rt; refuses(a, "! a", 64, Rule::L(5), 1));
+    assert!(rt; refuses(a, "- ;", 64, Rule::S(5), 1));
+    assert!(rt; refuses(a, "( Void", 64, Rule::L(5), 1));
+    assert!(rt; reads(a, "a ( )", 64, "[call]", 3));
+    assert!(rt; refuses(a, "a ( 1 )", 64, Rule::L(5), 2));
+    Ok(())
+}
+
+#[test]
+fn refuses_deep_chains(rt: HostRuntime) -> Result<(), Fail> {
+    let a = rt.alloc();
+    let within = repeated(a, "1 + ", 61, "1")?;
+    assert!(rt; accepts(a, within.as_str(), 3, 123));
+    let over = repeated(a, "1 + ", 62, "1")?;
+    assert!(rt; refuses(a, over.as_str(), 3, Rule::L(5), 123));
+    let open = repeated(a, "( ", 62, "Void ( )")?;
+    assert!(rt; refuses(a, open.as_str(), 3, Rule::L(5), 62));
+    let short = repeated(a, "( ", 61, "Void ;")?;
+    assert!(rt; refuses(a, short.as_str(), 3, Rule::S(5), 62));
+    Ok(())
+}
+
+#[test]
+fn reads_types(rt: HostRuntime) -> Result<(), Fail> {
+    let a = rt.alloc();
+    assert!(rt; is_type(a, "int", 64, 1));
+    assert!(rt; is_type(a, "Future < PromiseStream < a > > >", 1, 7));
+    assert!(rt; refuses_type(a, "Future int", 1, Rule::S(5), 1));
+    assert!(rt; refuses_type(a, "Future < int ;", 1, Rule::S(5), 3));
+    assert!(rt; refuses_type(a, "Future < 1", 64, Rule::S(5), 2));
+    assert!(rt; refuses_type(a, "Future < int", 64, Rule::L(5), 2));
+    assert!(rt; refuses_type(a, "", 64, Rule::S(5), 0));
+    let deep = repeated(a, "Future < ", 64, "int")?;
+    assert!(rt; refuses_type(a, deep.as_str(), 1, Rule::L(5), 128));
+    Ok(())
+}
