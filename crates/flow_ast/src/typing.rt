@@ -350,7 +350,8 @@ fn fit_params(params: &[Param], types: &[Ty]) -> bool
     fit(params, types)
 }
 
-fn is_packet(name: &[u8]) -> bool
+/// Whether a name is that of the predefined record.
+pub fn is_packet(name: &[u8]) -> bool
     ensures { result ≡ is_packet name.now }
 {
     name == b"Packet".as_slice()
