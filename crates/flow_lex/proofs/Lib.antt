@@ -7,3 +7,5 @@ pub mod Pieces
 pub mod Tokens
 pub mod Reading
 pub mod Once
+pub mod Exists
+pub mod Examples

@@ -28,7 +28,7 @@ no_piece text none w rest b e p = none (opens text w rest b e p)
 plain_92 : (b : ℕ) → b ≡ 92 → plain_byte b ≡ true → ⊥
 plain_92 b e h = true_false (sym h ∙ ap plain_byte e)
 
-some_none : {X : Type 0} (x : X) → Some x ≡ None → ⊥
+pub some_none : {X : Type 0} (x : X) → Some x ≡ None → ⊥
 some_none x h = cc
 
 some_same : {X : Type 0} (x y : X) → Some x ≡ Some y → x ≡ y

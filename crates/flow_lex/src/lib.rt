@@ -7,4 +7,6 @@ mod number;
 mod quoted;
 mod scan;
 mod sign;
+#[cfg(test)]
+mod tests;
 mod word;

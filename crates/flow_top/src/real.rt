@@ -15,11 +15,11 @@ use std::io::{Read, Write};
 #[derive(Drop)]
 pub struct RealFiles<'a> {
     rt: &'a HostRuntime,
-    open: Vec<File>,
+    opened: Vec<File>,
     names: Vec<String>,
     asked: Vec<String>,
     faults: u64,
-    ghost named: { length names.items ≡ length open.items },
+    ghost named: { length names.items ≡ length opened.items },
 }
 
 impl<'a> RealFiles<'a> {
@@ -27,7 +27,7 @@ impl<'a> RealFiles<'a> {
     pub fn new(rt: &'a HostRuntime) -> RealFiles<'a> {
         RealFiles {
             rt,
-            open: Vec::new(rt.alloc()),
+            opened: Vec::new(rt.alloc()),
             names: Vec::new(rt.alloc()),
             asked: Vec::new(rt.alloc()),
             faults: 0,
@@ -61,11 +61,11 @@ impl<'a> Files for RealFiles<'a> {
         };
         if self.asked.reserve(1).is_err()
             || self.names.reserve(1).is_err()
-            || self.open.reserve(1).is_err()
+            || self.opened.reserve(1).is_err()
         {
             return Err(OutFault::OutOfMemory);
         }
-        let Ok(number) = u32::try_from(self.open.len()) else {
+        let Ok(number) = u32::try_from(self.opened.len()) else {
             return Err(OutFault::OutOfMemory);
         };
         self.asked.push_reserved(copy);
@@ -73,13 +73,13 @@ impl<'a> Files for RealFiles<'a> {
             self.faults = self.faults.saturating_add(1);
             return Err(OutFault::Failed);
         };
-        self.open.push_reserved(file);
+        self.opened.push_reserved(file);
         self.names.push_reserved(own);
         Ok(FileNo(number))
     }
 
     fn read(&mut self, file: FileNo, buf: &mut [u8]) -> Result<usize, OutFault> {
-        match self.open[file.0 as usize].read(buf) {
+        match self.opened[file.0 as usize].read(buf) {
             Ok(count) => Ok(count),
             Err(_) => {
                 self.faults = self.faults.saturating_add(1);

@@ -1,0 +1,319 @@
+// Texts and what they are read as.
+
+use crate::lex::lex;
+use flow_ast::fault::{Rule, SourceFault};
+use flow_ast::token::{Sign, Spot, Token, Tokens, Word};
+use flow_base::memory::NoMemory;
+use flow_base::place::Place;
+use std::alloc::{AllocError, Global};
+
+/// Texts, each with its tokens and the end, as line, column and spelling.
+const READ: [(&[u8], &str); 38] = [
+    (b"", "1:1 end"),
+    (b" ", "1:2 end"),
+    (b"\n", "2:1 end"),
+    (b"a", "1:1 name a  1:2 end"),
+    (
+        b"ACTOR Future<Void> main(int p) {\n  trace(\"hello\");\n  return Void();\n}\n",
+        "1:1 word ACTOR  1:7 word Future  1:13 sign <  1:14 word Void  1:18 sign >  1:20 name main  1:24 sign (  1:25 word int  1:29 name p  1:30 sign )  1:32 sign {  2:3 name trace  2:8 sign (  2:9 text hello  2:16 sign )  2:17 sign ;  3:3 word return  3:10 word Void  3:14 sign (  3:15 sign )  3:16 sign ;  4:1 sign }  5:1 end",
+    ),
+    (b"007", "1:1 number 0  1:2 number 0  1:3 number 7  1:4 end"),
+    (b"1x", "1:1 number 1  1:2 name x  1:3 end"),
+    (
+        b"x1 _ _9 A__",
+        "1:1 name x1  1:4 name _  1:6 name _9  1:9 name A__  1:12 end",
+    ),
+    (
+        b"ACTORS actor Struct structx",
+        "1:1 name ACTORS  1:8 name actor  1:14 name Struct  1:21 name structx  1:28 end",
+    ),
+    (b"a//b\nc", "1:1 name a  2:1 name c  2:2 end"),
+    (b"a/**/b", "1:1 name a  1:6 name b  1:7 end"),
+    (b"a/*/*/b", "1:1 name a  1:7 name b  1:8 end"),
+    (b"a/*\n\n*/b", "1:1 name a  3:3 name b  3:4 end"),
+    (b"a /* x */ /* y **/ b", "1:1 name a  1:20 name b  1:21 end"),
+    (b"// x", "1:5 end"),
+    (b"a//", "1:1 name a  1:4 end"),
+    (b"\r\n\ta\r\nb", "2:2 name a  3:1 name b  3:2 end"),
+    (
+        b"9223372036854775807",
+        "1:1 number 9223372036854775807  1:20 end",
+    ),
+    (
+        b"0 10 0x1",
+        "1:1 number 0  1:3 number 10  1:6 number 0  1:7 name x1  1:9 end",
+    ),
+    (
+        b"\"\" \"a\" \"\\n\"",
+        "1:1 text   1:4 text a  1:8 text \n  1:12 end",
+    ),
+    (b"\"\\\\\\\"\"", "1:1 text \\\"  1:7 end"),
+    (b"\"\\x41\\x4aB\"", "1:1 text AJB  1:12 end"),
+    (b"\"\\x411\"", "1:1 text A1  1:8 end"),
+    (b"\"a//b/*c\"", "1:1 text a//b/*c  1:10 end"),
+    (b"\"'\" ", "1:1 text '  1:5 end"),
+    (
+        b"<<=>>=====",
+        "1:1 sign <  1:2 sign <=  1:4 sign >  1:5 sign >=  1:7 sign ==  1:9 sign ==  1:11 end",
+    ),
+    (
+        b"!=!==!",
+        "1:1 sign !=  1:3 sign !=  1:5 sign =  1:6 sign !  1:7 end",
+    ),
+    (
+        b"&&&||&&",
+        "1:1 sign &&  1:3 sign &  1:4 sign ||  1:6 sign &&  1:8 end",
+    ),
+    (
+        b"+++-=---+=",
+        "1:1 sign ++  1:3 sign +  1:4 sign -=  1:6 sign --  1:8 sign -  1:9 sign +=  1:11 end",
+    ),
+    (
+        b"a.b.c",
+        "1:1 name a  1:2 sign .  1:3 name b  1:4 sign .  1:5 name c  1:6 end",
+    ),
+    (
+        b"x<y>z",
+        "1:1 name x  1:2 sign <  1:3 name y  1:4 sign >  1:5 name z  1:6 end",
+    ),
+    (
+        b"f(a,b);",
+        "1:1 name f  1:2 sign (  1:3 name a  1:4 sign ,  1:5 name b  1:6 sign )  1:7 sign ;  1:8 end",
+    ),
+    (b"[ ]", "1:1 sign [  1:3 sign ]  1:4 end"),
+    (b"%/ *", "1:1 sign %  1:2 sign /  1:4 sign *  1:5 end"),
+    (b"- 1", "1:1 sign -  1:3 number 1  1:4 end"),
+    (b"\"A\"", "1:1 text A  1:4 end"),
+    (b"a\"b\"c", "1:1 name a  1:2 text b  1:5 name c  1:6 end"),
+    (
+        b"1\"2\"3",
+        "1:1 number 1  1:2 text 2  1:5 number 3  1:6 end",
+    ),
+];
+
+/// Texts that are refused, each with the number of the rule, the line and the column.
+const REFUSED: [(&[u8], u8, u32, u32); 41] = [
+    (b"#include", 1, 1, 1),
+    (b"\"abc", 2, 1, 1),
+    (b"/* x", 3, 1, 1),
+    (b"9223372036854775808", 4, 1, 1),
+    (b"\"abc\r\n", 1, 1, 5),
+    (b"\"a\tb\"", 1, 1, 3),
+    (b"\"a\x7f\"", 1, 1, 3),
+    (b"\"a\x0b\"", 1, 1, 3),
+    (b"\"\\", 1, 1, 2),
+    (b"\"\\x", 1, 1, 2),
+    (b"\"\\x4", 1, 1, 2),
+    (b"\"\\x4g\"", 1, 1, 2),
+    (b"\"\\\n", 1, 1, 2),
+    (b"\"\\q\"", 1, 1, 2),
+    (b"\"\\X41\"", 1, 1, 2),
+    (b"/*/", 3, 1, 1),
+    (b"/**", 3, 1, 1),
+    (b"/* *", 3, 1, 1),
+    (b"a\x0bb", 1, 1, 2),
+    (b"a\x0cb", 1, 1, 2),
+    (b"\x00", 1, 1, 1),
+    (b"\x80", 1, 1, 1),
+    (b"a @", 1, 1, 3),
+    (b"|", 1, 1, 1),
+    (b"a | b", 1, 1, 3),
+    (b"$", 1, 1, 1),
+    (b"'a'", 1, 1, 1),
+    (b"?", 1, 1, 1),
+    (b"~", 1, 1, 1),
+    (b"^", 1, 1, 1),
+    (b":", 1, 1, 1),
+    (b"a\n  \"bc\nd\"", 2, 2, 3),
+    (b"\n\n /* a\n", 3, 3, 2),
+    (b"99999999999999999999 #", 4, 1, 1),
+    (b"# 99999999999999999999", 1, 1, 1),
+    (b"\"a\" \"b", 2, 1, 5),
+    (b"\"a\" \"b\t", 1, 1, 7),
+    (b"/*\n*/ #", 1, 2, 4),
+    (b"\"\x00\"", 1, 1, 2),
+    (b"a\\n", 1, 1, 2),
+    (b"/* */ */ *@", 1, 1, 11),
+];
+
+fn push_bytes(out: &mut String, bytes: &[u8]) -> Result<(), AllocError> {
+    for b in bytes {
+        out.push(char::from(*b))?;
+    }
+    Ok(())
+}
+
+fn push_token(out: &mut String, token: &Token) -> Result<(), AllocError> {
+    match token {
+        Token::Name(name) => {
+            out.push_str("name ")?;
+            push_bytes(out, name.bytes())
+        }
+        Token::Number(n) => write!(out, "number {n}"),
+        Token::Text(text) => {
+            out.push_str("text ")?;
+            push_bytes(out, text.bytes())
+        }
+        Token::Word(word) => {
+            out.push_str("word ")?;
+            push_bytes(out, word.spelling())
+        }
+        Token::Sign(sign) => {
+            out.push_str("sign ")?;
+            push_bytes(out, sign.spelling())
+        }
+    }
+}
+
+// The tokens and the end, each with its line and column.
+fn shown(alloc: Global, tokens: &Tokens) -> Result<String, AllocError> {
+    let mut out = String::new(alloc);
+    for spot in &tokens.spots {
+        write!(out, "{}:{} ", spot.at.line, spot.at.column)?;
+        push_token(&mut out, &spot.token)?;
+        out.push_str("  ")?;
+    }
+    write!(out, "{}:{} end", tokens.end.line, tokens.end.column)?;
+    Ok(out)
+}
+
+// The tokens of a text of a length that the lexer takes.
+fn lexed(alloc: Global, text: &[u8]) -> Result<Tokens, SourceFault> {
+    if text.len() > 4_294_967_294 {
+        return Err(SourceFault::OutOfMemory);
+    }
+    lex(alloc, text)
+}
+
+// Whether a text has these tokens, and a copy of them too.
+fn reads(alloc: Global, text: &[u8], expected: &str) -> Result<bool, AllocError> {
+    let Ok(tokens) = lexed(alloc, text) else {
+        return Ok(false);
+    };
+    let Ok(copy) = tokens.copy(alloc) else {
+        return Ok(false);
+    };
+    Ok(shown(alloc, &tokens)?.as_str() == expected && shown(alloc, &copy)?.as_str() == expected)
+}
+
+// Whether a text is refused by rule S of this number at this line and column.
+fn refuses(alloc: Global, text: &[u8], number: u8, line: u32, column: u32) -> bool {
+    match lexed(alloc, text) {
+        Err(SourceFault::Refused { rule, at }) => {
+            rule == Rule::S(number) && at.line == line && at.column == column
+        }
+        _ => false,
+    }
+}
+
+#[test]
+fn texts_are_read(rt: HostRuntime) -> Result<(), AllocError> {
+    let alloc = rt.alloc();
+    for (text, expected) in READ {
+        assert!(rt; reads(alloc, text, expected)?);
+    }
+    Ok(())
+}
+
+#[test]
+fn texts_are_refused(rt: HostRuntime) -> Result<(), AllocError> {
+    let alloc = rt.alloc();
+    for (text, number, line, column) in REFUSED {
+        assert!(rt; refuses(alloc, text, number, line, column));
+    }
+    Ok(())
+}
+
+// The one token of a text.
+fn only(alloc: Global, text: &[u8]) -> Option<Token> {
+    let mut tokens = lexed(alloc, text).ok()?;
+    let spot = tokens.spots.pop()?;
+    if tokens.spots.len() > 0 {
+        return None;
+    }
+    Some(spot.token)
+}
+
+#[test]
+fn every_word_and_sign(rt: HostRuntime) -> Result<(), AllocError> {
+    let alloc = rt.alloc();
+    for word in Word::ALL {
+        assert!(rt;
+            matches!(only(alloc, word.spelling()), Some(Token::Word(read)) if read == word)
+        );
+    }
+    for sign in Sign::ALL {
+        assert!(rt;
+            matches!(only(alloc, sign.spelling()), Some(Token::Sign(read)) if read == sign)
+        );
+    }
+    Ok(())
+}
+
+// A part of a text this many times, between two others.
+fn repeated(
+    alloc: Global,
+    first: &[u8],
+    part: &[u8],
+    count: usize,
+    last: &[u8],
+) -> Result<Vec<u8>, AllocError> {
+    let mut text = first.to_vec(alloc)?;
+    for _ in 0..count {
+        text.extend_from_slice(part)?;
+    }
+    text.extend_from_slice(last)?;
+    Ok(text)
+}
+
+// Whether a text is one name.
+fn is_one_name(alloc: Global, text: &[u8]) -> bool {
+    match only(alloc, text) {
+        Some(Token::Name(name)) => name.bytes().len() == text.len(),
+        _ => false,
+    }
+}
+
+// Whether a text is one quoted text that holds this many bytes.
+fn holds(alloc: Global, text: &[u8], count: usize) -> bool {
+    match only(alloc, text) {
+        Some(Token::Text(held)) => held.bytes().len() == count,
+        _ => false,
+    }
+}
+
+#[test]
+fn names_to_their_bound(rt: HostRuntime) -> Result<(), AllocError> {
+    let alloc = rt.alloc();
+    let within = repeated(alloc, b"", b"n", 255, b"")?;
+    assert!(rt; is_one_name(alloc, &within));
+    let above = repeated(alloc, b"+ ", b"n", 256, b"")?;
+    assert!(rt; refuses(alloc, &above, 4, 1, 3));
+    Ok(())
+}
+
+#[test]
+fn texts_to_their_bound(rt: HostRuntime) -> Result<(), AllocError> {
+    let alloc = rt.alloc();
+    let within = repeated(alloc, b"\"", b"\\x41", 65535, b"\"")?;
+    assert!(rt; holds(alloc, &within, 65535));
+    let above = repeated(alloc, b"\n\"", b"\\x41", 65536, b"\"")?;
+    assert!(rt; refuses(alloc, &above, 4, 2, 1));
+    Ok(())
+}
+
+#[test]
+fn a_mebibyte(rt: HostRuntime) -> Result<(), AllocError> {
+    let alloc = rt.alloc();
+    let part = b"int n = 12; /* a\nb */ s.send(\"tx\\n\"); // to the end of the line\n".as_slice();
+    assert_eq!(rt; part.len(), 64);
+    let text = repeated(alloc, b"", part, 16384, b"")?;
+    let Ok(tokens) = lexed(alloc, &text) else {
+        return Ok(assert!(rt; false));
+    };
+    assert_eq!(rt; tokens.spots.len(), 12 * 16384);
+    assert_eq!(rt; tokens.end.line, 2 * 16384 + 1);
+    assert_eq!(rt; tokens.end.column, 1);
+    assert_eq!(rt; tokens.end.byte, 1_048_576);
+    Ok(())
+}
