@@ -31,8 +31,8 @@ impl Model for LineBuf {
 }
 
 impl LineBuf {
-    /// The room for every line. The longest one is an event's with three numbers of 20 digits, and a
-    /// text of 65,535 bytes of which each takes four.
+    /// Bytes enough for every line. The longest is that of a read with a text of 65,535 bytes, of which
+    /// each takes four, and its four numbers are counted with 20 digits each.
     pub const ROOM: usize = 262238;
 
     /// An empty buffer with room for every line.
