@@ -1,0 +1,107 @@
+-- Each kind of statement, put before a body at a place, and what it then comes to.
+use Rattle.std.proofs.Common.{◌≡◌, ap, sym, refl, ◌∙◌, ℕ, List}
+use Rattle.std.specs.Option.{option_map}
+use Rattle.std.specs.declared.option.Option.{Option}
+use Rattle.std.specs.declared.option.Option.TheVariants.{None, Some}
+use Rattle.std.specs.declared.alloc.Global.{Global}
+use Rattle.std.specs.declared.boxed.Box.{Box}
+use Rattle.std.specs.declared.vec.Vec.{Vec}
+use Rattle.flow_base.specs.declared.place.Place.{Place}
+use Rattle.flow_ast.specs.declared.ty.Ident.{Ident}
+use Rattle.flow_ast.specs.declared.expr.Expr.{Expr}
+use Rattle.flow_ast.specs.declared.stmt.Into as code
+use Rattle.flow_ast.specs.declared.stmt.Target.{Target}
+use Rattle.flow_ast.specs.declared.stmt.Change.{Change}
+use Rattle.flow_ast.specs.declared.stmt.Stmt.{Stmt}
+use Rattle.flow_ast.specs.declared.stmt.StmtKind.{StmtKind, fold-roll-StmtKind}
+use Rattle.flow_ast.specs.declared.stmt.StmtKind.TheOpen as layer
+use Rattle.flow_ast.specs.declared.stmt.StmtKind.TheVariants as kind
+use Rattle.flow_ast.specs.View.{expr_of, exprs_of}
+use Rattle.flow_ast.specs.StmtView.{into_of, change_of, kind_of, kind_step, stmt_step, branch_step, simple_of, else_of, body_of}
+use Rattle.flow_ast.specs.Body.{Body, Branches, BlockStmt, IfStmt, IfElseStmt, WhileStmt, ForStmt, LoopStmt, ReturnStmt, ThrowStmt, TryStmt, DeclareStmt, AssignStmt, ModifyStmt, CallStmt}
+use Rattle.flow_ast.proofs.Views.{kind_while, kind_for, kind_modify}
+use Rattle.flow_eval.specs.Eval.{Setting, Runner}
+use Rattle.flow_eval.specs.Functions.{Locals, Run, after, exec, scope, skip, if_run, loop_run, for_run, try_run, return_run, throw_run, declare_run, assign_run, modify_run, call_run}
+use Rattle.flow_eval.specs.View.{else_run}
+
+abbrev Puts : Type 0
+Puts = Place → Body → Body
+
+kind_block : (b : Vec Stmt Global) → kind_of (kind.Block b) ≡ (λ at k. BlockStmt at (body_of b.items) k)
+kind_block b = ap kind_of (sym (kind.rolls-Block b)) ∙ fold-roll-StmtKind Puts (Body → Body) (Branches → Branches) kind_step stmt_step branch_step (layer.Block b)
+
+kind_loop : (b : Vec Stmt Global) → kind_of (kind.Loop b) ≡ (λ at k. LoopStmt at (body_of b.items) k)
+kind_loop b = ap kind_of (sym (kind.rolls-Loop b)) ∙ fold-roll-StmtKind Puts (Body → Body) (Branches → Branches) kind_step stmt_step branch_step (layer.Loop b)
+
+kind_try : (b : Vec Stmt Global) (x : Ident) (h : Vec Stmt Global) → kind_of (kind.Try b x h) ≡ (λ at k. TryStmt at (body_of b.items) x (body_of h.items) k)
+kind_try b x h = ap kind_of (sym (kind.rolls-Try b x h)) ∙ fold-roll-StmtKind Puts (Body → Body) (Branches → Branches) kind_step stmt_step branch_step (layer.Try b x h)
+
+kind_if : (e : Expr) (b : Vec Stmt Global) → kind_of (kind.If e b None) ≡ (λ at k. IfStmt at (expr_of e) (body_of b.items) k)
+kind_if e b = ap kind_of (sym (kind.rolls-If e b None)) ∙ fold-roll-StmtKind Puts (Body → Body) (Branches → Branches) kind_step stmt_step branch_step (layer.If e b None)
+
+kind_if_else : (e : Expr) (b o : Vec Stmt Global) → kind_of (kind.If e b (Some o)) ≡ (λ at k. IfElseStmt at (expr_of e) (body_of b.items) (body_of o.items) k)
+kind_if_else e b o = ap kind_of (sym (kind.rolls-If e b (Some o))) ∙ fold-roll-StmtKind Puts (Body → Body) (Branches → Branches) kind_step stmt_step branch_step (layer.If e b (Some o))
+
+kind_return : (e : Expr) → kind_of (kind.Return e) ≡ (λ at k. ReturnStmt at (expr_of e) k)
+kind_return e = ap kind_of (sym (kind.rolls-Return e)) ∙ fold-roll-StmtKind Puts (Body → Body) (Branches → Branches) kind_step stmt_step branch_step (layer.Return e)
+
+kind_throw : (e : Option Expr) → kind_of (kind.Throw e) ≡ (λ at k. ThrowStmt at (option_map expr_of e) k)
+kind_throw e = ap kind_of (sym (kind.rolls-Throw e)) ∙ fold-roll-StmtKind Puts (Body → Body) (Branches → Branches) kind_step stmt_step branch_step (layer.Throw e)
+
+kind_declare : (i : code.Into) (e : Option Expr) → kind_of (kind.Declare i e) ≡ (λ at k. DeclareStmt at (into_of i) (option_map expr_of e) k)
+kind_declare i e = ap kind_of (sym (kind.rolls-Declare i e)) ∙ fold-roll-StmtKind Puts (Body → Body) (Branches → Branches) kind_step stmt_step branch_step (layer.Declare i e)
+
+kind_assign : (t : Target) (e : Expr) → kind_of (kind.Assign t e) ≡ (λ at k. AssignStmt at t.path.items (expr_of e) k)
+kind_assign t e = ap kind_of (sym (kind.rolls-Assign t e)) ∙ fold-roll-StmtKind Puts (Body → Body) (Branches → Branches) kind_step stmt_step branch_step (layer.Assign t e)
+
+kind_call : (t : Target) (es : Vec Expr Global) → kind_of (kind.Call t es) ≡ (λ at k. CallStmt at t.path.items (exprs_of es.items) k)
+kind_call t es = ap kind_of (sym (kind.rolls-Call t es)) ∙ fold-roll-StmtKind Puts (Body → Body) (Branches → Branches) kind_step stmt_step branch_step (layer.Call t es)
+
+module _ (s : Setting) (run : Runner) (caught : Option (List ℕ)) (vars : Locals) (left : ℕ) (at : Place) where
+  -- a kind that is put so comes to what the definition says of it
+  abbrev Comes : StmtKind → Run → Type 0
+  Comes q r = (k : Body) → exec s run (kind_of q at k) caught vars left ≡ after r (exec s run k caught)
+
+  put_as : (q : StmtKind) (f : Puts) (r : Run) → kind_of q ≡ f → ((k : Body) → exec s run (f at k) caught vars left ≡ after r (exec s run k caught)) → Comes q r
+  put_as q f r e h = λ k. ap (λ (f : Puts). exec s run (f at k) caught vars left) e ∙ h k
+
+  pub comes_block : (q : StmtKind) (b : Vec Stmt Global) → q ≡ kind.Block b → Comes q (scope (exec s run (body_of b.items) caught) vars left)
+  comes_block q b e = put_as q _ _ (ap kind_of e ∙ kind_block b) (λ k. refl)
+
+  pub comes_while : (q : StmtKind) (t : Expr) (b : Vec Stmt Global) → q ≡ kind.While t b → Comes q (loop_run s run (Some (expr_of t)) skip (exec s run (body_of b.items) caught) vars left)
+  comes_while q t b e = put_as q _ _ (ap kind_of e ∙ kind_while t b) (λ k. refl)
+
+  pub comes_loop : (q : StmtKind) (b : Vec Stmt Global) → q ≡ kind.Loop b → Comes q (loop_run s run None skip (exec s run (body_of b.items) caught) vars left)
+  comes_loop q b e = put_as q _ _ (ap kind_of e ∙ kind_loop b) (λ k. refl)
+
+  pub comes_for : (q : StmtKind) (i : Option (Box Stmt Global)) (t : Option Expr) (u : Option (Box Stmt Global)) (b : Vec Stmt Global) → q ≡ kind.For i t u b
+      → Comes q (scope (for_run s run (exec s run (simple_of i) caught) (option_map expr_of t) (exec s run (simple_of u) caught) (exec s run (body_of b.items) caught)) vars left)
+  comes_for q i t u b e = put_as q _ _ (ap kind_of e ∙ kind_for i t u b) (λ k. refl)
+
+  pub comes_try : (q : StmtKind) (b : Vec Stmt Global) (x : Ident) (h : Vec Stmt Global) → q ≡ kind.Try b x h
+      → Comes q (try_run (exec s run (body_of b.items) caught) x.name (exec s run (body_of h.items) (Some x.name)) vars left)
+  comes_try q b x h e = put_as q _ _ (ap kind_of e ∙ kind_try b x h) (λ k. refl)
+
+  pub comes_if : (q : StmtKind) (t : Expr) (b : Vec Stmt Global) (o : Option (Vec Stmt Global)) → q ≡ kind.If t b o
+      → Comes q (if_run s run (expr_of t) (scope (exec s run (body_of b.items) caught)) (else_run s run (else_of o) caught) vars left)
+  comes_if q t b None e = put_as q _ _ (ap kind_of e ∙ kind_if t b) (λ k. refl)
+  comes_if q t b (Some o) e = put_as q _ _ (ap kind_of e ∙ kind_if_else t b o) (λ k. refl)
+
+  pub comes_modify : (q : StmtKind) (t : Target) (c : Change) → q ≡ kind.Modify t c → Comes q (modify_run s run t.path.items (change_of c) vars left)
+  comes_modify q t c e = put_as q _ _ (ap kind_of e ∙ kind_modify t c) (λ k. refl)
+
+  pub comes_return : (q : StmtKind) (v : Expr) → q ≡ kind.Return v → Comes q (return_run s run (expr_of v) vars left)
+  comes_return q v e = put_as q _ _ (ap kind_of e ∙ kind_return v) (λ k. refl)
+
+  pub comes_throw : (q : StmtKind) (v : Option Expr) → q ≡ kind.Throw v → Comes q (throw_run s run (option_map expr_of v) caught vars left)
+  comes_throw q v e = put_as q _ _ (ap kind_of e ∙ kind_throw v) (λ k. refl)
+
+  pub comes_declare : (q : StmtKind) (i : code.Into) (v : Option Expr) → q ≡ kind.Declare i v → Comes q (declare_run s run (into_of i) (option_map expr_of v) vars left)
+  comes_declare q i v e = put_as q _ _ (ap kind_of e ∙ kind_declare i v) (λ k. refl)
+
+  pub comes_assign : (q : StmtKind) (t : Target) (v : Expr) → q ≡ kind.Assign t v → Comes q (assign_run s run t.path.items (expr_of v) vars left)
+  comes_assign q t v e = put_as q _ _ (ap kind_of e ∙ kind_assign t v) (λ k. refl)
+
+  pub comes_call : (q : StmtKind) (t : Target) (vs : Vec Expr Global) → q ≡ kind.Call t vs → Comes q (call_run s run t.path.items (exprs_of vs.items) vars left)
+  comes_call q t vs e = put_as q _ _ (ap kind_of e ∙ kind_call t vs) (λ k. refl)
+

@@ -1,0 +1,320 @@
+// The predefined calls without effects, and the methods of values.
+
+ghost use Rattle.std.specs.Prelude.{◌≡◌, ◌^◌, ◌-◌, ℕ, ◌<◌, map, min, length};
+ghost use Rattle.std.specs.Option.{option_map, option_copied};
+ghost use Rattle.std.specs.List.{list_all};
+ghost use Rattle.flow_base.specs.Names.{digit};
+ghost use Rattle.flow_value.specs.View.{value_of, outcome_of};
+ghost use Rattle.flow_eval.specs.Answers.{int_of, text_of, arg, if_int};
+ghost use Rattle.flow_eval.specs.Predefined.{digits_from, are_digits, signed, read_digits, read_int, int_read, to_string, to_int, error_number, call_answer, clipped, substr, text_method, got, has_error, future_method, promise_method, stream_method, error_method, reference_method, method_answer};
+ghost use Rattle.flow_eval.specs.View.{Answers};
+
+use crate::cells::CellView;
+use crate::stop::{BAD_ARGUMENT, Halt, NOT_READY};
+use flow_ast::predefined::{Method, Predefined};
+use flow_base::ids::{CellId, ErrorCode};
+use flow_base::name::is_digit;
+use flow_base::text::Text;
+use flow_value::value::{Kind, Outcome, Value};
+use std::alloc::Global;
+
+fn int_of(value: &Value) -> Option<i64>
+    ensures { result ≡ int_of (value_of value.now) }
+{
+    match value {
+        Value::Int(n) => Some(*n),
+        _ => None,
+    }
+}
+
+fn int_arg(args: &[Value], k: usize) -> Option<i64>
+    ensures { result ≡ int_of (arg (map value_of args.now) k) }
+{
+    match args.get(k) {
+        Some(value) => int_of(value),
+        None => None,
+    }
+}
+
+fn text_of(value: &Value) -> Option<&Text>
+    ensures { option_copied result ≡ text_of (value_of value.now) }
+{
+    match value {
+        Value::Text(text) => Some(text),
+        _ => None,
+    }
+}
+
+fn text_arg(args: &[Value], k: usize) -> Option<&Text>
+    ensures { option_copied result ≡ text_of (arg (map value_of args.now) k) }
+{
+    match args.get(k) {
+        Some(value) => text_of(value),
+        None => None,
+    }
+}
+
+fn all_digits(bytes: &[u8]) -> bool
+    ensures { result ≡ list_all digit bytes.now }
+{
+    bytes.iter().all(|byte| is_digit(*byte))
+}
+
+fn are_digits(bytes: &[u8]) -> bool
+    ensures { result ≡ are_digits bytes.now }
+{
+    !bytes.is_empty() && all_digits(bytes)
+}
+
+// The number that the digits spell, or the greatest 64-bit number where it is no less than that.
+fn capped_number(digits: &[u8]) -> u64
+    ensures { result ≡ min (digits_from 0 digits.now) (2 ^ 64 - 1) }
+{
+    let mut n: u64 = 0;
+    for digit in digits {
+        n = n
+            .saturating_mul(10)
+            .saturating_add(u64::from(digit.saturating_sub(48)));
+    }
+    n
+}
+
+fn signed(minus: bool, n: u64) -> Option<i64>
+    ensures { result ≡ if_int (signed minus n) (signed minus n) }
+{
+    if !minus {
+        return i64::try_from(n).ok();
+    }
+    if n == 1 << 63 {
+        return Some(i64::MIN);
+    }
+    match i64::try_from(n) {
+        Ok(n) => Some(-n),
+        Err(_) => None,
+    }
+}
+
+fn read_digits(minus: bool, digits: &[u8]) -> Option<i64>
+    ensures { result ≡ read_digits minus digits.now }
+{
+    if !are_digits(digits) {
+        return None;
+    }
+    signed(minus, capped_number(digits))
+}
+
+fn read_int(bytes: &[u8]) -> Option<i64>
+    ensures { result ≡ read_int bytes.now }
+{
+    let Some((first, rest)) = bytes.split_first() else {
+        return None;
+    };
+    if *first == b'-' {
+        return read_digits(true, rest);
+    }
+    read_digits(false, bytes)
+}
+
+fn to_int(text: Option<&Text>) -> Result<Value, Halt>
+    ensures { Answers (to_int (option_copied text.entry)) result }
+{
+    let Some(text) = text else {
+        return Err(Halt::NoMeaning);
+    };
+    match read_int(text.bytes()) {
+        Some(n) => Ok(Value::Int(n)),
+        None => Err(Halt::Thrown(BAD_ARGUMENT)),
+    }
+}
+
+fn decimal(alloc: Global, n: i64) -> Result<Value, Halt>
+    ensures { Answers (to_string (Some n)) result }
+{
+    let text = format!(in alloc; "{n}")?;
+    Ok(Value::Text(Text::new(alloc, text.as_bytes())?))
+}
+
+fn to_string(alloc: Global, n: Option<i64>) -> Result<Value, Halt>
+    ensures { Answers (to_string n) result }
+{
+    match n {
+        Some(n) => decimal(alloc, n),
+        None => Err(Halt::NoMeaning),
+    }
+}
+
+fn error_number(n: Option<i64>) -> Result<Value, Halt>
+    ensures { Answers (error_number n) result }
+{
+    let Some(n) = n else {
+        return Err(Halt::NoMeaning);
+    };
+    if n < 0 || n > 65535 {
+        return Err(Halt::Thrown(BAD_ARGUMENT));
+    }
+    Ok(Value::Error(ErrorCode(n as u16)))
+}
+
+/// What a predefined call gives with these arguments at this time.
+pub fn call_answer(alloc: Global, call: Predefined, now: i64, args: &[Value]) -> Result<Value, Halt>
+    ensures { Answers (call_answer call now (map value_of args.now)) result }
+{
+    match call {
+        Predefined::ToString => to_string(alloc, int_arg(args, 0)),
+        Predefined::ToInt => to_int(text_arg(args, 0)),
+        Predefined::Now => Ok(Value::Int(now)),
+        Predefined::EndOfStream => Ok(Value::Error(ErrorCode(1))),
+        Predefined::TimedOut => Ok(Value::Error(ErrorCode(1004))),
+        Predefined::BrokenPromise => Ok(Value::Error(ErrorCode(1100))),
+        Predefined::OperationCancelled => Ok(Value::Error(ErrorCode(1101))),
+        Predefined::ActorCancelled => Ok(Value::Error(ErrorCode(1101))),
+        Predefined::Error => error_number(int_arg(args, 0)),
+        Predefined::RandomInt
+        | Predefined::Delay
+        | Predefined::Never
+        | Predefined::Listen
+        | Predefined::ReadFile
+        | Predefined::WriteFile
+        | Predefined::SyncFile
+        | Predefined::FileSize
+        | Predefined::Trace
+        | Predefined::SendTo => Err(Halt::NoMeaning),
+    }
+}
+
+fn clipped(alloc: Global, text: &Text, from: i64, count: i64) -> Result<Value, Halt>
+    ensures { Answers (clipped text.now from count) result }
+{
+    let bytes = text.bytes();
+    if from < 0 || from > bytes.len() as i64 || count < 0 {
+        return Err(Halt::Thrown(BAD_ARGUMENT));
+    }
+    let rest = &bytes[from as usize..];
+    let part = &rest[..rest.len().min(count as usize)];
+    Ok(Value::Text(Text::new(alloc, part)?))
+}
+
+fn text_method(alloc: Global, method: Method, text: &Text, args: &[Value]) -> Result<Value, Halt>
+    ensures { Answers (text_method method text.now (map value_of args.now)) result }
+{
+    match method {
+        Method::Size => Ok(Value::Int(text.bytes().len() as i64)),
+        Method::Substr => {
+            let Some(from) = int_arg(args, 0) else {
+                return Err(Halt::NoMeaning);
+            };
+            let Some(count) = int_arg(args, 1) else {
+                return Err(Halt::NoMeaning);
+            };
+            clipped(alloc, text, from, count)
+        }
+        _ => Err(Halt::NoMeaning),
+    }
+}
+
+fn has_error(outcome: &Outcome) -> bool
+    ensures { result ≡ has_error (Some (outcome_of outcome.now)) }
+{
+    match outcome {
+        Outcome::Value(_) => false,
+        Outcome::Error(_) => true,
+    }
+}
+
+fn got(alloc: Global, outcome: &Outcome) -> Result<Value, Halt>
+    ensures { Answers (got (Some (outcome_of outcome.now))) result }
+{
+    match outcome {
+        Outcome::Value(value) => Ok(value.copy(alloc)?),
+        Outcome::Error(code) => Err(Halt::Thrown(*code)),
+    }
+}
+
+fn future_method<C: CellView>(
+    alloc: Global,
+    view: &C,
+    method: Method,
+    cell: CellId,
+) -> Result<Value, Halt>
+    ensures { Answers (future_method method (C.content view.now cell.0)) result }
+{
+    let Some(outcome) = view.seen(cell) else {
+        return match method {
+            Method::IsReady => Ok(Value::Bool(false)),
+            Method::IsError => Ok(Value::Bool(false)),
+            Method::Get => Err(Halt::Thrown(NOT_READY)),
+            _ => Err(Halt::NoMeaning),
+        };
+    };
+    match method {
+        Method::IsReady => Ok(Value::Bool(true)),
+        Method::IsError => Ok(Value::Bool(has_error(outcome))),
+        Method::Get => got(alloc, outcome),
+        _ => Err(Halt::NoMeaning),
+    }
+}
+
+fn promise_method<C: CellView>(view: &C, method: Method, cell: CellId) -> Result<Value, Halt>
+    ensures { Answers (promise_method method cell.0 (C.content view.now cell.0)) result }
+{
+    match method {
+        Method::GetFuture => Ok(Value::Ref(Kind::Future, cell)),
+        Method::IsSet => Ok(Value::Bool(view.seen(cell).is_some())),
+        _ => Err(Halt::NoMeaning),
+    }
+}
+
+fn stream_method(method: Method, cell: CellId) -> Result<Value, Halt>
+    ensures { Answers (stream_method method cell.0) result }
+{
+    match method {
+        Method::GetFuture => Ok(Value::Ref(Kind::FutureStream, cell)),
+        _ => Err(Halt::NoMeaning),
+    }
+}
+
+fn error_method(method: Method, code: ErrorCode) -> Result<Value, Halt>
+    ensures { Answers (error_method method code.0) result }
+{
+    match method {
+        Method::Code => Ok(Value::Int(i64::from(code.0))),
+        _ => Err(Halt::NoMeaning),
+    }
+}
+
+fn reference_method<C: CellView>(
+    alloc: Global,
+    view: &C,
+    method: Method,
+    kind: Kind,
+    cell: CellId,
+) -> Result<Value, Halt>
+    ensures { Answers (reference_method (C.content view.now) method kind cell.0) result }
+{
+    match kind {
+        Kind::Future => future_method(alloc, view, method, cell),
+        Kind::Promise => promise_method(view, method, cell),
+        Kind::PromiseStream => stream_method(method, cell),
+        Kind::FutureStream => Err(Halt::NoMeaning),
+    }
+}
+
+/// What a method of a value gives with these arguments.
+pub fn method_answer<C: CellView>(
+    alloc: Global,
+    view: &C,
+    method: Method,
+    base: &Value,
+    args: &[Value],
+) -> Result<Value, Halt>
+    ensures { Answers (method_answer (C.content view.now) method (value_of base.now) (map value_of args.now)) result }
+{
+    match base {
+        Value::Error(code) => error_method(method, *code),
+        Value::Text(text) => text_method(alloc, method, text, args),
+        Value::Ref(kind, cell) => reference_method(alloc, view, method, *kind, *cell),
+        Value::Int(_) | Value::Bool(_) | Value::Void | Value::Struct(_, _) => {
+            Err(Halt::NoMeaning)
+        }
+    }
+}
