@@ -91,7 +91,7 @@ module _ (s : Setting) (run : Runner) where
   modify_ran xs c v w u q vars ws left l a b d r =
       subst (λ o. Ran (changed s run o c xs vars left) q ws l) (sym a)
       (valued_ran (change_operand s run c vars left) w vars (λ w left. valued (at_once (operated (change_sign c) v w) left) vars (λ u left. assigned (put_path s.records vars xs u) left)) q ws l l b
-          (valued_ran (at_once (operated (change_sign c) v w) l) u vars (λ u left. assigned (put_path s.records vars xs u) left) q ws l l (ap (λ a. at_once a l) d) (r l)))
+      (valued_ran (at_once (operated (change_sign c) v w) l) u vars (λ u left. assigned (put_path s.records vars xs u) left) q ws l l (ap (λ a. at_once a l) d) (r l)))
 
   pub for_ran : (init : Locals → ℕ → Run) (o p : Option ExprTree) (step body : Locals → ℕ → Run) (q : Result Flow Halt) (vars ws xs : Locals) (left l rest : ℕ)
       → init vars left ≡ Goes ws l → p ≡ o → Ran (loop_run s run p step body ws l) q xs rest → Ran (for_run s run init o step body vars left) q xs rest

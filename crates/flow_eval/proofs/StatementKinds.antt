@@ -104,4 +104,3 @@ module _ (s : Setting) (run : Runner) (caught : Option (List ℕ)) (vars : Local
 
   pub comes_call : (q : StmtKind) (t : Target) (vs : Vec Expr Global) → q ≡ kind.Call t vs → Comes q (call_run s run t.path.items (exprs_of vs.items) vars left)
   comes_call q t vs e = put_as q _ _ (ap kind_of e ∙ kind_call t vs) (λ k. refl)
-

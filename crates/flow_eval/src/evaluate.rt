@@ -178,12 +178,7 @@ fn store(
     Err(Halt::NoMeaning)
 }
 
-fn declare(
-    alloc: Global,
-    locals: &mut Vec<Var>,
-    into: &Into,
-    value: Value,
-) -> Result<Flow, Halt>
+fn declare(alloc: Global, locals: &mut Vec<Var>, into: &Into, value: Value) -> Result<Flow, Halt>
     ensures { (left : ℕ) → Ran (declared (Some (value_of value)) (into_of into.now).name.name (map var_of locals.old.items) left) result (map var_of locals.new.items) left }
 {
     bind(alloc, locals, &into.name.name, value)?;
