@@ -472,7 +472,7 @@ fn arguments(alloc: Global, spots: &[Spot], from: usize, depth: u32) -> Result<R
     }
 }
 
-// The refusal of a text whose reading stopped so.
+/// The refusal of a text whose reading stopped so.
 pub fn refusal(tokens: &Tokens, stop: Stop) -> SourceFault
     ensures { RefusalIs tokens.now stop result }
 {

@@ -276,7 +276,7 @@ fn reads_levels(rt: HostRuntime) -> Result<(), Fail> {
             "a ( ) . a ( Void ( ) , true )",
             1,
             "[method[call]vb]",
-            11
+            12
         )
     );
     assert!(rt; reads(a, "a a", 1, "a", 1));
