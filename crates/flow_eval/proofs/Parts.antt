@@ -1,22 +1,31 @@
 -- What statements come to, from what their parts come to.
-use Rattle.std.proofs.Common.{◌≡◌, ℕ, ◌+◌, List, Bool, true, false, refl, ap, sym, subst, ◌∙◌}
+use Rattle.std.proofs.Common.{◌≡◌, ℕ, ◌+◌, List, length, map, take, Bool, true, false, refl, ap, sym, subst, ◌∙◌}
 use Rattle.std.specs.Option.{option_map}
 use Rattle.std.specs.declared.option.Option.{Option}
 use Rattle.std.specs.declared.option.Option.TheVariants.{None, Some}
 use Rattle.std.specs.declared.result.Result.{Result}
 use Rattle.std.specs.declared.result.Result.TheVariants.{Ok, Err}
+use Rattle.std.specs.declared.alloc.Global.{Global}
+use Rattle.std.specs.declared.boxed.Box.{Box}
+use Rattle.flow_ast.specs.declared.expr.Expr.{Expr}
+use Rattle.flow_ast.specs.declared.stmt.Stmt.{Stmt}
+use Rattle.flow_ast.specs.View.{expr_of}
+use Rattle.flow_ast.specs.StmtView.{simple_of, body_of}
+use Rattle.flow_eval.specs.declared.evaluate.Flow.TheVariants as flow
+use Rattle.flow_eval.specs.declared.variables.Var.{Var}
+use Rattle.flow_eval.specs.Variables.{var_of}
 use Rattle.flow_ast.specs.declared.ty.Ident.{Ident}
 use Rattle.flow_ast.specs.Tree.{ExprTree}
 use Rattle.flow_ast.specs.Body.{IntoTree, ChangeTree}
-use Rattle.flow_value.specs.Values.{ValueTree}
+use Rattle.flow_value.specs.Values.{ValueTree, ErrorValue}
 use Rattle.flow_eval.specs.declared.stop.Halt.{Halt}
 use Rattle.flow_eval.specs.declared.evaluate.Flow.{Flow}
 use Rattle.flow_eval.specs.Answers.{Given, bool_of, error_of}
 use Rattle.flow_eval.specs.Operators.{operated}
 use Rattle.flow_eval.specs.Eval.{Setting, Runner, Res, Done, at_once}
-use Rattle.flow_eval.specs.Functions.{Locals, Run, Goes, Breaks, Raises, after, valued, chosen, scope, leave_loop, evaluated, if_run, pass_run, loop_run, for_run, throw_run, thrown, rethrown, declare_run, declared, default_value, assign_run, assigned, put_path, read_path, modify_run, changed, change_operand, change_sign}
+use Rattle.flow_eval.specs.Functions.{Locals, Run, Goes, Breaks, Raises, after, valued, chosen, scope, leave_loop, evaluated, if_run, pass_run, loop_run, for_run, throw_run, thrown, rethrown, declare_run, declared, default_value, assign_run, assigned, put_path, read_path, modify_run, changed, change_operand, change_sign, exec, bound, handled}
 use Rattle.flow_eval.specs.View.{Gives, Ran}
-use Rattle.flow_eval.proofs.Steps.{valued_ran, valued_stops, chosen_ran, after_goes}
+use Rattle.flow_eval.proofs.Steps.{valued_ran, valued_stops, chosen_ran, after_goes, scope_cut}
 
 module _ (s : Setting) (run : Runner) where
   pub if_true : (e : ExprTree) (main other : Locals → ℕ → Run) (v : ValueTree) (q : Result Flow Halt) (vars ws : Locals) (left l rest : ℕ)
@@ -97,3 +106,23 @@ module _ (s : Setting) (run : Runner) where
       → init vars left ≡ Goes ws l → p ≡ o → Ran (loop_run s run p step body ws l) q xs rest → Ran (for_run s run init o step body vars left) q xs rest
   for_ran init o p step body q vars ws xs left l rest h e r =
       after_goes (init vars left) ws l (loop_run s run o step body) q xs rest h (subst (λ o. Ran (loop_run s run o step body ws l) q xs rest) e r)
+
+  pub for_parts_ran : (caught : Option (List ℕ)) (i i' : Option (Box Stmt Global)) (t t' : Option Expr) (u u' : Option (Box Stmt Global)) (body : Locals → ℕ → Run) (f : Flow) (q : Result Flow Halt) (vars ws xs : Locals) (left l rest : ℕ)
+      → i' ≡ i → t' ≡ t → u' ≡ u → f ≡ flow.Next
+      → Ran (exec s run (simple_of i') caught vars left) (Ok f) ws l
+      → Ran (loop_run s run (option_map expr_of t') (exec s run (simple_of u') caught) body ws l) q xs rest
+      → Ran (for_run s run (exec s run (simple_of i) caught) (option_map expr_of t) (exec s run (simple_of u) caught) body vars left) q xs rest
+  for_parts_ran caught i i' t t' u u' body f q vars ws xs left l rest ei et eu ef g h =
+      let started : Ran (exec s run (simple_of i') caught vars left) (Ok flow.Next) ws l = subst (λ f. Ran (exec s run (simple_of i') caught vars left) (Ok f) ws l) ef g in
+      let stepped' = subst (λ u. Ran (loop_run s run (option_map expr_of t') (exec s run (simple_of u) caught) body ws l) q xs rest) eu h in
+      for_ran (exec s run (simple_of i) caught) (option_map expr_of t) (option_map expr_of t') (exec s run (simple_of u) caught) body q vars ws xs left l rest
+      (ap (λ i. exec s run (simple_of i) caught vars left) (sym ei) ∙ started) (ap (option_map expr_of) et) stepped'
+
+  pub handler_ran : (x : List ℕ) (b b' : List Stmt) (e n : ℕ) (q : Result Flow Halt) (old vs ws : List Var) (mid : Locals) (left rest : ℕ)
+      → b' ≡ b → mid ≡ bound (map var_of old) x (ErrorValue e) → n ≡ length old → ws ≡ take n vs
+      → Ran (exec s run (body_of b') (Some x) mid left) q (map var_of vs) rest
+      → Ran (handled x (exec s run (body_of b) (Some x)) e (map var_of old) left) q (map var_of ws) rest
+  handler_ran x b b' e n q old vs ws mid left rest eb em en ew h =
+      scope_cut n (exec s run (body_of b) (Some x) (bound (map var_of old) x (ErrorValue e)) left) q old vs ws rest en ew
+      (subst (λ m. Ran (exec s run (body_of b) (Some x) m left) q (map var_of vs) rest) em
+      (subst (λ b. Ran (exec s run (body_of b) (Some x) mid left) q (map var_of vs) rest) eb h))

@@ -12,17 +12,21 @@ use Rattle.flow_ast.specs.declared.expr.Expr.{Expr}
 use Rattle.flow_ast.specs.declared.stmt.Into as code
 use Rattle.flow_ast.specs.declared.stmt.Target.{Target}
 use Rattle.flow_ast.specs.declared.stmt.Change.{Change}
-use Rattle.flow_ast.specs.declared.stmt.Stmt.{Stmt}
+use Rattle.std.proofs.Common.{subst, rules}
+use Rattle.std.specs.declared.result.Result.{Result}
+use Rattle.flow_eval.specs.declared.stop.Halt.{Halt}
+use Rattle.flow_eval.specs.declared.evaluate.Flow.{Flow}
+use Rattle.flow_ast.specs.declared.stmt.Stmt.{Stmt, out-Stmt, fold_out-Stmt}
 use Rattle.flow_ast.specs.declared.stmt.StmtKind.{StmtKind, fold-roll-StmtKind}
 use Rattle.flow_ast.specs.declared.stmt.StmtKind.TheOpen as layer
 use Rattle.flow_ast.specs.declared.stmt.StmtKind.TheVariants as kind
 use Rattle.flow_ast.specs.View.{expr_of, exprs_of}
-use Rattle.flow_ast.specs.StmtView.{into_of, change_of, kind_of, kind_step, stmt_step, branch_step, simple_of, else_of, body_of}
+use Rattle.flow_ast.specs.StmtView.{into_of, change_of, kind_of, kind_step, stmt_step, branch_step, simple_of, else_of, body_of, stmt_of}
 use Rattle.flow_ast.specs.Body.{Body, Branches, BlockStmt, IfStmt, IfElseStmt, WhileStmt, ForStmt, LoopStmt, ReturnStmt, ThrowStmt, TryStmt, DeclareStmt, AssignStmt, ModifyStmt, CallStmt}
 use Rattle.flow_ast.proofs.Views.{kind_while, kind_for, kind_modify}
 use Rattle.flow_eval.specs.Eval.{Setting, Runner}
 use Rattle.flow_eval.specs.Functions.{Locals, Run, after, exec, scope, skip, if_run, loop_run, for_run, try_run, return_run, throw_run, declare_run, assign_run, modify_run, call_run}
-use Rattle.flow_eval.specs.View.{else_run}
+use Rattle.flow_eval.specs.View.{else_run, StmtRan}
 
 abbrev Puts : Type 0
 Puts = Place → Body → Body
@@ -104,3 +108,13 @@ module _ (s : Setting) (run : Runner) (caught : Option (List ℕ)) (vars : Local
 
   pub comes_call : (q : StmtKind) (t : Target) (vs : Vec Expr Global) → q ≡ kind.Call t vs → Comes q (call_run s run t.path.items (exprs_of vs.items) vars left)
   comes_call q t vs e = put_as q _ _ (ap kind_of e ∙ kind_call t vs) (λ k. refl)
+
+-- a statement is its kind, at its place
+stmt_is : (s : Stmt) → stmt_of s ≡ kind_of (out-Stmt s).kind (out-Stmt s).at
+stmt_is s = fold_out-Stmt Puts (Body → Body) (Branches → Branches) kind_step stmt_step branch_step s
+
+pub stmt_ran : (s : Setting) (run : Runner) (caught : Option (List ℕ)) (vars : Locals) (left : ℕ) (stmt : Stmt) (q : Result Flow Halt) (ws : Locals) (rest : ℕ)
+    → StmtRan (λ k. exec s run (kind_of (out-Stmt stmt).kind (out-Stmt stmt).at k) caught vars left) (λ k. exec s run k caught) q ws rest
+    → StmtRan (λ k. exec s run (stmt_of stmt k) caught vars left) (λ k. exec s run k caught) q ws rest
+stmt_ran s run caught vars left stmt q ws rest h =
+    subst (λ (p : Body → Body). StmtRan (λ k. exec s run (p k) caught vars left) (λ k. exec s run k caught) q ws rest) (sym (stmt_is stmt)) h

@@ -281,3 +281,23 @@ found_none (Some w) e = cc
 pub after_goes : (r : Run) (vars : Locals) (left : ℕ) (go : Locals → ℕ → Run) (q : Result Flow Halt) (ws : Locals) (rest : ℕ)
     → r ≡ Goes vars left → Ran (go vars left) q ws rest → Ran (after r go) q ws rest
 after_goes r vars left go q ws rest e h = subst (λ r. Ran (after r go) q ws rest) (sym e) h
+
+at_suc : (pass : Locals → ℕ → Run) (r : Run) (vars : Locals) (left : ℕ) → 0 < left → LoopAt pass r vars left → LoopAt pass r vars (suc (left - 1))
+at_suc pass r vars left pos at = let e : left ≡ suc (left - 1) = omega arith in subst (λ n. LoopAt pass r vars n) e at
+
+-- a pass has been made where a turn was left
+pub loop_next : (pass : Locals → ℕ → Run) (r : Run) (vars ws : Locals) (left rest : ℕ) (f : Flow) → LoopAt pass r vars left → 0 < left → rest ≤ left - 1
+    → Ran (pass vars (left - 1)) (Ok f) ws rest → f ≡ flow.Next → LoopAt pass r ws rest
+loop_next pass r vars ws left rest f at pos le g e =
+    let goes : Ran (pass vars (left - 1)) (Ok flow.Next) ws rest = subst (λ f. Ran (pass vars (left - 1)) (Ok f) ws rest) e g in
+    loop_more pass r vars ws (left - 1) rest (at_suc pass r vars left pos at) le goes
+
+pub loop_continue : (pass : Locals → ℕ → Run) (r : Run) (vars ws : Locals) (left rest : ℕ) (f : Flow) → LoopAt pass r vars left → 0 < left → rest ≤ left - 1
+    → Ran (pass vars (left - 1)) (Ok f) ws rest → f ≡ flow.Continue → LoopAt pass r ws rest
+loop_continue pass r vars ws left rest f at pos le g e =
+    let goes : Ran (pass vars (left - 1)) (Ok flow.Continue) ws rest = subst (λ f. Ran (pass vars (left - 1)) (Ok f) ws rest) e g in
+    loop_round pass r vars ws (left - 1) rest (at_suc pass r vars left pos at) le goes
+
+pub loop_halts : (pass : Locals → ℕ → Run) (r : Run) (vars ws : Locals) (left rest : ℕ) (h : Halt) → LoopAt pass r vars left → 0 < left
+    → Ran (pass vars (left - 1)) (Err h) ws rest → Ran r (Err h) ws rest
+loop_halts pass r vars ws left rest h at pos g = loop_stops pass r vars ws h (left - 1) rest (at_suc pass r vars left pos at) g

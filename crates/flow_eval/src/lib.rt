@@ -5,9 +5,9 @@
 
 pub mod cells;
 pub mod evaluate;
-pub mod locals;
-pub mod operators;
-pub mod predefined;
-pub mod records;
+mod locals;
+mod operators;
+mod predefined;
+mod records;
 pub mod stop;
 pub mod variables;
