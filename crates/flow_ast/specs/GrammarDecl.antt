@@ -19,27 +19,28 @@ pub data ParamRule : ℕ → List Marked → ParamTree → Type 0 where
   param : {n : ℕ} {t : TypeTree} {all : List Marked} (x : Ident) (of : List Marked) → TypeRule 1 of t
       → all ≡ begin (Variable n) (of ++ name_at x ∷ []) → ParamRule n all (record { ty = t; name = x })
 
--- one field or more: type name ";"
+-- fields one after another, the first with this number: { type name ";" }
 pub data FieldsRule : ℕ → List Marked → List ParamTree → Type 0 where
-  last_field : {n : ℕ} {f : ParamTree} {all : List Marked} (p : Place) (xs : List Marked) → ParamRule n xs f → all ≡ xs ++ sign_at sign.Semicolon p ∷ [] → FieldsRule n all (f ∷ [])
+  no_fields : {n : ℕ} → FieldsRule n [] []
   more_fields : {n : ℕ} {f : ParamTree} {fs : List ParamTree} {all : List Marked} (p : Place) (xs more : List Marked) → ParamRule n xs f → FieldsRule (suc n) more fs
       → all ≡ xs ++ (sign_at sign.Semicolon p ∷ more) → FieldsRule n all (f ∷ fs)
 
--- type name { "," type name }, the first with this number
-pub data ParamListRule : ℕ → List Marked → List ParamTree → Type 0 where
-  last_param : {n : ℕ} {f : ParamTree} {all : List Marked} → ParamRule n all f → ParamListRule n all (f ∷ [])
-  more_params : {n : ℕ} {f : ParamTree} {fs : List ParamTree} {all : List Marked} (p : Place) (xs more : List Marked) → ParamRule n xs f → ParamListRule (suc n) more fs
-      → all ≡ xs ++ (sign_at sign.Comma p ∷ more) → ParamListRule n all (f ∷ fs)
+-- further parameters, the first with this number: { "," type name }
+pub data MoreParamsRule : ℕ → List Marked → List ParamTree → Type 0 where
+  end_params : {n : ℕ} → MoreParamsRule n [] []
+  more_params : {n : ℕ} {f : ParamTree} {fs : List ParamTree} {all : List Marked} (p : Place) (xs more : List Marked) → ParamRule n xs f → MoreParamsRule (suc n) more fs
+      → all ≡ sign_at sign.Comma p ∷ (xs ++ more) → MoreParamsRule n all (f ∷ fs)
 
--- parameters, or none
+-- [ type name { "," type name } ]
 pub data ParamsRule : List Marked → List ParamTree → Type 0 where
   no_params : ParamsRule [] []
-  some_params : {ps : List ParamTree} {all : List Marked} → ParamListRule 1 all ps → ParamsRule all ps
+  some_params : {f : ParamTree} {fs : List ParamTree} {all : List Marked} (first more : List Marked) → ParamRule 1 first f → MoreParamsRule 2 more fs
+      → all ≡ first ++ more → ParamsRule all (f ∷ fs)
 
--- "struct" name "{" fields "}" ";"
+-- "struct" name "{" fields "}" ";", with one field at least
 pub data RecordRule : List Marked → RecordTree → Type 0 where
-  fields : {fs : List ParamTree} {all : List Marked} (at p q r : Place) (x : Ident) (xs : List Marked) → FieldsRule 1 xs fs
-      → all ≡ word_at word.Struct at ∷ name_at x ∷ sign_at sign.OpenCurly p ∷ (xs ++ (sign_at sign.CloseCurly q ∷ sign_at sign.Semicolon r ∷ [])) → RecordRule all (record { at = at; name = x; fields = fs })
+  fields : {f : ParamTree} {fs : List ParamTree} {all : List Marked} (at p q r : Place) (x : Ident) (xs : List Marked) → FieldsRule 1 xs (f ∷ fs)
+      → all ≡ word_at word.Struct at ∷ name_at x ∷ sign_at sign.OpenCurly p ∷ (xs ++ (sign_at sign.CloseCurly q ∷ sign_at sign.Semicolon r ∷ [])) → RecordRule all (record { at = at; name = x; fields = f ∷ fs })
 
 -- name "(" params ")" "{" statements "}", of an actor or a function; its statements have depth 2, and
 -- an actor's state variables go on from its parameters

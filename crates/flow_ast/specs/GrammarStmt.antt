@@ -129,8 +129,8 @@ mutual
         → all ≡ word_at word.Throw at ∷ (value ++ sign_at sign.Semicolon p ∷ []) → PlainRule actor d c c all at rest (ThrowStmt at e rest) false
     try_stmt : {actor : Bool} {d : ℕ} {c c1 c' : Counts} {rest inner handler : Body} {all : List Marked} (at p q r s u : Place) (x : Ident) (body caught : List Marked) → BlockRule actor (suc d) c c1 body inner → BlockRule actor (suc d) c1 c' caught handler
         → all ≡ word_at word.Try at ∷ (body ++ (word_at word.Catch p ∷ sign_at sign.OpenRound q ∷ word_at word.Error r ∷ sign_at sign.Amp s ∷ name_at x ∷ sign_at sign.CloseRound u ∷ caught)) → PlainRule actor d c c' all at rest (TryStmt at inner x handler rest) false
-    choose_stmt : {actor : Bool} {d : ℕ} {c c' : Counts} {rest : Body} {bs : Branches} {all : List Marked} (at p q : Place) (whens : List Marked) → WhensRule actor (suc d) 1 c c' whens bs
-        → all ≡ word_at word.Choose at ∷ sign_at sign.OpenCurly p ∷ (whens ++ sign_at sign.CloseCurly q ∷ []) → PlainRule actor d c c' all at rest (ChooseStmt at bs rest) false
+    choose_stmt : {actor : Bool} {d : ℕ} {c c1 c' : Counts} {rest : Body} {b bs : Branches} {all : List Marked} (at p q : Place) (first more : List Marked) → WhenRule actor (suc d) 1 c c1 first bs b → WhensRule actor (suc d) 2 c1 c' more bs
+        → all ≡ word_at word.Choose at ∷ sign_at sign.OpenCurly p ∷ (first ++ (more ++ sign_at sign.CloseCurly q ∷ [])) → PlainRule actor d c c' all at rest (ChooseStmt at b rest) false
     init_stmt : {actor : Bool} {d : ℕ} {c c' : Counts} {rest body : Body} {all : List Marked} (at p : Place) (xs : List Marked) → InitRule actor d c c' xs at rest body
         → all ≡ xs ++ sign_at sign.Semicolon p ∷ [] → PlainRule actor d c c' all at rest body false
     wait_stmt : {actor : Bool} {d : ℕ} {c c' : Counts} {rest : Body} {w : WaitTree} {all : List Marked} (at p : Place) (xs : List Marked) → WaitingRule actor d c c' xs w
@@ -162,9 +162,9 @@ mutual
     more_stmts : {actor : Bool} {d : ℕ} {c c1 c' : Counts} {rest body : Body} {ends_if : Bool} {all : List Marked} (first more : List Marked) → StmtRule actor d c c1 first rest body ends_if → StmtsRule actor d c1 c' more rest
         → all ≡ first ++ more → StmtsRule actor d c c' all body
 
-  -- one branch or more; the number is that of the first
+  -- branches one after another; the number is that of the first
   pub data WhensRule : Bool → ℕ → ℕ → Counts → Counts → List Marked → Branches → Type 0 where
-    last_when : {actor : Bool} {d n : ℕ} {c c' : Counts} {b : Branches} {all : List Marked} → WhenRule actor d n c c' all NoBranches b → WhensRule actor d n c c' all b
+    no_whens : {actor : Bool} {d n : ℕ} {c : Counts} → WhensRule actor d n c c [] NoBranches
     more_whens : {actor : Bool} {d n : ℕ} {c c1 c' : Counts} {b bs : Branches} {all : List Marked} (first more : List Marked) → WhenRule actor d n c c1 first bs b → WhensRule actor d (suc n) c1 c' more bs
         → all ≡ first ++ more → WhensRule actor d n c c' all b
 
