@@ -1,0 +1,4 @@
+pub mod Numbered
+pub mod Cells
+pub mod Asks
+pub mod Process
