@@ -2,3 +2,12 @@ pub mod Numbered
 pub mod Cells
 pub mod Asks
 pub mod Process
+pub mod Lines
+pub mod Occ
+pub mod Work
+pub mod Dropping
+pub mod Effects
+pub mod React
+pub mod Step
+pub mod Burst
+pub mod Deliver
