@@ -11,3 +11,11 @@ pub mod React
 pub mod Step
 pub mod Burst
 pub mod Deliver
+pub mod Evaluating
+pub mod Variables
+pub mod Text
+pub mod Source
+pub mod SourceStep
+pub mod SourceEngine
+pub mod Frame
+pub mod ClassEngine
