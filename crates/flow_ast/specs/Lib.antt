@@ -14,3 +14,4 @@ pub mod Grammar
 pub mod GrammarAnswer
 pub mod GrammarStmt
 pub mod GrammarDecl
+pub mod Canon
