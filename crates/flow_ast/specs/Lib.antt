@@ -15,3 +15,4 @@ pub mod GrammarAnswer
 pub mod GrammarStmt
 pub mod GrammarDecl
 pub mod Slots
+pub mod Canon
