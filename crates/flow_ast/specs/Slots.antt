@@ -1,5 +1,5 @@
 -- What of an actor's text its frame keeps: the slots, and the groups of branches at which it waits.
-use Rattle.std.specs.Prelude.{ℕ, suc, ◌+◌, Bool, List, [], ◌∷◌, ◌++◌, map, length, if◌then◌else◌}
+use Rattle.std.specs.Prelude.{List, [], ◌∷◌, ◌++◌, map, if◌then◌else◌}
 use Rattle.std.specs.declared.option.Option.{Option}
 use Rattle.std.specs.declared.option.Option.TheVariants.{None, Some}
 use Rattle.flow_ast.specs.Body.{IntoTree, WaitTree, Body, End, BlockStmt, IfStmt, IfElseStmt, WhileStmt, ForStmt, LoopStmt, BreakStmt, ContinueStmt, ReturnStmt, ThrowStmt, TryStmt, ChooseStmt, DeclareStmt, AssignStmt, ModifyStmt, CallStmt, WaitStmt, Branches, NoBranches, MoreBranches}
@@ -9,12 +9,12 @@ use Rattle.flow_ast.specs.Decls.{ParamTree, SlotTree, RoutineTree}
 abbrev pub declared_slots : IntoTree → List SlotTree
 declared_slots i = if i.state then record { ty = i.ty; name = i.name.name } ∷ [] else []
 
+abbrev pub into_slots : Option IntoTree → List SlotTree
+into_slots None = []
+into_slots (Some i) = declared_slots i
+
 abbrev pub waited_slots : WaitTree → List SlotTree
-waited_slots w = slots_into w.into
-  where
-    abbrev slots_into : Option IntoTree → List SlotTree
-    slots_into None = []
-    slots_into (Some i) = declared_slots i
+waited_slots w = into_slots w.into
 
 -- the slots of the state variables that statements declare, in the order of the text
 abbrev mutual
