@@ -6,9 +6,9 @@ use Rattle.flow_value.specs.declared.value.Kind.{Kind}
 use Rattle.flow_value.specs.Values.{OutcomeTree, BadOutcome}
 use Rattle.flow_meaning.specs.Numbered.{Numbered, thing, removed}
 use Rattle.flow_meaning.specs.Cells.{Side, PromiseSide, FutureSide, side_of, Cell, is_complete, is_ready, waiters, Waiter}
-use Rattle.flow_meaning.specs.Process.{Task, Fire, Entry, NoMeaning, Core}
+use Rattle.flow_meaning.specs.Process.{Fire, Entry, NoMeaning, Core}
 use Rattle.flow_meaning.specs.Lines.{broken_line, end_line}
-use Rattle.flow_meaning.specs.Occ.{refs_in, value_in, Scan, Occ}
+use Rattle.flow_meaning.specs.Occ.{value_in, Scan, Occ}
 use Rattle.flow_meaning.specs.Work.{halt, turn, writes, pushed, dropping_values, fill, free, take_branch, owner, cancel}
 
 -- What a lost reference leads to: nothing more; the cell is freed; the cell is broken; the actor of its result is

@@ -8,9 +8,9 @@ use Rattle.flow_value.specs.declared.value.Kind.TheVariants as kind
 use Rattle.flow_value.specs.Values.{ValueTree, IntValue, RefValue}
 use Rattle.flow_draw.specs.Words.{scaled}
 use Rattle.flow_eval.specs.Predefined.{natural}
-use Rattle.flow_meaning.specs.Numbered.{Numbered, added, thing}
-use Rattle.flow_meaning.specs.Cells.{Cell, Single, Stream, is_some}
-use Rattle.flow_meaning.specs.Asks.{Spot, DiskCall, ReadCall, WriteCall, SyncCall, SizeCall, Effect, Make, Start, Draw, Delay, Never, Listen, Disk, Goal, Stored, Kept, Request, Drew, Timer, Packet, Disks, Supply}
+use Rattle.flow_meaning.specs.Numbered.{added, thing}
+use Rattle.flow_meaning.specs.Cells.{Cell, Single, Stream}
+use Rattle.flow_meaning.specs.Asks.{DiskCall, ReadCall, WriteCall, SyncCall, SizeCall, Effect, Make, Start, Draw, Delay, Never, Listen, Disk, Goal, Stored, Kept, Request, Drew, Timer, Packet, Disks, Supply}
 use Rattle.flow_meaning.specs.Process.{Task, Run, Throw, Store, Keep, NoMeaning, Core}
 use Rattle.flow_meaning.specs.Work.{halt, pushed, new_cell}
 

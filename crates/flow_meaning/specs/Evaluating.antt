@@ -1,5 +1,5 @@
 -- What both kinds of actors share: names of a program, evaluation for a step, effects and call statements.
-use Rattle.std.specs.Prelude.{ℕ, zero, suc, ℤ, pos, Bool, true, false, List, [], ◌∷◌, position, if◌then◌else◌}
+use Rattle.std.specs.Prelude.{ℕ, pos, Bool, true, false, List, [], ◌∷◌, position}
 use Rattle.std.specs.Option.{option_map}
 use Rattle.std.specs.Str.{bytes_eq}
 use Rattle.std.specs.declared.option.Option.{Option}
@@ -13,14 +13,12 @@ use Rattle.flow_ast.specs.Tree.{ExprTree, ExprTrees, CallExpr}
 use Rattle.flow_ast.specs.Decls.{RecordTree, RoutineTree}
 use Rattle.flow_ast.specs.TypingNames.{named, call_names, method_names}
 use Rattle.flow_ast.specs.Typing.{is_effect, routine_named}
-use Rattle.flow_value.specs.declared.value.Kind.{Kind}
 use Rattle.flow_value.specs.declared.value.Kind.TheVariants as kind
 use Rattle.flow_value.specs.Values.{ValueTree, RefValue, OutcomeTree, GoodOutcome, BadOutcome}
 use Rattle.flow_eval.specs.Answers.{int_of, text_of, error_of, arg}
 use Rattle.flow_eval.specs.Eval.{Res, Done, Fails, Spent, Meaningless, Setting, then, eval_all}
 use Rattle.flow_eval.specs.Functions.{Eval, Call, run_function, deepest, read_in}
-use Rattle.flow_meaning.specs.Cells.{Ref}
-use Rattle.flow_meaning.specs.Asks.{DiskCall, ReadCall, WriteCall, SyncCall, SizeCall, Effect, Start, Draw, Delay, Never, Listen, Disk, Goal, Act, Goes, Effects, Sends, Cancels, Prints, SendsTo, Throws, RunsOut, Stuck, Ask}
+use Rattle.flow_meaning.specs.Asks.{ReadCall, WriteCall, SyncCall, SizeCall, Effect, Start, Draw, Delay, Never, Listen, Disk, Act, Goes, Sends, Cancels, Prints, SendsTo, Throws, RunsOut, Stuck, Ask}
 use Rattle.flow_meaning.specs.Process.{View}
 
 -- what a program names: its records and functions, and the names of its actors in the order of the text
@@ -69,8 +67,12 @@ pub data Effectful : Type 0 where
   World : Predefined → Effectful
   Actor : ℕ → Effectful
 
+abbrev pub world_if : Bool → Predefined → Option Effectful
+world_if true p = Some (World p)
+world_if false p = None
+
 abbrev pub effectful_of : Option Predefined → Option ℕ → Option Effectful
-effectful_of (Some p) k = if is_effect p then Some (World p) else None
+effectful_of (Some p) k = world_if (is_effect p) p
 effectful_of None (Some k) = Some (Actor k)
 effectful_of None None = None
 

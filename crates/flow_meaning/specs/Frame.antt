@@ -4,8 +4,8 @@ use Rattle.std.specs.Option.{option_map}
 use Rattle.std.specs.declared.option.Option.{Option}
 use Rattle.std.specs.declared.option.Option.TheVariants.{None, Some}
 use Rattle.flow_ast.specs.declared.ty.Ident.{Ident}
-use Rattle.flow_ast.specs.Tree.{TypeTree, VoidType}
-use Rattle.flow_ast.specs.Decls.{SlotTree, RecordTree}
+use Rattle.flow_ast.specs.Tree.{VoidType}
+use Rattle.flow_ast.specs.Decls.{RecordTree}
 use Rattle.flow_value.specs.Values.{ValueTree, ErrorValue}
 use Rattle.flow_eval.specs.Predefined.{are_digits, digits_from}
 use Rattle.flow_eval.specs.Functions.{put_in, read_in}

@@ -14,8 +14,8 @@ pub mod Deliver
 pub mod Evaluating
 pub mod Variables
 pub mod Text
-pub mod Source
+pub mod Items
 pub mod SourceStep
-pub mod SourceEngine
+pub mod Source
 pub mod Frame
-pub mod ClassEngine
+pub mod Class

@@ -1,7 +1,6 @@
 -- One process, generic in its actors: its state, and what it means to be an actor.
-use Rattle.std.specs.Prelude.{ℕ, Bool, List, [], ◌∷◌}
+use Rattle.std.specs.Prelude.{ℕ, Bool, List}
 use Rattle.std.specs.declared.option.Option.{Option}
-use Rattle.std.specs.declared.option.Option.TheVariants.{None, Some}
 use Rattle.flow_value.specs.declared.value.Kind.{Kind}
 use Rattle.flow_value.specs.Values.{ValueTree, OutcomeTree}
 use Rattle.flow_trace.specs.declared.line.Line.{Line}

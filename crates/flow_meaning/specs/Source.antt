@@ -1,189 +1,109 @@
--- Actors that are run from their text: named variables, and a rest of items that are still to be done. The first item
--- decides the next step.
-use Rattle.std.specs.Prelude.{ℕ, zero, suc, pos, Bool, true, false, List, [], ◌∷◌, ◌++◌, map, position, slice_get, codes}
+-- Actors that are run from their text, as actors of a process.
+use Rattle.std.specs.Prelude.{ℕ, zero, suc, List, [], ◌∷◌, map, length, position, slice_get, unwrap_or, codes}
 use Rattle.std.specs.Str.{bytes_eq}
 use Rattle.std.specs.declared.option.Option.{Option}
 use Rattle.std.specs.declared.option.Option.TheVariants.{None, Some}
-use Rattle.flow_ast.specs.declared.ty.Ident.{Ident}
-use Rattle.flow_ast.specs.declared.expr.Op.{Op}
-use Rattle.flow_ast.specs.declared.expr.Op.TheVariants.{Add, Sub}
-use Rattle.flow_ast.specs.Tree.{TypeTree, IntType, BoolType, StringType, PromiseType, PromiseStreamType, ExprTree, ExprTrees, IntExpr, VarExpr, FieldExpr, BinaryExpr, ParenExpr}
-use Rattle.flow_ast.specs.Body.{IntoTree, WaitTree, ChangeTree, PlusChange, MinusChange, UpChange, DownChange, Body, End, BlockStmt, IfStmt, IfElseStmt, WhileStmt, ForStmt, LoopStmt, BreakStmt, ContinueStmt, ReturnStmt, ThrowStmt, TryStmt, ChooseStmt, DeclareStmt, AssignStmt, ModifyStmt, CallStmt, WaitStmt, Branches, NoBranches, MoreBranches}
-use Rattle.flow_ast.specs.Decls.{ParamTree, SlotTree, RoutineTree, DeclTree, StructDecl, FunctionDecl, ActorDecl, RecordTree, ProgramTree}
-use Rattle.flow_value.specs.declared.value.Kind.{Kind}
-use Rattle.flow_value.specs.declared.value.Kind.TheVariants as kind
-use Rattle.flow_value.specs.Values.{ValueTree, ErrorValue, RefValue}
-use Rattle.flow_eval.specs.Answers.{bool_of, error_of}
-use Rattle.flow_eval.specs.Functions.{default_value, put_in, read_in}
-use Rattle.flow_meaning.specs.Cells.{Ref}
-use Rattle.flow_meaning.specs.Asks.{Spot, Effect, Make, Goal, Stored, Kept, Act, Goes, Pass, Drops, Effects, Operand, Waits, Returns, Throws, Ask}
-use Rattle.flow_meaning.specs.Process.{View, Raised, Engine}
-use Rattle.flow_meaning.specs.Evaluating.{Names, Look, bind, StepOf, asks, quietly, stuck, given, evaluated, Effectful, effect_in, effect_of, value, values, call_act}
-use Rattle.flow_meaning.specs.Variables.{Local, Mark, Var, Vars, scope, all_locals, outside, emptied, filled, backwards, look, set_var, occ_vars}
-use Rattle.flow_meaning.specs.Text.{past, past_branches, next_spot, branch_count, states, first_spot}
+use Rattle.flow_ast.specs.Body.{IntoTree, Branches, NoBranches, MoreBranches, Body}
+use Rattle.flow_ast.specs.Decls.{ParamTree, SlotTree, RoutineTree, RecordTree, DeclTree, StructDecl, FunctionDecl, ActorDecl, ProgramTree}
+use Rattle.flow_ast.specs.Slots.{body_slots}
+use Rattle.flow_value.specs.Values.{ValueTree}
+use Rattle.flow_meaning.specs.Process.{Engine}
+use Rattle.flow_meaning.specs.Evaluating.{Names, bind}
+use Rattle.flow_meaning.specs.Variables.{Vars, occ_vars}
+use Rattle.flow_meaning.specs.Text.{first_spot, next_spot, branch_count, past}
+use Rattle.flow_meaning.specs.Items.{Site, Single, OneOf, Item, Do, Leave, Into, Await, Actor, actor, entered, site_at, declare, put_goal, raise, lose}
+use Rattle.flow_meaning.specs.SourceStep.{next_step}
 
--- where a body stands in its text: the next wait, and the variable of the innermost catch body around it
-pub record Site : Type 0 where
-  pub spot : Spot
-  pub caught : Option (List ℕ)
+-- the records, functions and actors of a program, in the order of the text
+abbrev pub records_in : List DeclTree → List RecordTree
+records_in [] = []
+records_in (StructDecl r ∷ ds) = r ∷ records_in ds
+records_in (FunctionDecl f ∷ ds) = records_in ds
+records_in (ActorDecl a ∷ ds) = records_in ds
 
--- a loop; one without a condition goes on for ever
-pub record Loop : Type 0 where
-  pub site : Site
-  pub condition : Option ExprTree
-  pub step : Body
-  pub inner : Body
+abbrev pub functions_in : List DeclTree → List RoutineTree
+functions_in [] = []
+functions_in (StructDecl r ∷ ds) = functions_in ds
+functions_in (FunctionDecl f ∷ ds) = f ∷ functions_in ds
+functions_in (ActorDecl a ∷ ds) = functions_in ds
 
--- the branches of a wait: a single wait, or those of a choose
-pub data Cases : Type 0 where
-  Single : WaitTree → Cases
-  OneOf : Branches → Cases
+abbrev pub actors_in : List DeclTree → List RoutineTree
+actors_in [] = []
+actors_in (StructDecl r ∷ ds) = actors_in ds
+actors_in (FunctionDecl f ∷ ds) = actors_in ds
+actors_in (ActorDecl a ∷ ds) = a ∷ actors_in ds
 
--- where the result of an effect goes: to a declared variable, or to what a path leads to
-pub data Target : Type 0 where
-  Declared : IntoTree → Target
-  Path : List Ident → Target
+abbrev pub routine_name : RoutineTree → List ℕ
+routine_name a = a.name.name
 
--- What is still to be done.
-pub data Item : Type 0 where
-  -- statements
-  Do : Site → Body → Item
-  -- the end of a scope
-  Leave : Item
-  -- a loop, before a pass begins, before its condition is tested, and after a pass was made
-  Round : Loop → Item
-  Check : Loop → Item
-  Made : Loop → Item
-  -- the end of a try body: the error's variable and the handler
-  Handler : (name : List ℕ) → Site → Body → Item
-  -- the result of an effect is stored
-  Into : Target → Item
-  -- a wait in progress, and how many of its operands were asked for
-  Await : Site → Cases → ℕ → Item
-  -- nothing: the actor is over
-  Over : Item
+abbrev pub names_of : ProgramTree → Names
+names_of p = record { records = records_in p.decls; functions = functions_in p.decls; actors = map routine_name (actors_in p.decls) }
 
-pub record Actor : Type 0 where
-  pub vars : Vars
-  pub rest : List Item
+-- the place of `main`, or a place of no actor
+abbrev pub main_of : List (List ℕ) → ℕ
+main_of names = unwrap_or (position (bytes_eq (codes "main")) names) (length names)
 
-abbrev pub actor : Vars → List Item → Actor
-actor vars rest = record { vars = vars; rest = rest }
+-- parameters with their arguments, if there are as many, and then the state variables without values
+abbrev pub no_values : List SlotTree → List (List ℕ × Option ValueTree)
+no_values [] = []
+no_values (s ∷ ss) = (s.name, None) ∷ no_values ss
 
-abbrev pub with_locals : Vars → List (Local (Option ValueTree)) → Vars
-with_locals vars ls = record vars { locals = ls }
+abbrev pub more : {A : Type 0} → A → Option (List A) → Option (List A)
+more x None = None
+more x (Some xs) = Some (x ∷ xs)
 
-abbrev pub over : Actor
-over = actor (record { states = []; locals = [] }) (Over ∷ [])
+abbrev pub with_args : List ParamTree → List ValueTree → List (List ℕ × Option ValueTree) → Option (List (List ℕ × Option ValueTree))
+with_args [] [] rest = Some rest
+with_args [] (v ∷ vs) rest = None
+with_args (p ∷ ps) [] rest = None
+with_args (p ∷ ps) (v ∷ vs) rest = more (p.name.name, Some v) (with_args ps vs rest)
 
--- a place further on in the text
-abbrev pub site_past : Body → Site → Site
-site_past b s = record s { spot = past b s.spot }
+-- an actor at the begin of its text
+abbrev pub begun : Body → List (List ℕ × Option ValueTree) → Actor
+begun b ss = actor (record { states = ss; locals = [] }) (Do (record { spot = first_spot; caught = None }) b ∷ [])
 
-abbrev pub site_at : Spot → Site → Site
-site_at spot s = record s { spot = spot }
+abbrev pub fresh_from : Option RoutineTree → List ValueTree → Option Actor
+fresh_from None vs = None
+fresh_from (Some a) vs = bind (with_args a.params vs (no_values (body_slots a.body))) (λ ss. Some (begun a.body ss))
 
--- a scope begins
-abbrev pub entered : Vars → Vars
-entered vars = with_locals vars (Mark ∷ vars.locals)
+-- the result of an effect comes to the item that waits for it
+abbrev pub stored : Actor → List Item → Option (List ValueTree × Vars) → List ValueTree × Actor
+stored a r None = ([], a)
+stored a r (Some p) = (p.0, actor p.1 r)
 
--- A scope ends: its locals are dropped, newest first. One without locals ends with no further ado.
-abbrev pub leave_scope : List (Option ValueTree) → ℕ → Actor → StepOf Actor
-leave_scope [] left a = quietly a
-leave_scope (o ∷ os) left a = asks left (Drops (filled (o ∷ os))) a
+abbrev pub store_at : List RecordTree → ValueTree → Actor → List Item → List ValueTree × Actor
+store_at rs v a (Into goal ∷ r) = stored a r (put_goal rs goal v a.vars)
+store_at rs v a _ = ([], a)
 
-abbrev pub left_scope : ℕ → Vars → List Item → StepOf Actor
-left_scope left vars rest = leave_scope (scope vars.locals) left (actor (with_locals vars (outside vars.locals)) rest)
+-- the value of a wait goes to the variable that it declares, or is dropped
+abbrev pub bound : Option IntoTree → ValueTree → Vars → List ValueTree × Vars
+bound None v vars = (v ∷ [], vars)
+bound (Some i) v vars = declare i v vars
 
--- everything that the variables hold: all locals, newest first, and then the state variables, the last one first
-abbrev pub everything : Vars → List ValueTree
-everything vars = filled (all_locals vars.locals) ++ filled (backwards vars.states)
+abbrev pub onward : List Item → List ValueTree × Vars → List ValueTree × Actor
+onward r p = (p.0, actor p.1 r)
 
--- a declared variable gets a value: the variables afterwards, and what stood there
-abbrev pub is_there : Option ValueTree → List ValueTree
-is_there o = filled (o ∷ [])
+-- a branch of a choose, with the place of its body in the text
+abbrev pub take_case : Branches → ℕ → Site → ValueTree → Actor → List Item → List ValueTree × Actor
+take_case NoBranches n s v a r = ([], a)
+take_case (MoreBranches at w b bs) zero s v a r = onward (Do s b ∷ Leave ∷ r) (bound w.into v (entered a.vars))
+take_case (MoreBranches at w b bs) (suc n) s v a r = take_case bs n (site_at (past b s.spot) s) v a r
 
-abbrev pub declare_by : (state : Bool) → List ℕ → ValueTree → Vars → List ValueTree × Vars
-declare_by true x v vars = (is_there (look vars x), set_var vars x v)
-declare_by false x v vars = ([], with_locals vars (Var x (Some v) ∷ vars.locals))
+abbrev pub take_at : (branch : ℕ) → ValueTree → Actor → List Item → List ValueTree × Actor
+take_at n v a (Await s (Single w) k ∷ r) = onward r (bound w.into v a.vars)
+take_at n v a (Await s (OneOf bs) k ∷ r) = take_case bs n (site_at (next_spot (branch_count bs) s.spot) s) v a r
+take_at n v a _ = ([], a)
 
-abbrev pub declare : IntoTree → ValueTree → Vars → List ValueTree × Vars
-declare i v vars = declare_by i.state i.name.name v vars
-
--- what a path leads to gets a value
-abbrev pub assign_root : List ℕ → Option ValueTree → List ValueTree → Vars → Option (List ValueTree × Vars)
-assign_root x None old vars = None
-assign_root x (Some root) old vars = Some (old, set_var vars x root)
-
-abbrev pub assign_old : List RecordTree → Ident → List Ident → ValueTree → Vars → Option ValueTree → Option (List ValueTree × Vars)
-assign_old rs x [] v vars old = Some (is_there old, set_var vars x.name v)
-assign_old rs x (y ∷ ys) v vars old = assign_root x.name (put_in rs old (y ∷ ys) v) (is_there (read_in rs old (y ∷ ys))) vars
-
-abbrev pub assign : List RecordTree → List Ident → ValueTree → Vars → Option (List ValueTree × Vars)
-assign rs [] v vars = None
-assign rs (x ∷ xs) v vars = assign_old rs x xs v vars (look vars x.name)
-
-abbrev pub put_goal : List RecordTree → Target → ValueTree → Vars → Option (List ValueTree × Vars)
-put_goal rs (Declared i) v vars = Some (declare i v vars)
-put_goal rs (Path xs) v vars = assign rs xs v vars
-
--- a path as an expression, and `x += e` as `x = x + (e)`
-abbrev pub path_from : ExprTree → List Ident → ExprTree
-path_from e [] = e
-path_from e (x ∷ xs) = path_from (FieldExpr e x) xs
-
-abbrev pub modified : ChangeTree → ExprTree → ExprTree
-modified (PlusChange e) x = BinaryExpr Add x (ParenExpr e)
-modified (MinusChange e) x = BinaryExpr Sub x (ParenExpr e)
-modified UpChange x = BinaryExpr Add x (IntExpr (pos 1))
-modified DownChange x = BinaryExpr Sub x (IntExpr (pos 1))
-
-abbrev pub change : List Ident → ChangeTree → Option ExprTree
-change [] c = None
-change (x ∷ xs) c = Some (modified c (path_from (VarExpr x) xs))
-
--- the operand of a branch, from 0
-abbrev pub branch_operand : Branches → ℕ → Option ExprTree
-branch_operand NoBranches n = None
-branch_operand (MoreBranches at w b more) zero = Some w.operand
-branch_operand (MoreBranches at w b more) (suc n) = branch_operand more n
-
-abbrev pub operand : Cases → ℕ → Option ExprTree
-operand (Single w) zero = Some w.operand
-operand (Single w) (suc n) = None
-operand (OneOf bs) n = branch_operand bs n
-
--- what an error leaves on its way to the innermost catch
-pub record Unwound (P : Type 0) : Type 0 where
-  pub left : List P
-  pub locals : List (Local P)
-  pub name : List ℕ
-  pub site : Site
-  pub handler : Body
-  pub rest : List Item
-
-abbrev pub unwind : {P : Type 0} → List P → List (Local P) → List Item → Option (Unwound P)
-unwind ps es [] = None
-unwind ps es (Leave ∷ r) = unwind (ps ++ scope es) (outside es) r
-unwind ps es (Handler x s h ∷ r) = Some (record { left = ps; locals = es; name = x; site = s; handler = h; rest = r })
-unwind ps es (Do s b ∷ r) = unwind ps es r
-unwind ps es (Round l ∷ r) = unwind ps es r
-unwind ps es (Check l ∷ r) = unwind ps es r
-unwind ps es (Made l ∷ r) = unwind ps es r
-unwind ps es (Into g ∷ r) = unwind ps es r
-unwind ps es (Await s cs n ∷ r) = unwind ps es r
-unwind ps es (Over ∷ r) = unwind ps es r
-
-abbrev pub raised : (error : ℕ) → Vars → Option (Unwound (Option ValueTree)) → Raised × Actor
-raised err vars None = (record { caught = false; values = everything vars }, over)
-raised err vars (Some u) = (
-  record { caught = true; values = filled u.left },
-  actor (with_locals vars (Var u.name (Some (ErrorValue err)) ∷ Mark ∷ u.locals)) (Do u.site u.handler ∷ Leave ∷ u.rest),
-)
-
-abbrev pub raise : (error : ℕ) → Actor → Raised × Actor
-raise err a = raised err a.vars (unwind [] a.vars.locals a.rest)
-
--- all locals lose their values
-abbrev pub lose : Actor → List ValueTree × Actor
-lose a = (filled (all_locals a.vars.locals), actor (with_locals a.vars (emptied a.vars.locals)) a.rest)
+-- the actors of a program
+abbrev pub source : ProgramTree → Engine Actor
+source p = record {
+  main = main_of (names_of p).actors;
+  label = λ k. unwrap_or (slice_get (names_of p).actors k) [];
+  fresh = λ k vs. fresh_from (slice_get (actors_in p.decls) k) vs;
+  next = next_step (names_of p);
+  lose = lose;
+  store = λ v a. store_at (names_of p).records v a a.rest;
+  take = λ n v a. take_at n v a a.rest;
+  raise = raise;
+  occ = λ s k a. occ_vars s k a.vars;
+}

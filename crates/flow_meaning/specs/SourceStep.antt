@@ -1,24 +1,19 @@
 -- The step of an actor that is run from its text.
-use Rattle.std.specs.Prelude.{ℕ, zero, suc, pos, Bool, true, false, List, [], ◌∷◌, ◌++◌, map, slice_get, position, unwrap_or, codes}
-use Rattle.std.specs.Str.{bytes_eq}
+use Rattle.std.specs.Prelude.{ℕ, suc, Bool, true, false, List, [], ◌∷◌}
 use Rattle.std.specs.declared.option.Option.{Option}
 use Rattle.std.specs.declared.option.Option.TheVariants.{None, Some}
-use Rattle.flow_ast.specs.declared.ty.Ident.{Ident}
 use Rattle.flow_ast.specs.Tree.{TypeTree, PromiseType, PromiseStreamType, ExprTree, ExprTrees}
-use Rattle.flow_ast.specs.Body.{IntoTree, WaitTree, Body, End, BlockStmt, IfStmt, IfElseStmt, WhileStmt, ForStmt, LoopStmt, BreakStmt, ContinueStmt, ReturnStmt, ThrowStmt, TryStmt, ChooseStmt, DeclareStmt, AssignStmt, ModifyStmt, CallStmt, WaitStmt, Branches, NoBranches, MoreBranches}
-use Rattle.flow_ast.specs.Decls.{ParamTree, SlotTree, RoutineTree, RecordTree}
-use Rattle.flow_value.specs.declared.value.Kind.{Kind}
+use Rattle.flow_ast.specs.Body.{IntoTree, Body, End, BlockStmt, IfStmt, IfElseStmt, WhileStmt, ForStmt, LoopStmt, BreakStmt, ContinueStmt, ReturnStmt, ThrowStmt, TryStmt, ChooseStmt, DeclareStmt, AssignStmt, ModifyStmt, CallStmt, WaitStmt}
 use Rattle.flow_value.specs.declared.value.Kind.TheVariants as kind
 use Rattle.flow_value.specs.Values.{ValueTree, RefValue}
 use Rattle.flow_eval.specs.Answers.{bool_of, error_of}
 use Rattle.flow_eval.specs.Functions.{default_value}
-use Rattle.flow_meaning.specs.Cells.{Ref}
-use Rattle.flow_meaning.specs.Asks.{Spot, Effect, Make, Goal, Stored, Kept, Act, Goes, Pass, Drops, Effects, Operand, Waits, Returns, Throws}
+use Rattle.flow_meaning.specs.Asks.{Spot, Make, Goal, Stored, Kept, Goes, Pass, Drops, Effects, Operand, Waits, Returns, Throws}
 use Rattle.flow_meaning.specs.Process.{View}
 use Rattle.flow_meaning.specs.Evaluating.{Names, bind, StepOf, asks, quietly, stuck, given, evaluated, Effectful, effect_in, effect_of, value, values, call_act}
-use Rattle.flow_meaning.specs.Variables.{Vars, look, all_locals, filled, emptied}
+use Rattle.flow_meaning.specs.Variables.{Vars, look}
 use Rattle.flow_meaning.specs.Text.{branch_count, next_spot, past_branches}
-use Rattle.flow_meaning.specs.Source.{Site, Loop, Cases, Single, OneOf, Target, Declared, Path, Item, Do, Leave, Round, Check, Made, Handler, Into, Await, Over, Actor, actor, with_locals, over, site_past, site_at, entered, left_scope, everything, declare, put_goal, change, operand, lose}
+use Rattle.flow_meaning.specs.Items.{Site, Loop, Cases, Single, OneOf, Target, Declared, Path, Item, Do, Leave, Round, Check, Made, Handler, Into, Await, Over, Actor, actor, over, site_past, site_at, entered, left_scope, everything, put_goal, change, operand, lose}
 
 -- A break goes up to the innermost loop and past it; a continue goes up to it, and a pass was made. Each scope on the
 -- way ends by itself.

@@ -3,14 +3,13 @@
 use Rattle.std.specs.Prelude.{ℕ, zero, suc, nat_eq, Bool, true, false, not, ◌&&◌, List, [], ◌∷◌, ◌++◌, if◌then◌else◌}
 use Rattle.std.specs.declared.option.Option.{Option}
 use Rattle.std.specs.declared.option.Option.TheVariants.{None, Some}
-use Rattle.flow_value.specs.Values.{ValueTree, OutcomeTree, GoodOutcome, BadOutcome}
+use Rattle.flow_value.specs.Values.{ValueTree, OutcomeTree}
 use Rattle.flow_trace.specs.declared.line.Line.{Line}
 use Rattle.flow_meaning.specs.Numbered.{Numbered, thing, added, put, removed}
-use Rattle.flow_meaning.specs.Cells.{Side, PromiseSide, FutureSide, Ref, Waiter, Cell, Single, Stream, is_complete, is_ready, waiters, held, filled, taken, after_taking, with_waiter, is_busy, left_by}
-use Rattle.flow_meaning.specs.Asks.{Spot}
-use Rattle.flow_meaning.specs.Process.{Task, Run, Give, Throw, Catch, Store, Keep, Close, Fire, Drop, Entry, Halt, Spent, NoMeaning, Core}
-use Rattle.flow_meaning.specs.Lines.{start_line, wait_line, take_line, cancel_line, broken_line}
-use Rattle.flow_meaning.specs.Occ.{refs_in, Scan, Occ}
+use Rattle.flow_meaning.specs.Cells.{Ref, Waiter, Cell, is_ready, held, filled, taken, after_taking, with_waiter, is_busy, left_by}
+use Rattle.flow_meaning.specs.Process.{Task, Give, Throw, Fire, Drop, Entry, Halt, Spent, NoMeaning, Core}
+use Rattle.flow_meaning.specs.Lines.{take_line, cancel_line}
+use Rattle.flow_meaning.specs.Occ.{refs_in}
 
 -- the event is stopped
 abbrev pub halt : Halt → Core → Core

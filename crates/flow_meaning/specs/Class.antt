@@ -1,11 +1,10 @@
 -- The step of a frame by its instruction, and frames as actors of a process.
-use Rattle.std.specs.Prelude.{ℕ, zero, suc, nat_eq, Bool, true, false, List, [], ◌∷◌, ◌++◌, map, length, drop, slice_get, unwrap_or, if◌then◌else◌}
+use Rattle.std.specs.Prelude.{ℕ, suc, nat_eq, Bool, true, false, List, [], ◌∷◌, ◌++◌, map, length, drop, slice_get, unwrap_or, if◌then◌else◌}
 use Rattle.std.specs.Option.{option_map}
 use Rattle.std.specs.declared.option.Option.{Option}
 use Rattle.std.specs.declared.option.Option.TheVariants.{None, Some}
-use Rattle.flow_ast.specs.declared.ty.Ident.{Ident}
 use Rattle.flow_ast.specs.Tree.{TypeTree, PromiseType, PromiseStreamType, ExprTree, ExprTrees}
-use Rattle.flow_ast.specs.Decls.{SlotTree, RecordTree}
+use Rattle.flow_ast.specs.Decls.{SlotTree}
 use Rattle.flow_value.specs.declared.value.Kind.{Kind}
 use Rattle.flow_value.specs.declared.value.Kind.TheVariants as kind
 use Rattle.flow_value.specs.Values.{ValueTree, RefValue}
@@ -13,11 +12,11 @@ use Rattle.flow_eval.specs.Answers.{bool_of, error_of}
 use Rattle.flow_class.specs.declared.class.Slotted.{Slotted}
 use Rattle.flow_class.specs.declared.class.Slotted.TheVariants.{Slot, Local}
 use Rattle.flow_class.specs.Classes.{InstrTree, SetInstr, EffectInstr, NewInstr, ActInstr, DropInstr, LastTree, GotoLast, PassLast, TestLast, ChooseLast, ReturnLast, ThrowLast, CallbackTree, ClassTree, RawTree}
-use Rattle.flow_meaning.specs.Asks.{Spot, Make, Goal, Stored, Kept, Act, Goes, Pass, Drops, Effects, Operand, Waits, Returns, Throws}
+use Rattle.flow_meaning.specs.Asks.{Spot, Make, Goal, Stored, Kept, Goes, Pass, Drops, Effects, Operand, Waits, Returns, Throws}
 use Rattle.flow_meaning.specs.Process.{View, Engine}
 use Rattle.flow_meaning.specs.Evaluating.{Names, bind, StepOf, asks, quietly, stuck, given, evaluated, Effectful, effect_in, effect_of, value, values, call_act}
-use Rattle.flow_meaning.specs.SourceEngine.{main_of}
-use Rattle.flow_meaning.specs.Frame.{Memory, Frame, look, read, write, held_in, emptied, blanks, everything, occ_memory, put_at, assign, Fetched, Body, Last, Nothing, fetch, spot_of, callback_at, go, next_instr, over, lose, raise}
+use Rattle.flow_meaning.specs.Source.{main_of}
+use Rattle.flow_meaning.specs.Frame.{Memory, Frame, look, held_in, emptied, blanks, everything, occ_memory, put_at, assign, Fetched, Body, Last, Nothing, fetch, spot_of, callback_at, go, next_instr, over, lose, raise}
 
 -- the type of a place
 abbrev pub type_at : ClassTree → Slotted → Option TypeTree
