@@ -19,3 +19,4 @@ pub mod SourceStep
 pub mod Source
 pub mod Frame
 pub mod Class
+pub mod Law
