@@ -169,3 +169,76 @@ module _ {W A B : Type 0} (e : Engine A) (d : Engine B) (h : Host W) (R : A → 
       let one : Does s.proc.actors u (Some r) = subst (Does s.proc.actors u) a (does s u k) in
       let all = bursts_follow r t one.0 one.2 b in
       (all.0, many_burst d h (moved s.proc.actors u r one.0 one.1) all.1, all.2)
+
+  -- the other way: a burst of n steps of the second
+  abbrev BurstIn : ℕ → Live W B → Live W B → Type 0
+  BurstIn zero u v = (advance d h u ≡ None) × (u ≡ v)
+  BurstIn (suc n) u v = (q : Live W B) × (advance d h u ≡ Some q) × BurstIn n q v
+
+  counted : {u v : Live W B} → Burst d h u v → (n : ℕ) × BurstIn n u v
+  counted (rests a) = (0, (a, refl))
+  counted (steps q a b) = let c = counted b in (suc c.0, (q, a, c.1))
+
+  none_some : {o : Option (Live W B)} {q : Live W B} → o ≡ Some q → o ≡ None → ⊥
+  none_some e f = cc
+
+  same_step : {o : Option (Live W B)} {q r : Live W B} → o ≡ Some q → o ≡ Some r → q ≡ r
+  same_step e f = cc
+
+  -- what is left of a burst after some steps
+  many_rest : {u q : Live W B} → Many d h u q → (n : ℕ) (v : Live W B) → BurstIn n u v → (m : ℕ) × (m ≤ n) × BurstIn m q v
+  many_rest here n v b = (n, omega arith, b)
+  many_rest (after r a l) zero v b = absurd (none_some a b.0)
+  many_rest (after r a l) (suc n) v b =
+      let rest = many_rest l n v (subst (λ z. BurstIn n z v) (same_step b.1 a) b.2) in
+      (rest.0, omega (arith, rest.1), rest.2)
+
+  many1_rest : (u q : Live W B) → Many1 d h u q → (n : ℕ) (v : Live W B) → BurstIn n u v → (m : ℕ) × (m < n) × BurstIn m q v
+  many1_rest u q m zero v b = absurd (none_some m.1 b.0)
+  many1_rest u q m (suc n) v b =
+      let rest = many_rest m.2 n v (subst (λ z. BurstIn n z v) (same_step b.1 m.1) b.2) in
+      (rest.0, omega (arith, rest.1), rest.2)
+
+  abbrev Found : Live W A → Live W B → Type 0
+  Found s v = (t : Live W A) × Burst e h s t × Same R t v
+
+  abbrev Back : ℕ → Type 0
+  Back n = (m : ℕ) (s : Live W A) (u v : Live W B) → Same R s u → load sim.weight s.proc.actors ≤ m → BurstIn n u v → Found s v
+
+  at_rest : (n : ℕ) (s : Live W A) (u v : Live W B) → Same R s u → advance e h s ≡ None → advance d h u ≡ None → BurstIn n u v → Found s v
+  at_rest zero s u v k a g b = (s, rests a, subst (Same R s) b.1 k)
+  at_rest (suc n) s u v k a g b = absurd (none_some b.1 g)
+
+  -- after one step of the first
+  stepped : (s r : Live W A) (v : Live W B) → advance e h s ≡ Some r → Found r v → Found s v
+  stepped s r v a f = (f.0, steps r a f.1, f.2)
+
+  back_step : (n : ℕ) (s : Live W A) (u v : Live W B) → Same R s u → BurstIn n u v → ((k : ℕ) → k < n → Back k) → ((r : Live W A) (m : Live W B) → load sim.weight r.proc.actors < load sim.weight s.proc.actors → Same R r m → BurstIn n m v → Found r v) → (o : Option (Live W A)) → advance e h s ≡ o → Does s.proc.actors u o → Found s v
+  back_step n s u v k b prev same_n None a g = at_rest n s u v k a g b
+  back_step n s u v k b prev same_n (Some r) a g = stepped s r v a (by_moves g.1)
+    where
+      by_moves : Moves s.proc.actors u r g.0 → Found r v
+      by_moves (inl m) =
+          let j = many1_rest u g.0 m n v b in
+          prev j.0 j.1 (load sim.weight r.proc.actors) r g.0 v g.2 (omega arith) j.2
+      by_moves (inr m) =
+          let j = many_rest m.0 n v b in
+          ⊎_elim
+          (λ lt. prev j.0 lt (load sim.weight r.proc.actors) r g.0 v g.2 (omega arith) j.2)
+          (λ le. let f : j.0 ≡ n = omega (arith, j.1) in same_n r g.0 m.1 g.2 (subst (λ i. BurstIn i g.0 v) f j.2))
+          (cases_lt j.0 n)
+
+  back_one : (n : ℕ) → ((k : ℕ) → k < n → Back k) → Back n
+  back_one n prev zero s u v k w b =
+      back_step n s u v k b prev (λ r m lt l j. absurd (omega arith)) (advance e h s) refl (does s u k)
+  back_one n prev (suc m) s u v k w b =
+      back_step n s u v k b prev (λ r i lt l j. back_one n prev m r i v l (omega arith) j) (advance e h s) refl (does s u k)
+
+  back_below : (n k : ℕ) → k < n → Back k
+  back_below zero k lt = absurd (omega arith)
+  back_below (suc n) k lt = back_one k (λ j le. back_below n j (omega arith))
+
+  pub bursts_return : BurstsReturn e d h R
+  bursts_return s u v k b =
+      let j = counted b in
+      back_below (suc j.0) j.0 (omega arith) (load sim.weight s.proc.actors) s u v k (omega arith) j.1
