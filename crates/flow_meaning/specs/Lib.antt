@@ -20,3 +20,6 @@ pub mod Source
 pub mod Frame
 pub mod Class
 pub mod Law
+pub mod Views
+pub mod Shape
+pub mod Carry
