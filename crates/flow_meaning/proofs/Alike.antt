@@ -1,17 +1,17 @@
 -- One step of a process, with actors of two kinds whose steps ask alike.
-use Rattle.std.proofs.Common.{◌≡◌, ℕ, ◌+◌, ◌<◌, nat_eq, Bool, true, false, List, [], ◌∷◌, ◌++◌, length, if◌then◌else◌, refl, sym, ap, ◌∙◌, subst, arith}
+use Rattle.std.proofs.Common.{◌≡◌, ℕ, nat_eq, Bool, true, false, List, [], ◌∷◌, length, if◌then◌else◌, refl, ap, arith}
 use Rattle.std.proofs.Math.Path.{fun_ext}
 use Rattle.std.specs.declared.option.Option.{Option}
 use Rattle.std.specs.declared.option.Option.TheVariants.{None, Some}
 use Rattle.flow_value.specs.Values.{ValueTree, OutcomeTree, GoodOutcome, BadOutcome}
 use Rattle.flow_meaning.specs.Numbered.{Numbered, thing, added, put, removed}
 use Rattle.flow_meaning.specs.Cells.{Side, Ref}
-use Rattle.flow_meaning.specs.Asks.{Spot, Act, Effects, Effect, Start, Goal, Ask, Request, Supply}
-use Rattle.flow_meaning.specs.Process.{Task, Run, Give, Throw, Catch, Store, Keep, Close, Fire, Drop, Entry, Halt, Core, Proc, View, Raised, Engine}
-use Rattle.flow_meaning.specs.Occ.{Scan, scan_of}
+use Rattle.flow_meaning.specs.Asks.{Spot, Act, Effects, Effect, Start, Goal, Supply}
+use Rattle.flow_meaning.specs.Process.{Task, Run, Give, Throw, Catch, Store, Keep, Close, Fire, Drop, Entry, Core, Engine}
+use Rattle.flow_meaning.specs.Occ.{scan_of}
 use Rattle.flow_meaning.specs.Work.{pushed, dropping_values, is_ready_at}
 use Rattle.flow_meaning.specs.Dropping.{drop, fire, close}
-use Rattle.flow_meaning.specs.Step.{Stepped, proc, answer, answer_effect, start, start_core, give, store, throw, throw_with, throw_core, replaced, Verdict, GoesOn, Cancelled, Ready, verdict, with_operand, lost, leave_kept, below, keep_by, keep, close_actor, do_task}
+use Rattle.flow_meaning.specs.Step.{Stepped, proc, answer, answer_effect, start, start_core, give, store, throw, throw_core, replaced, Verdict, GoesOn, Cancelled, Ready, verdict, with_operand, lost, leave_kept, below, keep_by, keep, close_actor, do_task}
 use Rattle.flow_meaning.specs.Law.{Alike, BothOrNone, Simulates, AllRelated}
 
 module _ {A B : Type 0} (R : A → B → Type 0) where

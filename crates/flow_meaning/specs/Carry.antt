@@ -1,24 +1,20 @@
 -- A class carries an actor: what stands where in the blocks of a class, for each point of the actor's text. A point has a
 -- position only where control comes back to it; everything else is said by recursion over the text.
-use Rattle.std.specs.Prelude.{◌≡◌, ◌≢◌, ℕ, zero, suc, ◌<◌, pos, Bool, true, false, List, [], ◌∷◌, length, position, codes, decimal}
-use Rattle.std.specs.Option.{option_map}
+use Rattle.std.specs.Prelude.{◌≡◌, ◌≢◌, ℕ, suc, ◌<◌, pos, true, false, List, [], ◌∷◌, length, position, codes, decimal}
 use Rattle.std.specs.Str.{bytes_eq}
 use Rattle.std.specs.declared.option.Option.{Option}
 use Rattle.std.specs.declared.option.Option.TheVariants.{None, Some}
 use Rattle.flow_ast.specs.declared.ty.Ident.{Ident}
-use Rattle.flow_ast.specs.Tree.{TypeTree, IntType, BoolType, StringType, PromiseType, PromiseStreamType, ExprTree, ExprTrees, IntExpr, TextExpr, BoolExpr, VoidExpr, VarExpr, CallExpr, FieldExpr, MethodExpr, NotExpr, NegExpr, BinaryExpr, ParenExpr, NoExprs, MoreExprs}
-use Rattle.flow_ast.specs.Body.{IntoTree, WaitTree, Body, End, BlockStmt, IfStmt, IfElseStmt, WhileStmt, ForStmt, LoopStmt, BreakStmt, ContinueStmt, ReturnStmt, ThrowStmt, TryStmt, ChooseStmt, DeclareStmt, AssignStmt, ModifyStmt, CallStmt, WaitStmt, Branches, NoBranches, MoreBranches}
-use Rattle.flow_ast.specs.Decls.{SlotTree, RoutineTree}
+use Rattle.flow_ast.specs.Tree.{TypeTree, IntType, BoolType, StringType, ExprTree, ExprTrees, IntExpr, TextExpr, BoolExpr, VoidExpr, VarExpr, CallExpr, FieldExpr, MethodExpr, NotExpr, NegExpr, BinaryExpr, ParenExpr, NoExprs, MoreExprs}
+use Rattle.flow_ast.specs.Body.{IntoTree, Body, End, DeclareStmt, AssignStmt, ModifyStmt}
+use Rattle.flow_ast.specs.Decls.{SlotTree}
 use Rattle.flow_ast.specs.TypingNames.{named, constant_names}
 use Rattle.flow_class.specs.declared.class.Slotted.{Slotted}
 use Rattle.flow_class.specs.declared.class.Slotted.TheVariants as place
-use Rattle.flow_class.specs.Classes.{SetInstr, EffectInstr, NewInstr, ActInstr, DropInstr, GotoLast, PassLast, TestLast, ChooseLast, ReturnLast, ThrowLast, CallbackTree, ClassTree}
-use Rattle.flow_meaning.specs.Asks.{Spot}
+use Rattle.flow_class.specs.Classes.{SetInstr, EffectInstr, NewInstr, DropInstr, GotoLast, PassLast, ThrowLast, ClassTree}
 use Rattle.flow_meaning.specs.Evaluating.{Names, Effectful, effect_in}
 use Rattle.flow_meaning.specs.Variables.{Local, Mark, Var, find, scope, outside}
-use Rattle.flow_meaning.specs.Text.{first_spot, next_spot, branch_count, past, past_branches}
-use Rattle.flow_meaning.specs.Items.{Site, Loop, Item, Do, Leave, Round, Check, Made, Handler, Into, Await, Over, Unwound, unwind, change, site_past, site_at}
-use Rattle.flow_meaning.specs.SourceStep.{Exit, Breaks, Continues}
+use Rattle.flow_meaning.specs.Items.{Item, Do, Leave, Round, Made, Handler, Unwound, unwind, change}
 use Rattle.flow_meaning.specs.Frame.{place_named, Fetched, Last, Nothing, fetch, catcher_at, group_at, spot_of}
 use Rattle.flow_meaning.specs.Frame as frame
 use Rattle.flow_meaning.specs.Class.{type_at}

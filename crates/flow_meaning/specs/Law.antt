@@ -6,9 +6,8 @@ use Rattle.flow_value.specs.Values.{ValueTree}
 use Rattle.flow_meaning.specs.Numbered.{Numbered}
 use Rattle.flow_meaning.specs.Cells.{Side}
 use Rattle.flow_meaning.specs.Asks.{Ask}
-use Rattle.flow_meaning.specs.Process.{View, Raised, Proc, Engine}
-use Rattle.flow_meaning.specs.Step.{proc}
-use Rattle.flow_meaning.specs.Burst.{Host, Live, live, Burst}
+use Rattle.flow_meaning.specs.Process.{View, Engine}
+use Rattle.flow_meaning.specs.Burst.{Host, Live, Burst}
 
 -- steps that ask for nothing
 pub data Quietly {A : Type 0} (e : Engine A) (v : View) : A → A → Type 0 where

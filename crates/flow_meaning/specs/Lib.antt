@@ -23,3 +23,4 @@ pub mod Law
 pub mod Views
 pub mod Shape
 pub mod Carry
+pub mod Carries

@@ -1,5 +1,5 @@
 -- The classes of a program: one for each actor, with the same slots and groups in the order of the text.
-use Rattle.std.specs.Prelude.{◌≡◌, ℕ, Bool, List, [], ◌∷◌, map, length}
+use Rattle.std.specs.Prelude.{◌≡◌, Bool, List, [], ◌∷◌, map, length}
 use Rattle.flow_ast.specs.Body.{WaitTree}
 use Rattle.flow_ast.specs.Decls.{RoutineTree, ProgramTree}
 use Rattle.flow_ast.specs.Slots.{slots_of, groups_of}

@@ -1,12 +1,12 @@
 -- What is seen of a process at the boundary of events: its unfinished actors, and the branches at which they wait.
-use Rattle.std.specs.Prelude.{ℕ, suc, ◌+◌, List, [], ◌∷◌, ◌++◌}
+use Rattle.std.specs.Prelude.{ℕ, suc, List, [], ◌∷◌, ◌++◌}
 use Rattle.std.specs.declared.option.Option.{Option}
 use Rattle.std.specs.declared.option.Option.TheVariants.{None, Some}
 use Rattle.flow_meaning.specs.Numbered.{Numbered, thing}
 use Rattle.flow_meaning.specs.Cells.{Ref}
 use Rattle.flow_meaning.specs.Asks.{Spot}
 use Rattle.flow_meaning.specs.Process.{Entry, Core, Proc}
-use Rattle.flow_meaning.specs.Items.{Item, Do, Leave, Round, Check, Made, Handler, Into, Await, Over, Actor}
+use Rattle.flow_meaning.specs.Items.{Item, Await, Actor}
 use Rattle.flow_meaning.specs.Frame.{Frame, spot_of}
 
 -- an unfinished actor: its number, its declaration's place among the actors, and the number of its wait
