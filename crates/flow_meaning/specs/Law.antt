@@ -65,3 +65,7 @@ BurstsFollow {W} {A} {B} e d h R =
 abbrev pub BurstsReturn : {W A B : Type 0} → Engine A → Engine B → Host W → (A → B → Type 0) → Type 0
 BurstsReturn {W} {A} {B} e d h R =
     (s : Live W A) (u v : Live W B) → Same R s u → Burst d h u v → (t : Live W A) × Burst e h s t × Same R t v
+
+-- a burst comes to one end
+abbrev pub BurstsOnce : {W A : Type 0} → Engine A → Host W → Type 0
+BurstsOnce {W} {A} e h = (s t u : Live W A) → Burst e h s t → Burst e h s u → t ≡ u
