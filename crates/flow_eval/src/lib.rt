@@ -13,4 +13,6 @@ mod predefined;
 mod records;
 mod statements;
 pub mod stop;
+#[cfg(test)]
+mod tests;
 pub mod variables;
