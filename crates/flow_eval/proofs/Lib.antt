@@ -13,3 +13,4 @@ pub mod TypedExprs
 pub mod TypedLocals
 pub mod TypedStatements
 pub mod TypesKept
+pub mod Examples

@@ -9,3 +9,4 @@ pub mod Variables
 pub mod Meaning
 pub mod Typed
 pub mod WellTyped
+pub mod Example

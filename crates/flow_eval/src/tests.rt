@@ -4,6 +4,8 @@ ghost use Rattle.std.specs.Prelude.{◌≡◌};
 ghost use Rattle.std.specs.Option.{option_map, option_copied};
 ghost use Rattle.flow_value.specs.View.{outcome_of};
 
+mod countdown;
+
 use crate::cells::{CellView, NoCells};
 use crate::evaluate::{Setting, Turns, evaluate, run_at};
 use crate::stop::Halt;
@@ -780,5 +782,45 @@ fn statements_take_turns_by_pass(rt: HostRuntime) -> Result<(), Fail> {
         assert!(rt; comes_to(&came, want), "{n} with {left}");
         assert_eq!(rt; turns.left, rest, "{n} with {left}");
     }
+    Ok(())
+}
+
+// `int s; while (s < n) { s = s + 1; } return s;`
+fn long_loop(alloc: Global) -> Result<Vec<Stmt>, NoMemory> {
+    let test = binary(alloc, Op::Lt, var(alloc, b"s")?, var(alloc, b"n")?)?;
+    let more = binary(alloc, Op::Add, var(alloc, b"s")?, Expr::Int(1))?;
+    let inner = body(alloc, [StmtKind::Assign(target(alloc, b"s")?, more)])?;
+    body(
+        alloc,
+        [
+            StmtKind::Declare(int_var(alloc, b"s")?, None),
+            StmtKind::While(test, inner),
+            StmtKind::Return(var(alloc, b"s")?),
+        ],
+    )
+}
+
+// It is this test that bench/eval.sh times.
+#[test]
+fn a_million_passes(rt: HostRuntime) -> Result<(), Fail> {
+    let alloc = rt.alloc();
+    let mut functions = Vec::new(alloc);
+    let mut function = sums(alloc)?;
+    function.body = long_loop(alloc)?;
+    functions.push(function)?;
+    let setting = Setting {
+        alloc,
+        records: &[],
+        functions: &functions,
+        view: &NoCells,
+        time: 0,
+    };
+    let mut args = Vec::new(alloc);
+    args.push(Value::Int(1_000_000))?;
+    let mut turns = Turns { left: 1_000_002 };
+    assert!(rt; !functions.is_empty());
+    let came = run_at::<VarList, NoCells>(&setting, 64, 0, args, &mut turns);
+    assert!(rt; comes_to(&came, Want::Int(1_000_000)));
+    assert_eq!(rt; turns.left, 0);
     Ok(())
 }
