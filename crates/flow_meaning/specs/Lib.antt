@@ -19,3 +19,7 @@ pub mod SourceStep
 pub mod Source
 pub mod Frame
 pub mod Class
+pub mod Disk
+pub mod Outside
+pub mod World
+pub mod Runs

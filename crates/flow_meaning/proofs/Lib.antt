@@ -1,0 +1,5 @@
+pub mod Following
+pub mod Once
+pub mod More
+pub mod RowTerms
+pub mod RowsPlain
