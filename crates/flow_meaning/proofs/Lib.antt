@@ -3,3 +3,7 @@ pub mod Once
 pub mod More
 pub mod RowTerms
 pub mod RowsPlain
+pub mod RowsWaits
+pub mod RowsCancel
+pub mod RowsStreams
+pub mod RowsWorld
