@@ -1,6 +1,8 @@
 pub mod Following
 pub mod Once
 pub mod More
+pub mod MoreReact
+pub mod MoreStep
 pub mod RowTerms
 pub mod RowsPlain
 pub mod RowsWaits

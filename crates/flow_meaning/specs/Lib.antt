@@ -11,6 +11,7 @@ pub mod React
 pub mod Step
 pub mod Burst
 pub mod Deliver
+pub mod Turns
 pub mod Evaluating
 pub mod Variables
 pub mod Text

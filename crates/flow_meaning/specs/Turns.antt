@@ -1,0 +1,33 @@
+-- What it means that more turns change nothing but where they run out.
+use Rattle.std.specs.Prelude.{◌≡◌, ℕ, ◌+◌, ◌⊎◌, List, ◌++◌}
+use Rattle.std.specs.declared.option.Option.{Option}
+use Rattle.std.specs.declared.option.Option.TheVariants.{None, Some}
+use Rattle.flow_trace.specs.declared.line.Line.{Line}
+use Rattle.flow_meaning.specs.Asks.{Ask, RunsOut}
+use Rattle.flow_meaning.specs.Process.{Core, Proc, View, Engine}
+use Rattle.flow_meaning.specs.Step.{proc}
+use Rattle.flow_meaning.specs.Burst.{Live, live}
+
+-- the first lines, and some behind them
+abbrev pub Starts : List Line → List Line → Type 0
+Starts ls ks = (rest : List Line) × (ks ≡ ls ++ rest)
+
+-- a process with so many turns more
+abbrev pub more : ℕ → Core → Core
+more k c = record c { left = c.left + k }
+
+abbrev pub more_live : {W A : Type 0} → ℕ → Live W A → Live W A
+more_live k s = live (proc (more k s.proc.core) s.proc.actors) s.out
+
+-- an answer that leaves so many turns more
+abbrev pub later : {A : Type 0} → ℕ → Option Ask × A → Option Ask × A
+later k (None, a) = (None, a)
+later k (Some q, a) = (Some (record q { left = q.left + k }), a)
+
+-- an actor ran out of turns
+abbrev pub IsOut : {A : Type 0} → Option Ask × A → Type 0
+IsOut {A = A} r = (left : ℕ) × (a : A) × (r ≡ (Some (record { left = left; act = RunsOut }), a))
+
+-- Actors that see of their turns only whether there are enough: with more turns they ask the same, or they ran out.
+pub record Thrifty {A : Type 0} (e : Engine A) : Type 0 where
+  pub same : (k : ℕ) (v : View) (a : A) → (e.next (record v { left = v.left + k }) a ≡ later k (e.next v a)) ⊎ IsOut (e.next v a)
