@@ -24,9 +24,13 @@ starts_same ls = ([], sym (append-nil ls))
 pub starts_on : (ls : List Line) {ks ms : List Line} → Starts ls ks → Starts ks ms → Starts ls ms
 starts_on ls a b = (a.0 ++ b.0, b.1 ∙ ap (λ x. x ++ b.0) a.1 ∙ append_assoc ls a.0 b.0)
 
--- the second is the first with so many turns more, or the first ran out of turns and has written no more than the second
+-- the event was stopped
+abbrev pub IsHalted : Core → Type 0
+IsHalted c = (h : Halt) × (c.halted ≡ Some h)
+
+-- the second is the first with so many turns more, or the first was stopped and has written no more than the second
 abbrev pub Ahead : ℕ → Core → Core → Type 0
-Ahead k c d = (d ≡ more k c) ⊎ ((c.halted ≡ Some Spent) × Starts c.lines d.lines)
+Ahead k c d = (d ≡ more k c) ⊎ (IsHalted c × Starts c.lines d.lines)
 
 -- what is done with a process is done alike with more turns, and only adds lines
 pub record Fair (f : Core → Core) : Type 0 where
@@ -47,8 +51,8 @@ still f e l = record { even = e; adds = λ c. ([], l c ∙ sym (append-nil c.lin
 
 -- a turn, and then something that is fair
 turn_alike : (f : Core → Core) → Fair f → (k left sum : ℕ) (c : Core) → sum ≡ left + k → Ahead k (turn_of left c f) (turn_of sum (record c { left = sum }) f)
-turn_alike f h k zero zero c e = inr (refl, starts_same c.lines)
-turn_alike f h k zero (suc m) c e = inr (refl, h.grows (record c { left = m }))
+turn_alike f h k zero zero c e = inr ((Spent, refl), starts_same c.lines)
+turn_alike f h k zero (suc m) c e = inr ((Spent, refl), h.grows (record c { left = m }))
 turn_alike f h k (suc n) zero c e = absurd (omega arith)
 turn_alike f h k (suc n) (suc m) c e =
     let p : m ≡ n + k = omega arith in

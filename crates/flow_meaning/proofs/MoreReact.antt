@@ -19,14 +19,14 @@ use Rattle.flow_meaning.specs.Work.{halt, turn, writes, pushed, dropping, droppi
 use Rattle.flow_meaning.specs.Effects.{Reaction, quiet, throws, result_task, push_result, gives, gives_new, gives_open, empty_cell, between, draw, delay, is_port, open_port, listen, judged, ask_disk, effect, send_to}
 use Rattle.flow_meaning.specs.React.{send_by, send_in, print, at_spot, suspend, wait_by, wait, react}
 use Rattle.flow_meaning.specs.Turns.{Starts, more}
-use Rattle.flow_meaning.proofs.More.{starts_same, Ahead, Fair, Even, fair, still, after_turn, then_fair, then_even, own_fair, own_even, same_even, halt_even, writes_even, pushed_even, dropping_even, fill_even, leave_for_even, take_branch_fair, cancel_owner_even}
+use Rattle.flow_meaning.proofs.More.{starts_same, IsHalted, Ahead, Fair, Even, fair, still, after_turn, then_fair, then_even, own_fair, own_even, same_even, halt_even, writes_even, pushed_even, dropping_even, fill_even, leave_for_even, take_branch_fair, cancel_owner_even}
 
 -- the same of what also asks something of the world
 abbrev pub more_asked : ℕ → Reaction → Reaction
 more_asked k r = (more k r.0, r.1)
 
 abbrev pub AheadAsked : ℕ → Reaction → Reaction → Type 0
-AheadAsked k r s = (s ≡ more_asked k r) ⊎ ((r.0.halted ≡ Some Spent) × (r.1 ≡ None) × Starts r.0.lines s.0.lines)
+AheadAsked k r s = (s ≡ more_asked k r) ⊎ (IsHalted r.0 × (r.1 ≡ None) × Starts r.0.lines s.0.lines)
 
 pub record FairAsk (f : Core → Reaction) : Type 0 where
   pub alike : (k : ℕ) (c : Core) → AheadAsked k (f c) (f (more k c))

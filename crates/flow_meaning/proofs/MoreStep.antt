@@ -19,8 +19,8 @@ use Rattle.flow_meaning.specs.Effects.{Reaction, result_task, push_result}
 use Rattle.flow_meaning.specs.React.{react}
 use Rattle.flow_meaning.specs.Step.{proc, Stepped, silent, astray, view, enrol, start_core, start, reacted, answer_effect, answer, run_next, run, replaced, give, store, fate, throw_core, throw_with, throw, Verdict, GoesOn, Cancelled, Ready, verdict, with_operand, below, leave_kept, lost, keep_by, keep, handle, close_actor, scanned, on_core, popped, do_task, step_tasks, step_if, step}
 use Rattle.flow_meaning.specs.Burst.{Host, Live, live, add_lines, served, serve, advanced, advance, Burst, rests, steps}
-use Rattle.flow_meaning.specs.Turns.{Starts, more, more_live, later, IsOut, Thrifty}
-use Rattle.flow_meaning.proofs.More.{starts_same, starts_on, Ahead, Fair, Even, fair, still, after_turn, then_fair, then_even, own_fair, own_even, same_even, halt_even, writes_even, pushed_even, dropping_even, leave_for_even, take_branch_fair, drop_fair, fire_fair, close_fair}
+use Rattle.flow_meaning.specs.Turns.{Starts, more, more_live, later, Asks, IsOut, Thrifty}
+use Rattle.flow_meaning.proofs.More.{starts_same, starts_on, IsHalted, Ahead, Fair, Even, fair, still, after_turn, then_fair, then_even, own_fair, own_even, same_even, halt_even, writes_even, pushed_even, dropping_even, leave_for_even, take_branch_fair, drop_fair, fire_fair, close_fair}
 use Rattle.flow_meaning.proofs.MoreReact.{more_asked, AheadAsked, FairAsk, push_result_even, react_fair}
 use Rattle.flow_meaning.proofs.Once.{burst_once}
 
@@ -50,7 +50,7 @@ module _ {A : Type 0} where
   more_step k r = (proc (more k r.0.core) r.0.actors, r.1)
 
   abbrev AheadStep : ℕ → Stepped A → Stepped A → Type 0
-  AheadStep k r s = (s ≡ more_step k r) ⊎ ((r.0.core.halted ≡ Some Spent) × (r.1 ≡ None) × Starts r.0.core.lines s.0.core.lines)
+  AheadStep k r s = (s ≡ more_step k r) ⊎ (IsHalted r.0.core × (r.1 ≡ None) × Starts r.0.core.lines s.0.core.lines)
 
   -- a step of a process that has these actors
   record FairStep (f : Core → Stepped A) : Type 0 where
@@ -130,11 +130,19 @@ module _ {A : Type 0} where
   next_alike e s i ts k (None, a) c xs = inl refl
   next_alike e s i ts k (Some q, a) c xs = (answer_step e s i q.act (put xs i a)).alike k (record c { tasks = ts; left = q.left })
 
+  asks_ahead : (e : Engine A) (s : Supply) (i : ℕ) (ts : List Task) (k : ℕ) (act : Act) (r q : Option Ask × A) (c : Core) (xs : Numbered A) → Asks act r
+      → ((left : ℕ) (a : A) → IsHalted (answer e s i act (proc (record c { tasks = ts; left = left }) (put xs i a))).0.core × ((answer e s i act (proc (record c { tasks = ts; left = left }) (put xs i a))).1 ≡ None)
+          × ((answer e s i act (proc (record c { tasks = ts; left = left }) (put xs i a))).0.core.lines ≡ c.lines))
+      → AheadStep k (run_next e s i ts r (proc c xs)) (run_next e s i ts q (proc (more k c) xs))
+  asks_ahead e s i ts k act r q c xs h halts =
+      let f = halts h.0 h.1 in
+      subst (λ x. AheadStep k (run_next e s i ts x (proc c xs)) (run_next e s i ts q (proc (more k c) xs))) (sym h.2)
+      (inr (f.0, f.1, subst (λ ls. Starts ls (run_next e s i ts q (proc (more k c) xs)).0.core.lines) (sym f.2) (next_grows e s i ts q (more k c) xs)))
+
   out_ahead : (e : Engine A) (s : Supply) (i : ℕ) (ts : List Task) (k : ℕ) (r q : Option Ask × A) (c : Core) (xs : Numbered A)
       → IsOut r → AheadStep k (run_next e s i ts r (proc c xs)) (run_next e s i ts q (proc (more k c) xs))
-  out_ahead e s i ts k r q c xs h =
-      subst (λ x. AheadStep k (run_next e s i ts x (proc c xs)) (run_next e s i ts q (proc (more k c) xs))) (sym h.2)
-      (inr (refl, refl, next_grows e s i ts q (more k c) xs))
+  out_ahead e s i ts k r q c xs (inl h) = asks_ahead e s i ts k RunsOut r q c xs h (λ left a. ((Spent, refl), refl, refl))
+  out_ahead e s i ts k r q c xs (inr h) = asks_ahead e s i ts k Stuck r q c xs h (λ left a. ((NoMeaning, refl), refl, refl))
 
   turned : (e : Engine A) (s : Supply) (i : ℕ) (ts : List Task) (k : ℕ) (r q : Option Ask × A) (c : Core) (xs : Numbered A)
       → (q ≡ later k r) ⊎ IsOut r → AheadStep k (run_next e s i ts r (proc c xs)) (run_next e s i ts q (proc (more k c) xs))
@@ -144,7 +152,7 @@ module _ {A : Type 0} where
   run_step : (e : Engine A) → Thrifty e → (s : Supply) (i : ℕ) (ts : List Task) (o : Option A) (xs : Numbered A) → FairStep (λ c. run e s i ts o (proc c xs))
   run_step e t s i ts None xs = astray_step xs
   run_step e t s i ts (Some a) xs = record {
-    alike = λ k c. turned e s i ts k (e.next (view s c) a) (e.next (view s (more k c)) a) c xs (t.same k (view s c) a);
+    alike = λ k c. turned e s i ts k (e.next (view s c) a) (e.next (view s (more k c)) a) c xs (t.same k (c.left + k) (view s c) a refl);
     grows = λ c. next_grows e s i ts (e.next (view s c) a) c xs;
   }
 
@@ -253,7 +261,7 @@ module _ {A : Type 0} where
 -- the same in the world
 module _ {W A : Type 0} (e : Engine A) (h : Host W) where
   abbrev Ahead_live : ℕ → Live W A → Live W A → Type 0
-  Ahead_live k r s = (s ≡ more_live k r) ⊎ ((r.proc.core.halted ≡ Some Spent) × Starts r.proc.core.lines s.proc.core.lines)
+  Ahead_live k r s = (s ≡ more_live k r) ⊎ (IsHalted r.proc.core × Starts r.proc.core.lines s.proc.core.lines)
 
   abbrev Maybe_live : ℕ → Option (Live W A) → Option (Live W A) → Type 0
   Maybe_live k None None = Unit {0}
@@ -308,12 +316,12 @@ module _ {W A : Type 0} (e : Engine A) (h : Host W) where
   abbrev Prefix : Live W A → Live W A → Type 0
   Prefix t u = Starts t.proc.core.lines u.proc.core.lines
 
-  after_step : (k : ℕ) (r t u : Live W A) (o : Option (Live W A)) → Maybe_live k (Some r) o → t.proc.core.halted ≡ Some Spent → Burst e h r t → ((q : Live W A) → o ≡ Some q → Burst e h q u)
+  after_step : (k : ℕ) (r t u : Live W A) (o : Option (Live W A)) → Maybe_live k (Some r) o → IsHalted t.proc.core → Burst e h r t → ((q : Live W A) → o ≡ Some q → Burst e h q u)
       → (Burst e h (more_live k r) u → Prefix t u) → Prefix t u
   after_step k r t u None x g b c rec = absurd x
   after_step k r t u (Some q) (inl x) g b c rec = rec (subst (λ y. Burst e h y u) x (c q refl))
   after_step k r t u (Some q) (inr x) g b c rec =
-      let at : t ≡ r = burst_once e h b (rests_at r Spent x.0) in
+      let at : t ≡ r = burst_once e h b (rests_at r x.0.0 x.0.1) in
       subst (λ y. Prefix y u) (sym at) (starts_on r.proc.core.lines x.1 (burst_grows (c q refl)))
 
   rest_of_burst : {s u : Live W A} → Burst e h s u → (q : Live W A) → advance e h s ≡ Some q → Burst e h q u
@@ -326,10 +334,10 @@ module _ {W A : Type 0} (e : Engine A) (h : Host W) where
       same_step : {r q : Live W A} → Some r ≡ Some q → r ≡ q
       same_step h = cc
 
-  pub spent_prefix : Thrifty e → (k : ℕ) {s t u : Live W A} → Burst e h s t → t.proc.core.halted ≡ Some Spent → Burst e h (more_live k s) u → Starts t.proc.core.lines u.proc.core.lines
-  spent_prefix t k {s = s} (rests a) g b =
-      let at = burst_once e h b (rests_at (more_live k s) Spent g) in
+  pub stopped_prefix : Thrifty e → (k : ℕ) {s t u : Live W A} → Burst e h s t → IsHalted t.proc.core → Burst e h (more_live k s) u → Starts t.proc.core.lines u.proc.core.lines
+  stopped_prefix t k {s = s} (rests a) g b =
+      let at = burst_once e h b (rests_at (more_live k s) g.0 g.1) in
       subst (λ y. Prefix s y) (sym at) (starts_same s.proc.core.lines)
-  spent_prefix t k {s = s} {t = end} {u = u} (steps r a b) g c =
+  stopped_prefix t k {s = s} {t = end} {u = u} (steps r a b) g c =
       after_step k r end u (advance e h (more_live k s)) (subst (λ o. Maybe_live k o (advance e h (more_live k s))) a (advance_alike t k s)) g b (rest_of_burst c)
-      (spent_prefix t k b g)
+      (stopped_prefix t k b g)

@@ -3,7 +3,7 @@ use Rattle.std.specs.Prelude.{◌≡◌, ℕ, ◌+◌, ◌⊎◌, List, ◌++◌
 use Rattle.std.specs.declared.option.Option.{Option}
 use Rattle.std.specs.declared.option.Option.TheVariants.{None, Some}
 use Rattle.flow_trace.specs.declared.line.Line.{Line}
-use Rattle.flow_meaning.specs.Asks.{Ask, RunsOut}
+use Rattle.flow_meaning.specs.Asks.{Act, RunsOut, Stuck, Ask}
 use Rattle.flow_meaning.specs.Process.{Core, Proc, View, Engine}
 use Rattle.flow_meaning.specs.Step.{proc}
 use Rattle.flow_meaning.specs.Burst.{Live, live}
@@ -24,10 +24,14 @@ abbrev pub later : {A : Type 0} → ℕ → Option Ask × A → Option Ask × A
 later k (None, a) = (None, a)
 later k (Some q, a) = (Some (record q { left = q.left + k }), a)
 
--- an actor ran out of turns
+-- an actor asks for an act, and goes on as this one
+abbrev pub Asks : {A : Type 0} → Act → Option Ask × A → Type 0
+Asks {A = A} act r = (left : ℕ) × (a : A) × (r ≡ (Some (record { left = left; act = act }), a))
+
+-- an actor has run out of turns, or has no meaning: either stops the event
 abbrev pub IsOut : {A : Type 0} → Option Ask × A → Type 0
-IsOut {A = A} r = (left : ℕ) × (a : A) × (r ≡ (Some (record { left = left; act = RunsOut }), a))
+IsOut r = Asks RunsOut r ⊎ Asks Stuck r
 
 -- Actors that see of their turns only whether there are enough: with more turns they ask the same, or they ran out.
 pub record Thrifty {A : Type 0} (e : Engine A) : Type 0 where
-  pub same : (k : ℕ) (v : View) (a : A) → (e.next (record v { left = v.left + k }) a ≡ later k (e.next v a)) ⊎ IsOut (e.next v a)
+  pub same : (k sum : ℕ) (v : View) (a : A) → sum ≡ v.left + k → (e.next (record v { left = sum }) a ≡ later k (e.next v a)) ⊎ IsOut (e.next v a)
