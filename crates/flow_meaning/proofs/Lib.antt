@@ -3,6 +3,7 @@ pub mod Once
 pub mod More
 pub mod MoreReact
 pub mod MoreStep
+pub mod MoreEval
 pub mod RowTerms
 pub mod RowsPlain
 pub mod RowsWaits
