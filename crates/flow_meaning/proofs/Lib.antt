@@ -4,6 +4,7 @@ pub mod More
 pub mod MoreReact
 pub mod MoreStep
 pub mod MoreEval
+pub mod MoreActors
 pub mod RowTerms
 pub mod RowsPlain
 pub mod RowsWaits
