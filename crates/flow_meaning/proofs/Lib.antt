@@ -11,3 +11,6 @@ pub mod RowsWaits
 pub mod RowsCancel
 pub mod RowsStreams
 pub mod RowsWorld
+pub mod Alike
+pub mod Lift
+pub mod BurstOnce

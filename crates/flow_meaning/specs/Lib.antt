@@ -24,3 +24,8 @@ pub mod Disk
 pub mod Outside
 pub mod World
 pub mod Runs
+pub mod Law
+pub mod Views
+pub mod Shape
+pub mod Carry
+pub mod Carries

@@ -1,0 +1,43 @@
+// Laws of runs.
+
+ghost use Rattle.flow_meaning.specs.Law.{Simulates, BurstsFollow, BurstsReturn, BurstsOnce};
+
+/// Two kinds of actors, the world around a process of either, and a relation between actors of the two.
+pub trait TwoKinds {
+    ghost use Rattle.flow_meaning.specs.Process.{Engine};
+    ghost use Rattle.flow_meaning.specs.Burst.{Host};
+
+    /// The actors of the first kind.
+    ghost First: { Type 0 };
+
+    /// The actors of the second kind.
+    ghost Second: { Type 0 };
+
+    /// What can change in the world.
+    ghost World: { Type 0 };
+
+    /// How actors of the first kind run.
+    ghost first: { Engine First };
+
+    /// How actors of the second kind run.
+    ghost second: { Engine Second };
+
+    /// The world around a process.
+    ghost host: { Host World };
+
+    /// Which actors are related.
+    ghost related: { First → Second → Type 0 };
+}
+
+/// Where the second kind asks for what the first asks, between related actors, each burst of the first
+/// has a burst of the second with equal lines, cells, tasks and requests, and each burst of the second
+/// one of the first.
+pub fn bursts_alike<K: TwoKinds>()
+    ensures follow { Simulates K.first K.second K.related → BurstsFollow K.first K.second K.host K.related }
+    ensures back { Simulates K.first K.second K.related → BurstsReturn K.first K.second K.host K.related }
+{}
+
+/// A burst comes to one end.
+pub fn burst_once<K: TwoKinds>()
+    ensures { BurstsOnce K.first K.host }
+{}
