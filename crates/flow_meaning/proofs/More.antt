@@ -16,17 +16,13 @@ use Rattle.flow_meaning.specs.Occ.{refs_in, value_in, Scan, Occ}
 use Rattle.flow_meaning.specs.Work.{halt, turn, turn_of, writes, pushed, dropping, dropping_values, fill, fill_cell, free, free_cell, leave_for, give, take_from, take_branch, cancel, cancel_by, cancel_owner, marked}
 use Rattle.flow_meaning.specs.Dropping.{Loss, Kept, Freed, Broken, Orphan, Unheard, loss, port_of, break_cell, suffer, lose_cell, lose_ref, drop, fire_to, fire_at, fire_cell, fire, set_result, give_result, close}
 use Rattle.flow_meaning.specs.Work.{owner}
-use Rattle.flow_meaning.specs.Turns.{Starts, more}
+use Rattle.flow_meaning.specs.Turns.{Starts, more, IsHalted}
 
 pub starts_same : (ls : List Line) → Starts ls ls
 starts_same ls = ([], sym (append-nil ls))
 
 pub starts_on : (ls : List Line) {ks ms : List Line} → Starts ls ks → Starts ks ms → Starts ls ms
 starts_on ls a b = (a.0 ++ b.0, b.1 ∙ ap (λ x. x ++ b.0) a.1 ∙ append_assoc ls a.0 b.0)
-
--- the event was stopped
-abbrev pub IsHalted : Core → Type 0
-IsHalted c = (h : Halt) × (c.halted ≡ Some h)
 
 -- the second is the first with so many turns more, or the first was stopped and has written no more than the second
 abbrev pub Ahead : ℕ → Core → Core → Type 0

@@ -18,8 +18,8 @@ use Rattle.flow_meaning.specs.Occ.{refs_in}
 use Rattle.flow_meaning.specs.Work.{halt, turn, writes, pushed, dropping, dropping_values, new_cell, fill, leave_for, take_branch, first_ready, register, owner, cancel_owner}
 use Rattle.flow_meaning.specs.Effects.{Reaction, quiet, throws, result_task, push_result, gives, gives_new, gives_open, empty_cell, between, draw, delay, is_port, open_port, listen, judged, ask_disk, effect, send_to}
 use Rattle.flow_meaning.specs.React.{send_by, send_in, print, at_spot, suspend, wait_by, wait, react}
-use Rattle.flow_meaning.specs.Turns.{Starts, more}
-use Rattle.flow_meaning.proofs.More.{starts_same, IsHalted, Ahead, Fair, Even, fair, still, after_turn, then_fair, then_even, own_fair, own_even, same_even, halt_even, writes_even, pushed_even, dropping_even, fill_even, leave_for_even, take_branch_fair, cancel_owner_even}
+use Rattle.flow_meaning.specs.Turns.{Starts, more, IsHalted}
+use Rattle.flow_meaning.proofs.More.{starts_same, Ahead, Fair, Even, fair, still, after_turn, then_fair, then_even, own_fair, own_even, same_even, halt_even, writes_even, pushed_even, dropping_even, fill_even, leave_for_even, take_branch_fair, cancel_owner_even}
 
 -- the same of what also asks something of the world
 abbrev pub more_asked : ℕ → Reaction → Reaction

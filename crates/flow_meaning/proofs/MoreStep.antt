@@ -19,10 +19,10 @@ use Rattle.flow_meaning.specs.Effects.{Reaction, result_task, push_result}
 use Rattle.flow_meaning.specs.React.{react}
 use Rattle.flow_meaning.specs.Step.{proc, Stepped, silent, astray, view, enrol, start_core, start, reacted, answer_effect, answer, run_next, run, replaced, give, store, fate, throw_core, throw_with, throw, Verdict, GoesOn, Cancelled, Ready, verdict, with_operand, below, leave_kept, lost, keep_by, keep, handle, close_actor, scanned, on_core, popped, do_task, step_tasks, step_if, step}
 use Rattle.flow_meaning.specs.Burst.{Host, Live, live, add_lines, served, serve, advanced, advance, Burst, rests, steps}
-use Rattle.flow_meaning.specs.Turns.{Starts, more, more_live, later, Asks, IsOut, Thrifty}
-use Rattle.flow_meaning.proofs.More.{starts_same, starts_on, IsHalted, Ahead, Fair, Even, fair, still, after_turn, then_fair, then_even, own_fair, own_even, same_even, halt_even, writes_even, pushed_even, dropping_even, leave_for_even, take_branch_fair, drop_fair, fire_fair, close_fair}
+use Rattle.flow_meaning.specs.Turns.{Starts, more, more_live, later, Asks, IsOut, Thrifty, IsHalted, WritesFirst}
+use Rattle.flow_meaning.proofs.More.{starts_same, starts_on, Ahead, Fair, Even, fair, still, after_turn, then_fair, then_even, own_fair, own_even, same_even, halt_even, writes_even, pushed_even, dropping_even, leave_for_even, take_branch_fair, drop_fair, fire_fair, close_fair}
 use Rattle.flow_meaning.proofs.MoreReact.{more_asked, AheadAsked, FairAsk, push_result_even, react_fair}
-use Rattle.flow_meaning.proofs.Once.{burst_once}
+use Rattle.flow_meaning.proofs.BurstOnce.{burst_once}
 
 enrol_even : (class : ℕ) (name : List ℕ) → Even (enrol class name)
 enrol_even class name = record { even = λ k c. refl; adds = λ c. (start_line (suc c.started) name ∷ [], refl) }
@@ -321,7 +321,7 @@ module _ {W A : Type 0} (e : Engine A) (h : Host W) where
   after_step k r t u None x g b c rec = absurd x
   after_step k r t u (Some q) (inl x) g b c rec = rec (subst (λ y. Burst e h y u) x (c q refl))
   after_step k r t u (Some q) (inr x) g b c rec =
-      let at : t ≡ r = burst_once e h b (rests_at r x.0.0 x.0.1) in
+      let at : t ≡ r = burst_once e h r t r b (rests_at r x.0.0 x.0.1) in
       subst (λ y. Prefix y u) (sym at) (starts_on r.proc.core.lines x.1 (burst_grows (c q refl)))
 
   rest_of_burst : {s u : Live W A} → Burst e h s u → (q : Live W A) → advance e h s ≡ Some q → Burst e h q u
@@ -334,10 +334,10 @@ module _ {W A : Type 0} (e : Engine A) (h : Host W) where
       same_step : {r q : Live W A} → Some r ≡ Some q → r ≡ q
       same_step h = cc
 
-  pub stopped_prefix : Thrifty e → (k : ℕ) {s t u : Live W A} → Burst e h s t → IsHalted t.proc.core → Burst e h (more_live k s) u → Starts t.proc.core.lines u.proc.core.lines
-  stopped_prefix t k {s = s} (rests a) g b =
-      let at = burst_once e h b (rests_at (more_live k s) g.0 g.1) in
+  pub stopped_first : Thrifty e → WritesFirst e h
+  stopped_first t k s end u (rests a) g b =
+      let at = burst_once e h (more_live k s) u (more_live k s) b (rests_at (more_live k s) g.0 g.1) in
       subst (λ y. Prefix s y) (sym at) (starts_same s.proc.core.lines)
-  stopped_prefix t k {s = s} {t = end} {u = u} (steps r a b) g c =
+  stopped_first t k s end u (steps r a b) g c =
       after_step k r end u (advance e h (more_live k s)) (subst (λ o. Maybe_live k o (advance e h (more_live k s))) a (advance_alike t k s)) g b (rest_of_burst c)
-      (stopped_prefix t k b g)
+      (stopped_first t k r end u b g)

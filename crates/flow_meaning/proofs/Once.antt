@@ -1,37 +1,20 @@
--- A burst comes to one end, and a run has one trace.
+-- A run has one trace, since a step is a function and a burst comes to one end.
 use Rattle.std.proofs.Common.{◌≡◌, ℕ, List, [], ◌∷◌, ◌++◌, refl, sym, ap, ◌∙◌, subst}
 use Rattle.std.specs.declared.option.Option.{Option}
 use Rattle.std.specs.declared.option.Option.TheVariants.{None, Some}
 use Rattle.flow_trace.specs.declared.line.Line.{Line}
 use Rattle.flow_trace.specs.declared.line.Line.TheVariants as line
 use Rattle.flow_meaning.specs.Process.{Engine, Halt, Spent}
-use Rattle.flow_meaning.specs.Burst.{Host, Live, Burst, advance, rests, steps}
+use Rattle.flow_meaning.specs.Burst.{Live, Burst}
 use Rattle.flow_meaning.specs.Outside.{Outside, host}
 use Rattle.flow_meaning.specs.World.{World, Begun, next_of, begun_by, ending}
-use Rattle.flow_meaning.specs.Runs.{Runs, ends, spent, event, before, after, lines_of}
-
-two : {X Y : Type 0} {o : Option X} {x : X} → o ≡ None → o ≡ Some x → Y
-two h k = absurd (no_thing (sym h ∙ k))
-  where
-    no_thing : {X : Type 0} {x : X} → None ≡ Some x → ⊥
-    no_thing h = cc
-
-same : {X : Type 0} {o : Option X} {x y : X} → o ≡ Some x → o ≡ Some y → x ≡ y
-same h k = of (sym h ∙ k)
-  where
-    of : {X : Type 0} {x y : X} → Some x ≡ Some y → x ≡ y
-    of h = cc
-
-pub burst_once : {W A : Type 0} (e : Engine A) (h : Host W) {s t u : Live W A} → Burst e h s t → Burst e h s u → t ≡ u
-burst_once e h (rests a) (rests b) = refl
-burst_once e h (rests a) (steps r b c) = two a b
-burst_once e h (steps r a b) (rests c) = two c a
-burst_once e h {u = u} (steps r a b) (steps q c d) = burst_once e h b (subst (λ x. Burst e h x u) (same c a) d)
+use Rattle.flow_meaning.specs.Runs.{Runs, ends, spent, event, before, after, lines_of, RunsOnce}
+use Rattle.flow_meaning.proofs.BurstOnce.{two, same, burst_once}
 
 module _ {A : Type 0} (e : Engine A) where
   -- the burst of a world's next event
   same_burst : {b c : Begun A} {l m : Live Outside A} → b ≡ c → Burst e host (before b) l → Burst e host (before c) m → l ≡ m
-  same_burst {l = l} {m = m} bc k n = burst_once e host k (subst (λ x. Burst e host (before x) m) (sym bc) n)
+  same_burst {b = b} {l = l} {m = m} bc k n = burst_once e host (before b) l m k (subst (λ x. Burst e host (before x) m) (sym bc) n)
 
   halted_twice : {l m : Live Outside A} {Y : Type 0} → l ≡ m → l.proc.core.halted ≡ None → m.proc.core.halted ≡ Some Spent → Y
   halted_twice h a b = two (sym (ap (λ x. x.proc.core.halted) h) ∙ a) b
@@ -52,16 +35,16 @@ module _ {A : Type 0} (e : Engine A) where
   rest_of : (w : World A) {b c : Begun A} {l m : Live Outside A} {ts : List (World A)} {ks : List Line} → b ≡ c → l ≡ m → Runs e (after w c m) ts ks → Runs e (after w b l) ts ks
   rest_of w {b = b} {m = m} {ts = ts} {ks = ks} h k r = subst (λ x. Runs e (after w b x) ts ks) (sym k) (subst (λ x. Runs e (after w x m) ts ks) (sym h) r)
 
-  pub run_once : {w : World A} {ss ts : List (World A)} {ls ks : List Line} → Runs e w ss ls → Runs e w ts ks → (ss ≡ ts) × (ls ≡ ks)
-  run_once (ends a b) (ends c d) = (refl, same_end (same b d))
-  run_once (ends a b) (spent c m g k n h) = two g b
-  run_once (ends a b) (event c m g k n h r) = two g b
-  run_once (spent b l g k n h) (ends c d) = two g d
-  run_once (spent b l g k n h) (spent c m i j o q) = let bc = same k j in (refl, same_spent bc (same_burst bc n o))
-  run_once (spent b l g k n h) (event c m i j o q r) = let bc = same j k in halted_twice (same_burst bc o n) q h
-  run_once (event b l g k n h r) (ends c d) = two g d
-  run_once (event b l g k n h r) (spent c m i j o q) = let bc = same k j in halted_twice (same_burst bc n o) h q
-  run_once {w = w} (event b l g k n h r) (event c m i j o q t) =
+  pub run_once : RunsOnce e
+  run_once w ss ts ls ks (ends a b) (ends c d) = (refl, same_end (same b d))
+  run_once w ss ts ls ks (ends a b) (spent c m g k n h) = two g b
+  run_once w ss ts ls ks (ends a b) (event c m g k n h r) = two g b
+  run_once w ss ts ls ks (spent b l g k n h) (ends c d) = two g d
+  run_once w ss ts ls ks (spent b l g k n h) (spent c m i j o q) = let bc = same k j in (refl, same_spent bc (same_burst bc n o))
+  run_once w ss ts ls ks (spent b l g k n h) (event c m i j o q r) = let bc = same j k in halted_twice (same_burst bc o n) q h
+  run_once w ss ts ls ks (event b l g k n h r) (ends c d) = two g d
+  run_once w ss ts ls ks (event b l g k n h r) (spent c m i j o q) = let bc = same k j in halted_twice (same_burst bc n o) h q
+  run_once w ss ts ls ks (event b l g k n h r) (event c m i j o q t) =
       let bc = same k j in
       let lm = same_burst bc n o in
-      same_event w bc lm (run_once r (rest_of w bc lm t))
+      same_event w bc lm (run_once (after w b l) _ _ _ _ r (rest_of w bc lm t))
