@@ -6,13 +6,13 @@ use Rattle.flow_meaning.specs.Process.{Engine}
 use Rattle.flow_meaning.specs.Burst.{Host, Live, Burst, rests, steps}
 use Rattle.flow_meaning.specs.Law.{BurstsOnce}
 
-two : {X Y : Type 0} {o : Option X} {x : X} → o ≡ None → o ≡ Some x → Y
+pub two : {X Y : Type 0} {o : Option X} {x : X} → o ≡ None → o ≡ Some x → Y
 two h k = absurd (no_thing (sym h ∙ k))
   where
     no_thing : {X : Type 0} {x : X} → None ≡ Some x → ⊥
     no_thing h = cc
 
-same : {X : Type 0} {o : Option X} {x y : X} → o ≡ Some x → o ≡ Some y → x ≡ y
+pub same : {X : Type 0} {o : Option X} {x y : X} → o ≡ Some x → o ≡ Some y → x ≡ y
 same h k = of (sym h ∙ k)
   where
     of : {X : Type 0} {x y : X} → Some x ≡ Some y → x ≡ y

@@ -1,10 +1,10 @@
--- Short names for the terms of programs and lines that are written out.
+-- Short names for the terms of worked runs.
 use Rattle.std.specs.Prelude.{ℕ, List}
 use Rattle.flow_base.specs.declared.place.Place.{Place}
+use Rattle.flow_base.specs.declared.ids.ProcId.{ProcId}
 use Rattle.flow_base.specs.declared.ids.ActorId.{ActorId}
 use Rattle.flow_base.specs.declared.ids.CellId.{CellId}
 use Rattle.flow_base.specs.declared.ids.ErrorCode.{ErrorCode}
-use Rattle.flow_base.specs.declared.ids.ProcId.{ProcId}
 use Rattle.flow_ast.specs.declared.ty.Ident.{Ident}
 
 abbrev pub nowhere : Place

@@ -11,6 +11,7 @@ pub mod React
 pub mod Step
 pub mod Burst
 pub mod Deliver
+pub mod Turns
 pub mod Evaluating
 pub mod Variables
 pub mod Text
@@ -19,8 +20,13 @@ pub mod SourceStep
 pub mod Source
 pub mod Frame
 pub mod Class
+pub mod Disk
+pub mod Outside
+pub mod World
+pub mod Runs
 pub mod Law
 pub mod Views
+pub mod Boundaries
 pub mod Shape
 pub mod Carry
 pub mod Carries

@@ -1,6 +1,12 @@
 // Laws of runs.
 
+ghost use Rattle.flow_ast.specs.Decls.{ProgramTree};
+ghost use Rattle.flow_class.specs.Classes.{RawTree};
 ghost use Rattle.flow_meaning.specs.Law.{Simulates, BurstsFollow, BurstsReturn, BurstsOnce};
+ghost use Rattle.flow_meaning.specs.Turns.{Thrifty, WritesFirst};
+ghost use Rattle.flow_meaning.specs.Runs.{RunsOnce};
+ghost use Rattle.flow_meaning.specs.Source.{source};
+ghost use Rattle.flow_meaning.specs.Class.{classes};
 
 /// Two kinds of actors, the world around a process of either, and a relation between actors of the two.
 pub trait TwoKinds {
@@ -40,4 +46,18 @@ pub fn bursts_alike<K: TwoKinds>()
 /// A burst comes to one end.
 pub fn burst_once<K: TwoKinds>()
     ensures { BurstsOnce K.first K.host }
+{}
+
+/// A run from a world has one list of states and one trace.
+pub fn run_once<K: TwoKinds>()
+    ensures { RunsOnce K.first }
+{}
+
+/// A burst that was stopped, for want of turns say, has written a first part of what the same burst
+/// writes with more turns: where actors see of their turns only whether there are enough, as those of
+/// every program and of all classes do.
+pub fn stopped_first<K: TwoKinds>()
+    ensures thrifty { Thrifty K.first → WritesFirst K.first K.host }
+    ensures source { (p : ProgramTree) → WritesFirst (source p) K.host }
+    ensures classes { (c : RawTree) → WritesFirst (classes c) K.host }
 {}
