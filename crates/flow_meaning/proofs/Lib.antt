@@ -15,5 +15,4 @@ pub mod RowsViews
 pub mod Alike
 pub mod Lift
 pub mod BurstOnce
-mod RowTerms
 mod CarriedExamples
