@@ -16,3 +16,4 @@ pub mod Alike
 pub mod Lift
 pub mod BurstOnce
 mod CarriedExamples
+pub mod LiftRuns

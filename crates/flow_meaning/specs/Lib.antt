@@ -30,3 +30,4 @@ pub mod Boundaries
 pub mod Shape
 pub mod Carry
 pub mod Carries
+pub mod RunLaw

@@ -1,0 +1,196 @@
+-- What holds of one step of an actor holds of whole runs of a world, in both directions.
+use Rattle.std.proofs.Common.{◌≡◌, ℕ, zero, suc, ◌+◌, Bool, true, false, List, [], ◌∷◌, ◌++◌, if◌then◌else◌, refl, sym, ap, ◌∙◌, subst}
+use Rattle.std.specs.Prelude.{pos, replicate, slice_index_or, slice_set}
+use Rattle.std.specs.declared.option.Option.{Option}
+use Rattle.std.specs.declared.option.Option.TheVariants.{None, Some}
+use Rattle.flow_trace.specs.declared.line.Line.{Line}
+use Rattle.flow_trace.specs.declared.line.Line.TheVariants as line
+use Rattle.flow_worldfile.specs.Worlds as file
+use Rattle.flow_worldfile.specs.declared.directive.Order.{Order}
+use Rattle.flow_worldfile.specs.declared.directive.Order.TheVariants.{Kill, Stop, Boot, Cut, Heal, DiskFail}
+use Rattle.flow_value.specs.Values.{ValueTree, IntValue}
+use Rattle.flow_meaning.specs.Numbered.{Numbered, thing}
+use Rattle.flow_meaning.specs.Process.{Core, Proc, Engine, Halt, Spent}
+use Rattle.flow_meaning.specs.Step.{proc}
+use Rattle.flow_meaning.specs.Deliver.{begin, boot_core, boot_with, boot, idle}
+use Rattle.flow_meaning.specs.Burst.{Live, live, Burst}
+use Rattle.flow_meaning.specs.Law.{BothOrNone, Simulates, AllRelated, Same}
+use Rattle.flow_meaning.specs.Outside.{What, Boots, Rings, Arrives, Answers, Pending, Outside, host}
+use Rattle.flow_meaning.specs.World.{Place, World, Begun, Next, Nothing, Script, Event, next_of, booted, ordered, arrived, listener, happened, process_of, process_in, ready, counted, with_core, begun_by, ending, at_start}
+use Rattle.flow_meaning.specs.Runs.{before, after, lines_of, Runs, ends, spent, event, IsRun}
+use Rattle.flow_meaning.specs.RunLaw.{SamePlace, SamePlaces, SameWorld, SameStates, RunsFollow, RunsReturn, TracesFollow, TracesReturn}
+use Rattle.flow_meaning.proofs.Alike.{related_added}
+use Rattle.flow_meaning.proofs.Lift.{bursts_follow, bursts_return}
+
+abbrev place : {A : Type 0} → Bool → Core → Numbered A → Place A
+place up c xs = record { up = up; proc = proc c xs }
+
+module _ {A B : Type 0} (e : Engine A) (d : Engine B) (R : A → B → Type 0) (sim : Simulates e d R) where
+  -- both begin an event with the same lines, in the same world outside, with the same process
+  abbrev SameBegun : Begun A → Begun B → Type 0
+  SameBegun b k = (b.head ≡ k.head) × (b.out ≡ k.out) × SamePlace R b.place k.place
+
+  abbrev BegunBoth : Option (Begun A) → Option (Begun B) → Type 0
+  BegunBoth None None = Unit {0}
+  BegunBoth None (Some k) = ⊥
+  BegunBoth (Some b) None = ⊥
+  BegunBoth (Some b) (Some k) = SameBegun b k
+
+  place_at : (ps : List (Place A)) (qs : List (Place B)) (k : ℕ) (a : Place A) (b : Place B) → SamePlaces R ps qs → SamePlace R a b → SamePlace R (slice_index_or ps k a) (slice_index_or qs k b)
+  place_at [] [] k a b h s = s
+  place_at [] (q ∷ qs) k a b h s = absurd h
+  place_at (p ∷ ps) [] k a b h s = absurd h
+  place_at (p ∷ ps) (q ∷ qs) zero a b h s = h.0
+  place_at (p ∷ ps) (q ∷ qs) (suc k) a b h s = place_at ps qs k a b h.1 s
+
+  place_set : (ps : List (Place A)) (qs : List (Place B)) (k : ℕ) (a : Place A) (b : Place B) → SamePlaces R ps qs → SamePlace R a b → SamePlaces R (slice_set ps k a) (slice_set qs k b)
+  place_set [] [] k a b h s = tt
+  place_set [] (q ∷ qs) k a b h s = absurd h
+  place_set (p ∷ ps) [] k a b h s = absurd h
+  place_set (p ∷ ps) (q ∷ qs) zero a b h s = (s, h.1)
+  place_set (p ∷ ps) (q ∷ qs) (suc k) a b h s = (h.0, place_set ps qs k a b h.1 s)
+
+  ready_same : (w : World A) (v : World B) (k : ℕ) → SameWorld R w v → SamePlace R (ready w k) (ready v k)
+  ready_same w v k h =
+      let a : Place A = record { up = false; proc = idle } in
+      let b : Place B = record { up = false; proc = idle } in
+      let s = place_at w.places v.places k a b h.1 (refl, refl, tt) in
+      let c = (slice_index_or w.places k a).proc.core in
+      (s.0, ap (λ (o : Outside). begin o.file.turns c) h.0 ∙ ap (begin v.out.file.turns) s.1, s.2)
+
+  -- a boot
+  abbrev SameProc : Proc A → Proc B → Type 0
+  SameProc p q = (p.core ≡ q.core) × AllRelated R p.actors q.actors
+
+  boot_with_same : (x : Option A) (y : Option B) (c : Core) (xs : Numbered A) (ys : Numbered B) → AllRelated R xs ys → BothOrNone R x y → SameProc (boot_with e x (proc c xs)) (boot_with d y (proc c ys))
+  boot_with_same None None c xs ys rs h = (refl, rs)
+  boot_with_same None (Some y) c xs ys rs h = absurd h
+  boot_with_same (Some x) None c xs ys rs h = absurd h
+  boot_with_same (Some x) (Some y) c xs ys rs h =
+      (ap (λ n. boot_core e.main n c) (sim.label e.main) ∙ ap (λ k. boot_core k (d.label k) c) sim.main, related_added R xs ys (suc c.started) x y rs h)
+
+  boot_same : (p : ℕ) (c : Core) (xs : Numbered A) (ys : Numbered B) → AllRelated R xs ys → SameProc (boot e p (proc c xs)) (boot d p (proc c ys))
+  boot_same p c xs ys rs =
+      let vs = IntValue (pos p) ∷ [] in
+      boot_with_same (e.fresh e.main vs) (d.fresh d.main vs) c xs ys rs (subst (λ k. BothOrNone R (e.fresh e.main vs) (d.fresh k vs)) sim.main (sim.fresh e.main vs))
+
+  booted_same : (p : ℕ) (up : Bool) (c : Core) (xs : Numbered A) (ys : Numbered B) (o : Option ℕ) → AllRelated R xs ys → SamePlace R (booted e p (place up c xs) o) (booted d p (place up c ys) o)
+  booted_same p up c xs ys (Some held) rs = (refl, refl, rs)
+  booted_same p up c xs ys None rs = let b = boot_same p c xs ys rs in (refl, b.0, b.1)
+
+  -- each event
+  ordered_same : (o : Order) (up : Bool) (c : Core) (xs : Numbered A) (ys : Numbered B) (w : Outside) → AllRelated R xs ys → SameBegun (ordered e o (place up c xs) w) (ordered d o (place up c ys) w)
+  ordered_same (Boot p) up c xs ys w rs = (refl, refl, booted_same p up c xs ys c.main rs)
+  ordered_same (Stop p) up c xs ys w rs = (refl, refl, (refl, refl, rs))
+  ordered_same (Kill p) up c xs ys w rs = (refl, refl, (refl, refl, tt))
+  ordered_same (Cut p q) up c xs ys w rs = (refl, refl, (refl, refl, rs))
+  ordered_same (Heal p q) up c xs ys w rs = (refl, refl, (refl, refl, rs))
+  ordered_same (DiskFail p n) up c xs ys w rs = (refl, refl, (refl, refl, rs))
+
+  arrived_same : (m from port : ℕ) (text : List ℕ) (up : Bool) (c : Core) (xs : Numbered A) (ys : Numbered B) (w : Outside) (o : Option ℕ) → AllRelated R xs ys → SameBegun (arrived m from port text (place up c xs) w o) (arrived m from port text (place up c ys) w o)
+  arrived_same m from port text up c xs ys w None rs = (refl, refl, (refl, refl, rs))
+  arrived_same m from port text up c xs ys w (Some cell) rs = (refl, refl, (refl, refl, rs))
+
+  happened_same : (x : What) (up : Bool) (c : Core) (xs : Numbered A) (ys : Numbered B) (w : Outside) → AllRelated R xs ys → SameBegun (happened e x (place up c xs) w) (happened d x (place up c ys) w)
+  happened_same (Boots p) up c xs ys w rs = ordered_same (Boot p) up c xs ys w rs
+  happened_same (Rings p k) up c xs ys w rs = (refl, refl, (refl, refl, rs))
+  happened_same (Arrives m from to port text) up c xs ys w rs = arrived_same m from port text up c xs ys w (listener (place up c xs) port) rs
+  happened_same (Answers p k call) up c xs ys w rs = (refl, refl, (refl, refl, rs))
+
+  rebuilt_place : (up on : Bool) (c k : Core) (ys : Numbered B) → up ≡ on → c ≡ k → place up c ys ≡ place on k ys
+  rebuilt_place up on c k ys f g = ap (λ x. place x c ys) f ∙ ap (λ x. place on x ys) g
+
+  ordered_at : (o : Order) (a : Place A) (b : Place B) (w v : Outside) → SamePlace R a b → w ≡ v → SameBegun (ordered e o a w) (ordered d o b v)
+  ordered_at o a b w v s f =
+      subst (λ z. SameBegun (ordered e o a w) (ordered d o b z)) f
+      (subst (λ z. SameBegun (ordered e o a w) (ordered d o z w)) (rebuilt_place a.up b.up a.proc.core b.proc.core b.proc.actors s.0 s.1) (ordered_same o a.up a.proc.core a.proc.actors b.proc.actors w s.2))
+
+  happened_at : (x : What) (a : Place A) (b : Place B) (w v : Outside) → SamePlace R a b → w ≡ v → SameBegun (happened e x a w) (happened d x b v)
+  happened_at x a b w v s f =
+      subst (λ z. SameBegun (happened e x a w) (happened d x b z)) f
+      (subst (λ z. SameBegun (happened e x a w) (happened d x z w)) (rebuilt_place a.up b.up a.proc.core b.proc.core b.proc.actors s.0 s.1) (happened_same x a.up a.proc.core a.proc.actors b.proc.actors w s.2))
+
+  begun_at : (n : Next) (w : World A) (v : World B) → SameWorld R w v → BegunBoth (begun_by e w n) (begun_by d v n)
+  begun_at Nothing w v h = tt
+  begun_at (Script t o left) w v h =
+      ordered_at o (ready w (process_of o)) (ready v (process_of o)) _ _ (ready_same w v (process_of o) h) (ap (λ x. counted t (process_of o) (record x { script = left })) h.0)
+  begun_at (Event p left) w v h =
+      happened_at p.what (ready w (process_in p.what)) (ready v (process_in p.what)) _ _ (ready_same w v (process_in p.what) h) (ap (λ x. counted p.time (process_in p.what) (record x { pending = left })) h.0)
+
+  begun_same : (w : World A) (v : World B) → SameWorld R w v → BegunBoth (begun_by e w (next_of w.out)) (begun_by d v (next_of v.out))
+  begun_same w v h = subst (λ n. BegunBoth (begun_by e w (next_of w.out)) (begun_by d v n)) (ap next_of h.0) (begun_at (next_of w.out) w v h)
+
+  found : (b : Begun A) (o : Option (Begun B)) → BegunBoth (Some b) o → (k : Begun B) × (o ≡ Some k) × SameBegun b k
+  found b None h = absurd h
+  found b (Some k) h = (k, refl, h)
+
+  found_back : (o : Option (Begun A)) (k : Begun B) → BegunBoth o (Some k) → (b : Begun A) × (o ≡ Some b) × SameBegun b k
+  found_back None k h = absurd h
+  found_back (Some b) k h = (b, refl, h)
+
+  lines_same : (b : Begun A) (k : Begun B) (l : Live Outside A) (m : Live Outside B) → SameBegun b k → Same R l m → lines_of b l ≡ lines_of k m
+  lines_same b k l m s t = ap (λ x. x ++ l.proc.core.lines) s.0 ∙ ap (λ c. k.head ++ c.lines) t.0
+
+  after_same : (w : World A) (v : World B) (b : Begun A) (k : Begun B) (l : Live Outside A) (m : Live Outside B) → SameWorld R w v → SameBegun b k → Same R l m → SameWorld R (after w b l) (after v k m)
+  after_same w v b k l m h s t =
+      let x : Place A = record { up = b.place.up; proc = l.proc } in
+      let y : Place B = record { up = k.place.up; proc = m.proc } in
+      (t.1, subst (λ i. SamePlaces R (slice_set w.places l.out.active x) (slice_set v.places i y)) (ap (λ o. o.active) t.1)
+        (place_set w.places v.places l.out.active x y h.1 (s.2.0, t.0, t.2)))
+
+  ending_same : (w : World A) (v : World B) → SameWorld R w v → ending v.out (next_of v.out) ≡ ending w.out (next_of w.out)
+  ending_same w v h = ap (λ o. ending o (next_of o)) (sym h.0)
+
+  pub runs_follow : RunsFollow e d R
+  runs_follow w v states lines h (ends last g) = ([], ends last (ending_same w v h ∙ g), tt)
+  runs_follow w v states lines h (spent b l g k r x) =
+      let f = found b (begun_by d v (next_of v.out)) (subst (λ o. BegunBoth o (begun_by d v (next_of v.out))) k (begun_same w v h)) in
+      let m = bursts_follow e d host R sim (before b) l (before f.0) (f.2.2.1, f.2.1, f.2.2.2) r in
+      ([], subst (λ ls. Runs d v [] (ls ++ line.EndSpent ∷ [])) (sym (lines_same b f.0 l m.0 f.2 m.2))
+        (spent f.0 m.0 (ending_same w v h ∙ g) f.1 m.1 (sym (ap (λ c. c.halted) m.2.0) ∙ x)), tt)
+  runs_follow w v states lines h (event {states = states2} {lines = lines2} b l g k r x rest) =
+      let f = found b (begun_by d v (next_of v.out)) (subst (λ o. BegunBoth o (begun_by d v (next_of v.out))) k (begun_same w v h)) in
+      let m = bursts_follow e d host R sim (before b) l (before f.0) (f.2.2.1, f.2.1, f.2.2.2) r in
+      let s = after_same w v b f.0 l m.0 h f.2 m.2 in
+      let all = runs_follow (after w b l) (after v f.0 m.0) states2 lines2 s rest in
+      (after v f.0 m.0 ∷ all.0, subst (λ ls. Runs d v (after v f.0 m.0 ∷ all.0) (ls ++ lines2)) (sym (lines_same b f.0 l m.0 f.2 m.2))
+        (event f.0 m.0 (ending_same w v h ∙ g) f.1 m.1 (sym (ap (λ c. c.halted) m.2.0) ∙ x) all.1), (s, all.2))
+
+  pub runs_return : RunsReturn e d R
+  runs_return w v others lines h (ends last g) = ([], ends last (sym (ending_same w v h) ∙ g), tt)
+  runs_return w v others lines h (spent k m g j r x) =
+      let f = found_back (begun_by e w (next_of w.out)) k (subst (λ o. BegunBoth (begun_by e w (next_of w.out)) o) j (begun_same w v h)) in
+      let l = bursts_return e d host R sim (before f.0) (before k) m (f.2.2.1, f.2.1, f.2.2.2) r in
+      ([], subst (λ ls. Runs e w [] (ls ++ line.EndSpent ∷ [])) (lines_same f.0 k l.0 m f.2 l.2)
+        (spent f.0 l.0 (sym (ending_same w v h) ∙ g) f.1 l.1 (ap (λ c. c.halted) l.2.0 ∙ x)), tt)
+  runs_return w v others lines h (event {states = others2} {lines = lines2} k m g j r x rest) =
+      let f = found_back (begun_by e w (next_of w.out)) k (subst (λ o. BegunBoth (begun_by e w (next_of w.out)) o) j (begun_same w v h)) in
+      let l = bursts_return e d host R sim (before f.0) (before k) m (f.2.2.1, f.2.1, f.2.2.2) r in
+      let s = after_same w v f.0 k l.0 m h f.2 l.2 in
+      let all = runs_return (after w f.0 l.0) (after v k m) others2 lines2 s rest in
+      (after w f.0 l.0 ∷ all.0, subst (λ ls. Runs e w (after w f.0 l.0 ∷ all.0) (ls ++ lines2)) (lines_same f.0 k l.0 m f.2 l.2)
+        (event f.0 l.0 (sym (ending_same w v h) ∙ g) f.1 l.1 (ap (λ c. c.halted) l.2.0 ∙ x) all.1), (s, all.2))
+
+  -- whole traces begin in the same world
+  starts_same : (n : ℕ) → SamePlaces R (replicate n (record { up = false; proc = idle })) (replicate n (record { up = false; proc = idle }))
+  starts_same zero = tt
+  starts_same (suc n) = ((refl, refl, tt), starts_same n)
+
+  start_same : (w : file.World) → SameWorld R (at_start w) (at_start w)
+  start_same w = (refl, starts_same w.processes)
+
+  traced : (w : file.World) (states : List (World A)) (later : List (World A)) (others : List (World B)) → states ≡ at_start w ∷ later → SameStates R later others → SameStates R states (at_start w ∷ others)
+  traced w states later others h s = subst (λ x. SameStates R x (at_start w ∷ others)) (sym h) (start_same w, s)
+
+  traced_back : (w : file.World) (others : List (World B)) (later : List (World B)) (states : List (World A)) → others ≡ at_start w ∷ later → SameStates R states later → SameStates R (at_start w ∷ states) others
+  traced_back w others later states h s = subst (λ x. SameStates R (at_start w ∷ states) x) (sym h) (start_same w, s)
+
+  pub traces_follow : TracesFollow e d R
+  traces_follow w states lines r =
+      let all = runs_follow (at_start w) (at_start w) r.later r.rest (start_same w) r.runs in
+      (at_start w ∷ all.0, record { later = all.0; rest = r.rest; runs = all.1; from_start = refl; with_head = r.with_head }, traced w states r.later all.0 r.from_start all.2)
+
+  pub traces_return : TracesReturn e d R
+  traces_return w others lines r =
+      let all = runs_return (at_start w) (at_start w) r.later r.rest (start_same w) r.runs in
+      (at_start w ∷ all.0, record { later = all.0; rest = r.rest; runs = all.1; from_start = refl; with_head = r.with_head }, traced_back w others r.later all.0 r.from_start all.2)
