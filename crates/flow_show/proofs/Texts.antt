@@ -1,0 +1,112 @@
+-- Texts of lists, an element at a time.
+use Rattle.std.proofs.Common.{◌≡◌, ℕ, zero, suc, ◌+◌, ◌<◌, ◌≤◌, List, [], ◌∷◌, ◌++◌, map, length, take, drop, get_or, refl, sym, ap, ◌∙◌, subst, arith, append_assoc}
+use Rattle.std.proofs.lemmas.List.{append-nil, take_more, drop_more, drop_all}
+use Rattle.std.specs.Prelude.{codes}
+use Rattle.flow_ast.specs.declared.ty.Ident.{Ident}
+use Rattle.flow_ast.specs.declared.expr.Expr.{Expr}
+use Rattle.flow_ast.specs.declared.stmt.Stmt.{Stmt}
+use Rattle.flow_ast.specs.declared.stmt.When.{When}
+use Rattle.flow_ast.specs.declared.decl.Param.{Param}
+use Rattle.flow_ast.specs.View.{type_of, expr_of, exprs_of}
+use Rattle.flow_ast.specs.StmtView.{stmt_of, body_of, branch_of, branches_of}
+use Rattle.flow_ast.specs.DeclView.{params_of}
+use Rattle.flow_ast.specs.Canon.{quoted, indent, line, path_text, more_args_text, expr_text, named_text, fields_text, more_params_text, body_text, branches_text, byte_text, inside_text}
+use Rattle.flow_trace.specs.Quote.{spelled_text, quoted as quoted_line}
+use Rattle.flow_show.specs.Lines.{PutsBefore, PutsBranch, more_names_text}
+
+same_inside : (t : List ℕ) → spelled_text t ≡ inside_text t
+same_inside [] = refl
+same_inside (b ∷ bs) = ap (λ l. byte_text b ++ l) (same_inside bs)
+
+-- texts in quotes are spelled as in a trace
+pub same_quoted : (t : List ℕ) → quoted_line t ≡ quoted t
+same_quoted t = ap (λ l. 34 ∷ (l ++ 34 ∷ [])) (same_inside t)
+
+pub indent_more : (k : ℕ) → indent (k + 1) ≡ indent k ++ codes "    "
+indent_more k = let e : k + 1 ≡ suc k = omega arith in ap indent e
+
+-- an element at a time
+names_end : (xs : List Ident) (y : Ident) → more_names_text (xs ++ y ∷ []) ≡ more_names_text xs ++ (codes "." ++ y.name)
+names_end [] y = append-nil (codes "." ++ y.name)
+names_end (x ∷ xs) y = ap (λ l. codes "." ++ x.name ++ l) (names_end xs y) ∙ sym (append_assoc (codes "." ++ x.name) (more_names_text xs) (codes "." ++ y.name))
+
+pub names_more : (xs : List Ident) (i : ℕ) (y : Ident) → i < length xs → y ≡ get_or xs i y
+    → more_names_text (take (i + 1) xs) ≡ more_names_text (take i xs) ++ codes "." ++ y.name
+names_more xs i y lt e =
+    ap more_names_text (take_more xs i y lt) ∙ names_end (take i xs) (get_or xs i y)
+    ∙ ap (λ z. more_names_text (take i xs) ++ (codes "." ++ z.name)) (sym e) ∙ sym (append_assoc (more_names_text (take i xs)) (codes ".") y.name)
+
+pub path_is : (x : Ident) (xs : List Ident) → path_text (x ∷ xs) ≡ x.name ++ more_names_text xs
+path_is x [] = sym (append-nil x.name)
+path_is x (y ∷ xs) = ap (λ l. x.name ++ codes "." ++ l) (path_is y xs) ∙ append_assoc x.name (codes ".") (y.name ++ more_names_text xs)
+
+joined : (a b c d : List ℕ) → a ++ b ++ c ++ d ≡ a ++ (b ++ c ++ d)
+joined a b c d = ap (λ l. l ++ d) (append_assoc a b c) ∙ append_assoc a (b ++ c) d
+
+args_end : (es : List Expr) (x : Expr) → more_args_text (exprs_of (es ++ x ∷ [])) ≡ more_args_text (exprs_of es) ++ (codes ", " ++ expr_text (expr_of x))
+args_end [] x = append-nil (codes ", " ++ expr_text (expr_of x))
+args_end (e ∷ es) x = ap (λ l. codes ", " ++ expr_text (expr_of e) ++ l) (args_end es x) ∙ sym (append_assoc (codes ", " ++ expr_text (expr_of e)) (more_args_text (exprs_of es)) (codes ", " ++ expr_text (expr_of x)))
+
+args_more : (es : List Expr) (i : ℕ) (x : Expr) → i < length es → x ≡ get_or es i x
+    → more_args_text (exprs_of (take (i + 1) es)) ≡ more_args_text (exprs_of (take i es)) ++ codes ", " ++ expr_text (expr_of x)
+args_more es i x lt e =
+    ap (λ l. more_args_text (exprs_of l)) (take_more es i x lt) ∙ args_end (take i es) (get_or es i x)
+    ∙ ap (λ z. more_args_text (exprs_of (take i es)) ++ (codes ", " ++ expr_text (expr_of z))) (sym e) ∙ sym (append_assoc (more_args_text (exprs_of (take i es))) (codes ", ") (expr_text (expr_of x)))
+
+pub args_step : (es : List Expr) (i : ℕ) (x : Expr) (start old s1 s2 : List ℕ) → i < length es → x ≡ get_or es i x
+    → old ≡ start ++ more_args_text (exprs_of (take i es)) → s1 ≡ old ++ codes ", " → s2 ≡ s1 ++ expr_text (expr_of x) → s2 ≡ start ++ more_args_text (exprs_of (take (i + 1) es))
+args_step es i x start old s1 s2 lt e h e1 e2 =
+    e2 ∙ ap (λ l. l ++ expr_text (expr_of x)) (e1 ∙ ap (λ l. l ++ codes ", ") h)
+    ∙ joined start (more_args_text (exprs_of (take i es))) (codes ", ") (expr_text (expr_of x)) ∙ ap (λ l. start ++ l) (sym (args_more es i x lt e))
+
+params_end : (ps : List Param) (x : Param) → more_params_text (params_of (ps ++ x ∷ [])) ≡ more_params_text (params_of ps) ++ (codes ", " ++ named_text (type_of x.ty) x.name)
+params_end [] x = append-nil (codes ", " ++ named_text (type_of x.ty) x.name)
+params_end (p ∷ ps) x = ap (λ l. codes ", " ++ named_text (type_of p.ty) p.name ++ l) (params_end ps x) ∙ sym (append_assoc (codes ", " ++ named_text (type_of p.ty) p.name) (more_params_text (params_of ps)) (codes ", " ++ named_text (type_of x.ty) x.name))
+
+pub params_more : (ps : List Param) (i : ℕ) (x : Param) → i < length ps → x ≡ get_or ps i x
+    → more_params_text (params_of (take (i + 1) ps)) ≡ more_params_text (params_of (take i ps)) ++ codes ", " ++ named_text (type_of x.ty) x.name
+params_more ps i x lt e =
+    ap (λ l. more_params_text (params_of l)) (take_more ps i x lt) ∙ params_end (take i ps) (get_or ps i x)
+    ∙ ap (λ z. more_params_text (params_of (take i ps)) ++ (codes ", " ++ named_text (type_of z.ty) z.name)) (sym e)
+    ∙ sym (append_assoc (more_params_text (params_of (take i ps))) (codes ", ") (named_text (type_of x.ty) x.name))
+
+fields_end : (ps : List Param) (x : Param) → fields_text (params_of (ps ++ x ∷ [])) ≡ fields_text (params_of ps) ++ line 1 (named_text (type_of x.ty) x.name ++ codes ";")
+fields_end [] x = append-nil (line 1 (named_text (type_of x.ty) x.name ++ codes ";"))
+fields_end (p ∷ ps) x =
+    ap (λ l. line 1 (named_text (type_of p.ty) p.name ++ codes ";") ++ l) (fields_end ps x)
+    ∙ sym (append_assoc (line 1 (named_text (type_of p.ty) p.name ++ codes ";")) (fields_text (params_of ps)) (line 1 (named_text (type_of x.ty) x.name ++ codes ";")))
+
+pub fields_more : (ps : List Param) (i : ℕ) (x : Param) → i < length ps → x ≡ get_or ps i x
+    → fields_text (params_of (take (i + 1) ps)) ≡ fields_text (params_of (take i ps)) ++ line 1 (named_text (type_of x.ty) x.name ++ codes ";")
+fields_more ps i x lt e =
+    ap (λ l. fields_text (params_of l)) (take_more ps i x lt) ∙ fields_end (take i ps) (get_or ps i x)
+    ∙ ap (λ z. fields_text (params_of (take i ps)) ++ line 1 (named_text (type_of z.ty) z.name ++ codes ";")) (sym e)
+
+-- one more statement
+pub body_step : (k : ℕ) (ss : List Stmt) (i : ℕ) (s : Stmt) (start old new : List ℕ) → i < length ss → s ≡ get_or ss i s → PutsBefore k (stmt_of s) old new
+    → old ++ body_text k (body_of (drop i ss)) ≡ start ++ body_text k (body_of ss)
+    → new ++ body_text k (body_of (drop (i + 1) ss)) ≡ start ++ body_text k (body_of ss)
+body_step k ss i s start old new lt e puts h =
+    puts (body_of (drop (i + 1) ss))
+    ∙ ap (λ z. old ++ body_text k (stmt_of z (body_of (drop (i + 1) ss)))) e
+    ∙ ap (λ l. old ++ body_text k (body_of l)) (sym (drop_more ss i s lt)) ∙ h
+
+pub body_end : (k : ℕ) (ss : List Stmt) (start new : List ℕ) (i : ℕ) → length ss ≤ i → new ++ body_text k (body_of (drop i ss)) ≡ start ++ body_text k (body_of ss) → new ≡ start ++ body_text k (body_of ss)
+body_end k ss start new i le h =
+    sym (append-nil new) ∙ ap (λ l. new ++ body_text k (body_of l)) (sym (drop_all i ss le)) ∙ h
+
+pub branches_step : (k : ℕ) (ss : List When) (i : ℕ) (s : When) (start old new : List ℕ) → i < length ss → s ≡ get_or ss i s → PutsBranch k (branch_of s) old new
+    → old ++ branches_text k (branches_of (drop i ss)) ≡ start ++ branches_text k (branches_of ss)
+    → new ++ branches_text k (branches_of (drop (i + 1) ss)) ≡ start ++ branches_text k (branches_of ss)
+branches_step k ss i s start old new lt e puts h =
+    puts (branches_of (drop (i + 1) ss))
+    ∙ ap (λ z. old ++ branches_text k (branch_of z (branches_of (drop (i + 1) ss)))) e
+    ∙ ap (λ l. old ++ branches_text k (branches_of l)) (sym (drop_more ss i s lt)) ∙ h
+
+pub branches_end : (k : ℕ) (ss : List When) (start new : List ℕ) (i : ℕ) → length ss ≤ i → new ++ branches_text k (branches_of (drop i ss)) ≡ start ++ branches_text k (branches_of ss) → new ≡ start ++ branches_text k (branches_of ss)
+branches_end k ss start new i le h =
+    sym (append-nil new) ∙ ap (λ l. new ++ branches_text k (branches_of l)) (sym (drop_all i ss le)) ∙ h
+
+-- a line that ends in a semicolon
+pub ended_line : (k : ℕ) (old s0 s1 s2 s3 w : List ℕ) → s0 ≡ old ++ indent k → s1 ≡ s0 ++ w → s2 ≡ s1 ++ codes ";" → s3 ≡ s2 ++ 10 ∷ [] → s3 ≡ old ++ line k (w ++ codes ";")
+ended_line k old s0 s1 s2 s3 w e0 e1 e2 e3 = rw (e3, e2, e1, e0) (simp append_assoc refl)
