@@ -1,1 +1,11 @@
 pub mod Texts
+pub mod Going
+pub mod TokenPieces
+pub mod ValuePieces
+pub mod Valid
+pub mod ExprPieces
+pub mod PartPieces
+pub mod StmtPieces
+pub mod DeclPieces
+pub mod SameText
+pub mod RoundTrip

@@ -26,22 +26,28 @@ pub indent_more : (k : ℕ) → indent (k + 1) ≡ indent k ++ codes "    "
 indent_more k = let e : k + 1 ≡ suc k = omega arith in ap indent e
 
 -- an element at a time
+joined : (a b c d : List ℕ) → a ++ b ++ c ++ d ≡ a ++ (b ++ c ++ d)
+joined a b c d = ap (λ l. l ++ d) (append_assoc a b c) ∙ append_assoc a (b ++ c) d
+
 names_end : (xs : List Ident) (y : Ident) → more_names_text (xs ++ y ∷ []) ≡ more_names_text xs ++ (codes "." ++ y.name)
 names_end [] y = append-nil (codes "." ++ y.name)
 names_end (x ∷ xs) y = ap (λ l. codes "." ++ x.name ++ l) (names_end xs y) ∙ sym (append_assoc (codes "." ++ x.name) (more_names_text xs) (codes "." ++ y.name))
 
-pub names_more : (xs : List Ident) (i : ℕ) (y : Ident) → i < length xs → y ≡ get_or xs i y
+names_more : (xs : List Ident) (i : ℕ) (y : Ident) → i < length xs → y ≡ get_or xs i y
     → more_names_text (take (i + 1) xs) ≡ more_names_text (take i xs) ++ codes "." ++ y.name
 names_more xs i y lt e =
     ap more_names_text (take_more xs i y lt) ∙ names_end (take i xs) (get_or xs i y)
     ∙ ap (λ z. more_names_text (take i xs) ++ (codes "." ++ z.name)) (sym e) ∙ sym (append_assoc (more_names_text (take i xs)) (codes ".") y.name)
 
+pub names_step : (xs : List Ident) (i : ℕ) (y : Ident) (start old s1 s2 : List ℕ) → i < length xs → y ≡ get_or xs i y
+    → old ≡ start ++ more_names_text (take i xs) → s1 ≡ old ++ codes "." → s2 ≡ s1 ++ y.name → s2 ≡ start ++ more_names_text (take (i + 1) xs)
+names_step xs i y start old s1 s2 lt e h e1 e2 =
+    e2 ∙ ap (λ l. l ++ y.name) (e1 ∙ ap (λ l. l ++ codes ".") h)
+    ∙ joined start (more_names_text (take i xs)) (codes ".") y.name ∙ ap (λ l. start ++ l) (sym (names_more xs i y lt e))
+
 pub path_is : (x : Ident) (xs : List Ident) → path_text (x ∷ xs) ≡ x.name ++ more_names_text xs
 path_is x [] = sym (append-nil x.name)
 path_is x (y ∷ xs) = ap (λ l. x.name ++ codes "." ++ l) (path_is y xs) ∙ append_assoc x.name (codes ".") (y.name ++ more_names_text xs)
-
-joined : (a b c d : List ℕ) → a ++ b ++ c ++ d ≡ a ++ (b ++ c ++ d)
-joined a b c d = ap (λ l. l ++ d) (append_assoc a b c) ∙ append_assoc a (b ++ c) d
 
 args_end : (es : List Expr) (x : Expr) → more_args_text (exprs_of (es ++ x ∷ [])) ≡ more_args_text (exprs_of es) ++ (codes ", " ++ expr_text (expr_of x))
 args_end [] x = append-nil (codes ", " ++ expr_text (expr_of x))
@@ -63,12 +69,19 @@ params_end : (ps : List Param) (x : Param) → more_params_text (params_of (ps +
 params_end [] x = append-nil (codes ", " ++ named_text (type_of x.ty) x.name)
 params_end (p ∷ ps) x = ap (λ l. codes ", " ++ named_text (type_of p.ty) p.name ++ l) (params_end ps x) ∙ sym (append_assoc (codes ", " ++ named_text (type_of p.ty) p.name) (more_params_text (params_of ps)) (codes ", " ++ named_text (type_of x.ty) x.name))
 
-pub params_more : (ps : List Param) (i : ℕ) (x : Param) → i < length ps → x ≡ get_or ps i x
+params_more : (ps : List Param) (i : ℕ) (x : Param) → i < length ps → x ≡ get_or ps i x
     → more_params_text (params_of (take (i + 1) ps)) ≡ more_params_text (params_of (take i ps)) ++ codes ", " ++ named_text (type_of x.ty) x.name
 params_more ps i x lt e =
     ap (λ l. more_params_text (params_of l)) (take_more ps i x lt) ∙ params_end (take i ps) (get_or ps i x)
     ∙ ap (λ z. more_params_text (params_of (take i ps)) ++ (codes ", " ++ named_text (type_of z.ty) z.name)) (sym e)
     ∙ sym (append_assoc (more_params_text (params_of (take i ps))) (codes ", ") (named_text (type_of x.ty) x.name))
+
+pub params_step : (ps : List Param) (i : ℕ) (x : Param) (start old s1 s2 : List ℕ) → i < length ps → x ≡ get_or ps i x
+    → old ≡ start ++ more_params_text (params_of (take i ps)) → s1 ≡ old ++ codes ", " → s2 ≡ s1 ++ named_text (type_of x.ty) x.name
+    → s2 ≡ start ++ more_params_text (params_of (take (i + 1) ps))
+params_step ps i x start old s1 s2 lt e h e1 e2 =
+    e2 ∙ ap (λ l. l ++ named_text (type_of x.ty) x.name) (e1 ∙ ap (λ l. l ++ codes ", ") h)
+    ∙ joined start (more_params_text (params_of (take i ps))) (codes ", ") (named_text (type_of x.ty) x.name) ∙ ap (λ l. start ++ l) (sym (params_more ps i x lt e))
 
 fields_end : (ps : List Param) (x : Param) → fields_text (params_of (ps ++ x ∷ [])) ≡ fields_text (params_of ps) ++ line 1 (named_text (type_of x.ty) x.name ++ codes ";")
 fields_end [] x = append-nil (line 1 (named_text (type_of x.ty) x.name ++ codes ";"))
@@ -76,11 +89,25 @@ fields_end (p ∷ ps) x =
     ap (λ l. line 1 (named_text (type_of p.ty) p.name ++ codes ";") ++ l) (fields_end ps x)
     ∙ sym (append_assoc (line 1 (named_text (type_of p.ty) p.name ++ codes ";")) (fields_text (params_of ps)) (line 1 (named_text (type_of x.ty) x.name ++ codes ";")))
 
-pub fields_more : (ps : List Param) (i : ℕ) (x : Param) → i < length ps → x ≡ get_or ps i x
+fields_more : (ps : List Param) (i : ℕ) (x : Param) → i < length ps → x ≡ get_or ps i x
     → fields_text (params_of (take (i + 1) ps)) ≡ fields_text (params_of (take i ps)) ++ line 1 (named_text (type_of x.ty) x.name ++ codes ";")
 fields_more ps i x lt e =
     ap (λ l. fields_text (params_of l)) (take_more ps i x lt) ∙ fields_end (take i ps) (get_or ps i x)
     ∙ ap (λ z. fields_text (params_of (take i ps)) ++ line 1 (named_text (type_of z.ty) z.name ++ codes ";")) (sym e)
+
+field_line : (w : List ℕ) → codes "    " ++ w ++ (codes ";" ++ 10 ∷ []) ≡ line 1 (w ++ codes ";")
+field_line w = simp append_assoc refl
+
+pub fields_step : (ps : List Param) (i : ℕ) (x : Param) (start old s1 s2 s3 : List ℕ) → i < length ps → x ≡ get_or ps i x
+    → old ≡ start ++ fields_text (params_of (take i ps)) → s1 ≡ old ++ codes "    " → s2 ≡ s1 ++ named_text (type_of x.ty) x.name → s3 ≡ s2 ++ (codes ";" ++ 10 ∷ [])
+    → s3 ≡ start ++ fields_text (params_of (take (i + 1) ps))
+fields_step ps i x start old s1 s2 s3 lt e h e1 e2 e3 =
+    let own = named_text (type_of x.ty) x.name in
+    let done = fields_text (params_of (take i ps)) in
+    e3 ∙ ap (λ l. l ++ (codes ";" ++ 10 ∷ [])) (e2 ∙ ap (λ l. l ++ own) (e1 ∙ ap (λ l. l ++ codes "    ") h))
+    ∙ append_assoc (start ++ done ++ codes "    ") own (codes ";" ++ 10 ∷ []) ∙ append_assoc (start ++ done) (codes "    ") (own ++ (codes ";" ++ 10 ∷ []))
+    ∙ append_assoc start done (codes "    " ++ (own ++ (codes ";" ++ 10 ∷ [])))
+    ∙ ap (λ l. start ++ (done ++ l)) (field_line own) ∙ ap (λ l. start ++ l) (sym (fields_more ps i x lt e))
 
 -- one more statement
 pub body_step : (k : ℕ) (ss : List Stmt) (i : ℕ) (s : Stmt) (start old new : List ℕ) → i < length ss → s ≡ get_or ss i s → PutsBefore k (stmt_of s) old new

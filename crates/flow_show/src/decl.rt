@@ -14,7 +14,6 @@ use flow_ast::ty::Ident;
 use flow_base::memory::NoMemory;
 
 impl Source {
-    #[tactic(auto, using(crate::proofs::Texts::fields_more))]
     fn put_fields(&mut self, fields: &[Param]) -> Result<(), NoMemory>
         ensures { IfOk result (λ _. self.new ≡ self.old ++ fields_text (params_of fields.now)) }
     {
@@ -27,7 +26,6 @@ impl Source {
     }
 
     // Parameters behind another.
-    #[tactic(auto, using(crate::proofs::Texts::params_more))]
     fn put_more_params(&mut self, params: &[Param]) -> Result<(), NoMemory>
         ensures { IfOk result (λ _. self.new ≡ self.old ++ more_params_text (params_of params.now)) }
     {

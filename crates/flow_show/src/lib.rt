@@ -5,6 +5,7 @@
 
 mod decl;
 mod expr;
+pub mod laws;
 pub mod show;
 mod source;
 mod stmt;

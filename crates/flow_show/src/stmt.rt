@@ -78,7 +78,6 @@ impl Source {
     }
 
     // Names, each behind a dot.
-    #[tactic(auto, using(crate::proofs::Texts::names_more))]
     fn put_more_names(&mut self, names: &[Ident]) -> Result<(), NoMemory>
         ensures { IfOk result (λ _. self.new ≡ self.old ++ more_names_text names.now) }
     {
