@@ -1,4 +1,6 @@
 pub mod Texts
+pub mod Writing
+pub mod StatementKinds
 pub mod Going
 pub mod TokenPieces
 pub mod ValuePieces

@@ -1,5 +1,5 @@
 -- Texts of lists, an element at a time.
-use Rattle.std.proofs.Common.{◌≡◌, ℕ, zero, suc, ◌+◌, ◌<◌, ◌≤◌, List, [], ◌∷◌, ◌++◌, map, length, take, drop, get_or, refl, sym, ap, ◌∙◌, subst, arith, append_assoc}
+use Rattle.std.proofs.Common.{◌≡◌, ℕ, zero, suc, ◌+◌, ◌<◌, ◌≤◌, List, [], ◌∷◌, ◌++◌, map, length, take, drop, get_or, refl, sym, ap, ap₂, ◌∙◌, subst, arith, append_assoc}
 use Rattle.std.proofs.lemmas.List.{append-nil, take_more, drop_more, drop_all}
 use Rattle.std.specs.Prelude.{codes}
 use Rattle.flow_ast.specs.declared.ty.Ident.{Ident}
@@ -45,9 +45,16 @@ names_step xs i y start old s1 s2 lt e h e1 e2 =
     e2 ∙ ap (λ l. l ++ y.name) (e1 ∙ ap (λ l. l ++ codes ".") h)
     ∙ joined start (more_names_text (take i xs)) (codes ".") y.name ∙ ap (λ l. start ++ l) (sym (names_more xs i y lt e))
 
-pub path_is : (x : Ident) (xs : List Ident) → path_text (x ∷ xs) ≡ x.name ++ more_names_text xs
+path_is : (x : Ident) (xs : List Ident) → path_text (x ∷ xs) ≡ x.name ++ more_names_text xs
 path_is x [] = sym (append-nil x.name)
 path_is x (y ∷ xs) = ap (λ l. x.name ++ codes "." ++ l) (path_is y xs) ∙ append_assoc x.name (codes ".") (y.name ++ more_names_text xs)
+
+pub path_step : (path rest : List Ident) (x : Ident) (old s1 s2 w : List ℕ) → 1 ≤ length path → x ≡ get_or path 0 x → rest ≡ drop 1 path
+    → s1 ≡ old ++ w → w ≡ x.name → s2 ≡ s1 ++ more_names_text rest → s2 ≡ old ++ path_text path
+path_step [] rest x old s1 s2 w lt e r e1 f e2 = absurd (omega arith)
+path_step (y ∷ ys) rest x old s1 s2 w lt e r e1 f e2 =
+    e2 ∙ ap₂ (λ l xs. l ++ more_names_text xs) (e1 ∙ ap (λ l. old ++ l) (f ∙ ap (λ z. z.name) e)) r
+    ∙ append_assoc old y.name (more_names_text ys) ∙ ap (λ l. old ++ l) (sym (path_is y ys))
 
 args_end : (es : List Expr) (x : Expr) → more_args_text (exprs_of (es ++ x ∷ [])) ≡ more_args_text (exprs_of es) ++ (codes ", " ++ expr_text (expr_of x))
 args_end [] x = append-nil (codes ", " ++ expr_text (expr_of x))
@@ -133,6 +140,19 @@ branches_step k ss i s start old new lt e puts h =
 pub branches_end : (k : ℕ) (ss : List When) (start new : List ℕ) (i : ℕ) → length ss ≤ i → new ++ branches_text k (branches_of (drop i ss)) ≡ start ++ branches_text k (branches_of ss) → new ≡ start ++ branches_text k (branches_of ss)
 branches_end k ss start new i le h =
     sym (append-nil new) ∙ ap (λ l. new ++ branches_text k (branches_of l)) (sym (drop_all i ss le)) ∙ h
+
+-- pieces behind one another
+pub three : (old s1 s2 a b c : List ℕ) → s1 ≡ old ++ a → s2 ≡ s1 ++ (b ++ c) → s2 ≡ old ++ (a ++ b ++ c)
+three old s1 s2 a b c e1 e2 = rw (e2, e1) (simp append_assoc refl)
+
+pub five : (old s1 s2 s3 a b c d f : List ℕ) → s1 ≡ old ++ a → s2 ≡ s1 ++ b → s3 ≡ s2 ++ (c ++ (d ++ f)) → s3 ≡ old ++ (a ++ b ++ c ++ d ++ f)
+five old s1 s2 s3 a b c d f e1 e2 e3 = rw (e3, e2, e1) (simp append_assoc refl)
+
+-- the line at which a `for` begins
+pub for_line : (k : ℕ) (old s0 s1 s2 s3 s4 s5 s6 s7 s8 i e s : List ℕ) → s0 ≡ old ++ indent k → s1 ≡ s0 ++ codes "for (" → s2 ≡ s1 ++ i → s3 ≡ s2 ++ codes "; " → s4 ≡ s3 ++ e
+    → s5 ≡ s4 ++ codes "; " → s6 ≡ s5 ++ s → s7 ≡ s6 ++ codes ") {" → s8 ≡ s7 ++ 10 ∷ []
+    → s8 ≡ old ++ line k (codes "for (" ++ i ++ codes "; " ++ e ++ codes "; " ++ s ++ codes ") {")
+for_line k old s0 s1 s2 s3 s4 s5 s6 s7 s8 i e s e0 e1 e2 e3 e4 e5 e6 e7 e8 = rw (e8, e7, e6, e5, e4, e3, e2, e1, e0) (simp append_assoc refl)
 
 -- a line that ends in a semicolon
 pub ended_line : (k : ℕ) (old s0 s1 s2 s3 w : List ℕ) → s0 ≡ old ++ indent k → s1 ≡ s0 ++ w → s2 ≡ s1 ++ codes ";" → s3 ≡ s2 ++ 10 ∷ [] → s3 ≡ old ++ line k (w ++ codes ";")

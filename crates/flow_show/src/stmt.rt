@@ -89,7 +89,6 @@ impl Source {
     }
 
     // Names with a dot between two.
-    #[tactic(auto, using(crate::proofs::Texts::path_is))]
     fn put_path(&mut self, path: &[Ident]) -> Result<(), NoMemory>
         ensures { IfOk result (λ _. self.new ≡ self.old ++ path_text path.now) }
     {
