@@ -1,10 +1,8 @@
 -- Pieces of a text that are read back as tokens.
-use Rattle.std.proofs.Common.{◌≡◌, ℕ, zero, suc, ◌+◌, ◌<◌, List, [], ◌∷◌, ◌++◌, length, take, drop, refl, sym, ap, ap₂, ◌∙◌, subst, arith, append_assoc, length-append, true, cond}
+use Rattle.std.proofs.Common.{◌≡◌, ℕ, zero, suc, ◌<◌, List, [], ◌∷◌, ◌++◌, length, drop, refl, sym, ap, ap₂, ◌∙◌, subst, arith, append_assoc, true}
 use Rattle.std.proofs.Math.Seq.{take-append_seam, drop-append_seam}
 use Rattle.std.proofs.lemmas.List.{append-nil}
-use Rattle.std.specs.Prelude.{codes}
 use Rattle.flow_base.specs.declared.place.Place.{Place}
-use Rattle.flow_ast.specs.declared.token.Spot.{Spot}
 use Rattle.flow_ast.specs.declared.token.Token.{Token}
 use Rattle.flow_ast.specs.Spelling.{IsBounded, is_blank}
 use Rattle.flow_ast.specs.Lexing.{place_after, TokenAt, Reads, here, gap, token}
@@ -94,22 +92,26 @@ begun {X} {mx} {o} {w} {F} part some has p = record { at = go }
 
 -- nothing at all
 pub nothing : {F : List ℕ → Type 0} → Piece {X = Unit {0}} (λ x. []) [] [] F
-nothing {F} = record { at = λ before rest g. record {
-  value = tt;
-  reads = subst (λ x. Reads before rest [] x rest) (sym (append-nil before)) here;
-  parts = refl;
-} }
+nothing {F} = record {
+  at = λ before rest g. record {
+    value = tt;
+    reads = subst (λ x. Reads before rest [] x rest) (sym (append-nil before)) here;
+    parts = refl;
+  };
+}
 
 -- a token
 pub one_token : {F : List ℕ → Type 0} (ps : List Part) (t : Token) (p : Place) (w : List ℕ) → ((rest : List ℕ) → F rest → TokenAt (w ++ rest) t (length w)) → IsBounded t
     → Piece {X = Place} (λ x. opens ps t x ∷ []) (opens ps t p ∷ []) w F
-one_token {F} ps t p w there bound = record { at = λ before rest g. record {
-  value = place_after before;
-  reads = token t (length w) (there rest g) bound
-      (subst (λ x. Reads (before ++ x) (drop (length w) (w ++ rest)) [] (before ++ w) rest) (sym (take-append_seam w rest))
-      (subst (λ x. Reads (before ++ w) x [] (before ++ w) rest) (sym (drop-append_seam w rest)) here));
-  parts = refl;
-} }
+one_token {F} ps t p w there bound = record {
+  at = λ before rest g. record {
+    value = place_after before;
+    reads = token t (length w) (there rest g) bound
+        (subst (λ x. Reads (before ++ x) (drop (length w) (w ++ rest)) [] (before ++ w) rest) (sym (take-append_seam w rest))
+        (subst (λ x. Reads (before ++ w) x [] (before ++ w) rest) (sym (drop-append_seam w rest)) here));
+    parts = refl;
+  };
+}
 
 -- bytes between tokens
 pub record Gap (w : List ℕ) : Type 0 where
@@ -123,10 +125,12 @@ pub blank : (b : ℕ) → is_blank b ≡ true → Gap (b ∷ [])
 blank b h = record { at = blank_reads b h }
 
 pub gaps : {w v : List ℕ} → Gap w → Gap v → Gap (w ++ v)
-gaps {w} {v} p q = record { at = λ before rest.
-    subst (λ t. Reads before t [] (before ++ (w ++ v)) rest) (sym (append_assoc w v rest))
-    (subst (λ x. Reads before (w ++ (v ++ rest)) [] x rest) (append_assoc before w v)
-    (reads_on (p.at before (v ++ rest)) (q.at (before ++ w) rest))) }
+gaps {w} {v} p q = record {
+  at = λ before rest.
+      subst (λ t. Reads before t [] (before ++ (w ++ v)) rest) (sym (append_assoc w v rest))
+      (subst (λ x. Reads before (w ++ (v ++ rest)) [] x rest) (append_assoc before w v)
+      (reads_on (p.at before (v ++ rest)) (q.at (before ++ w) rest)));
+}
 
 pub no_gap : Gap []
 no_gap = record { at = λ before rest. subst (λ x. Reads before rest [] x rest) (sym (append-nil before)) here }

@@ -1,5 +1,5 @@
 -- Declared variables, waits, paths and changes are read back from their texts.
-use Rattle.std.proofs.Common.{◌≡◌, ℕ, zero, suc, ◌+◌, ◌≤◌, ◌<◌, List, [], ◌∷◌, ◌++◌, map, length, refl, sym, ap, ap₂, ◌∙◌, subst, arith, append_assoc, length-append, append-nil, Bool, true, false}
+use Rattle.std.proofs.Common.{◌≡◌, ℕ, suc, ◌<◌, List, [], ◌∷◌, ◌++◌, map, length, refl, ap, subst, arith, append_assoc, append-nil, Bool}
 use Rattle.std.specs.Prelude.{codes, if◌then◌else◌}
 use Rattle.std.specs.Option.{option_map}
 use Rattle.std.specs.declared.option.Option.{Option}
@@ -8,17 +8,16 @@ use Rattle.flow_base.specs.declared.place.Place.{Place}
 use Rattle.flow_ast.specs.declared.token.Word.TheVariants as word
 use Rattle.flow_ast.specs.declared.token.Sign.TheVariants as sign
 use Rattle.flow_ast.specs.declared.ty.Ident.{Ident}
-use Rattle.flow_ast.specs.Spelling.{word_bytes, sign_bytes}
-use Rattle.flow_ast.specs.Tree.{TypeTree, ExprTree, ExprTrees}
-use Rattle.flow_ast.specs.Body.{IntoTree, WaitTree, ChangeTree, PlusChange, MinusChange, UpChange, DownChange, Body, End, DeclareStmt, AssignStmt, ModifyStmt}
-use Rattle.flow_ast.specs.GrammarToken.{Part, Statement, Node, Marked, opens, begin, spots_of}
-use Rattle.flow_ast.specs.Grammar.{sign_at, word_at, name_at, TypeRule, ExprRule}
-use Rattle.flow_ast.specs.GrammarStmt.{Counts, one_statement, one_state, state_parts, begin_statement, StartsAt, StateRule, no_state, some_state, IntoRule, declared, OperandRule, wait, wait_next, WaitingRule, plain_wait, into_wait, PathRule, last_name, more_names, AssignRule, assign, plus, minus, up, down, InitRule, declare, declare_value, change, InitPart, no_init, some_init, StepPart, no_step, some_step, MaybeExprRule, no_expr, some_expr}
-use Rattle.flow_ast.specs.Canon.{type_text, expr_text, path_text, named_text, into_text, into_part, waiting_text, maybe_text, declare_text, assign_text, change_text, modify_text, part_text, first_place, bare_ident, bare_expr, bare_into, bare_wait, bare_change, bare_body}
-use Rattle.flow_show.proofs.Going.{Piece, Any, Gap, nothing, both, as_rule, begun, begin_some, behind, spaced, under}
-use Rattle.flow_show.proofs.TokenPieces.{Apart, name_piece, word_piece, sign_piece, Ends, open_round_ends, close_round_ends, dot_ends, plus_plus_ends, minus_minus_ends, space_ends}
+use Rattle.flow_ast.specs.Tree.{TypeTree, ExprTree}
+use Rattle.flow_ast.specs.Body.{IntoTree, WaitTree, PlusChange, MinusChange, UpChange, DownChange, Body, End, DeclareStmt, AssignStmt, ModifyStmt}
+use Rattle.flow_ast.specs.GrammarToken.{Statement, Node, Marked, begin}
+use Rattle.flow_ast.specs.Grammar.{name_at, TypeRule}
+use Rattle.flow_ast.specs.GrammarStmt.{Counts, state_parts, begin_statement, StartsAt, StateRule, no_state, some_state, IntoRule, declared, OperandRule, wait, wait_next, WaitingRule, plain_wait, into_wait, PathRule, last_name, more_names, AssignRule, assign, plus, minus, up, down, InitRule, declare, declare_value, change, InitPart, no_init, some_init, StepPart, no_step, some_step, MaybeExprRule, no_expr, some_expr}
+use Rattle.flow_ast.specs.Canon.{type_text, expr_text, path_text, into_text, waiting_text, maybe_text, part_text, first_place, bare_ident, bare_expr, bare_into, bare_wait, bare_body}
+use Rattle.flow_show.proofs.Going.{Piece, Gap, nothing, both, as_rule, begun, begin_some, behind, spaced, under}
+use Rattle.flow_show.proofs.TokenPieces.{Apart, name_piece, word_piece, sign_piece, open_round_ends, dot_ends, plus_plus_ends, minus_minus_ends, space_ends}
 use Rattle.flow_show.proofs.Valid.{AllValid, valid_head, valid_tail, valid_left, valid_right, valid_begun}
-use Rattle.flow_show.proofs.ExprPieces.{some_in, TypeKept, type_some, AfterType, space, type_piece, ExprKept, expr_piece, shut}
+use Rattle.flow_show.proofs.ExprPieces.{some_in, space, type_piece, expr_piece, shut}
 
 -- where the first of some tokens stands
 abbrev pub first_at : List Marked → Place

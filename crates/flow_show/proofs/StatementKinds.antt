@@ -1,8 +1,7 @@
 -- Each kind of statement, put before a body, and what is then written for it.
-use Rattle.std.proofs.Common.{◌≡◌, ℕ, suc, List, [], ◌∷◌, ◌++◌, refl, sym, ap, ap₂, ◌∙◌, append_assoc}
+use Rattle.std.proofs.Common.{◌≡◌, ℕ, List, ◌++◌, sym, ap, ◌∙◌, append_assoc}
 use Rattle.std.specs.Option.{option_map}
 use Rattle.std.specs.declared.option.Option.{Option}
-use Rattle.std.specs.declared.option.Option.TheVariants.{None, Some}
 use Rattle.std.specs.declared.alloc.Global.{Global}
 use Rattle.std.specs.declared.vec.Vec.{Vec}
 use Rattle.flow_base.specs.declared.place.Place.{Place}
@@ -10,16 +9,15 @@ use Rattle.flow_ast.specs.declared.ty.Ident.{Ident}
 use Rattle.flow_ast.specs.declared.expr.Expr.{Expr}
 use Rattle.flow_ast.specs.declared.stmt.Into.{Into}
 use Rattle.flow_ast.specs.declared.stmt.Target.{Target}
-use Rattle.flow_ast.specs.declared.stmt.Change.{Change}
 use Rattle.flow_ast.specs.declared.stmt.Waiting.{Waiting}
 use Rattle.flow_ast.specs.declared.stmt.When.{When}
-use Rattle.flow_ast.specs.declared.stmt.Stmt.{Stmt, out-Stmt, fold_out-Stmt}
+use Rattle.flow_ast.specs.declared.stmt.Stmt.{Stmt, fold_out-Stmt}
 use Rattle.flow_ast.specs.declared.stmt.StmtKind.{StmtKind, fold-roll-StmtKind}
 use Rattle.flow_ast.specs.declared.stmt.StmtKind.TheOpen as layer
 use Rattle.flow_ast.specs.declared.stmt.StmtKind.TheVariants as kind
 use Rattle.flow_ast.specs.View.{expr_of, exprs_of}
-use Rattle.flow_ast.specs.StmtView.{into_of, change_of, waiting_of, kind_of, kind_step, stmt_of, stmt_step, branch_step, body_of, branches_of}
-use Rattle.flow_ast.specs.Canon.{line, body_text}
+use Rattle.flow_ast.specs.StmtView.{into_of, waiting_of, kind_of, kind_step, stmt_of, stmt_step, branch_step, body_of, branches_of}
+use Rattle.flow_ast.specs.Canon.{body_text}
 use Rattle.flow_show.specs.Lines.{PutsBefore}
 use Rattle.flow_ast.specs.Body.{Body, Branches, TryStmt, ChooseStmt, DeclareStmt, AssignStmt, CallStmt, WaitStmt}
 

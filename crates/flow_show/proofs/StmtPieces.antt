@@ -1,25 +1,22 @@
 -- Statements are read back from their texts.
-use Rattle.std.proofs.Common.{◌≡◌, ℕ, zero, suc, ◌+◌, ◌≤◌, ◌<◌, List, [], ◌∷◌, ◌++◌, map, length, refl, sym, ap, ap₂, ◌∙◌, subst, arith, append_assoc, length-append, append-nil, Bool, true, false}
+use Rattle.std.proofs.Common.{◌≡◌, ℕ, suc, ◌<◌, List, [], ◌∷◌, ◌++◌, length, refl, sym, ap, ap₂, ◌∙◌, subst, arith, append_assoc, append-nil, Bool, true, false}
 use Rattle.std.specs.Prelude.{codes}
-use Rattle.std.specs.Option.{option_map}
 use Rattle.std.specs.declared.option.Option.{Option}
 use Rattle.std.specs.declared.option.Option.TheVariants.{None, Some}
 use Rattle.flow_base.specs.declared.place.Place.{Place}
-use Rattle.flow_ast.specs.declared.token.Token.TheVariants as token
 use Rattle.flow_ast.specs.declared.token.Word.TheVariants as word
 use Rattle.flow_ast.specs.declared.token.Sign.TheVariants as sign
-use Rattle.flow_ast.specs.declared.ty.Ident.{Ident}
-use Rattle.flow_ast.specs.Tree.{ExprTree, ExprTrees}
-use Rattle.flow_ast.specs.Body.{WaitTree, Body, End, BlockStmt, IfStmt, IfElseStmt, WhileStmt, ForStmt, LoopStmt, BreakStmt, ContinueStmt, ReturnStmt, ThrowStmt, TryStmt, ChooseStmt, DeclareStmt, AssignStmt, ModifyStmt, CallStmt, WaitStmt, Branches, NoBranches, MoreBranches}
-use Rattle.flow_ast.specs.GrammarToken.{Part, Statement, Node, Branch, Marked, opens, begin, spots_of}
-use Rattle.flow_ast.specs.Grammar.{sign_at, word_at, name_at, ExprRule, ArgsRule}
-use Rattle.flow_ast.specs.GrammarStmt.{Counts, one_statement, begin_statement, StartsAt, PathRule, AssignRule, assign, plus, minus, up, down, InitRule, declare, declare_value, change, MaybeExprRule, PlainRule, if_stmt, if_else_stmt, while_stmt, for_stmt, loop_stmt, break_stmt, continue_stmt, return_stmt, throw_stmt, try_stmt, choose_stmt, init_stmt, wait_stmt, call_stmt, StmtRule, block_stmt, plain_stmt, BlockRule, braces, BodyRule, block_body, one_body, StmtsRule, no_stmts, more_stmts, WhensRule, no_whens, more_whens, WhenRule, branch}
-use Rattle.flow_ast.specs.Canon.{expr_text, args_text, path_text, waiting_text, maybe_text, part_text, call_text, line, indent, body_text, branches_text, first_place, bare_ident, bare_expr, bare_exprs, bare_wait, bare_body, bare_branches}
-use Rattle.flow_show.proofs.Going.{Piece, Any, Gap, all_parts, parts_cat, nothing, both, as_rule, begun, begin_some, behind, before, spaced, lined, under, blank, indent_gap, no_gap, reparted}
-use Rattle.flow_show.proofs.TokenPieces.{Apart, name_piece, word_piece, sign_piece, Ends, open_round_ends, close_round_ends, open_curly_ends, close_curly_ends, semicolon_ends, space_ends}
-use Rattle.flow_show.proofs.Valid.{AllValid, valid_head, valid_tail, valid_left, valid_right, valid_begun}
-use Rattle.flow_show.proofs.ExprPieces.{some_in, ExprKept, expr_piece, args_piece, closing, shut}
-use Rattle.flow_show.proofs.PartPieces.{first_at, starts, starts_some, WaitKept, waiting_piece, PathKept, path_piece, PutKept, init_piece, init_some_in, PartKept, stated, valid_stated, init_part_piece, step_part_piece, MaybeKept, maybe_piece}
+use Rattle.flow_ast.specs.Tree.{ExprTree}
+use Rattle.flow_ast.specs.Body.{Body, End, BlockStmt, IfStmt, IfElseStmt, WhileStmt, ForStmt, LoopStmt, BreakStmt, ContinueStmt, ReturnStmt, ThrowStmt, TryStmt, ChooseStmt, CallStmt, WaitStmt, Branches, MoreBranches}
+use Rattle.flow_ast.specs.GrammarToken.{Node, Branch, Marked}
+use Rattle.flow_ast.specs.Grammar.{sign_at}
+use Rattle.flow_ast.specs.GrammarStmt.{Counts, begin_statement, StartsAt, assign, plus, minus, up, down, InitRule, declare, declare_value, change, PlainRule, if_stmt, if_else_stmt, while_stmt, for_stmt, loop_stmt, break_stmt, continue_stmt, return_stmt, throw_stmt, try_stmt, choose_stmt, init_stmt, wait_stmt, call_stmt, StmtRule, block_stmt, plain_stmt, BlockRule, braces, BodyRule, block_body, one_body, StmtsRule, no_stmts, more_stmts, WhensRule, no_whens, more_whens, WhenRule, branch}
+use Rattle.flow_ast.specs.Canon.{expr_text, args_text, path_text, waiting_text, maybe_text, part_text, line, indent, body_text, branches_text, first_place, bare_ident, bare_body, bare_branches}
+use Rattle.flow_show.proofs.Going.{Piece, Any, all_parts, parts_cat, nothing, both, as_rule, behind, spaced, lined, under, blank, indent_gap, no_gap, reparted}
+use Rattle.flow_show.proofs.TokenPieces.{Apart, name_piece, word_piece, sign_piece, open_round_ends, close_round_ends, open_curly_ends, close_curly_ends, semicolon_ends, space_ends}
+use Rattle.flow_show.proofs.Valid.{AllValid, valid_head, valid_tail, valid_left, valid_right}
+use Rattle.flow_show.proofs.ExprPieces.{some_in, expr_piece, args_piece, closing}
+use Rattle.flow_show.proofs.PartPieces.{first_at, starts, starts_some, waiting_piece, path_piece, init_piece, stated, valid_stated, init_part_piece, step_part_piece, maybe_piece}
 
 -- signs behind which anything may stand
 pub sign_open : (p : Place) → Piece {X = Place} (λ x. sign_at sign.OpenRound x ∷ []) (sign_at sign.OpenRound p ∷ []) (40 ∷ []) Any

@@ -1,5 +1,5 @@
 -- Texts of lists, an element at a time.
-use Rattle.std.proofs.Common.{◌≡◌, ℕ, zero, suc, ◌+◌, ◌<◌, ◌≤◌, List, [], ◌∷◌, ◌++◌, map, length, take, drop, get_or, refl, sym, ap, ap₂, ◌∙◌, subst, arith, append_assoc}
+use Rattle.std.proofs.Common.{◌≡◌, ℕ, suc, ◌+◌, ◌<◌, ◌≤◌, List, [], ◌∷◌, ◌++◌, length, take, drop, get_or, refl, sym, ap, ap₂, ◌∙◌, arith, append_assoc}
 use Rattle.std.proofs.lemmas.List.{append-nil, take_more, drop_more, drop_all}
 use Rattle.std.specs.Prelude.{codes}
 use Rattle.flow_ast.specs.declared.ty.Ident.{Ident}
@@ -7,12 +7,13 @@ use Rattle.flow_ast.specs.declared.expr.Expr.{Expr}
 use Rattle.flow_ast.specs.declared.stmt.Stmt.{Stmt}
 use Rattle.flow_ast.specs.declared.stmt.When.{When}
 use Rattle.flow_ast.specs.declared.decl.Param.{Param}
+use Rattle.flow_ast.specs.Decls.{RoutineTree}
 use Rattle.flow_ast.specs.View.{type_of, expr_of, exprs_of}
 use Rattle.flow_ast.specs.StmtView.{stmt_of, body_of, branch_of, branches_of}
 use Rattle.flow_ast.specs.DeclView.{params_of}
-use Rattle.flow_ast.specs.Canon.{quoted, indent, line, path_text, more_args_text, expr_text, named_text, fields_text, more_params_text, body_text, branches_text, byte_text, inside_text}
+use Rattle.flow_ast.specs.Canon.{quoted, indent, line, path_text, more_args_text, expr_text, named_text, fields_text, more_params_text, params_text, routine_text, body_text, branches_text, byte_text, inside_text}
 use Rattle.flow_trace.specs.Quote.{spelled_text, quoted as quoted_line}
-use Rattle.flow_show.specs.Lines.{PutsBefore, PutsBranch, more_names_text}
+use Rattle.flow_show.specs.Lines.{PutsBefore, PutsBranch, more_names_text, behind_result}
 
 same_inside : (t : List ℕ) → spelled_text t ≡ inside_text t
 same_inside [] = refl
@@ -157,3 +158,25 @@ for_line k old s0 s1 s2 s3 s4 s5 s6 s7 s8 i e s e0 e1 e2 e3 e4 e5 e6 e7 e8 = rw 
 -- a line that ends in a semicolon
 pub ended_line : (k : ℕ) (old s0 s1 s2 s3 w : List ℕ) → s0 ≡ old ++ indent k → s1 ≡ s0 ++ w → s2 ≡ s1 ++ codes ";" → s3 ≡ s2 ++ 10 ∷ [] → s3 ≡ old ++ line k (w ++ codes ";")
 ended_line k old s0 s1 s2 s3 w e0 e1 e2 e3 = rw (e3, e2, e1, e0) (simp append_assoc refl)
+
+-- a function or an actor behind its result
+routine_tail : (n p b : List ℕ) → n ++ codes "(" ++ p ++ (codes ") {" ++ 10 ∷ []) ++ b ++ (codes "}" ++ 10 ∷ []) ≡ n ++ (40 ∷ (p ++ (41 ∷ (32 ∷ (123 ∷ (10 ∷ (b ++ (125 ∷ (10 ∷ [])))))))))
+routine_tail n p b = simp append_assoc refl
+
+routine_whole : (w n p b : List ℕ) → line 0 (w ++ codes " " ++ n ++ codes "(" ++ p ++ codes ") {") ++ b ++ line 0 (codes "}") ≡ w ++ (32 ∷ (n ++ (40 ∷ (p ++ (41 ∷ (32 ∷ (123 ∷ (10 ∷ (b ++ (125 ∷ (10 ∷ [])))))))))))
+routine_whole w n p b = simp append_assoc refl
+
+routine_lines : (w n p b : List ℕ) → w ++ (codes " " ++ n ++ codes "(" ++ p ++ (codes ") {" ++ 10 ∷ []) ++ b ++ (codes "}" ++ 10 ∷ [])) ≡ line 0 (w ++ codes " " ++ n ++ codes "(" ++ p ++ codes ") {") ++ b ++ line 0 (codes "}")
+routine_lines w n p b = ap (λ l. w ++ (32 ∷ l)) (routine_tail n p b) ∙ sym (routine_whole w n p b)
+
+pub whole_routine : (r : RoutineTree) (old s1 s2 w : List ℕ) → s1 ≡ old ++ w → s2 ≡ s1 ++ behind_result r.name r.params r.body → s2 ≡ old ++ routine_text w r
+whole_routine r old s1 s2 w e1 e2 =
+    e2 ∙ ap (λ l. l ++ behind_result r.name r.params r.body) e1 ∙ append_assoc old w (behind_result r.name r.params r.body)
+    ∙ ap (λ l. old ++ l) (routine_lines w r.name.name (params_text r.params) (body_text 1 r.body))
+
+pub seven : (old s1 s2 s3 s4 s5 s6 s7 a b c d e f g : List ℕ) → s1 ≡ old ++ a → s2 ≡ s1 ++ b → s3 ≡ s2 ++ c → s4 ≡ s3 ++ d → s5 ≡ s4 ++ e → s6 ≡ s5 ++ f → s7 ≡ s6 ++ g
+    → s7 ≡ old ++ (a ++ b ++ c ++ d ++ e ++ f ++ g)
+seven old s1 s2 s3 s4 s5 s6 s7 a b c d e f g e1 e2 e3 e4 e5 e6 e7 = rw (e7, e6, e5, e4, e3, e2, e1) (simp append_assoc refl)
+
+pub actor_result : (old s1 s2 s3 a b c : List ℕ) → s1 ≡ old ++ a → s2 ≡ s1 ++ b → s3 ≡ s2 ++ c → s3 ≡ old ++ (a ++ b ++ c)
+actor_result old s1 s2 s3 a b c e1 e2 e3 = rw (e3, e2, e1) (simp append_assoc refl)

@@ -1,27 +1,25 @@
 -- Each token as a piece of a text.
-use Rattle.std.proofs.Common.{◌≡◌, ℕ, ℤ, pos, zero, suc, ◌+◌, ◌*◌, ◌^◌, ◌≤◌, ◌<◌, List, [], ◌∷◌, ◌++◌, length, take, drop, get_or, refl, sym, ap, ap₂, ◌∙◌, subst, arith, append_assoc, length-append, Bool, true, false, cond, decimal}
-use Rattle.std.proofs.Math.Seq.{take-append_seam, drop-append_seam}
+use Rattle.std.proofs.Common.{◌≡◌, ℕ, ◌≤◌, ◌<◌, List, [], ◌∷◌, ◌++◌, length, take, get_or, refl, sym, ap, ◌∙◌, subst, arith, Bool, true, false}
+use Rattle.std.proofs.Math.Seq.{take-append_seam}
 use Rattle.std.proofs.lemmas.Bool.Decides.{nat_tests}
-use Rattle.std.proofs.lemmas.List.Sums.{prefix_len-le-length}
 use Rattle.std.specs.Prelude.{◌&&◌, ◌||◌, eqb, nat_lt}
 use Rattle.std.specs.List.{list_all, prefix_len}
 use Rattle.flow_base.specs.declared.place.Place.{Place}
 use Rattle.flow_base.specs.Names.{letter, digit, name_byte, is_name_text}
-use Rattle.flow_ast.specs.declared.token.Token.{Token}
 use Rattle.flow_ast.specs.declared.token.Token.TheVariants as token
 use Rattle.flow_ast.specs.declared.token.Token.TheVariants.{Name, Number, Text}
 use Rattle.flow_ast.specs.declared.token.Word as words
 use Rattle.flow_ast.specs.declared.token.Sign as signs
-use Rattle.flow_ast.specs.declared.token.Sign.TheVariants.{OpenRound, CloseRound, OpenCurly, CloseCurly, OpenSquare, CloseSquare, Less, Greater, Comma, Semicolon, Dot, Assign, Equal, NotEqual, LessEqual, GreaterEqual, AndAnd, OrOr, Not, Plus, Minus, Star, Slash, Percent, PlusAssign, MinusAssign, PlusPlus, MinusMinus, Amp}
-use Rattle.flow_ast.specs.Spelling.{word_bytes, sign_bytes, Spells, IsBounded, begins_gap}
+use Rattle.flow_ast.specs.declared.token.Sign.TheVariants.{OpenRound, CloseRound, OpenCurly, CloseCurly, Less, Greater, Comma, Semicolon, Dot, Equal, NotEqual, LessEqual, GreaterEqual, AndAnd, OrOr, Not, Minus, PlusAssign, MinusAssign, PlusPlus, MinusMinus}
+use Rattle.flow_ast.specs.Spelling.{word_bytes, sign_bytes, begins_gap}
 use Rattle.flow_ast.specs.Lexing.{TokenAt}
-use Rattle.flow_ast.specs.GrammarToken.{Part, Marked, opens}
-use Rattle.flow_lex.specs.Next.{sign_byte, Found}
-use Rattle.flow_lex.proofs.Bytes.{and_left, and_right, both as both_true, true_false, word_is_name, sign_first}
+use Rattle.flow_ast.specs.GrammarToken.{Part, opens}
+use Rattle.flow_lex.specs.Next.{sign_byte}
+use Rattle.flow_lex.proofs.Bytes.{and_left, and_right, both as both_true, true_false, word_is_name}
 use Rattle.flow_lex.proofs.Longest.{FoundName, finds_name}
 use Rattle.flow_lex.proofs.Tables.{sign_missing}
 use Rattle.flow_lex.proofs.Tokens.{token_of, name_found, found_word, sign_one, sign_two}
-use Rattle.flow_show.proofs.Going.{Piece, Any, one_token}
+use Rattle.flow_show.proofs.Going.{Piece, one_token}
 
 -- what follows goes on no name, no word and no number
 abbrev pub Apart : List ℕ → Type 0
@@ -82,9 +80,11 @@ sign_piece ps g p = one_token ps (token.Sign g) p (sign_bytes g) (λ rest e. e.t
 
 one_ends : (g : signs.Sign) (b : ℕ) (rest : List ℕ) → sign_bytes g ≡ b ∷ [] → sign_byte b ≡ true → begins_gap (b ∷ rest) ≡ false
     → ((c : ℕ) (w : List ℕ) → rest ≡ c ∷ w → (h : signs.Sign) → sign_bytes h ≡ b ∷ (c ∷ []) → ⊥) → Ends g rest
-one_ends g b rest e f gap none = record { there =
-    subst (λ w. TokenAt (w ++ rest) (token.Sign g) (length w)) (sym e)
-    (token_of (b ∷ rest) (token.Sign g) 1 gap (sign_one (b ∷ rest) g f (omega arith) e (second rest none))) }
+one_ends g b rest e f gap none = record {
+  there =
+      subst (λ w. TokenAt (w ++ rest) (token.Sign g) (length w)) (sym e)
+      (token_of (b ∷ rest) (token.Sign g) 1 gap (sign_one (b ∷ rest) g f (omega arith) e (second rest none)));
+}
   where
     second : (rest : List ℕ) → ((c : ℕ) (w : List ℕ) → rest ≡ c ∷ w → (h : signs.Sign) → sign_bytes h ≡ b ∷ (c ∷ []) → ⊥) → 1 < length (b ∷ rest) → (h : signs.Sign) → sign_bytes h ≡ take 2 (b ∷ rest) → ⊥
     second [] none lt h q = omega arith
@@ -92,9 +92,11 @@ one_ends g b rest e f gap none = record { there =
 
 -- a sign of two bytes may stand before anything
 two_ends : (g : signs.Sign) (b c : ℕ) (rest : List ℕ) → sign_bytes g ≡ b ∷ (c ∷ []) → sign_byte b ≡ true → begins_gap (b ∷ (c ∷ rest)) ≡ false → Ends g rest
-two_ends g b c rest e f gap = record { there =
-    subst (λ w. TokenAt (w ++ rest) (token.Sign g) (length w)) (sym e)
-    (token_of (b ∷ (c ∷ rest)) (token.Sign g) 2 gap (sign_two (b ∷ (c ∷ rest)) g f (omega arith) e)) }
+two_ends g b c rest e f gap = record {
+  there =
+      subst (λ w. TokenAt (w ++ rest) (token.Sign g) (length w)) (sym e)
+      (token_of (b ∷ (c ∷ rest)) (token.Sign g) 2 gap (sign_two (b ∷ (c ∷ rest)) g f (omega arith) e));
+}
 
 -- the two bytes of some sign
 abbrev is_pair : ℕ → ℕ → Bool

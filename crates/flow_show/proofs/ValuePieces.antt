@@ -1,22 +1,21 @@
 -- Numbers and quoted texts as pieces of a text.
-use Rattle.std.proofs.Common.{◌≡◌, ℕ, ℤ, pos, negsuc, zero, suc, ◌+◌, ◌-◌, ◌*◌, ◌/◌, ◌%◌, ◌^◌, ◌≤◌, ◌<◌, List, [], ◌∷◌, ◌++◌, length, take, drop, get_or, refl, sym, ap, ap₂, ◌∙◌, subst, arith, append_assoc, length-append, Bool, true, false, cond, decimal, Some, None}
-use Rattle.std.proofs.Math.Seq.{take-append_seam, drop-append_seam}
+use Rattle.std.proofs.Common.{◌≡◌, ℕ, pos, zero, suc, ◌+◌, ◌/◌, ◌%◌, ◌^◌, ◌≤◌, ◌<◌, List, [], ◌∷◌, ◌++◌, length, take, get_or, refl, sym, ap, ◌∙◌, subst, arith, append_assoc, length-append, Bool, true, false, decimal, Some}
+use Rattle.std.proofs.Math.Seq.{take-append_seam}
 use Rattle.std.proofs.lemmas.Bool.Decides.{nat_tests}
 use Rattle.std.proofs.lemmas.Fmt.{decimal_is_IsNumeral, first_decimal, decimal_by_steps}
 use Rattle.std.proofs.lemmas.Str.Parse.{digit_from_value}
-use Rattle.std.specs.Prelude.{◌&&◌, ◌||◌, ◌==◌, eqb, nat_lt, nat_le, if◌then◌else◌}
+use Rattle.std.specs.Prelude.{◌&&◌, ◌==◌, nat_lt, nat_le, if◌then◌else◌}
 use Rattle.std.specs.Str.Parse.{AllDigits, digits_value}
 use Rattle.std.specs.List.{list_all, prefix_len}
 use Rattle.flow_base.specs.declared.place.Place.{Place}
-use Rattle.flow_base.specs.Names.{letter, digit, name_byte}
-use Rattle.flow_ast.specs.declared.token.Token.{Token}
+use Rattle.flow_base.specs.Names.{digit, name_byte}
 use Rattle.flow_ast.specs.declared.token.Token.TheVariants.{Number, Text}
 use Rattle.flow_ast.specs.Spelling.{plain_byte, escaped, hex_value, Piece as Spelled, itself, escape, code, Inside, empty, piece, begins_gap, IsLongest}
 use Rattle.flow_ast.specs.Lexing.{TokenAt}
 use Rattle.flow_ast.specs.GrammarToken.{Part, opens}
 use Rattle.flow_ast.specs.Canon.{hex_digit, byte_text, inside_text, quoted}
 use Rattle.flow_lex.specs.Next.{FoundNumber}
-use Rattle.flow_lex.proofs.Bytes.{and_left, and_right, both as both_true, true_false}
+use Rattle.flow_lex.proofs.Bytes.{and_left, and_right, both as both_true}
 use Rattle.flow_lex.proofs.Numbers.{finds_zero, finds_number}
 use Rattle.flow_lex.proofs.Pieces.{text_longest}
 use Rattle.flow_lex.proofs.Tokens.{token_of}

@@ -1,5 +1,5 @@
 -- What was written of a text, a line or a declaration at a time.
-use Rattle.std.proofs.Common.{◌≡◌, ℕ, ◌+◌, ◌-◌, ◌≤◌, ◌<◌, List, [], ◌∷◌, ◌++◌, map, length, take, drop, get_or, refl, sym, ap, ◌∙◌, subst, arith, append_assoc, Option}
+use Rattle.std.proofs.Common.{◌≡◌, ℕ, ◌+◌, ◌-◌, ◌<◌, List, [], ◌∷◌, ◌++◌, map, length, take, drop, get_or, refl, sym, ap, ◌∙◌, subst, append_assoc, Option}
 use Rattle.std.specs.Io.KnownBytes.{Appends}
 use Rattle.std.proofs.KnownBytes.{Appends-trans}
 use Rattle.std.proofs.lemmas.List.{append-nil, take-append-drop, take_more, drop_more, take_rest}
@@ -41,3 +41,29 @@ decls_split ds i d lt e =
     ap (λ l. decls_text (map decl_of l)) (sym (take-append-drop i ds)) ∙ decls_end (take i ds) (drop i ds)
     ∙ ap (λ l. decls_text (map decl_of (take i ds)) ++ decls_text (map decl_of l)) (drop_more ds i d lt)
     ∙ ap (λ z. decls_text (map decl_of (take i ds)) ++ (decl_text (decl_of z) ++ decls_text (map decl_of (drop (i + 1) ds)))) (sym e)
+
+-- one more declaration was written, or a part of it
+pub decl_written : (a b c : Option (List ℕ)) (ds : List Decl) (i : ℕ) (d : Decl) (piece : List ℕ) → i < length ds → d ≡ get_or ds i d → piece ≡ decl_text (decl_of d)
+    → Appends a b (decls_text (map decl_of (take i ds))) → Appends b c piece → Appends a c (decls_text (map decl_of (take (i + 1) ds)))
+decl_written a b c ds i d piece lt is e p q =
+    subst (Appends a c) (ap (λ l. decls_text (map decl_of (take i ds)) ++ l) e ∙ sym (decls_more ds i d lt is)) (Appends-trans a b c _ piece p q)
+
+pub decl_part : (a b c : Option (List ℕ)) (ds : List Decl) (i : ℕ) (d : Decl) (piece : List ℕ) → i < length ds → d ≡ get_or ds i d → piece ≡ decl_text (decl_of d)
+    → Appends a b (decls_text (map decl_of (take i ds))) → AppendsPart b c piece → AppendsPart a c (decls_text (map decl_of ds))
+decl_part a b c ds i d piece lt is e p q =
+    let rest = decls_text (map decl_of (drop (i + 1) ds)) in
+    part_behind a b c _ (decls_text (map decl_of (take i ds))) piece rest
+    (decls_split ds i d lt is ∙ ap (λ l. decls_text (map decl_of (take i ds)) ++ (l ++ rest)) (sym e)) p q
+
+-- the declarations up to this one are a first part of the text
+pub so_far : (a b : Option (List ℕ)) (ds : List Decl) (i : ℕ) → Appends a b (decls_text (map decl_of (take i ds))) → AppendsPart a b (decls_text (map decl_of ds))
+so_far a b ds i h = (
+  decls_text (map decl_of (take i ds)),
+  decls_text (map decl_of (drop i ds)),
+  ap (λ l. decls_text (map decl_of l)) (sym (take-append-drop i ds)) ∙ decls_end (take i ds) (drop i ds),
+  h,
+)
+
+pub decl_shown : (ds : List Decl) (i : ℕ) (d : Decl) (old new : List ℕ) → i < length ds → d ≡ get_or ds i d → old ≡ decls_text (map decl_of (take i ds))
+    → new ≡ old ++ decl_text (decl_of d) → new ≡ decls_text (map decl_of (take (i + 1) ds))
+decl_shown ds i d old new lt is h e = e ∙ ap (λ l. l ++ decl_text (decl_of d)) h ∙ sym (decls_more ds i d lt is)

@@ -4,7 +4,8 @@ use Rattle.std.specs.declared.option.Option.{Option}
 use Rattle.std.specs.declared.option.Option.TheVariants.{None, Some}
 use Rattle.flow_ast.specs.declared.ty.Ident.{Ident}
 use Rattle.flow_ast.specs.Body.{Body, Branches}
-use Rattle.flow_ast.specs.Canon.{line, body_text, branches_text}
+use Rattle.flow_ast.specs.Decls.{ParamTree}
+use Rattle.flow_ast.specs.Canon.{line, body_text, branches_text, params_text}
 
 -- The text grows by a statement at this level: with the text of any body behind it, it is what it was,
 -- with the text of the body that the statement and these make.
@@ -29,3 +30,9 @@ handler_text k x body = line k (codes "} catch (Error& " ++ x.name ++ codes ") {
 abbrev pub more_names_text : List Ident → List ℕ
 more_names_text [] = []
 more_names_text (x ∷ xs) = codes "." ++ x.name ++ more_names_text xs
+
+-- what stands behind the result of a function or an actor: its name, its parameters, its body and a
+-- closing line
+abbrev pub behind_result : Ident → List ParamTree → Body → List ℕ
+behind_result x params body =
+    codes " " ++ x.name ++ codes "(" ++ params_text params ++ (codes ") {" ++ 10 ∷ []) ++ body_text 1 body ++ (codes "}" ++ 10 ∷ [])

@@ -1,11 +1,12 @@
 // The texts of declarations.
 
-ghost use Rattle.std.specs.Prelude.{◌≡◌, [], ◌∷◌, ◌++◌, codes, map, IfOk};
+ghost use Rattle.std.specs.Prelude.{◌≡◌, ◌++◌, codes, IfOk};
 ghost use Rattle.flow_ast.specs.View.{type_of};
 ghost use Rattle.flow_ast.specs.StmtView.{body_of};
 ghost use Rattle.flow_ast.specs.DeclView.{params_of, record_of, function_of, actor_of, decl_of};
 ghost use Rattle.flow_ast.specs.Decls.{StructDecl};
-ghost use Rattle.flow_ast.specs.Canon.{type_text, body_text, fields_text, more_params_text, params_text, routine_text, decl_text};
+ghost use Rattle.flow_show.specs.Lines.{behind_result};
+ghost use Rattle.flow_ast.specs.Canon.{type_text, fields_text, more_params_text, params_text, routine_text, decl_text};
 
 use crate::source::Source;
 use flow_ast::decl::{ActorDecl, Decl, FunctionDecl, Param, RecordDecl};
@@ -57,8 +58,13 @@ impl Source {
     }
 
     // A function or an actor behind its result.
-    fn put_routine(&mut self, name: &Ident, params: &[Param], body: &[Stmt]) -> Result<(), NoMemory>
-        ensures { IfOk result (λ _. self.new ≡ self.old ++ codes " " ++ name.now.name ++ codes "(" ++ params_text (params_of params.now) ++ codes ") {" ++ 10 ∷ body_text 1 (body_of body.now) ++ codes "}" ++ 10 ∷ []) }
+    fn put_routine(
+        &mut self,
+        name: &Ident,
+        params: &Vec<Param>,
+        body: &Vec<Stmt>,
+    ) -> Result<(), NoMemory>
+        ensures { IfOk result (λ _. self.new ≡ self.old ++ behind_result name.now (params_of params.now.items) (body_of body.now.items)) }
     {
         self.put(b" ")?;
         self.put(name.name.bytes())?;
@@ -66,14 +72,16 @@ impl Source {
         self.put_params(params)?;
         self.put(b") {\n")?;
         self.put_body(1, body)?;
-        self.put(b"}\n")
+        self.put(b"}\n")?;
+        Ok(())
     }
 
     fn put_function(&mut self, function: &FunctionDecl) -> Result<(), NoMemory>
         ensures { IfOk result (λ _. self.new ≡ self.old ++ routine_text (type_text (type_of function.now.returns)) (function_of function.now)) }
     {
         self.put_type(&function.returns)?;
-        self.put_routine(&function.name, &function.params, &function.body)
+        self.put_routine(&function.name, &function.params, &function.body)?;
+        Ok(())
     }
 
     fn put_actor(&mut self, actor: &ActorDecl) -> Result<(), NoMemory>
@@ -82,7 +90,8 @@ impl Source {
         self.put(b"ACTOR Future<")?;
         self.put_type(&actor.returns)?;
         self.put(b">")?;
-        self.put_routine(&actor.name, &actor.params, &actor.body)
+        self.put_routine(&actor.name, &actor.params, &actor.body)?;
+        Ok(())
     }
 
     /// A declaration.

@@ -9,3 +9,5 @@ pub mod laws;
 pub mod show;
 mod source;
 mod stmt;
+#[cfg(test)]
+mod tests;

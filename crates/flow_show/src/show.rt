@@ -29,11 +29,7 @@ pub fn show(alloc: Global, program: &Program) -> Result<Vec<u8>, NoMemory>
 /// Writes the canonical text of a program, each line of it by one call where the sink takes it whole.
 /// What was written is always a first part of the text. `Failed` comes only where the sink's count
 /// rose. One declaration at a time is held in memory.
-pub fn show_lines<S: Sink>(
-    alloc: Global,
-    program: &Program,
-    out: &mut S,
-) -> Result<(), OutFault>
+pub fn show_lines<S: Sink>(alloc: Global, program: &Program, out: &mut S) -> Result<(), OutFault>
     ensures whole { OnOk result (Appends (S.written out.old) (S.written out.new) (Canon (program_of program.now))) }
     ensures part { AppendsPart (S.written out.old) (S.written out.new) (Canon (program_of program.now)) }
     ensures cause { HasCause (S.faults out.old) (S.faults out.new) result }

@@ -178,7 +178,13 @@ impl Source {
     }
 
     // A line of an expression between these bytes.
-    fn put_around(&mut self, level: usize, front: &[u8], expr: &Expr, back: &[u8]) -> Result<(), NoMemory>
+    fn put_around(
+        &mut self,
+        level: usize,
+        front: &[u8],
+        expr: &Expr,
+        back: &[u8],
+    ) -> Result<(), NoMemory>
         ensures { IfOk result (λ _. self.new ≡ self.old ++ line level (front.now ++ expr_text (expr_of expr.now) ++ back.now)) }
     {
         self.put_indent(level)?;
@@ -202,7 +208,13 @@ impl Source {
     }
 
     // The line at which a `for` begins.
-    fn put_for(&mut self, level: usize, init: &Option<Box<Stmt>>, test: &Option<Expr>, step: &Option<Box<Stmt>>) -> Result<(), NoMemory>
+    fn put_for(
+        &mut self,
+        level: usize,
+        init: &Option<Box<Stmt>>,
+        test: &Option<Expr>,
+        step: &Option<Box<Stmt>>,
+    ) -> Result<(), NoMemory>
         ensures { IfOk result (λ _. self.new ≡ self.old ++ line level (codes "for (" ++ part_text (simple_of init.now) ++ codes "; " ++ maybe_text [] (option_map expr_of test.now) ++ codes "; " ++ part_text (simple_of step.now) ++ codes ") {")) }
     {
         self.put_indent(level)?;
@@ -243,7 +255,12 @@ impl Source {
 
     // The line of a declaration.
     #[tactic(auto, using(crate::proofs::Texts::ended_line))]
-    fn put_declare_line(&mut self, level: usize, into: &Into, value: &Option<Expr>) -> Result<(), NoMemory>
+    fn put_declare_line(
+        &mut self,
+        level: usize,
+        into: &Into,
+        value: &Option<Expr>,
+    ) -> Result<(), NoMemory>
         ensures { IfOk result (λ _. self.new ≡ self.old ++ line level (declare_text (into_of into.now) (option_map expr_of value.now) ++ codes ";")) }
     {
         self.put_indent(level)?;
@@ -255,7 +272,12 @@ impl Source {
 
     // The line of an assignment.
     #[tactic(auto, using(crate::proofs::Texts::ended_line))]
-    fn put_assign_line(&mut self, level: usize, target: &Target, value: &Expr) -> Result<(), NoMemory>
+    fn put_assign_line(
+        &mut self,
+        level: usize,
+        target: &Target,
+        value: &Expr,
+    ) -> Result<(), NoMemory>
         ensures { IfOk result (λ _. self.new ≡ self.old ++ line level (assign_text target.now.path.items (expr_of value.now) ++ codes ";")) }
     {
         self.put_indent(level)?;
@@ -267,7 +289,12 @@ impl Source {
 
     // The line of a change in place.
     #[tactic(auto, using(crate::proofs::Texts::ended_line))]
-    fn put_modify_line(&mut self, level: usize, target: &Target, change: &Change) -> Result<(), NoMemory>
+    fn put_modify_line(
+        &mut self,
+        level: usize,
+        target: &Target,
+        change: &Change,
+    ) -> Result<(), NoMemory>
         ensures { IfOk result (λ _. self.new ≡ self.old ++ line level (modify_text target.now.path.items (change_of change.now) ++ codes ";")) }
     {
         self.put_indent(level)?;
@@ -279,7 +306,12 @@ impl Source {
 
     // The line of a call.
     #[tactic(auto, using(crate::proofs::Texts::ended_line))]
-    fn put_call_line(&mut self, level: usize, target: &Target, args: &[Expr]) -> Result<(), NoMemory>
+    fn put_call_line(
+        &mut self,
+        level: usize,
+        target: &Target,
+        args: &[Expr],
+    ) -> Result<(), NoMemory>
         ensures { IfOk result (λ _. self.new ≡ self.old ++ line level (call_text target.now.path.items (exprs_of args.now) ++ codes ";")) }
     {
         self.put_indent(level)?;

@@ -39,7 +39,7 @@ put_stmt-returns-in_ok-put_handler-in-Try t c =
     puts_kind k c.args.stmt.now _ _ _ _ _ c.in-Try.is (kind_try c.in-Try.body c.in-Try.error c.in-Try.handler) (λ at rest. refl)
     (five c.args.self.now _ _ _ (line k (codes "try {")) _ _ _ _ c.in_ok-put_line-in-Try.ensures c.in_ok-put_deeper-in-Try.ensures c.in_ok-put_handler-in-Try.ensures
     ∙ ap₂ (λ b h. c.args.self.now ++ (line k (codes "try {") ++ body_text (suc k) (body_of b) ++ line k (codes "} catch (Error& " ++ c.in-Try.error.name ++ codes ") {") ++ body_text (suc k) (body_of h) ++ line k (codes "}")))
-      c.deref-in-Try.ensures.value c.deref-in-Try-2.ensures.value)
+    c.deref-in-Try.ensures.value c.deref-in-Try-2.ensures.value)
 
 pub put_stmt-returns-in_ok-put_branches-in-Choose : goal.put_stmt-returns-in_ok-put_branches-in-Choose
 put_stmt-returns-in_ok-put_branches-in-Choose t c =
