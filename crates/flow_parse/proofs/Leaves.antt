@@ -8,6 +8,7 @@ use Rattle.std.proofs.lemmas.Option.{slice_get_within}
 use Rattle.std.proofs.lemmas.List.{take-append-drop, append-nil}
 use Rattle.flow_base.specs.declared.place.Place.{Place}
 use Rattle.flow_ast.specs.declared.token.Token.{Token}
+use Rattle.flow_ast.specs.declared.token.Token.TheVariants as token
 use Rattle.flow_ast.specs.declared.token.Spot.{Spot}
 use Rattle.flow_ast.specs.declared.token.Tokens.{Tokens}
 use Rattle.flow_ast.specs.declared.ty.Ident.{Ident}
@@ -17,6 +18,7 @@ use Rattle.flow_ast.specs.GrammarStmt.{Counts, StartsAt, begin_statement}
 use Rattle.flow_ast.specs.GrammarToken.{Part, Statement, Node, Marked, opens, begin, spots_of, InLimits, AllInLimits, Keeps}
 use Rattle.flow_ast.specs.GrammarAnswer.{place_at}
 use Rattle.flow_ast.proofs.GrammarLists.{spots_append, spots_begin, keeps_append, keeps_begin, length_spots}
+use Rattle.flow_exprs.specs.Answer.{ident_of, ident_in, ident_at}
 use Rattle.flow_parse.specs.Reading.{token_at, Opening, Tok, Named, Then, Any, Reads, Answer}
 use Rattle.flow_parse.specs.Parts.{NodeName, Placed, Begun, Marks}
 
@@ -118,7 +120,6 @@ glue a e f = e ∙ ap (λ z. a ++ z) f
 pub behind : {w a r b : List Marked} {x : Marked} → w ≡ a ++ r → a ≡ x ∷ [] → r ≡ b → w ≡ x ∷ b
 behind {r} {x} e f g = e ∙ ap (λ z. z ++ r) f ∙ ap (λ z. x ∷ z) g
 
-
 -- the first token of a part
 starts_first : (xs : List Marked) (rest ys : List Spot) (p : Place) → 0 < length xs → ys ≡ spots_of xs ++ rest → ((x : Spot) (zs : List Spot) → ys ≡ x ∷ zs → x.at ≡ p) → StartsAt xs p
 starts_first [] rest ys p h e f = absurd (omega arith)
@@ -189,3 +190,43 @@ marks_reads {to = to} spots p l r = record {
   is = r.is ∙ ap (λ z. z ++ drop to spots) (sym (spots_begin p r.marked));
   keeps = keeps_begin 7 p r.marked l r.keeps;
 }
+
+-- a name
+name_of : (t : Tokens) (at : ℕ) (s : Spot) (x : Ident) → slice_get t.spots.items at ≡ Some s → s.token ≡ token.Name x.name → s.at ≡ x.at → Reads Named Any t.spots.items at x (at + 1)
+name_of t at s x g e f =
+    record {
+      after = omega arith;
+      within = omega (arith, slice_get_within t.spots.items at s g);
+      marked = name_at x ∷ [];
+      rule = refl;
+      is = drop_one t.spots.items at s g ∙ ap (λ y. y ∷ drop (at + 1) t.spots.items) (spot_is s (token.Name x.name) x.at e f);
+      keeps = (tt, tt);
+    }
+
+names : (x : Token) (p : Place) (y : Ident) → ident_of x p ≡ Some y → (x ≡ token.Name y.name) × (p ≡ y.at)
+names (token.Name n) p y e = let f : record { name = n; at = p } ≡ y = cc in (ap (λ i. token.Name i.name) f, ap (λ i. i.at) f)
+names (token.Number n) p y e = absurd (cc)
+names (token.Text n) p y e = absurd (cc)
+names (token.Word n) p y e = absurd (cc)
+names (token.Sign n) p y e = absurd (cc)
+
+name_in : (t : Tokens) (at : ℕ) (o : Option Spot) (y : Ident) → slice_get t.spots.items at ≡ o → ident_in o ≡ Some y → Reads Named Any t.spots.items at y (at + 1)
+name_in t at None y g e = absurd (cc)
+name_in t at (Some s) y g e = let r = names s.token s.at y e in name_of t at s y g r.0 r.1
+
+pub name_reads : (t : Tokens) (at : ℕ) (y : Ident) → ident_at t.spots.items at ≡ Some y → Reads Named Any t.spots.items at y (at + 1)
+name_reads t at y e = name_in t at (slice_get t.spots.items at) y refl e
+
+-- a depth, or a number, in the two ways in which it is written
+pub deeper : {A : Type 0} {F : A → List Marked → Type 0} {spots : List Spot} {from to : ℕ} {a : A} (R : ℕ → List Marked → A → Type 0) (d : ℕ) → Reads (R (d + 1)) F spots from a to → Reads (R (suc d)) F spots from a to
+deeper {F = F} {spots = spots} {from = from} {to = to} {a = a} R d r = let e : d + 1 ≡ suc d = omega arith in subst (λ k. Reads (R k) F spots from a to) e r
+
+-- an answer for what is left
+pub answer_done : {A B X : Type 0} {W : List Marked → A → Type 0} {FW : A → List Marked → Type 0} {V : List Marked → B → Type 0} {FV : B → List Marked → Type 0} {g : B → A} {from at : ℕ} (FR : B → List Marked → Type 0) (v : X → B) (to : X → ℕ) (t : Tokens)
+    → Leaves W FW V FV g t.spots.items from at → (r : Result X SourceFault) → Answer V FR v to t at r → Answer W FW (λ x. g (v x)) to t from r
+answer_done FR v to t l (Ok x) a = done t.spots.items l a
+answer_done FR v to t l (Err e) a = tt
+
+-- a part with another parameter
+pub moved : {P A : Type 0} {F : A → List Marked → Type 0} {spots : List Spot} {from to : ℕ} {a : A} {p q : P} (R : P → List Marked → A → Type 0) → p ≡ q → Reads (R p) F spots from a to → Reads (R q) F spots from a to
+moved {F = F} {spots = spots} {from = from} {to = to} {a = a} R e r = subst (λ k. Reads (R k) F spots from a to) e r

@@ -6,3 +6,5 @@ pub mod Lift
 pub mod Stmts
 pub mod Decls
 pub mod Lists
+pub mod Trees
+pub mod Loops

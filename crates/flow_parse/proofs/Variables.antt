@@ -72,9 +72,9 @@ module _ (spots : List Spot) where
   end_args_left l = narrow spots _ Any (λ p. NoExprs) (λ u p r. (p, [], end_args, r)) l
 
   -- the names of a path
-  pub dot_left : {A : Type 0} {W : List Marked → A → Type 0} {FW : A → List Marked → Type 0} {FV : List Ident → List Marked → Type 0} {g : List Ident → A} {from at : ℕ} {x : Ident} → Leaves W FW (MoreNames x) FV g spots from at
-      → Leaves W FW (Then (Tok (token.Sign sign.Dot)) (λ p. Then Named MoreNames)) Any (λ y. g (x ∷ y.1.1)) spots from at
-  dot_left {x} l = narrow spots _ Any (λ y. x ∷ y.1.1) (λ u y r. more_names x y.0 (r.back.first ++ r.back.rest) (subst (λ z. PathRule (z ++ r.back.rest) y.1.1) (sym r.back.front) r.back.back) (ap (λ z. name_at x ∷ z) (behind r.is r.front r.back.is))) l
+  pub dot_left : {A : Type 0} {W : List Marked → A → Type 0} {FW : A → List Marked → Type 0} {g : List Ident → A} {from at : ℕ} {x : Ident} → Leaves W FW (MoreNames x) (NotBefore (token.Sign sign.Dot)) g spots from at
+      → Leaves W FW (Then (Tok (token.Sign sign.Dot)) (λ p. Then Named MoreNames)) (λ y. NotBefore (token.Sign sign.Dot) y.1.1) (λ y. g (x ∷ y.1.1)) spots from at
+  dot_left {x = x} l = narrow spots _ (λ y. NotBefore (token.Sign sign.Dot) y.1.1) (λ y. x ∷ y.1.1) (λ u y r. more_names x y.0 (r.back.first ++ r.back.rest) (subst (λ z. PathRule (z ++ r.back.rest) y.1.1) (sym r.back.front) r.back.back) (ap (λ z. name_at x ∷ z) (behind r.is r.front r.back.is))) l
 
 module _ (t : Tokens) (at d : ℕ) (p : Place) (xs : List Ident) (h : at ≤ length t.spots.items) where
   -- a change of a variable

@@ -1,7 +1,6 @@
 // Declarations.
 
 ghost use Rattle.std.specs.Prelude.{◌≡◌, ℕ, ◌+◌, ◌<◌, ◌≤◌, length, IfOk, Some};
-ghost use Rattle.std.specs.Vec.{vec_len};
 ghost use Rattle.flow_ast.specs.declared.token.Word.TheVariants as word;
 ghost use Rattle.flow_ast.specs.declared.token.Token.TheVariants as token;
 ghost use Rattle.flow_ast.specs.DeclView.{param_of, params_of, record_of, function_of, actor_of, decl_of};
@@ -71,7 +70,7 @@ fn params(alloc: Global, tokens: &Tokens, at: usize) -> Result<(Vec<Param>, usiz
     requires within { at ≤ length tokens.now.spots.items }
     ensures reads { Answer Params Any (λ r. params_of r.0.items) (λ r. r.1) tokens.now at result }
     ensures moves { IfOk result (λ r. (at < r.1) × (r.1 ≤ length tokens.now.spots.items)) }
-    ensures few { IfOk result (λ r. vec_len r.0 ≤ 1000) }
+    ensures few { IfOk result (λ r. length r.0.items ≤ 1000) }
 {
     let mut params = Vec::new(alloc);
     if is_sign(tokens, at, Sign::CloseRound) {
@@ -90,11 +89,7 @@ fn params(alloc: Global, tokens: &Tokens, at: usize) -> Result<(Vec<Param>, usiz
     Ok((params, to))
 }
 
-fn record(
-    alloc: Global,
-    tokens: &Tokens,
-    at: usize,
-) -> Result<(RecordDecl, usize), SourceFault>
+fn record(alloc: Global, tokens: &Tokens, at: usize) -> Result<(RecordDecl, usize), SourceFault>
     requires within { at ≤ length tokens.now.spots.items }
     requires here { token_at tokens.now.spots.items at ≡ Some (token.Word word.Struct) }
     ensures reads { Answer Record Any (λ r. record_of r.0) (λ r. r.1) tokens.now at result }
@@ -150,11 +145,7 @@ fn routine(
     })
 }
 
-fn function(
-    alloc: Global,
-    tokens: &Tokens,
-    at: usize,
-) -> Result<(FunctionDecl, usize), SourceFault>
+fn function(alloc: Global, tokens: &Tokens, at: usize) -> Result<(FunctionDecl, usize), SourceFault>
     requires within { at ≤ length tokens.now.spots.items }
     ensures reads { Answer Function Any (λ r. function_of r.0) (λ r. r.1) tokens.now at result }
     ensures moves { IfOk result (λ r. (at < r.1) × (r.1 ≤ length tokens.now.spots.items)) }
@@ -173,11 +164,7 @@ fn function(
     Ok((function, read.to))
 }
 
-fn actor(
-    alloc: Global,
-    tokens: &Tokens,
-    at: usize,
-) -> Result<(ActorDecl, usize), SourceFault>
+fn actor(alloc: Global, tokens: &Tokens, at: usize) -> Result<(ActorDecl, usize), SourceFault>
     requires within { at ≤ length tokens.now.spots.items }
     requires here { token_at tokens.now.spots.items at ≡ Some (token.Word word.Actor) }
     ensures reads { Answer Actor Any (λ r. actor_of r.0) (λ r. r.1) tokens.now at result }

@@ -136,7 +136,12 @@ pub fn more_names(
 }
 
 /// `"(" expr ")"`.
-pub fn test(alloc: Global, tokens: &Tokens, at: usize, depth: u32) -> Result<(Expr, usize), SourceFault>
+pub fn test(
+    alloc: Global,
+    tokens: &Tokens,
+    at: usize,
+    depth: u32,
+) -> Result<(Expr, usize), SourceFault>
     requires within { at ≤ length tokens.now.spots.items }
     ensures reads { Answer (Test depth) Any (λ r. expr_of r.0) (λ r. r.1) tokens.now at result }
     ensures moves { IfOk result (λ r. (at < r.1) × (r.1 ≤ length tokens.now.spots.items)) }
@@ -326,6 +331,7 @@ pub fn init(
     requires shallow { depth ≤ 64 }
     ensures reads { Answer (Init actor depth (counts_of counts)) (Before (token.Sign sign.Semicolon)) stmt_out (λ r. r.to) tokens.now at result }
     ensures stands { IfOk result (λ r. Stands r.stmt) }
+    ensures closed { IfOk result (λ r. r.ends_if ≡ false) }
     ensures moves { IfOk result (λ r. (at < r.to) × (r.to ≤ length tokens.now.spots.items)) }
 {
     if !is_name(tokens, at) {
@@ -359,6 +365,7 @@ fn unended(
     requires shallow { depth ≤ 64 }
     ensures reads { Answer (Unended actor depth (counts_of counts)) (Before (token.Sign sign.Semicolon)) stmt_out (λ r. r.to) tokens.now at result }
     ensures stands { IfOk result (λ r. Stands r.stmt) }
+    ensures closed { IfOk result (λ r. r.ends_if ≡ false) }
     ensures moves { IfOk result (λ r. (at < r.to) × (r.to ≤ length tokens.now.spots.items)) }
 {
     if is_word(tokens, at, Word::Wait) || is_word(tokens, at, Word::WaitNext) {
@@ -386,10 +393,10 @@ fn unended(
 
 /// A statement that ends in no `if`.
 pub fn ended(stmt: Stmt, to: usize, counts: Counts) -> ReadStmt
+    ensures is { result ≡ record { stmt = stmt; to = to; counts = counts; ends_if = false } }
     ensures same { result.stmt ≡ stmt }
-    ensures moves { result.to ≡ to }
-    ensures counts { result.counts ≡ counts }
     ensures closed { result.ends_if ≡ false }
+    ensures moves { result.to ≡ to }
 {
     ReadStmt {
         stmt,
@@ -412,6 +419,7 @@ pub fn simple(
     requires shallow { depth ≤ 64 }
     ensures reads { Answer (Simple actor depth (counts_of counts)) Any stmt_out (λ r. r.to) tokens.now at result }
     ensures stands { IfOk result (λ r. Stands r.stmt) }
+    ensures closed { IfOk result (λ r. r.ends_if ≡ false) }
     ensures moves { IfOk result (λ r. (at < r.to) × (r.to ≤ length tokens.now.spots.items)) }
 {
     let read = unended(alloc, tokens, at, actor, depth, counts)?;

@@ -16,7 +16,9 @@ ghost use Rattle.flow_parse.specs.Views.{counts_of, stmt_out, body_out, block_ou
 
 use crate::build;
 use crate::simple::{Counts, ReadStmt, change, ended, init, more_names, simple, test, waiting};
-use crate::token::{DEPTH, begins_type, expr, is_name, is_sign, is_word, name, place, refused, sign, word};
+use crate::token::{
+    DEPTH, begins_type, expr, is_name, is_sign, is_word, name, place, refused, sign, word,
+};
 use flow_ast::expr::Expr;
 use flow_ast::fault::{Rule, SourceFault};
 use flow_ast::stmt::{Stmt, Waiting, When};
@@ -434,6 +436,12 @@ fn loop_stmt(
     })
 }
 
+fn boxed(alloc: Global, stmt: Stmt) -> Result<Box<Stmt>, SourceFault>
+    ensures { IfOk result (λ b. b.value ≡ stmt) }
+{
+    Ok(Box::new(alloc, stmt)?)
+}
+
 // The init of a `for`, if there is one, and the semicolon behind it.
 fn start_part(
     alloc: Global,
@@ -461,8 +469,9 @@ fn start_part(
     let counts = begin(tokens, at, depth, counts)?;
     let read = init(alloc, tokens, at, actor, depth, counts)?;
     let to = sign(tokens, read.to, Sign::Semicolon)?;
+    let part = boxed(alloc, read.stmt)?;
     Ok(ReadPart {
-        part: Some(Box::new(alloc, read.stmt)?),
+        part: Some(part),
         to,
         counts: read.counts,
     })
@@ -494,8 +503,9 @@ fn next_part(
     let counts = begin(tokens, at, depth, counts)?;
     let (stmt, at) = assignment(alloc, tokens, at, depth)?;
     let to = sign(tokens, at, Sign::CloseRound)?;
+    let part = boxed(alloc, stmt)?;
     Ok(ReadPart {
-        part: Some(Box::new(alloc, stmt)?),
+        part: Some(part),
         to,
         counts,
     })
@@ -611,6 +621,7 @@ fn throw_stmt(
 
 // `"catch" "(" "Error" "&" name ")"`.
 fn catch(alloc: Global, tokens: &Tokens, at: usize) -> Result<(Ident, usize), SourceFault>
+    requires within { at ≤ length tokens.now.spots.items }
     ensures reads { Answer Catch Any (λ r. r.0) (λ r. r.1) tokens.now at result }
     ensures moves { IfOk result (λ r. (at < r.1) × (r.1 ≤ length tokens.now.spots.items)) }
 {
@@ -689,10 +700,10 @@ fn whens(
     let mut at = first.to;
     let mut counts = first.counts;
     let mut number = 2;
-    branches.push(build::when(first.at, first.waiting, first.body))?;
+    branches.push(build::branch(first.at, first.waiting, first.body))?;
     'branches: while is_word(tokens, at, Word::When) {
         let read = when(alloc, tokens, at, actor, depth, number, counts)?;
-        branches.push(build::when(read.at, read.waiting, read.body))?;
+        branches.push(build::branch(read.at, read.waiting, read.body))?;
         at = read.to;
         counts = read.counts;
         number += 1;

@@ -6,12 +6,14 @@ ghost use Rattle.flow_ast.specs.GrammarAnswer.{place_at};
 ghost use Rattle.flow_ast.specs.View.{type_of, expr_of};
 ghost use Rattle.flow_ast.specs.Grammar.{TypeRule, ExprRule};
 ghost use Rattle.flow_parse.specs.Reading.{token_at, Tok, Named, Any, Answer};
+ghost use Rattle.flow_exprs.specs.Answer.{ident_of, ident_at};
 ghost use Rattle.flow_parse.specs.Follow.{ExprEnds};
 
 use flow_ast::expr::Expr;
 use flow_ast::fault::{Rule, SourceFault};
 use flow_ast::token::{Sign, Token, Tokens, Word};
 use flow_ast::ty::{Ident, Ty};
+use flow_base::memory::NoMemory;
 use flow_base::place::Place;
 use flow_exprs::expr::parse_expr;
 use flow_exprs::kind::{self, Kind};
@@ -96,10 +98,10 @@ pub fn sign(tokens: &Tokens, at: usize, wanted: Sign) -> Result<usize, SourceFau
     ensures reads { Answer (Tok (Token.Sign wanted)) Any (λ to. place_at tokens.now at) (λ to. to) tokens.now at result }
     ensures moves { IfOk result (λ to. (to ≡ at + 1) × (to ≤ length tokens.now.spots.items)) }
 {
-    match tokens.spots.get(at) {
-        Some(spot) if token_is_sign(&spot.token, wanted) => Ok(at + 1),
-        _ => Err(refused(tokens, Rule::S(5), at)),
+    if !is_sign(tokens, at, wanted) {
+        return Err(refused(tokens, Rule::S(5), at));
     }
+    Ok(at + 1)
 }
 
 /// The number of the token after this word; S5 where it doesn't stand here.
@@ -107,26 +109,43 @@ pub fn word(tokens: &Tokens, at: usize, wanted: Word) -> Result<usize, SourceFau
     ensures reads { Answer (Tok (Token.Word wanted)) Any (λ to. place_at tokens.now at) (λ to. to) tokens.now at result }
     ensures moves { IfOk result (λ to. (to ≡ at + 1) × (to ≤ length tokens.now.spots.items)) }
 {
+    if !is_word(tokens, at, wanted) {
+        return Err(refused(tokens, Rule::S(5), at));
+    }
+    Ok(at + 1)
+}
+
+// The name that this token is.
+fn token_name(alloc: Global, token: &Token, at: Place) -> Result<Option<Ident>, NoMemory>
+    ensures { IfOk result (λ o. o ≡ ident_of token.now at) }
+{
+    match token {
+        Token::Name(name) => Ok(Some(Ident {
+            name: name.copy(alloc)?,
+            at,
+        })),
+        Token::Number(_) | Token::Text(_) | Token::Word(_) | Token::Sign(_) => Ok(None),
+    }
+}
+
+// The name that stands here.
+fn read_name(alloc: Global, tokens: &Tokens, at: usize) -> Result<Option<Ident>, NoMemory>
+    ensures { IfOk result (λ o. o ≡ ident_at tokens.now.spots.items at) }
+{
     match tokens.spots.get(at) {
-        Some(spot) if token_is_word(&spot.token, wanted) => Ok(at + 1),
-        _ => Err(refused(tokens, Rule::S(5), at)),
+        Some(spot) => token_name(alloc, &spot.token, spot.at),
+        None => Ok(None),
     }
 }
 
 /// The name that stands here, and the number of the token after it; S5 where none does.
 pub fn name(alloc: Global, tokens: &Tokens, at: usize) -> Result<(Ident, usize), SourceFault>
+    requires within { at ≤ length tokens.now.spots.items }
     ensures reads { Answer Named Any (λ r. r.0) (λ r. r.1) tokens.now at result }
     ensures moves { IfOk result (λ r. (r.1 ≡ at + 1) × (r.1 ≤ length tokens.now.spots.items)) }
 {
-    let Some(spot) = tokens.spots.get(at) else {
+    let Some(name) = read_name(alloc, tokens, at)? else {
         return Err(refused(tokens, Rule::S(5), at));
-    };
-    let Token::Name(name) = &spot.token else {
-        return Err(refused(tokens, Rule::S(5), at));
-    };
-    let name = Ident {
-        name: name.copy(alloc)?,
-        at: spot.at,
     };
     Ok((name, at + 1))
 }
