@@ -8,3 +8,4 @@ pub mod Decls
 pub mod Lists
 pub mod Trees
 pub mod Loops
+pub mod Kinds

@@ -1,5 +1,5 @@
 -- What a loop has read, put before what follows.
-use Rattle.std.proofs.Common.{◌≡◌, List, [], ◌∷◌, ◌++◌, map, refl, ap, ◌∙◌}
+use Rattle.std.proofs.Common.{◌≡◌, List, [], ◌∷◌, ◌++◌, map, length, suc, refl, ap, ◌∙◌}
 use Rattle.flow_ast.specs.declared.expr.Expr.{Expr}
 use Rattle.flow_ast.specs.declared.stmt.Stmt.{Stmt}
 use Rattle.flow_ast.specs.declared.stmt.When.{When}
@@ -55,3 +55,7 @@ params_push (x ∷ ps) p qs = ap (λ z. param_of x ∷ z) (params_push ps p qs)
 pub decls_push : (ds : List Decl) (d : Decl) (qs : List DeclTree) → map decl_of ds ++ (decl_of d ∷ qs) ≡ map decl_of (ds ++ d ∷ []) ++ qs
 decls_push [] d qs = refl
 decls_push (x ∷ ds) d qs = ap (λ z. decl_of x ∷ z) (decls_push ds d qs)
+
+pub params_length : (ps : List Param) → length ps ≡ length (params_of ps)
+params_length [] = refl
+params_length (x ∷ ps) = ap suc (params_length ps)

@@ -118,6 +118,14 @@ pub struct ReadRoutine {
     pub to: usize,
 }
 
+// How many parameters there are.
+fn count(params: &Vec<Param>) -> u32
+    requires { length params.now.items ≤ 1000 }
+    ensures { result ≡ length params.now.items }
+{
+    params.len() as u32
+}
+
 fn routine(
     alloc: Global,
     tokens: &Tokens,
@@ -133,7 +141,7 @@ fn routine(
     let (params, at) = params(alloc, tokens, at)?;
     let counts = Counts {
         statements: 0,
-        variables: params.len() as u32,
+        variables: count(&params),
     };
     let read = block(alloc, tokens, at, actor, 2, counts)?;
     Ok(ReadRoutine {
