@@ -8,4 +8,4 @@ pub mod Decls
 pub mod Lists
 pub mod Trees
 pub mod Loops
-pub mod Kinds
+pub mod OtherBody
