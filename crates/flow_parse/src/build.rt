@@ -32,7 +32,6 @@ pub fn if_stmt(at: Place, test: Expr, body: Vec<Stmt>) -> Stmt
     }
 }
 
-#[tactic(auto, using(crate::proofs::OtherBody::kind_if_else))]
 pub fn if_else(at: Place, test: Expr, body: Vec<Stmt>, other: Vec<Stmt>) -> Stmt
     ensures is { (rest : Body) → stmt_of result rest ≡ IfElseStmt at (expr_of test) (body_of body.items) (body_of other.items) rest }
     ensures stands { Stands result }
