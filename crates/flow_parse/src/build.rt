@@ -138,7 +138,7 @@ pub fn choose(at: Place, branches: Vec<When>) -> Stmt
     }
 }
 
-pub fn branch(at: Place, waiting: Waiting, body: Vec<Stmt>) -> When
+pub fn when_branch(at: Place, waiting: Waiting, body: Vec<Stmt>) -> When
     ensures { (more : Branches) → branch_of result more ≡ MoreBranches at (waiting_of waiting) (body_of body.items) more }
 {
     When { at, waiting, body }

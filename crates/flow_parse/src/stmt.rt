@@ -700,10 +700,10 @@ fn whens(
     let mut at = first.to;
     let mut counts = first.counts;
     let mut number = 2;
-    branches.push(build::branch(first.at, first.waiting, first.body))?;
+    branches.push(build::when_branch(first.at, first.waiting, first.body))?;
     'branches: while is_word(tokens, at, Word::When) {
         let read = when(alloc, tokens, at, actor, depth, number, counts)?;
-        branches.push(build::branch(read.at, read.waiting, read.body))?;
+        branches.push(build::when_branch(read.at, read.waiting, read.body))?;
         at = read.to;
         counts = read.counts;
         number += 1;

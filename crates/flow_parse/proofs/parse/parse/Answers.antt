@@ -16,7 +16,7 @@ use Rattle.flow_parse.specs.Follow.{ExprEnds, Before, NotBefore}
 use Rattle.flow_parse.specs.Parts.{NoElse, Args, Test, MaybeExpr, StartPart, NextPart, ChangeRule, ChangedRule, DeclaredRule, ValuedRule, Init, Unended, Simple, Plain, One, BodyPart, Closing, Block, Catch, Begun, Placed, Assignment, WhenPart, AllWhens, Params, AllFields, Routine, Record, Function, Actor}
 use Rattle.flow_parse.specs.Views.{counts_of, stmt_out, body_out, block_out, into_out, routine_out}
 use Rattle.flow_parse.proofs.Leaves.{nothing, then_reads, done, tok_reads, opening_reads, deeper, moved, placed_reads, node_reads, begun_reads, marks_reads, answer_become, answer_begun, answer_done, become}
-use Rattle.std.proofs.Common.{◌≡◌}
+use Rattle.std.proofs.Common.{◌≡◌, ◌≤◌, length}
 use Rattle.flow_ast.specs.GrammarDecl.{DeclsRule}
 use Rattle.flow_parse.specs.Follow.{AtEnd}
 use Rattle.flow_parse.proofs.Leaves.{means}
@@ -41,4 +41,5 @@ items-preserved c =
 pub returns-clause-sound : goal.returns-clause-sound
 returns-clause-sound c =
     let t = c.args.tokens.now in
-    program_derived t c.items.at _ c.items-test.false (decls_done t.spots.items c.items.at c.items.number c.items.decls.items c.items.invariant.2)
+    let h : length t.spots.items ≤ c.items.at = omega (arith, c.items-test.false, c.len-in-items.ensures) in
+    program_derived t c.items.at _ h (decls_done t.spots.items c.items.at c.items.number c.items.decls.items c.items.invariant.2)

@@ -144,8 +144,8 @@ when-returns-clause-reads h c =
 pub whens-branches-init : goal.whens-branches-init
 whens-branches-init h c =
     let t = c.args.tokens.now in
-    let q = c.in_ok-push.ensures.items ∙ ap (λ z. z ++ c.branch.result ∷ []) c.new-branches.ensures.items in
-    let l = whens_init t c.args.at c.args.actor c.args.depth (counts_of c.args.counts) c.in_ok-first.first.to (when_out c.in_ok-first.first) c.branch.result c.push.new.self.items c.requires.within q c.branch.ensures c.in_ok-first.ensures.reads in
+    let q = c.in_ok-push.ensures.items ∙ ap (λ z. z ++ c.when_branch.result ∷ []) c.new-branches.ensures.items in
+    let l = whens_init t c.args.at c.args.actor c.args.depth (counts_of c.args.counts) c.in_ok-first.first.to (when_out c.in_ok-first.first) c.when_branch.result c.push.new.self.items c.requires.within q c.when_branch.ensures c.in_ok-first.ensures.reads in
     (c.in_ok-first.ensures.moves.0, c.in_ok-first.ensures.moves.1, omega arith, l)
 
 pub whens-branches-preserved : goal.whens-branches-preserved
@@ -154,7 +154,7 @@ whens-branches-preserved h c =
     let i = c.branches.invariant in
     let n = c.branches.number in
     let e : n + 1 ≡ suc n = omega arith in
-    let l = whens_step s c.args.actor c.args.depth (counts_of c.args.counts) c.args.at c.branches.at c.in_ok-read.read.to n (n + 1) (counts_of c.branches.counts) (when_out c.in_ok-read.read) c.branch-in-branches.result c.branches.branches.items c.push-in-branches.new.self.items c.in_ok-push-2.ensures.items c.branch-in-branches.ensures e i.3 c.in_ok-read.ensures.reads in
+    let l = whens_step s c.args.actor c.args.depth (counts_of c.args.counts) c.args.at c.branches.at c.in_ok-read.read.to n (n + 1) (counts_of c.branches.counts) (when_out c.in_ok-read.read) c.when_branch-in-branches.result c.branches.branches.items c.push-in-branches.new.self.items c.in_ok-push-2.ensures.items c.when_branch-in-branches.ensures e i.3 c.in_ok-read.ensures.reads in
     (omega (arith, i.0, c.in_ok-read.ensures.moves.0), c.in_ok-read.ensures.moves.1, omega (arith, c.in_ok-read.ensures.few), l)
 
 pub whens-returns-clause-reads : goal.whens-returns-clause-reads
