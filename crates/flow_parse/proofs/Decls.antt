@@ -1,6 +1,5 @@
 -- How declarations are read.
-use Rattle.std.proofs.Common.{◌≡◌, ℕ, zero, suc, ◌+◌, ◌≤◌, ◌<◌, Bool, true, false, List, [], ◌∷◌, ◌++◌, length, refl, sym, ap, ◌∙◌, subst, arith, append_assoc, drop}
-use Rattle.std.proofs.lemmas.List.{append-nil}
+use Rattle.std.proofs.Common.{◌≡◌, ℕ, suc, ◌≤◌, ◌<◌, Bool, true, false, List, [], ◌∷◌, ◌++◌, length, refl, sym, ap, ◌∙◌, subst, arith, append_assoc}
 use Rattle.flow_base.specs.declared.place.Place.{Place}
 use Rattle.flow_ast.specs.declared.token.Token.TheVariants as token
 use Rattle.flow_ast.specs.declared.token.Word.TheVariants as word
@@ -9,14 +8,14 @@ use Rattle.flow_ast.specs.declared.token.Spot.{Spot}
 use Rattle.flow_ast.specs.declared.token.Tokens.{Tokens}
 use Rattle.flow_ast.specs.declared.ty.Ident.{Ident}
 use Rattle.flow_ast.specs.Tree.{TypeTree}
-use Rattle.flow_ast.specs.Decls.{ParamTree, RecordTree, RoutineTree, DeclTree, StructDecl}
-use Rattle.flow_ast.specs.GrammarToken.{Part, Declaration, Node, Variable, Marked, begin}
+use Rattle.flow_ast.specs.Decls.{ParamTree, DeclTree}
+use Rattle.flow_ast.specs.GrammarToken.{Declaration, Node, Variable, Marked, begin}
 use Rattle.flow_ast.specs.Grammar.{sign_at, word_at, name_at, TypeRule}
-use Rattle.flow_ast.specs.GrammarStmt.{Counts, StartsAt}
-use Rattle.flow_ast.specs.GrammarDecl.{ParamRule, param, FieldsRule, no_fields, more_fields, MoreParamsRule, end_params, more_params, ParamsRule, no_params, some_params, RecordRule, fields, RoutineRule, routine, DeclRule, record_decl, function_decl, actor_decl, DeclsRule, no_decls, more_decls}
-use Rattle.flow_parse.specs.Reading.{token_at, Tok, Named, Then, Any, Reads}
+use Rattle.flow_ast.specs.GrammarStmt.{StartsAt}
+use Rattle.flow_ast.specs.GrammarDecl.{ParamRule, param, FieldsRule, no_fields, more_fields, end_params, more_params, no_params, some_params, RecordRule, fields, routine, DeclRule, record_decl, function_decl, actor_decl, DeclsRule, more_decls}
+use Rattle.flow_parse.specs.Reading.{Tok, Named, Then, Any}
 use Rattle.flow_parse.specs.Follow.{AtEnd}
-use Rattle.flow_parse.specs.Parts.{BlockOut, RoutineOut, Placed, Marks, Block, FieldsPart, AllFields, MoreParams, Params, Routine, Record, Function, Actor}
+use Rattle.flow_parse.specs.Parts.{Placed, Marks, Block, FieldsPart, AllFields, MoreParams, Params, Routine, Record, Function, Actor}
 use Rattle.flow_parse.proofs.Leaves.{Leaves, nothing, narrow, glue, behind, starts_append}
 use Rattle.flow_parse.proofs.Stmts.{closed_by}
 

@@ -1,11 +1,11 @@
 -- What is left of a part when some of its tokens have been read.
-use Rattle.std.proofs.Common.{◌≡◌, ℕ, zero, suc, ◌+◌, ◌-◌, ◌≤◌, ◌<◌, List, [], ◌∷◌, ◌++◌, length, take, drop, refl, sym, ap, ◌∙◌, subst, arith, append_assoc, slice_get, length-append, length-drop, add-one}
+use Rattle.std.proofs.Common.{◌≡◌, ℕ, zero, suc, ◌+◌, ◌≤◌, ◌<◌, List, [], ◌∷◌, ◌++◌, length, drop, refl, sym, ap, ◌∙◌, subst, arith, append_assoc, slice_get, length-append, length-drop}
 use Rattle.std.specs.Prelude.{unwrap_or, Result, Ok, Err}
 use Rattle.std.specs.Option.{option_map}
 use Rattle.std.specs.declared.option.Option.{Option}
 use Rattle.std.specs.declared.option.Option.TheVariants.{None, Some}
 use Rattle.std.proofs.lemmas.Option.{slice_get_within}
-use Rattle.std.proofs.lemmas.List.{take-append-drop, append-nil}
+use Rattle.std.proofs.lemmas.List.{append-nil}
 use Rattle.flow_base.specs.declared.place.Place.{Place}
 use Rattle.flow_ast.specs.declared.token.Token.{Token}
 use Rattle.flow_ast.specs.declared.token.Token.TheVariants as token

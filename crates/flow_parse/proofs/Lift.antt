@@ -1,5 +1,5 @@
 -- A statement alone is also a statement before others.
-use Rattle.std.proofs.Common.{◌≡◌, ℕ, Bool, List}
+use Rattle.std.proofs.Common.{ℕ, Bool, List}
 use Rattle.flow_base.specs.declared.place.Place.{Place}
 use Rattle.flow_ast.specs.Body.{Body, End}
 use Rattle.flow_ast.specs.GrammarToken.{Marked}

@@ -3,7 +3,6 @@ use Rattle.std.proofs.Common.{◌≡◌, ℕ, suc, ◌+◌, ◌≤◌, Bool, Lis
 use Rattle.std.proofs.lemmas.List.{append-nil}
 use Rattle.flow_base.specs.declared.place.Place.{Place}
 use Rattle.flow_ast.specs.declared.token.Token.TheVariants as token
-use Rattle.flow_ast.specs.declared.token.Word.TheVariants as word
 use Rattle.flow_ast.specs.declared.token.Sign.TheVariants as sign
 use Rattle.flow_ast.specs.declared.token.Spot.{Spot}
 use Rattle.flow_ast.specs.declared.token.Tokens.{Tokens}
@@ -13,8 +12,8 @@ use Rattle.flow_ast.specs.declared.stmt.Stmt.{Stmt}
 use Rattle.flow_ast.specs.declared.stmt.When.{When}
 use Rattle.flow_ast.specs.declared.decl.Param.{Param}
 use Rattle.flow_ast.specs.declared.decl.Decl.{Decl}
-use Rattle.flow_ast.specs.Tree.{ExprTree, ExprTrees, NoExprs, MoreExprs}
-use Rattle.flow_ast.specs.Body.{Body, End, Branches, NoBranches, MoreBranches}
+use Rattle.flow_ast.specs.Tree.{ExprTree}
+use Rattle.flow_ast.specs.Body.{End, Branches, MoreBranches}
 use Rattle.flow_ast.specs.Decls.{ParamTree, DeclTree}
 use Rattle.flow_ast.specs.View.{expr_of, exprs_of}
 use Rattle.flow_ast.specs.StmtView.{stmt_of, body_of, branch_of, branches_of}
@@ -25,9 +24,9 @@ use Rattle.flow_ast.specs.GrammarStmt.{Counts, last_name}
 use Rattle.flow_ast.specs.GrammarDecl.{ParamRule, DeclRule, DeclsRule, no_decls, program, IsProgram}
 use Rattle.flow_parse.specs.Reading.{Tok, Named, Any, Reads}
 use Rattle.flow_parse.specs.Follow.{NotBefore, AtEnd}
-use Rattle.flow_parse.specs.Parts.{Out, BlockOut, WhenOut, Args, MoreArgs, MoreNames, One, Closing, WhenPart, WhensPart, AllWhens, FieldsPart, AllFields, MoreParams, Params, Marks, put_before}
+use Rattle.flow_parse.specs.Parts.{Out, BlockOut, WhenOut, Args, MoreArgs, MoreNames, One, Closing, WhenPart, WhensPart, AllWhens, FieldsPart, AllFields, MoreParams, Params}
 use Rattle.flow_parse.specs.Views.{Stands}
-use Rattle.flow_parse.proofs.Leaves.{Leaves, nothing, means, then_reads, done, ended, marks_reads}
+use Rattle.flow_parse.proofs.Leaves.{Leaves, means, then_reads, done, ended, marks_reads}
 use Rattle.flow_parse.proofs.Variables.{args_left, more_args_left, end_args_left, dot_left}
 use Rattle.flow_parse.proofs.Stmts.{stmt_left, end_left, whens_left, more_left, end_whens}
 use Rattle.flow_parse.proofs.Decls.{params_left, more_params_left, end_params_left, fields_left, more_fields_left, end_fields_left, decl_left}

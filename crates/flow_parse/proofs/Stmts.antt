@@ -1,22 +1,19 @@
 -- How statements, bodies and branches are read.
-use Rattle.std.proofs.Common.{◌≡◌, ℕ, zero, suc, ◌+◌, ◌≤◌, ◌<◌, Bool, true, false, List, [], ◌∷◌, ◌++◌, length, refl, sym, ap, ◌∙◌, subst, arith, append_assoc, drop}
-use Rattle.std.proofs.lemmas.List.{append-nil}
+use Rattle.std.proofs.Common.{◌≡◌, ℕ, suc, ◌≤◌, Bool, true, false, List, [], ◌∷◌, ◌++◌, length, refl, sym, ap, ◌∙◌, subst, append_assoc}
 use Rattle.std.specs.declared.option.Option.TheVariants.{None, Some}
-use Rattle.flow_base.specs.declared.place.Place.{Place}
 use Rattle.flow_ast.specs.declared.token.Token.TheVariants as token
 use Rattle.flow_ast.specs.declared.token.Word.TheVariants as word
 use Rattle.flow_ast.specs.declared.token.Sign.TheVariants as sign
 use Rattle.flow_ast.specs.declared.token.Spot.{Spot}
 use Rattle.flow_ast.specs.declared.token.Tokens.{Tokens}
-use Rattle.flow_ast.specs.declared.ty.Ident.{Ident}
 use Rattle.flow_ast.specs.Body.{Body, End, BlockStmt, IfStmt, IfElseStmt, WhileStmt, ForStmt, LoopStmt, BreakStmt, ContinueStmt, ReturnStmt, ThrowStmt, TryStmt, ChooseStmt, Branches, NoBranches, MoreBranches}
 use Rattle.flow_ast.specs.GrammarToken.{Node, Branch, Marked}
-use Rattle.flow_ast.specs.Grammar.{sign_at, name_at, ExprRule}
-use Rattle.flow_ast.specs.GrammarStmt.{Counts, one_statement, MaybeExprRule, no_expr, some_expr, no_init, some_init, no_step, some_step, if_stmt, if_else_stmt, while_stmt, for_stmt, loop_stmt, break_stmt, continue_stmt, return_stmt, throw_stmt, try_stmt, choose_stmt, PlainRule, StmtRule, block_stmt, plain_stmt, BlockRule, braces, BodyRule, block_body, one_body, no_stmts, more_stmts, no_whens, more_whens, branch}
-use Rattle.flow_parse.specs.Reading.{token_at, Opening, Tok, Named, Then, Any, Reads}
-use Rattle.flow_parse.specs.Follow.{ExprEnds, Before, NotBefore}
-use Rattle.flow_parse.specs.Parts.{NoElse, Out, BlockOut, WhenOut, Test, MaybeExpr, Placed, Begun, Init, Assignment, StartPart, NextPart, Plain, One, BodyPart, Closing, Block, Catch, WaitingPart, WhenPart, WhensPart, AllWhens, put_before}
-use Rattle.flow_parse.proofs.Leaves.{Leaves, nothing, narrow, become, glue, behind}
+use Rattle.flow_ast.specs.Grammar.{ExprRule}
+use Rattle.flow_ast.specs.GrammarStmt.{Counts, one_statement, no_expr, some_expr, no_init, some_init, no_step, some_step, if_stmt, if_else_stmt, while_stmt, for_stmt, loop_stmt, break_stmt, continue_stmt, return_stmt, throw_stmt, try_stmt, choose_stmt, PlainRule, block_stmt, plain_stmt, BlockRule, braces, BodyRule, block_body, one_body, no_stmts, more_stmts, no_whens, more_whens, branch}
+use Rattle.flow_parse.specs.Reading.{Opening, Tok, Named, Then, Any, Reads}
+use Rattle.flow_parse.specs.Follow.{NotBefore}
+use Rattle.flow_parse.specs.Parts.{NoElse, Out, BlockOut, Test, MaybeExpr, Placed, Begun, Init, Assignment, StartPart, NextPart, Plain, One, BodyPart, Closing, Block, Catch, WaitingPart, WhenPart, WhensPart, AllWhens, put_before}
+use Rattle.flow_parse.proofs.Leaves.{Leaves, nothing, narrow, glue, behind}
 use Rattle.flow_parse.proofs.Variables.{closed}
 use Rattle.flow_parse.proofs.Lift.{lift}
 

@@ -1,23 +1,21 @@
 -- How a statement that holds no other is read, and the init of a `for`.
-use Rattle.std.proofs.Common.{◌≡◌, ℕ, zero, suc, ◌+◌, ◌≤◌, ◌<◌, Bool, true, false, List, [], ◌∷◌, ◌++◌, length, refl, sym, ap, ◌∙◌, subst, arith, append_assoc, drop}
+use Rattle.std.proofs.Common.{◌≡◌, ℕ, ◌≤◌, Bool, false, List, [], ◌∷◌, ◌++◌, length, refl, sym, ap, ◌∙◌, subst, append_assoc}
 use Rattle.std.proofs.lemmas.List.{append-nil}
 use Rattle.std.specs.declared.option.Option.TheVariants.{None, Some}
 use Rattle.flow_base.specs.declared.place.Place.{Place}
 use Rattle.flow_ast.specs.declared.token.Token.TheVariants as token
-use Rattle.flow_ast.specs.declared.token.Word.TheVariants as word
 use Rattle.flow_ast.specs.declared.token.Sign.TheVariants as sign
-use Rattle.flow_ast.specs.declared.token.Spot.{Spot}
 use Rattle.flow_ast.specs.declared.token.Tokens.{Tokens}
 use Rattle.flow_ast.specs.declared.ty.Ident.{Ident}
 use Rattle.flow_ast.specs.Tree.{NamedType}
 use Rattle.flow_ast.specs.Body.{IntoTree, Body, End, WaitStmt}
 use Rattle.flow_ast.specs.GrammarToken.{Marked}
 use Rattle.flow_ast.specs.Grammar.{sign_at, name_at, node_name, named_type}
-use Rattle.flow_ast.specs.GrammarStmt.{Counts, StartsAt, no_state, IntoRule, declared, OperandRule, WaitingRule, plain_wait, into_wait, PathRule, AssignRule, assign, plus, minus, up, down, InitRule, declare, declare_value, change, PlainRule, init_stmt, wait_stmt, call_stmt}
-use Rattle.flow_parse.specs.Reading.{token_at, Tok, Named, Then, Any, Reads}
+use Rattle.flow_ast.specs.GrammarStmt.{Counts, StartsAt, no_state, IntoRule, declared, plain_wait, into_wait, PathRule, AssignRule, assign, plus, minus, up, down, InitRule, declare, declare_value, change, PlainRule, init_stmt, wait_stmt, call_stmt}
+use Rattle.flow_parse.specs.Reading.{Tok, Named, Then, Any}
 use Rattle.flow_parse.specs.Follow.{ExprEnds, Before}
 use Rattle.flow_parse.specs.Parts.{Out, MoreNames, NodeName, Placed, IntoPart, OperandPart, WaitingPart, ChangeRule, assigns, adds, takes, goes_up, goes_down, ChangedRule, changes, calls, DeclaredRule, no_value, value, ValuedRule, declares, waits, UnendedRule, declaring, changing, waiting, Unended, Simple, Plain, Init, Assignment}
-use Rattle.flow_parse.proofs.Leaves.{Leaves, nothing, narrow, become, glue, behind, starts_append}
+use Rattle.flow_parse.proofs.Leaves.{Leaves, nothing, narrow, glue, behind, starts_append}
 use Rattle.flow_parse.proofs.Variables.{closed}
 
 starts_is : {w : List Marked} (a b : List Marked) (p : Place) → w ≡ a ++ b → StartsAt a p → StartsAt w p

@@ -1,6 +1,5 @@
 -- How declarations of variables, waits, paths, changes and calls are read.
-use Rattle.std.proofs.Common.{◌≡◌, ℕ, zero, suc, ◌+◌, ◌≤◌, ◌<◌, Bool, true, false, List, [], ◌∷◌, ◌++◌, length, refl, sym, ap, ◌∙◌, subst, arith, append_assoc, drop}
-use Rattle.std.specs.declared.option.Option.{Option}
+use Rattle.std.proofs.Common.{◌≡◌, ℕ, suc, ◌+◌, ◌≤◌, ◌<◌, Bool, true, false, List, [], ◌∷◌, ◌++◌, length, refl, sym, ap, ◌∙◌, subst, arith, append_assoc}
 use Rattle.std.specs.declared.option.Option.TheVariants.{None, Some}
 use Rattle.flow_base.specs.declared.place.Place.{Place}
 use Rattle.flow_ast.specs.declared.token.Token.TheVariants as token
@@ -9,15 +8,14 @@ use Rattle.flow_ast.specs.declared.token.Sign.TheVariants as sign
 use Rattle.flow_ast.specs.declared.token.Spot.{Spot}
 use Rattle.flow_ast.specs.declared.token.Tokens.{Tokens}
 use Rattle.flow_ast.specs.declared.ty.Ident.{Ident}
-use Rattle.flow_ast.specs.Tree.{TypeTree, NamedType, ExprTree, ExprTrees, NoExprs, MoreExprs}
-use Rattle.flow_ast.specs.Body.{IntoTree, WaitTree, PlusChange, MinusChange, UpChange, DownChange, Body, End, DeclareStmt, AssignStmt, ModifyStmt, CallStmt, WaitStmt}
-use Rattle.flow_ast.specs.GrammarToken.{Node, Variable, Marked, opens}
-use Rattle.flow_ast.specs.GrammarAnswer.{place_at}
-use Rattle.flow_ast.specs.Grammar.{sign_at, name_at, node_name, TypeRule, named_type, ExprRule, ArgsRule, no_args, some_args, MoreArgsRule, end_args, more_args}
-use Rattle.flow_ast.specs.GrammarStmt.{Counts, one_state, state_parts, StartsAt, StateRule, no_state, some_state, IntoRule, declared, OperandRule, wait, wait_next, WaitingRule, plain_wait, into_wait, PathRule, last_name, more_names, AssignRule, assign, plus, minus, up, down, InitRule, declare, declare_value, change, PlainRule, init_stmt, wait_stmt, call_stmt}
+use Rattle.flow_ast.specs.Tree.{ExprTrees, NoExprs, MoreExprs}
+use Rattle.flow_ast.specs.Body.{IntoTree, PlusChange, MinusChange, UpChange, DownChange, Body, End, DeclareStmt, AssignStmt, ModifyStmt, CallStmt, WaitStmt}
+use Rattle.flow_ast.specs.GrammarToken.{Marked}
+use Rattle.flow_ast.specs.Grammar.{name_at, TypeRule, ExprRule, no_args, some_args, end_args, more_args}
+use Rattle.flow_ast.specs.GrammarStmt.{Counts, one_state, state_parts, StateRule, no_state, some_state, declared, wait, wait_next, PathRule, more_names}
 use Rattle.flow_parse.specs.Reading.{token_at, Tok, Named, Then, Any, Reads}
 use Rattle.flow_parse.specs.Follow.{ExprEnds, Before, NotBefore}
-use Rattle.flow_parse.specs.Parts.{Out, Test, Args, MoreArgs, MoreNames, NodeName, Placed, StatePart, IntoPart, OperandPart, WaitingPart, ChangeRule, assigns, adds, takes, goes_up, goes_down, ChangedRule, changes, calls, DeclaredRule, no_value, value, ValuedRule, declares, waits, UnendedRule, declaring, changing, waiting, Unended, Simple, Init, Assignment}
+use Rattle.flow_parse.specs.Parts.{Out, Test, Args, MoreArgs, MoreNames, StatePart, IntoPart, OperandPart, ChangeRule, assigns, adds, takes, goes_up, goes_down, ChangedRule, calls, DeclaredRule, no_value, value, ValuedRule, declares, waits}
 use Rattle.flow_parse.proofs.Leaves.{Leaves, nothing, narrow, opening_reads, tok_reads, become, empty, glue, behind}
 
 abbrev pub closed : Body → Counts → Out

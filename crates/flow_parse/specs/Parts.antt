@@ -8,11 +8,11 @@ use Rattle.flow_ast.specs.declared.token.Word.TheVariants as word
 use Rattle.flow_ast.specs.declared.token.Sign.TheVariants as sign
 use Rattle.flow_ast.specs.declared.ty.Ident.{Ident}
 use Rattle.flow_ast.specs.Tree.{TypeTree, ExprTree, ExprTrees}
-use Rattle.flow_ast.specs.Body.{IntoTree, WaitTree, PlusChange, MinusChange, UpChange, DownChange, Body, End, BlockStmt, IfStmt, IfElseStmt, WhileStmt, ForStmt, LoopStmt, BreakStmt, ContinueStmt, ReturnStmt, ThrowStmt, TryStmt, ChooseStmt, DeclareStmt, AssignStmt, ModifyStmt, CallStmt, WaitStmt, Branches, NoBranches, MoreBranches}
+use Rattle.flow_ast.specs.Body.{IntoTree, WaitTree, PlusChange, MinusChange, UpChange, DownChange, Body, End, BlockStmt, IfStmt, IfElseStmt, WhileStmt, ForStmt, LoopStmt, BreakStmt, ContinueStmt, ReturnStmt, ThrowStmt, TryStmt, ChooseStmt, DeclareStmt, AssignStmt, ModifyStmt, CallStmt, WaitStmt, Branches, MoreBranches}
 use Rattle.flow_ast.specs.Decls.{ParamTree, RecordTree, RoutineTree, StructDecl, FunctionDecl, ActorDecl}
 use Rattle.flow_ast.specs.GrammarToken.{Part, Marked, begin}
 use Rattle.flow_ast.specs.Grammar.{sign_at, word_at, name_at, node_name, ExprRule, ArgsRule, MoreArgsRule}
-use Rattle.flow_ast.specs.GrammarStmt.{Counts, StartsAt, begin_statement, StateRule, IntoRule, OperandRule, WaitingRule, PathRule, AssignRule, InitRule, InitPart, StepPart, MaybeExprRule, PlainRule, StmtRule, BlockRule, BodyRule, StmtsRule, WhensRule, WhenRule}
+use Rattle.flow_ast.specs.GrammarStmt.{Counts, StartsAt, begin_statement, StateRule, IntoRule, OperandRule, WaitingRule, PathRule, AssignRule, InitRule, InitPart, StepPart, MaybeExprRule, PlainRule, StmtRule, BodyRule, StmtsRule, WhensRule, WhenRule}
 use Rattle.flow_ast.specs.GrammarDecl.{FieldsRule, MoreParamsRule, ParamsRule, RoutineRule, DeclRule}
 use Rattle.flow_parse.specs.Follow.{NotBefore}
 

@@ -1,6 +1,5 @@
 -- What the readers give, seen as plain data.
-use Rattle.std.specs.Prelude.{◌≡◌, ℕ, Bool, List, [], ◌∷◌, map}
-use Rattle.std.specs.declared.option.Option.{Option}
+use Rattle.std.specs.Prelude.{◌≡◌}
 use Rattle.flow_ast.specs.declared.stmt.Stmt.{Stmt}
 use Rattle.flow_ast.specs.Body.{IntoTree, WaitTree, Body, End, Branches}
 use Rattle.flow_ast.specs.StmtView.{into_of, waiting_of, stmt_of, body_of, branches_of, simple_of}

@@ -1,4 +1,4 @@
-use Rattle.std.proofs.Common.{◌≡◌, ℕ, ◌+◌, ◌-◌, ◌≤◌, ◌<◌, length, vec_len}
+use Rattle.std.proofs.Common.{◌≡◌, ◌+◌, ◌-◌, ◌≤◌, ◌<◌, length}
 use Rattle.flow_parse.specs.Reading.{Any}
 use Rattle.flow_parse.specs.Parts.{Params, MoreParams}
 use Rattle.flow_parse.proofs.Leaves.{Leaves}

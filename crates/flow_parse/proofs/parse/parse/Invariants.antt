@@ -1,4 +1,4 @@
-use Rattle.std.proofs.Common.{◌≡◌, ℕ, ◌+◌, ◌-◌, ◌≤◌, ◌<◌, length}
+use Rattle.std.proofs.Common.{◌-◌, ◌≤◌, length}
 use Rattle.flow_ast.specs.GrammarDecl.{DeclsRule}
 use Rattle.flow_parse.specs.Follow.{AtEnd}
 use Rattle.flow_parse.proofs.Leaves.{Leaves}

@@ -1,21 +1,10 @@
-use Rattle.std.proofs.Common.{arith, refl, sym, ap, subst, ◌∙◌, ◌++◌, ◌∷◌, [], ◌+◌, suc}
-use Rattle.flow_ast.specs.declared.token.Token.TheVariants as token
-use Rattle.flow_ast.specs.declared.token.Word.TheVariants as word
-use Rattle.flow_ast.specs.declared.token.Sign.TheVariants as sign
-use Rattle.flow_ast.specs.Body.{Body, End, BlockStmt, IfStmt, IfElseStmt}
-use Rattle.flow_ast.specs.View.{expr_of, exprs_of}
-use Rattle.flow_ast.specs.StmtView.{into_of, stmt_of, body_of, waiting_of}
-use Rattle.flow_ast.specs.DeclView.{param_of, params_of, decl_of, program_of}
-use Rattle.flow_ast.specs.GrammarToken.{Node, Branch, Variable}
-use Rattle.flow_ast.specs.GrammarAnswer.{place_at}
-use Rattle.flow_ast.specs.Grammar.{ExprRule, TypeRule}
-use Rattle.flow_ast.specs.GrammarStmt.{one_statement}
-use Rattle.flow_ast.specs.GrammarDecl.{ParamRule, DeclRule}
-use Rattle.flow_parse.specs.Reading.{Any, Reads, Named, Then}
-use Rattle.flow_parse.specs.Follow.{ExprEnds, Before, NotBefore}
-use Rattle.flow_parse.specs.Parts.{NoElse, Args, Test, MaybeExpr, StartPart, NextPart, ChangeRule, ChangedRule, DeclaredRule, ValuedRule, Init, Unended, Simple, Plain, One, BodyPart, Closing, Block, Catch, Begun, Placed, Assignment, WhenPart, AllWhens, Params, AllFields, Routine, Record, Function, Actor}
-use Rattle.flow_parse.specs.Views.{counts_of, stmt_out, body_out, block_out, into_out, routine_out}
-use Rattle.flow_parse.proofs.Leaves.{nothing, then_reads, done, tok_reads, opening_reads, deeper, moved, placed_reads, node_reads, begun_reads, marks_reads, answer_become, answer_begun, answer_done, become}
+use Rattle.std.proofs.Common.{subst}
+use Rattle.flow_ast.specs.Body.{End}
+use Rattle.flow_ast.specs.StmtView.{stmt_of}
+use Rattle.flow_parse.specs.Reading.{Any, Reads}
+use Rattle.flow_parse.specs.Parts.{Simple}
+use Rattle.flow_parse.specs.Views.{counts_of}
+use Rattle.flow_parse.proofs.Leaves.{then_reads, done}
 use Rattle.flow_parse.proofs.Unended.{simple_left}
 use Rattle.flow_parse.proofs.simple.simple.Goals as goal
 
