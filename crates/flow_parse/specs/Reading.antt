@@ -37,7 +37,8 @@ pub record Then {A B : Type 0} (R : List Marked → A → Type 0) (S : A → Lis
 abbrev pub Any : {A : Type 0} → A → List Marked → Type 0
 Any a z = Unit {0}
 
--- the tokens from one number to another are this part
+-- The tokens from one number to another are this part. What may stand behind it is named beside it,
+-- and nothing rests on that here.
 pub record Reads {A : Type 0} (R : List Marked → A → Type 0) (F : A → List Marked → Type 0) (spots : List Spot) (from : ℕ) (a : A) (to : ℕ) : Type 0 where
   pub after : from ≤ to
   pub within : to ≤ length spots
@@ -46,9 +47,11 @@ pub record Reads {A : Type 0} (R : List Marked → A → Type 0) (F : A → List
   pub is : drop from spots ≡ spots_of marked ++ drop to spots
   pub keeps : Keeps 7 marked
 
+-- of a refusal nothing is said
 abbrev pub Fails : {A : Type 0} → (List Marked → A → Type 0) → (A → List Marked → Type 0) → Tokens → ℕ → SourceFault → Type 0
 Fails R F t from e = Unit {0}
 
+-- what is read is this part
 abbrev pub Answer : {A X : Type 0} → (List Marked → A → Type 0) → (A → List Marked → Type 0) → (X → A) → (X → ℕ) → Tokens → ℕ → Result X SourceFault → Type 0
 Answer R F view to t from (Ok x) = Reads R F t.spots.items from (view x) (to x)
 Answer R F view to t from (Err e) = Fails R F t from e

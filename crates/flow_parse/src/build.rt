@@ -12,6 +12,7 @@ use flow_ast::stmt::{Change, Into, Stmt, StmtKind, Target, Waiting, When};
 use flow_ast::ty::Ident;
 use flow_base::place::Place;
 
+/// A block as a statement.
 pub fn block(at: Place, body: Vec<Stmt>) -> Stmt
     ensures is { (rest : Body) → stmt_of result rest ≡ BlockStmt at (body_of body.items) rest }
     ensures stands { Stands result }
@@ -22,6 +23,7 @@ pub fn block(at: Place, body: Vec<Stmt>) -> Stmt
     }
 }
 
+/// An `if` without an `else`.
 pub fn if_stmt(at: Place, test: Expr, body: Vec<Stmt>) -> Stmt
     ensures is { (rest : Body) → stmt_of result rest ≡ IfStmt at (expr_of test) (body_of body.items) rest }
     ensures stands { Stands result }
@@ -32,6 +34,7 @@ pub fn if_stmt(at: Place, test: Expr, body: Vec<Stmt>) -> Stmt
     }
 }
 
+/// An `if` with an `else`.
 pub fn if_else(at: Place, test: Expr, body: Vec<Stmt>, other: Vec<Stmt>) -> Stmt
     ensures is { (rest : Body) → stmt_of result rest ≡ IfElseStmt at (expr_of test) (body_of body.items) (body_of other.items) rest }
     ensures stands { Stands result }
@@ -42,6 +45,7 @@ pub fn if_else(at: Place, test: Expr, body: Vec<Stmt>, other: Vec<Stmt>) -> Stmt
     }
 }
 
+/// A `while`.
 pub fn while_stmt(at: Place, test: Expr, body: Vec<Stmt>) -> Stmt
     ensures is { (rest : Body) → stmt_of result rest ≡ WhileStmt at (expr_of test) (body_of body.items) rest }
     ensures stands { Stands result }
@@ -52,6 +56,7 @@ pub fn while_stmt(at: Place, test: Expr, body: Vec<Stmt>) -> Stmt
     }
 }
 
+/// A `for`, with the parts that it has.
 pub fn for_stmt(
     at: Place,
     init: Option<Box<Stmt>>,
@@ -68,6 +73,7 @@ pub fn for_stmt(
     }
 }
 
+/// A `loop`.
 pub fn loop_stmt(at: Place, body: Vec<Stmt>) -> Stmt
     ensures is { (rest : Body) → stmt_of result rest ≡ LoopStmt at (body_of body.items) rest }
     ensures stands { Stands result }
@@ -78,6 +84,7 @@ pub fn loop_stmt(at: Place, body: Vec<Stmt>) -> Stmt
     }
 }
 
+/// A `break`.
 pub fn break_stmt(at: Place) -> Stmt
     ensures is { (rest : Body) → stmt_of result rest ≡ BreakStmt at rest }
     ensures stands { Stands result }
@@ -88,6 +95,7 @@ pub fn break_stmt(at: Place) -> Stmt
     }
 }
 
+/// A `continue`.
 pub fn continue_stmt(at: Place) -> Stmt
     ensures is { (rest : Body) → stmt_of result rest ≡ ContinueStmt at rest }
     ensures stands { Stands result }
@@ -98,6 +106,7 @@ pub fn continue_stmt(at: Place) -> Stmt
     }
 }
 
+/// A `return`.
 pub fn return_stmt(at: Place, value: Expr) -> Stmt
     ensures is { (rest : Body) → stmt_of result rest ≡ ReturnStmt at (expr_of value) rest }
     ensures stands { Stands result }
@@ -108,6 +117,7 @@ pub fn return_stmt(at: Place, value: Expr) -> Stmt
     }
 }
 
+/// A `throw`, of an error or of the one that was caught.
 pub fn throw_stmt(at: Place, error: Option<Expr>) -> Stmt
     ensures is { (rest : Body) → stmt_of result rest ≡ ThrowStmt at (option_map expr_of error) rest }
     ensures stands { Stands result }
@@ -118,6 +128,7 @@ pub fn throw_stmt(at: Place, error: Option<Expr>) -> Stmt
     }
 }
 
+/// A `try` with its `catch`.
 pub fn try_stmt(at: Place, body: Vec<Stmt>, error: Ident, handler: Vec<Stmt>) -> Stmt
     ensures is { (rest : Body) → stmt_of result rest ≡ TryStmt at (body_of body.items) error (body_of handler.items) rest }
     ensures stands { Stands result }
@@ -128,6 +139,7 @@ pub fn try_stmt(at: Place, body: Vec<Stmt>, error: Ident, handler: Vec<Stmt>) ->
     }
 }
 
+/// A `choose`.
 pub fn choose(at: Place, branches: Vec<When>) -> Stmt
     ensures is { (rest : Body) → stmt_of result rest ≡ ChooseStmt at (branches_of branches.items) rest }
     ensures stands { Stands result }
@@ -138,12 +150,14 @@ pub fn choose(at: Place, branches: Vec<When>) -> Stmt
     }
 }
 
+/// A branch of a `choose`.
 pub fn when_branch(at: Place, waiting: Waiting, body: Vec<Stmt>) -> When
     ensures { (more : Branches) → branch_of result more ≡ MoreBranches at (waiting_of waiting) (body_of body.items) more }
 {
     When { at, waiting, body }
 }
 
+/// A declaration of a variable, with a value or without one.
 pub fn declare(at: Place, into: Into, value: Option<Expr>) -> Stmt
     ensures is { (rest : Body) → stmt_of result rest ≡ DeclareStmt at (into_of into) (option_map expr_of value) rest }
     ensures stands { Stands result }
@@ -154,6 +168,7 @@ pub fn declare(at: Place, into: Into, value: Option<Expr>) -> Stmt
     }
 }
 
+/// An assignment to a path.
 pub fn assign(at: Place, path: Vec<Ident>, value: Expr) -> Stmt
     ensures is { (rest : Body) → stmt_of result rest ≡ AssignStmt at path.items (expr_of value) rest }
     ensures stands { Stands result }
@@ -164,6 +179,7 @@ pub fn assign(at: Place, path: Vec<Ident>, value: Expr) -> Stmt
     }
 }
 
+/// A change of a path in place.
 pub fn modify(at: Place, path: Vec<Ident>, change: Change) -> Stmt
     ensures is { (rest : Body) → stmt_of result rest ≡ ModifyStmt at path.items (change_of change) rest }
     ensures stands { Stands result }
@@ -174,6 +190,7 @@ pub fn modify(at: Place, path: Vec<Ident>, change: Change) -> Stmt
     }
 }
 
+/// A call as a statement.
 pub fn call(at: Place, path: Vec<Ident>, args: Vec<Expr>) -> Stmt
     ensures is { (rest : Body) → stmt_of result rest ≡ CallStmt at path.items (exprs_of args.items) rest }
     ensures stands { Stands result }
@@ -184,6 +201,7 @@ pub fn call(at: Place, path: Vec<Ident>, args: Vec<Expr>) -> Stmt
     }
 }
 
+/// A wait as a statement.
 pub fn wait(at: Place, into: Option<Into>, next: bool, operand: Expr) -> Stmt
     ensures is { (rest : Body) → stmt_of result rest ≡ WaitStmt at (record { into = option_map into_of into; next = next; operand = expr_of operand }) rest }
     ensures stands { Stands result }
