@@ -11,6 +11,7 @@ pub mod RowsWaits
 pub mod RowsCancel
 pub mod RowsStreams
 pub mod RowsWorld
+pub mod RowsViews
 pub mod Alike
 pub mod Lift
 pub mod BurstOnce

@@ -26,6 +26,7 @@ pub mod World
 pub mod Runs
 pub mod Law
 pub mod Views
+pub mod Boundaries
 pub mod Shape
 pub mod Carry
 pub mod Carries
