@@ -1,0 +1,13 @@
+pub mod Texts
+pub mod Writing
+pub mod StatementKinds
+pub mod Going
+pub mod TokenPieces
+pub mod ValuePieces
+pub mod Valid
+pub mod ExprPieces
+pub mod PartPieces
+pub mod StmtPieces
+pub mod DeclPieces
+pub mod SameText
+pub mod RoundTrip

@@ -1,0 +1,13 @@
+use Rattle.std.proofs.Common.{◌≡◌, ◌≤◌, List, ℕ, ◌++◌, length}
+use Rattle.std.specs.Io.KnownBytes.{Appends}
+use Rattle.flow_show.proofs.show.write_lines.Given as goal
+
+-- the rest is what was not yet written of the text
+abbrev pub invariant-loop-rest : goal.invariant-loop-rest
+invariant-loop-rest g l = record {
+  written : (done : List ℕ) × (l.fn.text ≡ done ++ l.rest) × Appends (g.S.Sink.written l.initial.out) (g.S.Sink.written l.out) done;
+  kept : g.S.Sink.faults l.initial.out ≤ g.S.Sink.faults l.out;
+}
+
+abbrev pub decreases-loop-rest : goal.decreases-loop-rest
+decreases-loop-rest g l = length l.rest

@@ -1,0 +1,107 @@
+// The texts of declarations.
+
+ghost use Rattle.std.specs.Prelude.{◌≡◌, ◌++◌, codes, IfOk};
+ghost use Rattle.flow_ast.specs.View.{type_of};
+ghost use Rattle.flow_ast.specs.StmtView.{body_of};
+ghost use Rattle.flow_ast.specs.DeclView.{params_of, record_of, function_of, actor_of, decl_of};
+ghost use Rattle.flow_ast.specs.Decls.{StructDecl};
+ghost use Rattle.flow_show.specs.Lines.{behind_result};
+ghost use Rattle.flow_ast.specs.Canon.{type_text, fields_text, more_params_text, params_text, routine_text, decl_text};
+
+use crate::source::Source;
+use flow_ast::decl::{ActorDecl, Decl, FunctionDecl, Param, RecordDecl};
+use flow_ast::stmt::Stmt;
+use flow_ast::ty::Ident;
+use flow_base::memory::NoMemory;
+
+impl Source {
+    fn put_fields(&mut self, fields: &[Param]) -> Result<(), NoMemory>
+        ensures { IfOk result (λ _. self.new ≡ self.old ++ fields_text (params_of fields.now)) }
+    {
+        for field in fields {
+            self.put(b"    ")?;
+            self.put_named(&field.ty, &field.name)?;
+            self.put(b";\n")?;
+        }
+        Ok(())
+    }
+
+    // Parameters behind another.
+    fn put_more_params(&mut self, params: &[Param]) -> Result<(), NoMemory>
+        ensures { IfOk result (λ _. self.new ≡ self.old ++ more_params_text (params_of params.now)) }
+    {
+        for param in params {
+            self.put(b", ")?;
+            self.put_named(&param.ty, &param.name)?;
+        }
+        Ok(())
+    }
+
+    fn put_params(&mut self, params: &[Param]) -> Result<(), NoMemory>
+        ensures { IfOk result (λ _. self.new ≡ self.old ++ params_text (params_of params.now)) }
+    {
+        if let [first, rest @ ..] = params {
+            self.put_named(&first.ty, &first.name)?;
+            self.put_more_params(rest)?;
+        }
+        Ok(())
+    }
+
+    fn put_record(&mut self, declared: &RecordDecl) -> Result<(), NoMemory>
+        ensures { IfOk result (λ _. self.new ≡ self.old ++ decl_text (StructDecl (record_of declared.now))) }
+    {
+        self.put(b"struct ")?;
+        self.put(declared.name.name.bytes())?;
+        self.put(b" {\n")?;
+        self.put_fields(&declared.fields)?;
+        self.put(b"};\n")
+    }
+
+    // A function or an actor behind its result.
+    fn put_routine(
+        &mut self,
+        name: &Ident,
+        params: &Vec<Param>,
+        body: &Vec<Stmt>,
+    ) -> Result<(), NoMemory>
+        ensures { IfOk result (λ _. self.new ≡ self.old ++ behind_result name.now (params_of params.now.items) (body_of body.now.items)) }
+    {
+        self.put(b" ")?;
+        self.put(name.name.bytes())?;
+        self.put(b"(")?;
+        self.put_params(params)?;
+        self.put(b") {\n")?;
+        self.put_body(1, body)?;
+        self.put(b"}\n")?;
+        Ok(())
+    }
+
+    fn put_function(&mut self, function: &FunctionDecl) -> Result<(), NoMemory>
+        ensures { IfOk result (λ _. self.new ≡ self.old ++ routine_text (type_text (type_of function.now.returns)) (function_of function.now)) }
+    {
+        self.put_type(&function.returns)?;
+        self.put_routine(&function.name, &function.params, &function.body)?;
+        Ok(())
+    }
+
+    fn put_actor(&mut self, actor: &ActorDecl) -> Result<(), NoMemory>
+        ensures { IfOk result (λ _. self.new ≡ self.old ++ routine_text (codes "ACTOR Future<" ++ type_text (type_of actor.now.returns) ++ codes ">") (actor_of actor.now)) }
+    {
+        self.put(b"ACTOR Future<")?;
+        self.put_type(&actor.returns)?;
+        self.put(b">")?;
+        self.put_routine(&actor.name, &actor.params, &actor.body)?;
+        Ok(())
+    }
+
+    /// A declaration.
+    pub fn put_decl(&mut self, decl: &Decl) -> Result<(), NoMemory>
+        ensures { IfOk result (λ _. self.new ≡ self.old ++ decl_text (decl_of decl.now)) }
+    {
+        match decl {
+            Decl::Struct(record) => self.put_record(record),
+            Decl::Function(function) => self.put_function(function),
+            Decl::Actor(actor) => self.put_actor(actor),
+        }
+    }
+}

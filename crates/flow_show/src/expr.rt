@@ -1,0 +1,161 @@
+// The texts of types and expressions.
+
+ghost use Rattle.std.specs.Prelude.{◌≡◌, ◌++◌, codes, IfOk};
+ghost use Rattle.flow_ast.specs.View.{type_of, expr_of, exprs_of};
+ghost use Rattle.flow_ast.specs.Grammar.{op_sign};
+ghost use Rattle.flow_ast.specs.Canon.{type_text, bool_text, minus_gap, expr_text, args_text, more_args_text};
+
+use crate::source::Source;
+use flow_ast::expr::{Expr, Op};
+use flow_ast::token::Sign;
+use flow_ast::ty::Ty;
+use flow_base::memory::NoMemory;
+use itoa::Buffer;
+
+// The sign between two operands.
+fn sign(op: Op) -> Sign
+    ensures { result ≡ op_sign op }
+{
+    match op {
+        Op::Or => Sign::OrOr,
+        Op::And => Sign::AndAnd,
+        Op::Eq => Sign::Equal,
+        Op::Ne => Sign::NotEqual,
+        Op::Lt => Sign::Less,
+        Op::Le => Sign::LessEqual,
+        Op::Gt => Sign::Greater,
+        Op::Ge => Sign::GreaterEqual,
+        Op::Add => Sign::Plus,
+        Op::Sub => Sign::Minus,
+        Op::Mul => Sign::Star,
+        Op::Div => Sign::Slash,
+        Op::Rem => Sign::Percent,
+    }
+}
+
+impl Source {
+    /// A type.
+    #[cycle(type_of)]
+    pub fn put_type(&mut self, ty: &Ty) -> Result<(), NoMemory>
+        ensures { IfOk result (λ _. self.new ≡ self.old ++ type_text (type_of ty.now)) }
+    {
+        match ty {
+            Ty::Int => self.put(b"int"),
+            Ty::Bool => self.put(b"bool"),
+            Ty::Str => self.put(b"string"),
+            Ty::Void => self.put(b"Void"),
+            Ty::Error => self.put(b"Error"),
+            Ty::Named(name) => self.put(name.bytes()),
+            Ty::Future(of) => self.put_wrapped(b"Future<", of),
+            Ty::FutureStream(of) => self.put_wrapped(b"FutureStream<", of),
+            Ty::Promise(of) => self.put_wrapped(b"Promise<", of),
+            Ty::PromiseStream(of) => self.put_wrapped(b"PromiseStream<", of),
+        }
+    }
+
+    // A type of one argument behind its word and `<`.
+    #[cycle(type_of)]
+    fn put_wrapped(&mut self, front: &[u8], of: &Ty) -> Result<(), NoMemory>
+        ensures { IfOk result (λ _. self.new ≡ self.old ++ (front.now ++ type_text (type_of of.now) ++ codes ">")) }
+    {
+        self.put(front)?;
+        self.put_type(of)?;
+        self.put(b">")
+    }
+
+    fn put_bool(&mut self, value: bool) -> Result<(), NoMemory>
+        ensures { IfOk result (λ _. self.new ≡ self.old ++ bool_text value) }
+    {
+        if value {
+            self.put(b"true")
+        } else {
+            self.put(b"false")
+        }
+    }
+
+    // A space before another unary `-`, which would be the sign `--` without it.
+    fn put_gap(&mut self, operand: &Expr) -> Result<(), NoMemory>
+        ensures { IfOk result (λ _. self.new ≡ self.old ++ minus_gap (expr_of operand.now)) }
+    {
+        if matches!(operand, Expr::Neg(_)) {
+            self.put(b" ")
+        } else {
+            Ok(())
+        }
+    }
+
+    /// An expression.
+    #[cycle(expr)]
+    pub fn put_expr(&mut self, expr: &Expr) -> Result<(), NoMemory>
+        ensures { IfOk result (λ _. self.new ≡ self.old ++ expr_text (expr_of expr.now)) }
+    {
+        match expr {
+            Expr::Int(n) => self.put(Buffer::new().format(*n).as_bytes()),
+            Expr::Text(text) => self.put_quoted(text.bytes()),
+            Expr::Bool(value) => self.put_bool(*value),
+            Expr::VoidValue => self.put(b"Void()"),
+            Expr::Var(name) => self.put(name.name.bytes()),
+            Expr::Call(name, args) => {
+                self.put(name.name.bytes())?;
+                self.put_args(args)
+            }
+            Expr::Field(of, name) => {
+                self.put_expr(of)?;
+                self.put(b".")?;
+                self.put(name.name.bytes())
+            }
+            Expr::Method(of, name, args) => {
+                self.put_expr(of)?;
+                self.put(b".")?;
+                self.put(name.name.bytes())?;
+                self.put_args(args)
+            }
+            Expr::Not(of) => {
+                self.put(b"!")?;
+                self.put_expr(of)
+            }
+            Expr::Neg(of) => {
+                self.put(b"-")?;
+                self.put_gap(of)?;
+                self.put_expr(of)
+            }
+            Expr::Binary(op, left, right) => {
+                self.put_expr(left)?;
+                self.put(b" ")?;
+                self.put(sign(*op).spelling())?;
+                self.put(b" ")?;
+                self.put_expr(right)
+            }
+            Expr::Paren(of) => {
+                self.put(b"(")?;
+                self.put_expr(of)?;
+                self.put(b")")
+            }
+        }
+    }
+
+    /// The arguments of a call, in parentheses.
+    #[cycle(expr)]
+    pub fn put_args(&mut self, args: &[Expr]) -> Result<(), NoMemory>
+        ensures { IfOk result (λ _. self.new ≡ self.old ++ codes "(" ++ args_text (exprs_of args.now) ++ codes ")") }
+    {
+        self.put(b"(")?;
+        if let [first, rest @ ..] = args {
+            self.put_expr(first)?;
+            self.put_more_args(rest)?;
+        }
+        self.put(b")")
+    }
+
+    // Arguments behind another.
+    #[cycle(expr)]
+    fn put_more_args(&mut self, args: &[Expr]) -> Result<(), NoMemory>
+        ensures { IfOk result (λ _. self.new ≡ self.old ++ more_args_text (exprs_of args.now)) }
+    {
+        for arg in args {
+            self.put(b", ")?;
+            self.put_expr(arg)?;
+        }
+        Ok(())
+    }
+}
