@@ -3,7 +3,7 @@ use Rattle.std.proofs.Common.{◌≡◌, refl, sym, ◌∙◌, subst}
 use Rattle.std.specs.declared.option.Option.{Option}
 use Rattle.std.specs.declared.option.Option.TheVariants.{None, Some}
 use Rattle.flow_meaning.specs.Process.{Engine}
-use Rattle.flow_meaning.specs.Burst.{Host, Live, Burst, rests, steps}
+use Rattle.flow_meaning.specs.Burst.{Host, Burst, rests, steps}
 use Rattle.flow_meaning.specs.Law.{BurstsOnce}
 
 pub two : {X Y : Type 0} {o : Option X} {x : X} → o ≡ None → o ≡ Some x → Y

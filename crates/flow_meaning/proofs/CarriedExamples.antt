@@ -1,5 +1,5 @@
 -- Classes that carry their actors: a caught error, a loop with a wait and state variables, and a choose.
-use Rattle.std.proofs.Common.{◌≡◌, ℕ, ◌<◌, List, [], ◌∷◌, refl, arith}
+use Rattle.std.proofs.Common.{[], ◌∷◌, refl, arith}
 use Rattle.std.specs.Prelude.{pos, true, false, codes}
 use Rattle.std.specs.Fmt.{digits}
 use Rattle.std.specs.declared.option.Option.TheVariants.{None, Some}
@@ -10,7 +10,8 @@ use Rattle.flow_ast.specs.Decls.{ActorDecl, ProgramTree}
 use Rattle.flow_class.specs.declared.class.Slotted.TheVariants.{Slot, Local}
 use Rattle.flow_class.specs.Classes.{CallbackTree, RawTree, SetInstr, ActInstr, DropInstr, GotoLast, PassLast, TestLast, ChooseLast, ReturnLast}
 use Rattle.flow_meaning.specs.Variables.{Mark, Var}
-use Rattle.flow_meaning.specs.Carry.{Pos, entry, after, none, this, extra, here, jump}
+use Rattle.flow_meaning.specs.Carry.{entry, none, this, extra, here, jump}
+use Rattle.flow_meaning.specs.Shape.{Shape}
 use Rattle.flow_meaning.specs.Carries.{CarriesProgram}
 use Rattle.flow_meaning.proofs.RowTerms.{nowhere, id}
 
@@ -35,14 +36,28 @@ second_operand_never_starts_classes = record { records = []; functions = []; cla
 -- The body of the try stands in block 1, the handler in block 2, and what follows in block 3.
 overflow_caught_carried : CarriesProgram overflow_caught_program overflow_caught_classes
 unfolding digits
-overflow_caught_carried = ((
-  entry 1, 2, 1, entry 3, jump 1 refl here,
-  (((0 ∷ []), refl, extra tt none), tt, Local 0, (Var (codes "x") 0 ∷ Mark ∷ []), (id (codes "l0"), refl, refl), (refl, (omega arith, tt), refl),
-    (((0 ∷ []), refl, this none), refl, (_, here, refl, jump 3 refl here))),
-  (omega arith, tt),
-  (refl, refl, (_, here, refl, jump 3 refl here)),
-  (refl, refl),
-), tt)
+overflow_caught_carried = (
+  (
+    entry 1,
+    2,
+    1,
+    entry 3,
+    jump 1 refl here,
+    (
+      ((0 ∷ []), refl, extra tt none),
+      tt,
+      Local 0,
+      (Var (codes "x") 0 ∷ Mark ∷ []),
+      (id (codes "l0"), refl, refl),
+      (refl, (omega arith, tt), refl),
+      (((0 ∷ []), refl, this none), refl, (_, here, refl, jump 3 refl here)),
+    ),
+    (omega arith, tt),
+    (refl, refl, (_, here, refl, jump 3 refl here)),
+    (refl, refl),
+  ),
+  tt,
+)
 
 -- The loop's condition stands in block 1, its body in block 2 up to the wait and in block 3 after it, and what follows in
 -- block 4.
@@ -51,16 +66,47 @@ delayed = record { next = false; operand = CallExpr (id (codes "delay")) (MoreEx
 
 state_in_loop_carried : CarriesProgram state_in_loop_program state_in_loop_classes
 unfolding digits delayed
-state_in_loop_carried = ((
-  refl, tt, Slot 1, [], (id (codes "s1"), refl, refl), (refl, refl, refl),
-  (1, entry 4, (_, here, refl),
-    (refl, 2, 4, refl,
-      (refl, tt, Slot 2, (Mark ∷ []), (id (codes "s2"), refl, refl), (refl, refl, refl),
-        (delayed, (Mark ∷ []), refl, tt, (refl, refl, refl), (refl, refl, refl),
-          (refl, refl, (refl, refl, (_, _, here, (refl, refl), (_, here, refl)))))),
-      here),
-    (refl, refl)),
-), tt)
+state_in_loop_carried = (
+  (
+    refl,
+    tt,
+    Slot 1,
+    [],
+    (id (codes "s1"), refl, refl),
+    (refl, refl, refl),
+    (
+      1,
+      entry 4,
+      (_, here, refl),
+      (
+        refl,
+        2,
+        4,
+        refl,
+        (
+          refl,
+          tt,
+          Slot 2,
+          (Mark ∷ []),
+          (id (codes "s2"), refl, refl),
+          (refl, refl, refl),
+          (
+            delayed,
+            (Mark ∷ []),
+            refl,
+            tt,
+            (refl, refl, refl),
+            (refl, refl, refl),
+            (refl, refl, (refl, refl, (_, _, here, (refl, refl), (_, here, refl)))),
+          ),
+        ),
+        here,
+      ),
+      (refl, refl),
+    ),
+  ),
+  tt,
+)
 
 -- Both branches go on at block 3.
 first_case : CallbackTree
@@ -73,10 +119,39 @@ second_operand_never_starts_carried : CarriesProgram second_operand_never_starts
 unfolding digits first_case second_case
 second_operand_never_starts_carried = (
   (refl, refl),
-  ((
-    (first_case ∷ second_case ∷ []), entry 3, refl, (refl, refl, refl),
-    ((Var (codes "x") 0 ∷ Mark ∷ []), (refl, refl, (refl, (omega arith, tt), refl)), (refl, refl, (_, here, refl, jump 3 refl here)),
-      ((Var (codes "y") 1 ∷ Mark ∷ []), (refl, refl, (refl, (omega arith, tt), refl)), (refl, refl, (_, here, refl, jump 3 refl here)), tt)),
-    (refl, refl),
-  ), tt),
+  (
+    (
+      (first_case ∷ second_case ∷ []),
+      entry 3,
+      refl,
+      (refl, refl, refl),
+      (
+        (Var (codes "x") 0 ∷ Mark ∷ []),
+        (refl, refl, (refl, (omega arith, tt), refl)),
+        (refl, refl, (_, here, refl, jump 3 refl here)),
+        ((Var (codes "y") 1 ∷ Mark ∷ []), (refl, refl, (refl, (omega arith, tt), refl)), (refl, refl, (_, here, refl, jump 3 refl here)), tt),
+      ),
+      (refl, refl),
+    ),
+    tt,
+  ),
 )
+
+-- Each of these classes has the shape of its actor.
+overflow_caught_shape : Shape overflow_caught_program overflow_caught_classes
+overflow_caught_shape =
+    record { records = refl; functions = refl; classes = (record { name = refl; returns = refl; params = refl; slots = refl; groups = refl }, tt) }
+
+state_in_loop_shape : Shape state_in_loop_program state_in_loop_classes
+state_in_loop_shape =
+    record { records = refl; functions = refl; classes = (record { name = refl; returns = refl; params = refl; slots = refl; groups = refl }, tt) }
+
+second_operand_never_starts_shape : Shape second_operand_never_starts_program second_operand_never_starts_classes
+second_operand_never_starts_shape = record {
+  records = refl;
+  functions = refl;
+  classes = (
+    record { name = refl; returns = refl; params = refl; slots = refl; groups = refl },
+    (record { name = refl; returns = refl; params = refl; slots = refl; groups = refl }, tt),
+  );
+}

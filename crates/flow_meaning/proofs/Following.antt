@@ -1,5 +1,5 @@
 -- Runs that are computed, step by step, and that they are runs.
-use Rattle.std.proofs.Common.{◌≡◌, ℕ, zero, suc, List, [], ◌∷◌, ◌++◌, refl, sym, ap, ◌∙◌, subst}
+use Rattle.std.proofs.Common.{◌≡◌, ℕ, zero, suc, List, [], ◌∷◌, ◌++◌, refl, subst}
 use Rattle.std.specs.Option.{option_map}
 use Rattle.std.specs.declared.option.Option.{Option}
 use Rattle.std.specs.declared.option.Option.TheVariants.{None, Some}
@@ -8,13 +8,11 @@ use Rattle.flow_trace.specs.declared.line.Line.TheVariants as line
 use Rattle.flow_worldfile.specs.Worlds as file
 use Rattle.flow_ast.specs.Decls.{ProgramTree}
 use Rattle.flow_class.specs.Classes.{RawTree}
-use Rattle.flow_meaning.specs.Process.{Proc, Engine, Halt, Spent, NoMeaning}
+use Rattle.flow_meaning.specs.Process.{Engine, Halt, Spent, NoMeaning}
 use Rattle.flow_meaning.specs.Burst.{Host, Live, Burst, burst, burst_from, advance, rests, steps}
 use Rattle.flow_meaning.specs.Outside.{Outside, host}
-use Rattle.flow_meaning.specs.World.{Place, World, Begun, Next, next_of, begun_by, ending, at_start}
+use Rattle.flow_meaning.specs.World.{World, Begun, next_of, begun_by, ending, at_start}
 use Rattle.flow_meaning.specs.Runs.{Runs, ends, spent, event, IsRun, before, after, lines_of, SourceTrace, ClassTrace}
-use Rattle.flow_meaning.specs.Items.{Actor}
-use Rattle.flow_meaning.specs.Frame.{Frame}
 use Rattle.flow_meaning.specs.Source.{source}
 use Rattle.flow_meaning.specs.Class.{classes}
 

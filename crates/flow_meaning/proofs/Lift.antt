@@ -115,20 +115,23 @@ module _ {W A B : Type 0} (e : Engine A) (d : Engine B) (h : Host W) (R : A → 
       let m = ans.0 in let g = ans.1 in
       let c2 = record c { tasks = ts; left = ask.left } in
       let r = answer e (h.supply w) i ask.act (proc c2 (put xs i a)) in
-      let q = answer d (h.supply w) i ask.act (proc c2 (put ys i g)) in
-      (serve h q.1 q.0 w,
-      inl (many_many1 d h (quiet_many d h w c i ts eh et ans.2 ys en)
-        (serve h q.1 q.0 w,
-        ap (advanced h w) (step_runs d (h.supply w) c (put ys i m) i ts m (Some ask, g) eh et (thing_put ys i b m en) ans.3
-          ∙ ap (λ l. Some (answer d (h.supply w) i ask.act (proc c2 l))) (put_put ys i m g)),
-        here)),
-      served_same w r q (answer_alike e d R sim (h.supply w) i ask.act c2 (put xs i a) (put ys i g) (related_put R xs ys i a g rs ans.4)))
+      let q = answer d (h.supply w) i ask.act (proc c2 (put ys i g)) in (
+        serve h q.1 q.0 w,
+        inl (many_many1 d h (quiet_many d h w c i ts eh et ans.2 ys en) (
+          serve h q.1 q.0 w,
+          ap (advanced h w) (step_runs d (h.supply w) c (put ys i m) i ts m (Some ask, g) eh et (thing_put ys i b m en) ans.3
+              ∙ ap (λ l. Some (answer d (h.supply w) i ask.act (proc c2 l))) (put_put ys i m g)),
+          here,
+        )),
+        served_same w r q (answer_alike e d R sim (h.supply w) i ask.act c2 (put xs i a) (put ys i g) (related_put R xs ys i a g rs ans.4)),
+      )
 
   run_does : (w : W) (c : Core) (xs : Numbered A) (ys : Numbered B) (i : ℕ) (ts : List Task) (o : Option A) (u : Option B) → c.halted ≡ None → c.tasks ≡ Run i ∷ ts → AllRelated R xs ys → thing xs i ≡ o → thing ys i ≡ u → BothOrNone R o u → Does_at c xs ys w (advanced h w (Some (run e (h.supply w) i ts o (proc c xs))))
-  run_does w c xs ys i ts None None eh et rs ex en k =
-      (live (run d (h.supply w) i ts None (proc c ys)).0 w,
-      inl (_, ap (advanced h w) (ap (λ k. step_if d (h.supply w) k (proc c ys)) eh ∙ ap (λ k. step_tasks d (h.supply w) k (proc c ys)) et ∙ ap (λ o. Some (run d (h.supply w) i ts o (proc c ys))) en), here),
-      (refl, refl, rs))
+  run_does w c xs ys i ts None None eh et rs ex en k = (
+    live (run d (h.supply w) i ts None (proc c ys)).0 w,
+    inl (_, ap (advanced h w) (ap (λ k. step_if d (h.supply w) k (proc c ys)) eh ∙ ap (λ k. step_tasks d (h.supply w) k (proc c ys)) et ∙ ap (λ o. Some (run d (h.supply w) i ts o (proc c ys))) en), here),
+    (refl, refl, rs),
+  )
   run_does w c xs ys i ts None (Some b) eh et rs ex en k = absurd k
   run_does w c xs ys i ts (Some a) None eh et rs ex en k = absurd k
   run_does w c xs ys i ts (Some a) (Some b) eh et rs ex en k =

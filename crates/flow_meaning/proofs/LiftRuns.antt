@@ -1,23 +1,22 @@
 -- What holds of one step of an actor holds of whole runs of a world, in both directions.
-use Rattle.std.proofs.Common.{◌≡◌, ℕ, zero, suc, ◌+◌, Bool, true, false, List, [], ◌∷◌, ◌++◌, if◌then◌else◌, refl, sym, ap, ◌∙◌, subst}
+use Rattle.std.proofs.Common.{◌≡◌, ℕ, zero, suc, Bool, false, List, [], ◌∷◌, ◌++◌, refl, sym, ap, ◌∙◌, subst}
 use Rattle.std.specs.Prelude.{pos, replicate, slice_index_or, slice_set}
 use Rattle.std.specs.declared.option.Option.{Option}
 use Rattle.std.specs.declared.option.Option.TheVariants.{None, Some}
-use Rattle.flow_trace.specs.declared.line.Line.{Line}
 use Rattle.flow_trace.specs.declared.line.Line.TheVariants as line
 use Rattle.flow_worldfile.specs.Worlds as file
 use Rattle.flow_worldfile.specs.declared.directive.Order.{Order}
 use Rattle.flow_worldfile.specs.declared.directive.Order.TheVariants.{Kill, Stop, Boot, Cut, Heal, DiskFail}
-use Rattle.flow_value.specs.Values.{ValueTree, IntValue}
-use Rattle.flow_meaning.specs.Numbered.{Numbered, thing}
-use Rattle.flow_meaning.specs.Process.{Core, Proc, Engine, Halt, Spent}
+use Rattle.flow_value.specs.Values.{IntValue}
+use Rattle.flow_meaning.specs.Numbered.{Numbered}
+use Rattle.flow_meaning.specs.Process.{Core, Proc, Engine}
 use Rattle.flow_meaning.specs.Step.{proc}
 use Rattle.flow_meaning.specs.Deliver.{begin, boot_core, boot_with, boot, idle}
-use Rattle.flow_meaning.specs.Burst.{Live, live, Burst}
+use Rattle.flow_meaning.specs.Burst.{Live}
 use Rattle.flow_meaning.specs.Law.{BothOrNone, Simulates, AllRelated, Same}
-use Rattle.flow_meaning.specs.Outside.{What, Boots, Rings, Arrives, Answers, Pending, Outside, host}
-use Rattle.flow_meaning.specs.World.{Place, World, Begun, Next, Nothing, Script, Event, next_of, booted, ordered, arrived, listener, happened, process_of, process_in, ready, counted, with_core, begun_by, ending, at_start}
-use Rattle.flow_meaning.specs.Runs.{before, after, lines_of, Runs, ends, spent, event, IsRun}
+use Rattle.flow_meaning.specs.Outside.{What, Boots, Rings, Arrives, Answers, Outside, host}
+use Rattle.flow_meaning.specs.World.{Place, World, Begun, Next, Nothing, Script, Event, next_of, booted, ordered, arrived, listener, happened, process_of, process_in, ready, counted, begun_by, ending, at_start}
+use Rattle.flow_meaning.specs.Runs.{before, after, lines_of, Runs, ends, spent, event}
 use Rattle.flow_meaning.specs.RunLaw.{SamePlace, SamePlaces, SameWorld, SameStates, RunsFollow, RunsReturn, TracesFollow, TracesReturn}
 use Rattle.flow_meaning.proofs.Alike.{related_added}
 use Rattle.flow_meaning.proofs.Lift.{bursts_follow, bursts_return}
@@ -134,9 +133,11 @@ module _ {A B : Type 0} (e : Engine A) (d : Engine B) (R : A → B → Type 0) (
   after_same : (w : World A) (v : World B) (b : Begun A) (k : Begun B) (l : Live Outside A) (m : Live Outside B) → SameWorld R w v → SameBegun b k → Same R l m → SameWorld R (after w b l) (after v k m)
   after_same w v b k l m h s t =
       let x : Place A = record { up = b.place.up; proc = l.proc } in
-      let y : Place B = record { up = k.place.up; proc = m.proc } in
-      (t.1, subst (λ i. SamePlaces R (slice_set w.places l.out.active x) (slice_set v.places i y)) (ap (λ o. o.active) t.1)
-        (place_set w.places v.places l.out.active x y h.1 (s.2.0, t.0, t.2)))
+      let y : Place B = record { up = k.place.up; proc = m.proc } in (
+        t.1,
+        subst (λ i. SamePlaces R (slice_set w.places l.out.active x) (slice_set v.places i y)) (ap (λ o. o.active) t.1)
+            (place_set w.places v.places l.out.active x y h.1 (s.2.0, t.0, t.2)),
+      )
 
   ending_same : (w : World A) (v : World B) → SameWorld R w v → ending v.out (next_of v.out) ≡ ending w.out (next_of w.out)
   ending_same w v h = ap (λ o. ending o (next_of o)) (sym h.0)
@@ -145,31 +146,43 @@ module _ {A B : Type 0} (e : Engine A) (d : Engine B) (R : A → B → Type 0) (
   runs_follow w v states lines h (ends last g) = ([], ends last (ending_same w v h ∙ g), tt)
   runs_follow w v states lines h (spent b l g k r x) =
       let f = found b (begun_by d v (next_of v.out)) (subst (λ o. BegunBoth o (begun_by d v (next_of v.out))) k (begun_same w v h)) in
-      let m = bursts_follow e d host R sim (before b) l (before f.0) (f.2.2.1, f.2.1, f.2.2.2) r in
-      ([], subst (λ ls. Runs d v [] (ls ++ line.EndSpent ∷ [])) (sym (lines_same b f.0 l m.0 f.2 m.2))
-        (spent f.0 m.0 (ending_same w v h ∙ g) f.1 m.1 (sym (ap (λ c. c.halted) m.2.0) ∙ x)), tt)
+      let m = bursts_follow e d host R sim (before b) l (before f.0) (f.2.2.1, f.2.1, f.2.2.2) r in (
+        [],
+        subst (λ ls. Runs d v [] (ls ++ line.EndSpent ∷ [])) (sym (lines_same b f.0 l m.0 f.2 m.2))
+            (spent f.0 m.0 (ending_same w v h ∙ g) f.1 m.1 (sym (ap (λ c. c.halted) m.2.0) ∙ x)),
+        tt,
+      )
   runs_follow w v states lines h (event {states = states2} {lines = lines2} b l g k r x rest) =
       let f = found b (begun_by d v (next_of v.out)) (subst (λ o. BegunBoth o (begun_by d v (next_of v.out))) k (begun_same w v h)) in
       let m = bursts_follow e d host R sim (before b) l (before f.0) (f.2.2.1, f.2.1, f.2.2.2) r in
       let s = after_same w v b f.0 l m.0 h f.2 m.2 in
-      let all = runs_follow (after w b l) (after v f.0 m.0) states2 lines2 s rest in
-      (after v f.0 m.0 ∷ all.0, subst (λ ls. Runs d v (after v f.0 m.0 ∷ all.0) (ls ++ lines2)) (sym (lines_same b f.0 l m.0 f.2 m.2))
-        (event f.0 m.0 (ending_same w v h ∙ g) f.1 m.1 (sym (ap (λ c. c.halted) m.2.0) ∙ x) all.1), (s, all.2))
+      let all = runs_follow (after w b l) (after v f.0 m.0) states2 lines2 s rest in (
+        after v f.0 m.0 ∷ all.0,
+        subst (λ ls. Runs d v (after v f.0 m.0 ∷ all.0) (ls ++ lines2)) (sym (lines_same b f.0 l m.0 f.2 m.2))
+            (event {states = all.0} f.0 m.0 (ending_same w v h ∙ g) f.1 m.1 (sym (ap (λ c. c.halted) m.2.0) ∙ x) all.1),
+        (s, all.2),
+      )
 
   pub runs_return : RunsReturn e d R
   runs_return w v others lines h (ends last g) = ([], ends last (sym (ending_same w v h) ∙ g), tt)
   runs_return w v others lines h (spent k m g j r x) =
       let f = found_back (begun_by e w (next_of w.out)) k (subst (λ o. BegunBoth (begun_by e w (next_of w.out)) o) j (begun_same w v h)) in
-      let l = bursts_return e d host R sim (before f.0) (before k) m (f.2.2.1, f.2.1, f.2.2.2) r in
-      ([], subst (λ ls. Runs e w [] (ls ++ line.EndSpent ∷ [])) (lines_same f.0 k l.0 m f.2 l.2)
-        (spent f.0 l.0 (sym (ending_same w v h) ∙ g) f.1 l.1 (ap (λ c. c.halted) l.2.0 ∙ x)), tt)
+      let l = bursts_return e d host R sim (before f.0) (before k) m (f.2.2.1, f.2.1, f.2.2.2) r in (
+        [],
+        subst (λ ls. Runs e w [] (ls ++ line.EndSpent ∷ [])) (lines_same f.0 k l.0 m f.2 l.2)
+            (spent f.0 l.0 (sym (ending_same w v h) ∙ g) f.1 l.1 (ap (λ c. c.halted) l.2.0 ∙ x)),
+        tt,
+      )
   runs_return w v others lines h (event {states = others2} {lines = lines2} k m g j r x rest) =
       let f = found_back (begun_by e w (next_of w.out)) k (subst (λ o. BegunBoth (begun_by e w (next_of w.out)) o) j (begun_same w v h)) in
       let l = bursts_return e d host R sim (before f.0) (before k) m (f.2.2.1, f.2.1, f.2.2.2) r in
       let s = after_same w v f.0 k l.0 m h f.2 l.2 in
-      let all = runs_return (after w f.0 l.0) (after v k m) others2 lines2 s rest in
-      (after w f.0 l.0 ∷ all.0, subst (λ ls. Runs e w (after w f.0 l.0 ∷ all.0) (ls ++ lines2)) (lines_same f.0 k l.0 m f.2 l.2)
-        (event f.0 l.0 (sym (ending_same w v h) ∙ g) f.1 l.1 (ap (λ c. c.halted) l.2.0 ∙ x) all.1), (s, all.2))
+      let all = runs_return (after w f.0 l.0) (after v k m) others2 lines2 s rest in (
+        after w f.0 l.0 ∷ all.0,
+        subst (λ ls. Runs e w (after w f.0 l.0 ∷ all.0) (ls ++ lines2)) (lines_same f.0 k l.0 m f.2 l.2)
+            (event {states = all.0} f.0 l.0 (sym (ending_same w v h) ∙ g) f.1 l.1 (ap (λ c. c.halted) l.2.0 ∙ x) all.1),
+        (s, all.2),
+      )
 
   -- whole traces begin in the same world
   starts_same : (n : ℕ) → SamePlaces R (replicate n (record { up = false; proc = idle })) (replicate n (record { up = false; proc = idle }))

@@ -5,15 +5,14 @@ use Rattle.std.proofs.lemmas.List.{append-nil}
 use Rattle.std.specs.declared.option.Option.{Option}
 use Rattle.std.specs.declared.option.Option.TheVariants.{None, Some}
 use Rattle.flow_value.specs.declared.value.Kind.{Kind}
-use Rattle.flow_value.specs.Values.{ValueTree, OutcomeTree, GoodOutcome, BadOutcome}
+use Rattle.flow_value.specs.Values.{ValueTree, OutcomeTree, BadOutcome}
 use Rattle.flow_trace.specs.declared.line.Line.{Line}
-use Rattle.flow_meaning.specs.Numbered.{Numbered, thing, put, removed}
-use Rattle.flow_meaning.specs.Cells.{side_of, Side, PromiseSide, FutureSide, Ref, Waiter, Cell, Single, Stream, is_complete, is_ready, waiters, filled, taken, after_taking}
-use Rattle.flow_meaning.specs.Asks.{Spot}
-use Rattle.flow_meaning.specs.Process.{Task, Run, Give, Throw, Catch, Store, Keep, Close, Fire, Drop, Entry, Halt, Spent, NoMeaning, Core}
+use Rattle.flow_meaning.specs.Numbered.{thing, put, removed}
+use Rattle.flow_meaning.specs.Cells.{side_of, Side, PromiseSide, FutureSide, Ref, Waiter, Cell, is_ready, waiters, taken, after_taking}
+use Rattle.flow_meaning.specs.Process.{Task, Give, Throw, Fire, Entry, Halt, Spent, NoMeaning, Core}
 use Rattle.flow_meaning.specs.Lines.{take_line, cancel_line, broken_line, end_line}
 use Rattle.flow_meaning.specs.Occ.{refs_in, value_in, Scan, Occ}
-use Rattle.flow_meaning.specs.Work.{halt, turn, turn_of, writes, pushed, dropping, dropping_values, fill, fill_cell, free, free_cell, leave_for, give, take_from, take_branch, cancel, cancel_by, cancel_owner, marked}
+use Rattle.flow_meaning.specs.Work.{halt, turn, turn_of, writes, pushed, dropping, fill, fill_cell, free, free_cell, leave_for, give, take_from, take_branch, cancel, cancel_by, cancel_owner, marked}
 use Rattle.flow_meaning.specs.Dropping.{Loss, Kept, Freed, Broken, Orphan, Unheard, loss, port_of, break_cell, suffer, lose_cell, lose_ref, drop, fire_to, fire_at, fire_cell, fire, set_result, give_result, close}
 use Rattle.flow_meaning.specs.Work.{owner}
 use Rattle.flow_meaning.specs.Turns.{Starts, more, IsHalted}
@@ -127,7 +126,7 @@ take_from_fair : (i b k : ℕ) (e : Entry) (vs : List ValueTree) (cell : Cell) �
 take_from_fair i b k e vs cell =
     after_turn (λ d. give i b e vs (taken cell) (record (writes (take_line i e.spot.group b) d) { cells = put d.cells k (after_taking cell) }))
     (fair _ (then_even (λ d. record (writes (take_line i e.spot.group b) d) { cells = put d.cells k (after_taking cell) }) (give i b e vs (taken cell))
-      (record { even = λ n c. refl; adds = λ c. (take_line i e.spot.group b ∷ [], refl) }) (give_even i b e vs (taken cell))))
+    (record { even = λ n c. refl; adds = λ c. (take_line i e.spot.group b ∷ [], refl) }) (give_even i b e vs (taken cell))))
 
 pub take_branch_fair : (i b k : ℕ) (e : Entry) (vs : List ValueTree) (x : Option Cell) → Fair (take_branch i b k e vs x)
 take_branch_fair i b k e vs None = fair _ (halt_even NoMeaning)

@@ -1,5 +1,5 @@
 -- Actors of the source and frames of classes see of their turns only whether there are enough.
-use Rattle.std.proofs.Common.{◌≡◌, ℕ, zero, suc, ◌+◌, List, [], ◌∷◌, ◌++◌, ◌⊎◌, inl, inr, refl, sym, ap, ◌∙◌, subst}
+use Rattle.std.proofs.Common.{◌≡◌, ℕ, ◌+◌, List, [], ◌∷◌, ◌⊎◌, inl, inr, refl, sym, ap, subst}
 use Rattle.std.specs.Prelude.{Bool, true, false}
 use Rattle.std.specs.declared.option.Option.{Option}
 use Rattle.std.specs.declared.option.Option.TheVariants.{None, Some}
@@ -12,23 +12,22 @@ use Rattle.flow_ast.specs.Body.{IntoTree, Body, End, BlockStmt, IfStmt, IfElseSt
 use Rattle.flow_ast.specs.Decls.{RoutineTree, ProgramTree}
 use Rattle.flow_ast.specs.TypingNames.{named, call_names, method_names}
 use Rattle.flow_ast.specs.Typing.{routine_named}
-use Rattle.flow_value.specs.declared.value.Kind.TheVariants as kind
 use Rattle.flow_value.specs.Values.{ValueTree, IntValue, BoolValue, TextValue, VoidValue, ErrorValue, RecordValue, RefValue}
 use Rattle.flow_eval.specs.Answers.{bool_of, error_of, int_of, text_of, arg}
-use Rattle.flow_eval.specs.Eval.{Res, Done, Fails, Spent, Meaningless, Setting, then}
+use Rattle.flow_eval.specs.Eval.{Res, Done, Fails, Spent, Meaningless}
 use Rattle.flow_eval.specs.Functions.{Call, default_value, read_in}
 use Rattle.flow_class.specs.Classes.{InstrTree, SetInstr, EffectInstr, NewInstr, ActInstr, DropInstr, LastTree, GotoLast, PassLast, TestLast, ChooseLast, ReturnLast, ThrowLast, CallbackTree, RawTree}
-use Rattle.flow_meaning.specs.Asks.{Spot, Act, Goes, Make, Goal, Stored, Kept, Pass, Drops, Effects, Operand, Prints, SendsTo, Waits, Returns, Throws, RunsOut, Stuck, Ask}
-use Rattle.flow_meaning.specs.Process.{View, Engine}
+use Rattle.flow_meaning.specs.Asks.{Spot, Act, Goes, Make, Goal, Stored, Kept, Pass, Drops, Effects, Operand, Prints, SendsTo, Returns, Throws}
+use Rattle.flow_meaning.specs.Process.{View}
 use Rattle.flow_meaning.specs.Evaluating.{Names, setting, Look, bind, StepOf, asks, quietly, stuck, given, evaluated, Effectful, effect_in, effect_of, value, values, call_act, function_act, plain_act, based_act, method_act, done, before_last, last_of}
 use Rattle.flow_meaning.specs.Variables.{Vars, look, scope, outside}
-use Rattle.flow_meaning.specs.Items.{Site, Loop, Cases, Single, OneOf, Target, Declared, Path, Item, Do, Leave, Round, Check, Made, Handler, Into, Await, Over, Actor, actor, over, leave_scope, left_scope, with_locals, everything, put_goal, change, operand, lose}
+use Rattle.flow_meaning.specs.Items.{Site, Loop, Cases, Target, Declared, Path, Item, Do, Leave, Round, Check, Made, Handler, Into, Await, Over, Actor, actor, over, leave_scope, left_scope, with_locals, everything, put_goal, change, operand}
 use Rattle.flow_meaning.specs.SourceStep as source_step
 use Rattle.flow_meaning.specs.Source.{names_of, source}
 use Rattle.flow_meaning.specs.Frame as frame
 use Rattle.flow_meaning.specs.Class as class
 use Rattle.flow_meaning.specs.Turns.{later, IsOut, Thrifty}
-use Rattle.flow_meaning.proofs.MoreEval.{Later, plus, done_later, then_later, whole_later, all_later, call_whole_later}
+use Rattle.flow_meaning.proofs.MoreEval.{Later, done_later, then_later, whole_later, all_later, call_whole_later}
 
 -- a step with more turns
 abbrev LaterStep : {A : Type 0} → ℕ → StepOf A → StepOf A → Type 0

@@ -1,6 +1,6 @@
 -- Evaluation with more turns: the same, with as many turns more left, or the turns ran out.
-use Rattle.std.proofs.Common.{◌≡◌, ℕ, zero, suc, ◌+◌, ◌≤◌, List, [], ◌∷◌, ◌++◌, ◌⊎◌, inl, inr, refl, sym, ap, ◌∙◌, subst, arith}
-use Rattle.std.specs.Prelude.{ℤ, pos, Bool, true, false, length}
+use Rattle.std.proofs.Common.{◌≡◌, ℕ, zero, suc, ◌+◌, ◌≤◌, List, [], ◌∷◌, ◌⊎◌, inl, inr, refl, sym, ap, subst, arith}
+use Rattle.std.specs.Prelude.{pos, Bool, true, false, length}
 use Rattle.std.specs.declared.option.Option.{Option}
 use Rattle.std.specs.declared.option.Option.TheVariants.{None, Some}
 use Rattle.flow_ast.specs.declared.ty.Ident.{Ident}
@@ -9,7 +9,7 @@ use Rattle.flow_ast.specs.declared.expr.Op.TheVariants.{Or, And, Eq, Ne, Lt, Le,
 use Rattle.flow_ast.specs.declared.predefined.Predefined as code
 use Rattle.flow_ast.specs.Tree.{ExprTree, ExprTrees, IntExpr, TextExpr, BoolExpr, VoidExpr, VarExpr, CallExpr, FieldExpr, MethodExpr, NotExpr, NegExpr, BinaryExpr, ParenExpr, NoExprs, MoreExprs}
 use Rattle.flow_ast.specs.Body.{IntoTree, ChangeTree, PlusChange, MinusChange, UpChange, DownChange, Body, End, BlockStmt, IfStmt, IfElseStmt, WhileStmt, ForStmt, LoopStmt, BreakStmt, ContinueStmt, ReturnStmt, ThrowStmt, TryStmt, ChooseStmt, DeclareStmt, AssignStmt, ModifyStmt, CallStmt, WaitStmt}
-use Rattle.flow_ast.specs.Decls.{RecordTree, RoutineTree}
+use Rattle.flow_ast.specs.Decls.{RoutineTree}
 use Rattle.flow_ast.specs.TypingNames.{named, call_names, method_names, constant_names}
 use Rattle.flow_ast.specs.Typing.{routine_named}
 use Rattle.flow_value.specs.declared.value.RecordId.{RecordId}
@@ -18,7 +18,7 @@ use Rattle.flow_eval.specs.Answers.{Answer, Given, Throws, NoMeaning, truth, boo
 use Rattle.flow_eval.specs.Operators.{operated, negated, inverted}
 use Rattle.flow_eval.specs.Predefined.{call_answer}
 use Rattle.flow_eval.specs.Records.{record_id, field, field_answer}
-use Rattle.flow_eval.specs.Eval.{Res, Done, Fails, Spent, Meaningless, Setting, Runner, then, at_once, more_args, variable, truth_of, or_then, and_then, both, second, method_called, function_called, declared_called, called, eval, eval_all}
+use Rattle.flow_eval.specs.Eval.{Res, Done, Fails, Spent, Meaningless, Setting, Runner, then, at_once, variable, truth_of, or_then, and_then, both, second, method_called, function_called, declared_called, called, eval, eval_all}
 use Rattle.flow_eval.specs.Functions.{Locals, Run, Goes, Breaks, Continues, Returns, Raises, SpentRun, NoRun, after, scoped, valued, chosen, again, passes, looped, stepped, caught_by, thrown, error_at, rethrown, default_value, bound, declared, put_path, read_path, assigned, entered, finished, scope, skip, leave_loop, change_sign, handled, try_run, evaluated, if_run, pass_run, turn_run, loop_run, for_run, throw_run, declare_run, assign_run, change_operand, changed, modify_run, call_by, call_run, return_run, exec, body_run, run_function, deepest, Eval, Call}
 
 -- so many turns more are left
@@ -135,7 +135,7 @@ module _ (k : ℕ) (s : Setting) (run : Runner) (runs : RunsMore k run) where
     eval_later look (MethodExpr e m xs) left sum q =
         then_later k (λ v left. then (eval_all s run look xs left) (λ vs left. at_once (method_called s.cells (named method_names m.name) v vs) left)) (eval s run look e left) (eval s run look e sum) (eval_later look e left sum q)
         (λ v l n h. then_later k (λ vs left. at_once (method_called s.cells (named method_names m.name) v vs) left) (eval_all s run look xs l) (eval_all s run look xs n) (eval_all_later look xs l n h)
-          (λ vs i j g. at_once_later k (method_called s.cells (named method_names m.name) v vs) i j g))
+        (λ vs i j g. at_once_later k (method_called s.cells (named method_names m.name) v vs) i j g))
     eval_later look (NotExpr e) left sum q =
         then_later k (λ v left. at_once (inverted v) left) (eval s run look e left) (eval s run look e sum) (eval_later look e left sum q) (λ v l m h. at_once_later k (inverted v) l m h)
     eval_later look (NegExpr e) left sum q =
@@ -298,7 +298,7 @@ module _ (k : ℕ) (s : Setting) (run : Runner) (runs : RunsMore k run) where
   changed_later (Some v) c xs vars left sum q =
       valued_later vars (λ w left. valued (at_once (operated (change_sign c) v w) left) vars (λ u left. assigned (put_path s.records vars xs u) left))
       (λ w l m h. valued_later vars (λ u left. assigned (put_path s.records vars xs u) left) (λ u i j g. assigned_later (put_path s.records vars xs u) i j g)
-        (at_once (operated (change_sign c) v w) l) (at_once (operated (change_sign c) v w) m) (at_once_later k (operated (change_sign c) v w) l m h))
+      (at_once (operated (change_sign c) v w) l) (at_once (operated (change_sign c) v w) m) (at_once_later k (operated (change_sign c) v w) l m h))
       (change_operand s run c vars left) (change_operand s run c vars sum) (operand_later c vars left sum q)
 
   call_by_later : (xs : List Ident) (vs : List ValueTree) (left sum : ℕ) → sum ≡ left + k → Later k (call_by s run xs vs left) (call_by s run xs vs sum)

@@ -1,25 +1,25 @@
 -- What a process answers to an ask with more turns: the same, or more where the turns ran out.
-use Rattle.std.proofs.Common.{◌≡◌, ℕ, zero, suc, ◌+◌, List, [], ◌∷◌, ◌++◌, ◌⊎◌, inl, inr, refl, sym, ap, ◌∙◌, subst}
+use Rattle.std.proofs.Common.{◌≡◌, ℕ, suc, ◌+◌, List, [], ◌∷◌, ◌++◌, ◌⊎◌, inl, inr, refl, sym, ap, subst}
 use Rattle.std.specs.Prelude.{ℤ, pos, ◌-ℤ◌, ◌^◌, int_le, nat_le, nat_lt, Bool, true, false, ◌&&◌, if◌then◌else◌}
 use Rattle.std.specs.declared.option.Option.{Option}
 use Rattle.std.specs.declared.option.Option.TheVariants.{None, Some}
 use Rattle.flow_value.specs.declared.value.Kind.{Kind}
 use Rattle.flow_value.specs.declared.value.Kind.TheVariants as kind
-use Rattle.flow_value.specs.Values.{ValueTree, IntValue, BoolValue, TextValue, VoidValue, ErrorValue, RecordValue, RefValue, OutcomeTree, GoodOutcome, BadOutcome}
+use Rattle.flow_value.specs.Values.{ValueTree, IntValue, RefValue, OutcomeTree, GoodOutcome}
 use Rattle.flow_trace.specs.declared.line.Line.{Line}
 use Rattle.flow_draw.specs.Words.{scaled}
 use Rattle.flow_eval.specs.Predefined.{natural}
-use Rattle.flow_meaning.specs.Numbered.{Numbered, thing, put, added}
-use Rattle.flow_meaning.specs.Cells.{Ref, Cell, Single, Stream, is_complete}
+use Rattle.flow_meaning.specs.Numbered.{Numbered, thing, added}
+use Rattle.flow_meaning.specs.Cells.{Cell, Single, Stream, is_complete}
 use Rattle.flow_meaning.specs.Asks.{Spot, Act, Goes, Pass, Drops, Effects, Operand, Waits, Sends, Cancels, Prints, SendsTo, Returns, Throws, RunsOut, Stuck, DiskCall, Effect, Make, Start, Draw, Delay, Never, Listen, Disk, Goal, Request, Drew, Timer, Packet, Disks, Supply}
-use Rattle.flow_meaning.specs.Process.{Task, Run, Throw, Keep, Close, Entry, Halt, Spent, NoMeaning, Core}
+use Rattle.flow_meaning.specs.Process.{Task, Run, Throw, Keep, Close, Entry, Spent, NoMeaning, Core}
 use Rattle.flow_meaning.specs.Lines.{wait_line, print_line}
 use Rattle.flow_meaning.specs.Occ.{refs_in}
-use Rattle.flow_meaning.specs.Work.{halt, turn, writes, pushed, dropping, dropping_values, new_cell, fill, leave_for, take_branch, first_ready, register, owner, cancel_owner}
+use Rattle.flow_meaning.specs.Work.{halt, turn, writes, pushed, dropping, dropping_values, new_cell, fill, take_branch, first_ready, register, owner, cancel_owner}
 use Rattle.flow_meaning.specs.Effects.{Reaction, quiet, throws, result_task, push_result, gives, gives_new, gives_open, empty_cell, between, draw, delay, is_port, open_port, listen, judged, ask_disk, effect, send_to}
 use Rattle.flow_meaning.specs.React.{send_by, send_in, print, at_spot, suspend, wait_by, wait, react}
 use Rattle.flow_meaning.specs.Turns.{Starts, more, IsHalted}
-use Rattle.flow_meaning.proofs.More.{starts_same, Ahead, Fair, Even, fair, still, after_turn, then_fair, then_even, own_fair, own_even, same_even, halt_even, writes_even, pushed_even, dropping_even, fill_even, leave_for_even, take_branch_fair, cancel_owner_even}
+use Rattle.flow_meaning.proofs.More.{Ahead, Fair, Even, fair, still, after_turn, then_even, own_fair, own_even, halt_even, writes_even, pushed_even, dropping_even, fill_even, leave_for_even, take_branch_fair, cancel_owner_even}
 
 -- the same of what also asks something of the world
 abbrev pub more_asked : ℕ → Reaction → Reaction
@@ -100,7 +100,7 @@ open_port_fair i g port (Some cell) = throws_fair i 9005
 open_port_fair i g port None =
     quiet_fair (λ c. gives_new i g kind.FutureStream (Stream [] None None) (record c { ports = added c.ports port (suc c.made) }))
     (fair _ (then_even (λ c. record c { ports = added c.ports port (suc c.made) }) (gives_new i g kind.FutureStream (Stream [] None None))
-      (still (λ c. record c { ports = added c.ports port (suc c.made) }) (λ k c. refl) (λ c. refl)) (gives_new_even i g kind.FutureStream (Stream [] None None))))
+    (still (λ c. record c { ports = added c.ports port (suc c.made) }) (λ k c. refl) (λ c. refl)) (gives_new_even i g kind.FutureStream (Stream [] None None))))
 
 listen_fair : (i : ℕ) (g : Goal) (port : ℤ) → FairAsk (listen i g port)
 listen_fair i g port =
@@ -163,7 +163,7 @@ react_fair s i (Sends k o) = quiet_fair (λ c. send_in (thing c.cells k) i k o c
 react_fair s i (Cancels k) =
     quiet_fair (λ c. cancel_owner (owner k c.entries) (pushed (Run i) c))
     (own_fair (λ o c. cancel_owner o (pushed (Run i) c)) (λ c. owner k c.entries) (λ n c. refl)
-      (λ o. fair _ (then_even (pushed (Run i)) (cancel_owner o) (pushed_even (Run i)) (cancel_owner_even o))))
+    (λ o. fair _ (then_even (pushed (Run i)) (cancel_owner o) (pushed_even (Run i)) (cancel_owner_even o))))
 react_fair s i (Prints v) = quiet_fair (print i (print_line i v)) (fair _ (print_even i (print_line i v)))
 react_fair s i (SendsTo q port text) = send_to_fair s i q port text
 react_fair s i (Returns v vs) =

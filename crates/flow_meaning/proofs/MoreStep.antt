@@ -1,27 +1,25 @@
 -- What a burst does with more turns: a burst that is spent has written a first part of what it writes with more.
-use Rattle.std.proofs.Common.{◌≡◌, ℕ, zero, suc, ◌+◌, List, [], ◌∷◌, ◌++◌, ◌⊎◌, inl, inr, refl, sym, ap, ◌∙◌, subst}
-use Rattle.std.specs.Prelude.{Bool, true, false, length}
+use Rattle.std.proofs.Common.{◌≡◌, ℕ, suc, ◌+◌, List, [], ◌∷◌, ◌⊎◌, inl, inr, refl, sym, ap, ◌∙◌, subst}
+use Rattle.std.specs.Prelude.{length}
 use Rattle.std.specs.declared.option.Option.{Option}
 use Rattle.std.specs.declared.option.Option.TheVariants.{None, Some}
-use Rattle.flow_value.specs.declared.value.Kind.{Kind}
 use Rattle.flow_value.specs.declared.value.Kind.TheVariants as kind
 use Rattle.flow_value.specs.Values.{ValueTree, RefValue, OutcomeTree, GoodOutcome, BadOutcome}
-use Rattle.flow_trace.specs.declared.line.Line.{Line}
 use Rattle.flow_meaning.specs.Numbered.{Numbered, thing, added, put, removed}
-use Rattle.flow_meaning.specs.Cells.{Ref, Cell, Single}
+use Rattle.flow_meaning.specs.Cells.{Ref}
 use Rattle.flow_meaning.specs.Asks.{Spot, Act, Goes, Pass, Drops, Effects, Operand, Waits, Sends, Cancels, Prints, SendsTo, Returns, Throws, RunsOut, Stuck, Effect, Make, Start, Draw, Delay, Never, Listen, Disk, Goal, Ask, Request, Supply}
-use Rattle.flow_meaning.specs.Process.{Task, Run, Give, Throw, Catch, Store, Keep, Close, Fire, Drop, Entry, Halt, Spent, NoMeaning, Core, Proc, View, Raised, Engine}
+use Rattle.flow_meaning.specs.Process.{Task, Run, Give, Throw, Catch, Store, Keep, Close, Fire, Drop, Entry, Halt, Spent, NoMeaning, Core, Proc, Raised, Engine}
 use Rattle.flow_meaning.specs.Lines.{start_line, throw_line, catch_line}
-use Rattle.flow_meaning.specs.Occ.{Scan, scan_of, refs_in}
-use Rattle.flow_meaning.specs.Work.{halt, turn, writes, pushed, dropping, dropping_values, new_cell, leave_for, take_branch, is_ready_at}
+use Rattle.flow_meaning.specs.Occ.{scan_of, refs_in}
+use Rattle.flow_meaning.specs.Work.{halt, writes, pushed, dropping, leave_for, take_branch, is_ready_at}
 use Rattle.flow_meaning.specs.Dropping.{drop, fire, close}
 use Rattle.flow_meaning.specs.Effects.{Reaction, result_task, push_result}
 use Rattle.flow_meaning.specs.React.{react}
-use Rattle.flow_meaning.specs.Step.{proc, Stepped, silent, astray, view, enrol, start_core, start, reacted, answer_effect, answer, run_next, run, replaced, give, store, fate, throw_core, throw_with, throw, Verdict, GoesOn, Cancelled, Ready, verdict, with_operand, below, leave_kept, lost, keep_by, keep, handle, close_actor, scanned, on_core, popped, do_task, step_tasks, step_if, step}
-use Rattle.flow_meaning.specs.Burst.{Host, Live, live, add_lines, served, serve, advanced, advance, Burst, rests, steps}
+use Rattle.flow_meaning.specs.Step.{proc, Stepped, silent, astray, view, enrol, start_core, start, reacted, answer_effect, answer, run_next, run, replaced, give, store, fate, throw_core, throw, Verdict, GoesOn, Cancelled, Ready, verdict, with_operand, below, leave_kept, lost, keep_by, keep, handle, close_actor, do_task, step_tasks, step_if, step}
+use Rattle.flow_meaning.specs.Burst.{Host, Live, serve, advanced, advance, Burst, rests, steps}
 use Rattle.flow_meaning.specs.Turns.{Starts, more, more_live, later, Asks, IsOut, Thrifty, IsHalted, WritesFirst}
-use Rattle.flow_meaning.proofs.More.{starts_same, starts_on, Ahead, Fair, Even, fair, still, after_turn, then_fair, then_even, own_fair, own_even, same_even, halt_even, writes_even, pushed_even, dropping_even, leave_for_even, take_branch_fair, drop_fair, fire_fair, close_fair}
-use Rattle.flow_meaning.proofs.MoreReact.{more_asked, AheadAsked, FairAsk, push_result_even, react_fair}
+use Rattle.flow_meaning.proofs.More.{starts_same, starts_on, Ahead, Fair, Even, fair, still, after_turn, then_even, own_fair, same_even, halt_even, writes_even, pushed_even, dropping_even, leave_for_even, take_branch_fair, drop_fair, fire_fair, close_fair}
+use Rattle.flow_meaning.proofs.MoreReact.{AheadAsked, FairAsk, push_result_even, react_fair}
 use Rattle.flow_meaning.proofs.BurstOnce.{burst_once}
 
 enrol_even : (class : ℕ) (name : List ℕ) → Even (enrol class name)
@@ -31,7 +29,7 @@ start_fair : (i : ℕ) (g : Goal) (class : ℕ) (name : List ℕ) → Fair (star
 start_fair i g class name =
     after_turn (λ d. enrol class name (push_result i (result_task i g (RefValue kind.Future (suc d.made))) d))
     (own_fair (λ n d. enrol class name (push_result i (result_task i g (RefValue kind.Future (suc n))) d)) (λ d. d.made) (λ k c. refl)
-      (λ n. fair _ (then_even (push_result i (result_task i g (RefValue kind.Future (suc n)))) (enrol class name) (push_result_even i _) (enrol_even class name))))
+    (λ n. fair _ (then_even (push_result i (result_task i g (RefValue kind.Future (suc n)))) (enrol class name) (push_result_even i _) (enrol_even class name))))
 
 throw_even : (i err : ℕ) (r : Raised) (x : Option Entry) → Even (throw_core i err r x)
 throw_even i err r None = halt_even NoMeaning
@@ -132,7 +130,7 @@ module _ {A : Type 0} where
 
   asks_ahead : (e : Engine A) (s : Supply) (i : ℕ) (ts : List Task) (k : ℕ) (act : Act) (r q : Option Ask × A) (c : Core) (xs : Numbered A) → Asks act r
       → ((left : ℕ) (a : A) → IsHalted (answer e s i act (proc (record c { tasks = ts; left = left }) (put xs i a))).0.core × ((answer e s i act (proc (record c { tasks = ts; left = left }) (put xs i a))).1 ≡ None)
-          × ((answer e s i act (proc (record c { tasks = ts; left = left }) (put xs i a))).0.core.lines ≡ c.lines))
+      × ((answer e s i act (proc (record c { tasks = ts; left = left }) (put xs i a))).0.core.lines ≡ c.lines))
       → AheadStep k (run_next e s i ts r (proc c xs)) (run_next e s i ts q (proc (more k c) xs))
   asks_ahead e s i ts k act r q c xs h halts =
       let f = halts h.0 h.1 in

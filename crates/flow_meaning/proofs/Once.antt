@@ -1,13 +1,12 @@
 -- A run has one trace, since a step is a function and a burst comes to one end.
-use Rattle.std.proofs.Common.{◌≡◌, ℕ, List, [], ◌∷◌, ◌++◌, refl, sym, ap, ◌∙◌, subst}
-use Rattle.std.specs.declared.option.Option.{Option}
+use Rattle.std.proofs.Common.{◌≡◌, List, [], ◌∷◌, ◌++◌, refl, sym, ap, ◌∙◌, subst}
 use Rattle.std.specs.declared.option.Option.TheVariants.{None, Some}
 use Rattle.flow_trace.specs.declared.line.Line.{Line}
 use Rattle.flow_trace.specs.declared.line.Line.TheVariants as line
-use Rattle.flow_meaning.specs.Process.{Engine, Halt, Spent}
+use Rattle.flow_meaning.specs.Process.{Engine, Spent}
 use Rattle.flow_meaning.specs.Burst.{Live, Burst}
 use Rattle.flow_meaning.specs.Outside.{Outside, host}
-use Rattle.flow_meaning.specs.World.{World, Begun, next_of, begun_by, ending}
+use Rattle.flow_meaning.specs.World.{World, Begun}
 use Rattle.flow_meaning.specs.Runs.{Runs, ends, spent, event, before, after, lines_of, RunsOnce}
 use Rattle.flow_meaning.proofs.BurstOnce.{two, same, burst_once}
 

@@ -1,20 +1,19 @@
 -- Runs of waits and chooses, computed.
-use Rattle.std.proofs.Common.{◌≡◌, ℕ, List, [], ◌∷◌, refl}
-use Rattle.std.specs.Prelude.{ℤ, pos, negsuc, Bool, true, false, codes}
+use Rattle.std.proofs.Common.{List, [], ◌∷◌, refl}
+use Rattle.std.specs.Prelude.{pos, true, false, codes}
 use Rattle.std.specs.declared.option.Option.TheVariants.{None, Some}
 use Rattle.flow_trace.specs.declared.line.Line.{Line}
 use Rattle.flow_trace.specs.declared.line.Line.TheVariants as line
 use Rattle.flow_worldfile.specs.Worlds.{World}
-use Rattle.flow_worldfile.specs.declared.directive.Order.TheVariants as order
-use Rattle.flow_ast.specs.declared.expr.Op.TheVariants.{Or, And, Eq, Ne, Lt, Le, Gt, Ge, Add, Sub, Mul, Div, Rem}
-use Rattle.flow_ast.specs.Tree.{IntType, BoolType, StringType, VoidType, ErrorType, NamedType, FutureType, FutureStreamType, PromiseType, PromiseStreamType, IntExpr, TextExpr, BoolExpr, VoidExpr, VarExpr, CallExpr, FieldExpr, MethodExpr, NotExpr, NegExpr, BinaryExpr, ParenExpr, NoExprs, MoreExprs}
-use Rattle.flow_ast.specs.Body.{PlusChange, MinusChange, UpChange, DownChange, End, BlockStmt, IfStmt, IfElseStmt, WhileStmt, ForStmt, LoopStmt, BreakStmt, ContinueStmt, ReturnStmt, ThrowStmt, TryStmt, ChooseStmt, DeclareStmt, AssignStmt, ModifyStmt, CallStmt, WaitStmt, NoBranches, MoreBranches}
-use Rattle.flow_ast.specs.Decls.{StructDecl, FunctionDecl, ActorDecl, ProgramTree}
+use Rattle.flow_ast.specs.declared.expr.Op.TheVariants.{Add}
+use Rattle.flow_ast.specs.Tree.{IntType, VoidType, ErrorType, FutureType, PromiseType, PromiseStreamType, IntExpr, VoidExpr, VarExpr, CallExpr, MethodExpr, BinaryExpr, NoExprs, MoreExprs}
+use Rattle.flow_ast.specs.Body.{End, ReturnStmt, TryStmt, ChooseStmt, DeclareStmt, CallStmt, WaitStmt, NoBranches, MoreBranches}
+use Rattle.flow_ast.specs.Decls.{ActorDecl, ProgramTree}
 use Rattle.flow_meaning.specs.Runs.{SourceTrace, ClassTrace}
-use Rattle.flow_meaning.proofs.Following.{lines_for, source_trace, class_trace}
+use Rattle.flow_meaning.proofs.Following.{source_trace, class_trace}
 use Rattle.flow_meaning.proofs.RowTerms.{nowhere, id, process, actor, cell, error}
 use Rattle.flow_class.specs.declared.class.Slotted.TheVariants.{Slot, Local}
-use Rattle.flow_class.specs.Classes.{RawTree, SetInstr, EffectInstr, NewInstr, ActInstr, DropInstr, GotoLast, PassLast, TestLast, ChooseLast, ReturnLast, ThrowLast}
+use Rattle.flow_class.specs.Classes.{RawTree, EffectInstr, NewInstr, ActInstr, DropInstr, GotoLast, ChooseLast, ReturnLast}
 
 -- a choose whose first branch is ready: the second operand is never evaluated
 unfoldable pub second_operand_never_starts_program : ProgramTree

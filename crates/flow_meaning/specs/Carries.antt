@@ -74,12 +74,12 @@ module _ (ns : Names) (c : ClassTree) where
     BodyAt s r ts x (WhileStmt place e b k) p =
         (h : ℕ) × (q : Pos) × PassAt ns c p h
         × LoopAt s (Do (site_past b x) k ∷ r) (At q ∷ ts) (Some e) h
-          (BodyAt (Mark ∷ s) (Leave ∷ Made (record { site = x; condition = Some e; step = End; inner = b }) ∷ Do (site_past b x) k ∷ r) (Again h ∷ At q ∷ ts) x b)
+        (BodyAt (Mark ∷ s) (Leave ∷ Made (record { site = x; condition = Some e; step = End; inner = b }) ∷ Do (site_past b x) k ∷ r) (Again h ∷ At q ∷ ts) x b)
         × BodyAt s r ts (site_past b x) k q
     BodyAt s r ts x (LoopStmt place b k) p =
         (h : ℕ) × (q : Pos) × PassAt ns c p h
         × LoopAt s (Do (site_past b x) k ∷ r) (At q ∷ ts) None h
-          (BodyAt (Mark ∷ s) (Leave ∷ Made (record { site = x; condition = None; step = End; inner = b }) ∷ Do (site_past b x) k ∷ r) (Again h ∷ At q ∷ ts) x b)
+        (BodyAt (Mark ∷ s) (Leave ∷ Made (record { site = x; condition = None; step = End; inner = b }) ∷ Do (site_past b x) k ∷ r) (Again h ∷ At q ∷ ts) x b)
         × BodyAt s r ts (site_past b x) k q
     BodyAt s r ts x (ForStmt place i e t b k) p =
         let y = site_past t (site_past i x) in

@@ -1,16 +1,15 @@
 -- A whole run: event after event, each a burst of its process, up to its end; its states and its trace.
-use Rattle.std.specs.Prelude.{◌≡◌, ℕ, List, [], ◌∷◌, ◌++◌, slice_set, refl}
-use Rattle.std.specs.declared.option.Option.{Option}
+use Rattle.std.specs.Prelude.{◌≡◌, List, [], ◌∷◌, ◌++◌, slice_set}
 use Rattle.std.specs.declared.option.Option.TheVariants.{None, Some}
 use Rattle.flow_trace.specs.declared.line.Line.{Line}
 use Rattle.flow_trace.specs.declared.line.Line.TheVariants as line
 use Rattle.flow_worldfile.specs.Worlds as file
 use Rattle.flow_ast.specs.Decls.{ProgramTree}
 use Rattle.flow_class.specs.Classes.{RawTree}
-use Rattle.flow_meaning.specs.Process.{Proc, Engine, Halt, Spent}
+use Rattle.flow_meaning.specs.Process.{Engine, Spent}
 use Rattle.flow_meaning.specs.Burst.{Live, live, Burst}
 use Rattle.flow_meaning.specs.Outside.{Outside, host}
-use Rattle.flow_meaning.specs.World.{Place, World, Begun, Next, next_of, begun_by, ending, at_start}
+use Rattle.flow_meaning.specs.World.{World, Begun, next_of, begun_by, ending, at_start}
 use Rattle.flow_meaning.specs.Items.{Actor}
 use Rattle.flow_meaning.specs.Frame.{Frame}
 use Rattle.flow_meaning.specs.Source.{source}

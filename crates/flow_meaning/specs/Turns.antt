@@ -4,7 +4,7 @@ use Rattle.std.specs.declared.option.Option.{Option}
 use Rattle.std.specs.declared.option.Option.TheVariants.{None, Some}
 use Rattle.flow_trace.specs.declared.line.Line.{Line}
 use Rattle.flow_meaning.specs.Asks.{Act, RunsOut, Stuck, Ask}
-use Rattle.flow_meaning.specs.Process.{Halt, Core, Proc, View, Engine}
+use Rattle.flow_meaning.specs.Process.{Halt, Core, View, Engine}
 use Rattle.flow_meaning.specs.Step.{proc}
 use Rattle.flow_meaning.specs.Burst.{Host, Live, live, Burst}
 

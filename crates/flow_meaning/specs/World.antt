@@ -1,6 +1,6 @@
 -- The world, generic in its actors: its processes and what is outside of them, which event comes next, and
 -- how an event begins.
-use Rattle.std.specs.Prelude.{ℕ, suc, ◌+◌, pos, Bool, true, false, not, ◌&&◌, List, [], ◌∷◌, ◌++◌, map, replicate, filter, nat_eq, nat_lt, nat_le, slice_get, slice_set, slice_index_or, if◌then◌else◌}
+use Rattle.std.specs.Prelude.{ℕ, suc, pos, Bool, true, false, not, List, [], ◌∷◌, ◌++◌, map, replicate, filter, nat_eq, nat_lt, nat_le, slice_set, slice_index_or, if◌then◌else◌}
 use Rattle.std.specs.List.{range_with_len}
 use Rattle.std.specs.declared.option.Option.{Option}
 use Rattle.std.specs.declared.option.Option.TheVariants.{None, Some}
@@ -17,7 +17,7 @@ use Rattle.flow_meaning.specs.Asks.{DiskCall, ReadCall, WriteCall, SyncCall, Siz
 use Rattle.flow_meaning.specs.Process.{Core, Proc, Engine}
 use Rattle.flow_meaning.specs.Deliver.{begin, boot, stop, deliver, arrive, vanish, idle}
 use Rattle.flow_meaning.specs.Disk.{Disk, File, DiskReply, Bytes, Done, Size, Failed, Kept, Losing, served, power_lost}
-use Rattle.flow_meaning.specs.Outside.{What, Boots, Rings, Arrives, Answers, Pending, Outside, process_id, with_pending, healed}
+use Rattle.flow_meaning.specs.Outside.{What, Boots, Rings, Arrives, Answers, Pending, Outside, process_id, healed}
 
 -- a process is up from its boot to its kill
 pub record Place (A : Type 0) : Type 0 where

@@ -2,6 +2,7 @@
 
 ghost use Rattle.flow_ast.specs.Decls.{ProgramTree};
 ghost use Rattle.flow_class.specs.Classes.{RawTree};
+ghost use Rattle.flow_meaning.specs.RunLaw.{RunsFollow, RunsReturn, TracesFollow, TracesReturn};
 ghost use Rattle.flow_meaning.specs.Law.{Simulates, BurstsFollow, BurstsReturn, BurstsOnce};
 ghost use Rattle.flow_meaning.specs.Turns.{Thrifty, WritesFirst};
 ghost use Rattle.flow_meaning.specs.Runs.{RunsOnce};
@@ -41,6 +42,16 @@ pub trait TwoKinds {
 pub fn bursts_alike<K: TwoKinds>()
     ensures follow { Simulates K.first K.second K.related → BurstsFollow K.first K.second K.host K.related }
     ensures back { Simulates K.first K.second K.related → BurstsReturn K.first K.second K.host K.related }
+{}
+
+/// And so with whole runs: from worlds that are alike each run of the first kind has a run of the second
+/// with the same lines, through states that are alike at each boundary, and each run of the second kind
+/// one of the first. In the world of a world file both kinds have the same traces.
+pub fn runs_alike<K: TwoKinds>()
+    ensures follow { Simulates K.first K.second K.related → RunsFollow K.first K.second K.related }
+    ensures back { Simulates K.first K.second K.related → RunsReturn K.first K.second K.related }
+    ensures traces { Simulates K.first K.second K.related → TracesFollow K.first K.second K.related }
+    ensures traces_back { Simulates K.first K.second K.related → TracesReturn K.first K.second K.related }
 {}
 
 /// A burst comes to one end.

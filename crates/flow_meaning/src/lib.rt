@@ -4,4 +4,5 @@
 //! The definitions stand in `specs/`. The functions of this crate have empty bodies: the contract of
 //! each is a law about the definitions.
 #![tactic(auto)]
+
 pub mod laws;
