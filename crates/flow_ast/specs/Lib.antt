@@ -14,4 +14,5 @@ pub mod Grammar
 pub mod GrammarAnswer
 pub mod GrammarStmt
 pub mod GrammarDecl
+pub mod Slots
 pub mod Canon

@@ -6,3 +6,11 @@ pub mod Weights
 pub mod Steps
 pub mod StatementKinds
 pub mod Parts
+pub mod Meanings
+pub mod TypedValues
+pub mod TypedAnswers
+pub mod TypedExprs
+pub mod TypedLocals
+pub mod TypedStatements
+pub mod TypesKept
+pub mod Examples

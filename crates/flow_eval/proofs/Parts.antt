@@ -1,5 +1,5 @@
 -- What statements come to, from what their parts come to.
-use Rattle.std.proofs.Common.{◌≡◌, ℕ, ◌+◌, List, length, map, take, Bool, true, false, refl, ap, sym, subst, ◌∙◌}
+use Rattle.std.proofs.Common.{◌≡◌, ℕ, List, length, map, take, true, false, ap, sym, subst, ◌∙◌}
 use Rattle.std.specs.Option.{option_map}
 use Rattle.std.specs.declared.option.Option.{Option}
 use Rattle.std.specs.declared.option.Option.TheVariants.{None, Some}
@@ -11,7 +11,7 @@ use Rattle.flow_ast.specs.declared.expr.Expr.{Expr}
 use Rattle.flow_ast.specs.declared.stmt.Stmt.{Stmt}
 use Rattle.flow_ast.specs.View.{expr_of}
 use Rattle.flow_ast.specs.StmtView.{simple_of, body_of}
-use Rattle.flow_eval.specs.declared.evaluate.Flow.TheVariants as flow
+use Rattle.flow_eval.specs.declared.statements.Flow.TheVariants as flow
 use Rattle.flow_eval.specs.declared.variables.Var.{Var}
 use Rattle.flow_eval.specs.Variables.{var_of}
 use Rattle.flow_ast.specs.declared.ty.Ident.{Ident}
@@ -19,11 +19,11 @@ use Rattle.flow_ast.specs.Tree.{ExprTree}
 use Rattle.flow_ast.specs.Body.{IntoTree, ChangeTree}
 use Rattle.flow_value.specs.Values.{ValueTree, ErrorValue}
 use Rattle.flow_eval.specs.declared.stop.Halt.{Halt}
-use Rattle.flow_eval.specs.declared.evaluate.Flow.{Flow}
+use Rattle.flow_eval.specs.declared.statements.Flow.{Flow}
 use Rattle.flow_eval.specs.Answers.{Given, bool_of, error_of}
 use Rattle.flow_eval.specs.Operators.{operated}
-use Rattle.flow_eval.specs.Eval.{Setting, Runner, Res, Done, at_once}
-use Rattle.flow_eval.specs.Functions.{Locals, Run, Goes, Breaks, Raises, after, valued, chosen, scope, leave_loop, evaluated, if_run, pass_run, loop_run, for_run, throw_run, thrown, rethrown, declare_run, declared, default_value, assign_run, assigned, put_path, read_path, modify_run, changed, change_operand, change_sign, exec, bound, handled}
+use Rattle.flow_eval.specs.Eval.{Setting, Runner, Done, at_once}
+use Rattle.flow_eval.specs.Functions.{Locals, Run, Goes, Breaks, Raises, valued, chosen, scope, leave_loop, evaluated, if_run, pass_run, loop_run, for_run, throw_run, thrown, rethrown, declare_run, declared, default_value, assign_run, assigned, put_path, read_path, modify_run, changed, change_operand, change_sign, exec, bound, handled}
 use Rattle.flow_eval.specs.View.{Gives, Ran}
 use Rattle.flow_eval.proofs.Steps.{valued_ran, valued_stops, chosen_ran, after_goes, scope_cut}
 

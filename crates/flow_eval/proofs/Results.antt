@@ -1,14 +1,13 @@
 -- What the code comes to, put together from its parts.
-use Rattle.std.proofs.Common.{◌≡◌, ℕ, ◌+◌, ◌∷◌, ◌++◌, [], List, map, refl, ap, sym, subst, ◌∙◌, Vec, Global}
+use Rattle.std.proofs.Common.{ℕ, List, ap}
 use Rattle.std.specs.declared.result.Result.{Result}
 use Rattle.std.specs.declared.result.Result.TheVariants.{Ok, Err}
 use Rattle.flow_value.specs.declared.value.Value.{Value}
 use Rattle.flow_value.specs.Values.{ValueTree}
-use Rattle.flow_value.specs.View.{value_of}
 use Rattle.flow_eval.specs.declared.stop.Halt.{Halt}
 use Rattle.flow_eval.specs.declared.stop.Halt.TheVariants as halt
-use Rattle.flow_eval.specs.Answers.{Answer, Given, Throws, NoMeaning}
-use Rattle.flow_eval.specs.Eval.{Res, Done, Fails, Spent, Meaningless, then, at_once}
+use Rattle.flow_eval.specs.Answers.{Answer}
+use Rattle.flow_eval.specs.Eval.{Res, then, at_once}
 use Rattle.flow_eval.specs.View.{Answers, Gives, GivesAll}
 
 -- an answer takes no turn

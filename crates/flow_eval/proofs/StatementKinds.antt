@@ -12,17 +12,17 @@ use Rattle.flow_ast.specs.declared.expr.Expr.{Expr}
 use Rattle.flow_ast.specs.declared.stmt.Into as code
 use Rattle.flow_ast.specs.declared.stmt.Target.{Target}
 use Rattle.flow_ast.specs.declared.stmt.Change.{Change}
-use Rattle.std.proofs.Common.{subst, rules}
+use Rattle.std.proofs.Common.{subst}
 use Rattle.std.specs.declared.result.Result.{Result}
 use Rattle.flow_eval.specs.declared.stop.Halt.{Halt}
-use Rattle.flow_eval.specs.declared.evaluate.Flow.{Flow}
+use Rattle.flow_eval.specs.declared.statements.Flow.{Flow}
 use Rattle.flow_ast.specs.declared.stmt.Stmt.{Stmt, out-Stmt, fold_out-Stmt}
 use Rattle.flow_ast.specs.declared.stmt.StmtKind.{StmtKind, fold-roll-StmtKind}
 use Rattle.flow_ast.specs.declared.stmt.StmtKind.TheOpen as layer
 use Rattle.flow_ast.specs.declared.stmt.StmtKind.TheVariants as kind
 use Rattle.flow_ast.specs.View.{expr_of, exprs_of}
 use Rattle.flow_ast.specs.StmtView.{into_of, change_of, kind_of, kind_step, stmt_step, branch_step, simple_of, else_of, body_of, stmt_of}
-use Rattle.flow_ast.specs.Body.{Body, Branches, BlockStmt, IfStmt, IfElseStmt, WhileStmt, ForStmt, LoopStmt, ReturnStmt, ThrowStmt, TryStmt, DeclareStmt, AssignStmt, ModifyStmt, CallStmt}
+use Rattle.flow_ast.specs.Body.{Body, Branches, BlockStmt, IfStmt, IfElseStmt, LoopStmt, ReturnStmt, ThrowStmt, TryStmt, DeclareStmt, AssignStmt, CallStmt}
 use Rattle.flow_ast.proofs.Views.{kind_while, kind_for, kind_modify}
 use Rattle.flow_eval.specs.Eval.{Setting, Runner}
 use Rattle.flow_eval.specs.Functions.{Locals, Run, after, exec, scope, skip, if_run, loop_run, for_run, try_run, return_run, throw_run, declare_run, assign_run, modify_run, call_run}

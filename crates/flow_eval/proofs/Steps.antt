@@ -1,5 +1,5 @@
 -- Statements and loops, as far as the code has come.
-use Rattle.std.proofs.Common.{◌≡◌, ℕ, zero, suc, ◌+◌, ◌<◌, ◌≤◌, List, [], ◌∷◌, ◌++◌, length, map, take, drop, get_or, slice_get, Bool, true, false, cond, ◌-◌, refl, ap, sym, subst, ◌∙◌, arith, add-one, append_assoc, Vec, Global}
+use Rattle.std.proofs.Common.{◌≡◌, ℕ, zero, suc, ◌+◌, ◌<◌, ◌≤◌, List, [], ◌∷◌, ◌++◌, length, map, take, drop, get_or, slice_get, Bool, true, false, cond, ◌-◌, refl, ap, sym, subst, ◌∙◌, arith, add-one, append_assoc}
 use Rattle.std.specs.declared.result.Result.{Result}
 use Rattle.std.specs.declared.result.Result.TheVariants.{Ok, Err}
 use Rattle.flow_ast.specs.declared.expr.Expr.{Expr}
@@ -16,11 +16,10 @@ use Rattle.flow_ast.specs.View.{expr_of, exprs_of}
 use Rattle.flow_ast.specs.StmtView.{stmt_of, body_of}
 use Rattle.flow_value.specs.declared.value.Value.{Value}
 use Rattle.flow_value.specs.Values.{ValueTree}
-use Rattle.flow_value.specs.View.{value_of}
 use Rattle.flow_eval.specs.declared.stop.Halt.{Halt}
 use Rattle.flow_eval.specs.declared.stop.Halt.TheVariants as halt
-use Rattle.flow_eval.specs.declared.evaluate.Flow.{Flow}
-use Rattle.flow_eval.specs.declared.evaluate.Flow.TheVariants as flow
+use Rattle.flow_eval.specs.declared.statements.Flow.{Flow}
+use Rattle.flow_eval.specs.declared.statements.Flow.TheVariants as flow
 use Rattle.flow_eval.specs.Answers.{Given, NoMeaning}
 use Rattle.flow_eval.specs.Eval.{Setting, Runner, Res, Done, Fails, Spent, Meaningless, then, eval, eval_all, more_args, function_called, found}
 use Rattle.flow_eval.specs.Functions.{valued, chosen, Locals, Run, Goes, Breaks, Continues, Returns, Raises, SpentRun, NoRun, after, scoped, passes, again, caught_by, exec, entered, finished, body_run, called_body, run_function}

@@ -1,5 +1,5 @@
 -- How much there is to do in expressions and statements: what falls at each call of the evaluator.
-use Rattle.std.proofs.Common.{◌≡◌, ℕ, zero, suc, ◌+◌, ◌*◌, ◌-◌, ◌<◌, ◌≤◌, List, [], ◌∷◌, length, map, get_or, arith, refl, subst, sym}
+use Rattle.std.proofs.Common.{◌≡◌, ℕ, zero, suc, ◌+◌, ◌*◌, ◌-◌, ◌<◌, ◌≤◌, List, [], ◌∷◌, length, map, get_or, arith, subst, sym}
 use Rattle.std.specs.Option.{option_map}
 use Rattle.std.specs.declared.option.Option.{Option}
 use Rattle.std.specs.declared.option.Option.TheVariants.{None, Some}
@@ -7,9 +7,8 @@ use Rattle.std.specs.declared.alloc.Global.{Global}
 use Rattle.std.specs.declared.boxed.Box.{Box}
 use Rattle.std.specs.declared.vec.Vec.{Vec}
 use Rattle.flow_ast.specs.declared.expr.Expr.{Expr}
-use Rattle.flow_ast.specs.declared.stmt.Change.{Change}
 use Rattle.flow_ast.specs.declared.stmt.Stmt.{Stmt, Stmt-F, fold-Stmt}
-use Rattle.flow_ast.specs.declared.stmt.When.{When, When-F}
+use Rattle.flow_ast.specs.declared.stmt.When.{When-F}
 use Rattle.flow_ast.specs.declared.stmt.StmtKind.{StmtKind, StmtKind-F, fold-StmtKind}
 use Rattle.flow_ast.specs.declared.stmt.StmtKind.TheOpen.{Block, If, While, For, Loop, Break, Continue, Return, Throw, Try, Choose, Declare, Assign, Modify, Call, Wait}
 use Rattle.flow_ast.specs.declared.decl.FunctionDecl.{FunctionDecl}

@@ -1,5 +1,5 @@
 -- Statements of plain functions, and their calls.
-use Rattle.std.specs.Prelude.{ℕ, zero, suc, ◌+◌, pos, Bool, true, false, List, [], ◌∷◌, ◌++◌, length, take, position, slice_get, slice_set}
+use Rattle.std.specs.Prelude.{ℕ, zero, suc, pos, Bool, true, false, List, [], ◌∷◌, ◌++◌, length, take, position, slice_get, slice_set}
 use Rattle.std.specs.Option.{option_map}
 use Rattle.std.specs.Str.{bytes_eq}
 use Rattle.std.specs.declared.option.Option.{Option}
@@ -10,12 +10,12 @@ use Rattle.flow_ast.specs.declared.expr.Op.TheVariants.{Add, Sub}
 use Rattle.flow_ast.specs.Tree.{TypeTree, IntType, BoolType, StringType, ExprTree, ExprTrees}
 use Rattle.flow_ast.specs.Body.{IntoTree, ChangeTree, PlusChange, MinusChange, UpChange, DownChange, Body, End, BlockStmt, IfStmt, IfElseStmt, WhileStmt, ForStmt, LoopStmt, BreakStmt, ContinueStmt, ReturnStmt, ThrowStmt, TryStmt, ChooseStmt, DeclareStmt, AssignStmt, ModifyStmt, CallStmt, WaitStmt}
 use Rattle.flow_ast.specs.Decls.{ParamTree, RecordTree, RoutineTree}
-use Rattle.flow_ast.specs.TypingNames.{named, call_names}
+use Rattle.flow_ast.specs.TypingNames.{named}
 use Rattle.flow_ast.specs.Typing.{routine_named}
-use Rattle.flow_value.specs.Values.{ValueTree, IntValue, BoolValue, TextValue, VoidValue, ErrorValue, RecordValue, RefValue}
-use Rattle.flow_eval.specs.Answers.{Answer, Given, Throws, NoMeaning, bool_of, error_of}
+use Rattle.flow_value.specs.Values.{ValueTree, IntValue, BoolValue, TextValue, ErrorValue, RecordValue}
+use Rattle.flow_eval.specs.Answers.{bool_of, error_of}
 use Rattle.flow_eval.specs.Operators.{operated}
-use Rattle.flow_eval.specs.Records.{field_place, value_at, at_place, value_put, field}
+use Rattle.flow_eval.specs.Records.{field_place, value_put, field}
 use Rattle.flow_eval.specs.Eval.{Res, Done, Fails, Spent, Meaningless, Setting, Runner, at_once, eval, eval_all, function_called}
 
 -- the variables in force, the oldest first; no two have one name

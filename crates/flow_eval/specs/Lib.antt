@@ -6,3 +6,7 @@ pub mod Eval
 pub mod Functions
 pub mod View
 pub mod Variables
+pub mod Meaning
+pub mod Typed
+pub mod WellTyped
+pub mod Example

@@ -1,5 +1,5 @@
 -- The predefined calls without effects, and the methods of values.
-use Rattle.std.specs.Prelude.{ℕ, ◌+◌, ◌*◌, ◌-◌, ℤ, pos, negsuc, neg_ℤ, int_le, nat_le, Bool, true, false, ◌&&◌, ◌==◌, not, List, [], ◌∷◌, length, take, drop, if◌then◌else◌}
+use Rattle.std.specs.Prelude.{ℕ, ◌+◌, ◌*◌, ◌-◌, ℤ, pos, negsuc, neg_ℤ, int_le, Bool, true, false, ◌&&◌, ◌==◌, not, List, [], ◌∷◌, length, take, drop, if◌then◌else◌}
 use Rattle.std.specs.Fmt.{signed_decimal}
 use Rattle.std.specs.List.{list_all}
 use Rattle.std.specs.declared.option.Option.{Option}
@@ -11,7 +11,7 @@ use Rattle.flow_ast.specs.declared.predefined.Method.{Method}
 use Rattle.flow_ast.specs.declared.predefined.Method.TheVariants.{Code, Size, Substr, IsReady, IsError, Get, GetFuture, IsSet}
 use Rattle.flow_value.specs.declared.value.Kind.{Kind}
 use Rattle.flow_value.specs.declared.value.Kind.TheVariants.{Promise, Future, PromiseStream, FutureStream}
-use Rattle.flow_value.specs.Values.{ValueTree, IntValue, BoolValue, TextValue, VoidValue, ErrorValue, RecordValue, RefValue, OutcomeTree, GoodOutcome, BadOutcome}
+use Rattle.flow_value.specs.Values.{ValueTree, IntValue, BoolValue, TextValue, ErrorValue, RefValue, OutcomeTree, GoodOutcome, BadOutcome}
 use Rattle.flow_eval.specs.Answers.{Answer, Given, Throws, NoMeaning, if_int, int_of, text_of, arg}
 
 -- the number that decimal digits spell, after what was read before

@@ -1,5 +1,5 @@
 -- The fields of record values.
-use Rattle.std.specs.Prelude.{ℕ, zero, suc, Bool, List, [], ◌∷◌, map, position, if◌then◌else◌}
+use Rattle.std.specs.Prelude.{ℕ, zero, suc, List, [], ◌∷◌, position, if◌then◌else◌}
 use Rattle.std.specs.Option.{option_map}
 use Rattle.std.specs.Str.{bytes_eq}
 use Rattle.std.specs.declared.option.Option.{Option}
@@ -9,7 +9,7 @@ use Rattle.flow_ast.specs.Decls.{ParamTree, RecordTree}
 use Rattle.flow_ast.specs.Typing.{is_packet, packet_fields}
 use Rattle.flow_value.specs.declared.value.RecordId.{RecordId}
 use Rattle.flow_value.specs.declared.value.RecordId.TheVariants.{Packet, Declared}
-use Rattle.flow_value.specs.Values.{ValueTree, ValueTrees, NoValues, MoreValues, IntValue, BoolValue, TextValue, VoidValue, ErrorValue, RecordValue, RefValue}
+use Rattle.flow_value.specs.Values.{ValueTree, ValueTrees, NoValues, MoreValues, RecordValue}
 use Rattle.flow_eval.specs.Answers.{Answer, Given, NoMeaning}
 
 -- the record of a name, the predefined one first

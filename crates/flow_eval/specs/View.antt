@@ -16,10 +16,9 @@ use Rattle.flow_eval.specs.declared.variables.Var.{Var}
 use Rattle.flow_eval.specs.Variables.{var_of}
 use Rattle.flow_eval.specs.declared.evaluate.Setting as code
 use Rattle.flow_eval.specs.Answers.{Answer, Given, Throws, NoMeaning}
-use Rattle.flow_base.specs.declared.place.Place.{Place}
 use Rattle.flow_ast.specs.Body.{Body}
-use Rattle.flow_eval.specs.declared.evaluate.Flow.{Flow}
-use Rattle.flow_eval.specs.declared.evaluate.Flow.TheVariants as flow
+use Rattle.flow_eval.specs.declared.statements.Flow.{Flow}
+use Rattle.flow_eval.specs.declared.statements.Flow.TheVariants as flow
 use Rattle.flow_eval.specs.Functions.{skip, scope, exec, Locals, Run, Goes, Breaks, Continues, Returns, Raises, SpentRun, NoRun}
 use Rattle.flow_eval.specs.Eval.{Runner, Res, Done, Fails, Spent, Meaningless, Setting}
 

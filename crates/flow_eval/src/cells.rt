@@ -1,6 +1,6 @@
 // What evaluation sees of cells.
 
-ghost use Rattle.std.specs.Prelude.{◌≡◌, ℕ, Option};
+ghost use Rattle.std.specs.Prelude.{◌≡◌, ℕ, Option, None};
 ghost use Rattle.std.specs.Option.{option_map, option_copied};
 ghost use Rattle.flow_value.specs.Values.{OutcomeTree};
 ghost use Rattle.flow_value.specs.View.{outcome_of};
@@ -16,4 +16,16 @@ pub trait CellView {
     /// What the cell holds, or `None` where it is not set.
     fn seen(&self, cell: CellId) -> Option<&Outcome>
         ensures { option_map outcome_of (option_copied result) ≡ content self.now cell.0 };
+}
+
+/// No cell that is set.
+#[derive(Clone, Copy)]
+pub struct NoCells;
+
+impl CellView for NoCells {
+    ghost content = { λ _ _. None };
+
+    fn seen(&self, _cell: CellId) -> Option<&Outcome> {
+        None
+    }
 }

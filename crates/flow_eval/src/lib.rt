@@ -4,10 +4,15 @@
 #![tactic(auto)]
 
 pub mod cells;
+pub mod eval;
 pub mod evaluate;
+pub mod laws;
 mod locals;
 mod operators;
 mod predefined;
 mod records;
+mod statements;
 pub mod stop;
+#[cfg(test)]
+mod tests;
 pub mod variables;

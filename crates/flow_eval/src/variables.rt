@@ -46,6 +46,20 @@ pub fn find_var<'a>(vars: &'a [Var], name: &[u8]) -> Option<&'a Value>
     None
 }
 
+/// A list of variables, of which the first of a name has its value.
+#[derive(Clone, Copy)]
+pub struct VarList<'a> {
+    pub vars: &'a [Var],
+}
+
+impl Variables for VarList<'_> {
+    ghost by_name = { λ list x. named (map var_of list.vars.now) x };
+
+    fn value(&self, name: &[u8]) -> Option<&Value> {
+        find_var(self.vars, name)
+    }
+}
+
 /// The value of a name among these variables.
 pub fn look<'a, V: Variables>(vars: &Vars<'a, V>, name: &[u8]) -> Option<&'a Value>
     ensures { option_map value_of (option_copied result) ≡ look_of V.by_name vars.now name.now }

@@ -5,6 +5,7 @@ use crate::ty::parse_type;
 use flow_ast::expr::{Expr, Op};
 use flow_ast::fault::{Rule, SourceFault};
 use flow_ast::token::{Sign, Spot, Token, Tokens, Word};
+use flow_ast::ty::Ty;
 use flow_base::memory::NoMemory;
 use flow_base::name::Name;
 use flow_base::place::Place;
@@ -42,10 +43,17 @@ fn token(alloc: Global, word: &str) -> Result<Token, NoMemory> {
     }
     match word.as_bytes() {
         b"true" => Ok(Token::Word(Word::Yes)),
+        b"false" => Ok(Token::Word(Word::No)),
         b"Void" => Ok(Token::Word(Word::Void)),
         b"int" => Ok(Token::Word(Word::Int)),
+        b"bool" => Ok(Token::Word(Word::Bool)),
+        b"string" => Ok(Token::Word(Word::Str)),
+        b"Error" => Ok(Token::Word(Word::Error)),
         b"Future" => Ok(Token::Word(Word::Future)),
+        b"FutureStream" => Ok(Token::Word(Word::FutureStream)),
+        b"Promise" => Ok(Token::Word(Word::Promise)),
         b"PromiseStream" => Ok(Token::Word(Word::PromiseStream)),
+        b"wait" => Ok(Token::Word(Word::Wait)),
         b"1" => Ok(Token::Number(1)),
         b"2" => Ok(Token::Number(2)),
         b"3" => Ok(Token::Number(3)),
@@ -214,6 +222,57 @@ fn refuses(alloc: Global, text: &str, depth: u32, rule: Rule, column: u32) -> bo
     }
 }
 
+// The tree of a type: its name, and what stands in its brackets.
+fn type_shape(ty: &Ty, out: &mut String) -> Result<(), NoMemory> {
+    match ty {
+        Ty::Int => out.push_str("int")?,
+        Ty::Bool => out.push_str("bool")?,
+        Ty::Str => out.push_str("string")?,
+        Ty::Void => out.push_str("Void")?,
+        Ty::Error => out.push_str("Error")?,
+        Ty::Named(_) => out.push_str("a")?,
+        Ty::Future(of) => {
+            out.push_str("[F ")?;
+            type_shape(of, out)?;
+            out.push_str("]")?;
+        }
+        Ty::FutureStream(of) => {
+            out.push_str("[FS ")?;
+            type_shape(of, out)?;
+            out.push_str("]")?;
+        }
+        Ty::Promise(of) => {
+            out.push_str("[P ")?;
+            type_shape(of, out)?;
+            out.push_str("]")?;
+        }
+        Ty::PromiseStream(of) => {
+            out.push_str("[PS ")?;
+            type_shape(of, out)?;
+            out.push_str("]")?;
+        }
+    }
+    Ok(())
+}
+
+// Whether a text at this depth is read as this type, up to this token.
+fn reads_type(alloc: Global, text: &str, depth: u32, wanted: &str, to: usize) -> bool {
+    let Ok(tokens) = tokens(alloc, text) else {
+        return false;
+    };
+    if depth > 64 {
+        return false;
+    }
+    let Ok((ty, end)) = parse_type(alloc, &tokens, 0, depth) else {
+        return false;
+    };
+    let mut out = String::new(alloc);
+    let Ok(()) = type_shape(&ty, &mut out) else {
+        return false;
+    };
+    out.as_str() == wanted && end == to
+}
+
 // Whether a text at this depth is a type up to this token.
 fn is_type(alloc: Global, text: &str, depth: u32, to: usize) -> bool {
     let Ok(tokens) = tokens(alloc, text) else {
@@ -333,5 +392,136 @@ fn reads_types(rt: HostRuntime) -> Result<(), Fail> {
     assert!(rt; refuses_type(a, "", 64, Rule::S(5), 0));
     let deep = repeated(a, "Future < ", 64, "int")?;
     assert!(rt; refuses_type(a, deep.as_str(), 1, Rule::L(5), 128));
+    Ok(())
+}
+
+#[test]
+fn reads_every_type(rt: HostRuntime) -> Result<(), Fail> {
+    let a = rt.alloc();
+    assert!(rt; reads_type(a, "int", 1, "int", 1));
+    assert!(rt; reads_type(a, "bool ;", 64, "bool", 1));
+    assert!(rt; reads_type(a, "string a", 2, "string", 1));
+    assert!(rt; reads_type(a, "Void (", 1, "Void", 1));
+    assert!(rt; reads_type(a, "Error > >", 1, "Error", 1));
+    assert!(rt; reads_type(a, "a a", 64, "a", 1));
+    assert!(rt; reads_type(a, "Future < int > a", 1, "[F int]", 4));
+    assert!(rt; reads_type(a, "FutureStream < bool >", 1, "[FS bool]", 4));
+    assert!(rt; reads_type(a, "Promise < string >", 1, "[P string]", 4));
+    assert!(rt; reads_type(a, "PromiseStream < Error >", 1, "[PS Error]", 4));
+    assert!(rt; reads_type(a, "Promise < a > > >", 1, "[P a]", 4));
+    assert!(rt;
+        reads_type(
+            a,
+            "Future < FutureStream < Promise < PromiseStream < Void > > > >",
+            1,
+            "[F [FS [P [PS Void]]]]",
+            13
+        )
+    );
+    assert!(rt;
+        reads_type(
+            a,
+            "PromiseStream < Promise < FutureStream < Future < a > > > > >",
+            60,
+            "[PS [P [FS [F a]]]]",
+            13
+        )
+    );
+    assert!(rt; refuses_type(a, "wait", 1, Rule::S(5), 0));
+    assert!(rt; refuses_type(a, "true", 1, Rule::S(5), 0));
+    assert!(rt; refuses_type(a, "Promise", 1, Rule::S(5), 1));
+    assert!(rt; refuses_type(a, "Promise < Promise < a >", 1, Rule::S(5), 6));
+    assert!(rt; refuses_type(a, "FutureStream < >", 1, Rule::S(5), 2));
+    Ok(())
+}
+
+#[test]
+fn types_to_the_greatest_depth(rt: HostRuntime) -> Result<(), Fail> {
+    let a = rt.alloc();
+    assert!(rt; reads_type(a, "Future < int >", 63, "[F int]", 4));
+    assert!(rt; reads_type(a, "FutureStream < int >", 63, "[FS int]", 4));
+    assert!(rt; reads_type(a, "Promise < int >", 63, "[P int]", 4));
+    assert!(rt; reads_type(a, "PromiseStream < int >", 63, "[PS int]", 4));
+    assert!(rt; refuses_type(a, "FutureStream < int >", 64, Rule::L(5), 2));
+    assert!(rt; refuses_type(a, "Promise < int >", 64, Rule::L(5), 2));
+    assert!(rt; refuses_type(a, "PromiseStream < int >", 64, Rule::L(5), 2));
+    let open = repeated(a, "Promise < ", 63, "int ")?;
+    let closed = repeated(a, "> ", 63, "")?;
+    let mut nested = open;
+    nested.push_str(closed.as_str())?;
+    assert!(rt; is_type(a, nested.as_str(), 1, 190));
+    assert!(rt; refuses_type(a, nested.as_str(), 2, Rule::L(5), 126));
+    Ok(())
+}
+
+#[test]
+fn expressions_to_the_greatest_depth(rt: HostRuntime) -> Result<(), Fail> {
+    let a = rt.alloc();
+    assert!(rt; reads(a, "( 1 )", 63, "(1)", 3));
+    assert!(rt; refuses(a, "( 1 )", 64, Rule::L(5), 1));
+    assert!(rt; reads(a, "a ( 1 , 2 )", 63, "[call12]", 6));
+    assert!(rt; refuses(a, "a ( 1 , 2 )", 64, Rule::L(5), 2));
+    assert!(rt; reads(a, "a ( 1 , ! a )", 62, "[call1[!a]]", 7));
+    assert!(rt; refuses(a, "a ( 1 , ! a )", 63, Rule::L(5), 5));
+    assert!(rt; reads(a, "a . a", 63, "[.a]", 3));
+    assert!(rt; refuses(a, "a . a", 64, Rule::L(5), 1));
+    assert!(rt; reads(a, "a . a ( 1 )", 63, "[methoda1]", 6));
+    assert!(rt; refuses(a, "a . a ( 1 )", 64, Rule::L(5), 1));
+    assert!(rt; reads(a, "a . a ( ( 1 ) )", 62, "[methoda(1)]", 8));
+    assert!(rt; refuses(a, "a . a ( ( 1 ) )", 63, Rule::L(5), 5));
+    assert!(rt; reads(a, "a . a ( 1 , - 2 )", 62, "[methoda1[-2]]", 9));
+    assert!(rt; refuses(a, "a . a ( 1 , - 2 )", 63, Rule::L(5), 7));
+    assert!(rt; reads(a, "! a", 63, "[!a]", 2));
+    assert!(rt; refuses(a, "! a", 64, Rule::L(5), 1));
+    assert!(rt; reads(a, "- 1", 63, "[-1]", 2));
+    assert!(rt; refuses(a, "- 1", 64, Rule::L(5), 1));
+    assert!(rt; reads(a, "- - 1", 62, "[-[-1]]", 3));
+    assert!(rt; refuses(a, "- - 1", 63, Rule::L(5), 2));
+    assert!(rt; reads(a, "a + ( 1 )", 62, "[+a(1)]", 5));
+    assert!(rt; refuses(a, "a + ( 1 )", 63, Rule::L(5), 3));
+    assert!(rt; reads(a, "Void ( )", 64, "v", 3));
+    assert!(rt; reads(a, "false", 64, "b", 1));
+    Ok(())
+}
+
+#[test]
+fn signs_to_the_greatest_depth(rt: HostRuntime) -> Result<(), Fail> {
+    let a = rt.alloc();
+    let signs = [
+        "||", "&&", "==", "!=", "<", "<=", ">", ">=", "+", "-", "*", "/", "%",
+    ];
+    for sign in signs {
+        let mut text = String::new(a);
+        text.push_str("a ")?;
+        text.push_str(sign)?;
+        text.push_str(" a")?;
+        assert!(rt; accepts(a, text.as_str(), 63, 3));
+        assert!(rt; refuses(a, text.as_str(), 64, Rule::L(5), 1));
+    }
+    Ok(())
+}
+
+#[test]
+fn chains_to_the_greatest_depth(rt: HostRuntime) -> Result<(), Fail> {
+    let a = rt.alloc();
+    let dots = repeated(a, "a . ", 61, "a")?;
+    assert!(rt; accepts(a, dots.as_str(), 3, 123));
+    let more_dots = repeated(a, "a . ", 62, "a")?;
+    assert!(rt; refuses(a, more_dots.as_str(), 3, Rule::L(5), 123));
+    let minuses = repeated(a, "- ", 61, "a")?;
+    assert!(rt; accepts(a, minuses.as_str(), 3, 62));
+    let more_minuses = repeated(a, "- ", 62, "a")?;
+    assert!(rt; refuses(a, more_minuses.as_str(), 3, Rule::L(5), 62));
+    let calls = repeated(a, "a ( ", 61, "1")?;
+    assert!(rt; refuses(a, calls.as_str(), 3, Rule::S(5), 123));
+    let more_calls = repeated(a, "a ( ", 62, "1")?;
+    assert!(rt; refuses(a, more_calls.as_str(), 3, Rule::L(5), 124));
+    let mut whole = calls;
+    whole.push_str(repeated(a, " )", 61, "")?.as_str())?;
+    assert!(rt; accepts(a, whole.as_str(), 3, 184));
+    let mut methods = repeated(a, "a . a ( ", 61, "1")?;
+    methods.push_str(repeated(a, " )", 61, "")?.as_str())?;
+    assert!(rt; accepts(a, methods.as_str(), 3, 306));
+    assert!(rt; refuses(a, methods.as_str(), 4, Rule::L(5), 241));
     Ok(())
 }

@@ -1,1 +1,11 @@
 pub mod Fronts
+pub mod Leaves
+pub mod Variables
+pub mod Unended
+pub mod Lift
+pub mod Stmts
+pub mod Decls
+pub mod Lists
+pub mod Trees
+pub mod Loops
+pub mod OtherBody

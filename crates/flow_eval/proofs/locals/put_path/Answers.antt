@@ -1,4 +1,4 @@
-use Rattle.std.proofs.Common.{◌≡◌, ℕ, List, map, position, ap₂, sym, ◌∙◌, None, Some}
+use Rattle.std.proofs.Common.{ℕ, List, map, position, ap₂, sym, ◌∙◌}
 use Rattle.std.specs.Str.{bytes_eq}
 use Rattle.flow_ast.specs.DeclView.{record_of}
 use Rattle.flow_value.specs.Values.{ValueTree}

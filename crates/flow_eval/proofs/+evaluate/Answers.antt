@@ -1,4 +1,4 @@
-use Rattle.std.proofs.Common.{◌≡◌, ℕ, ◌<◌, map, length, arith, ap, ◌∙◌, sym, slice_get, Some, None}
+use Rattle.std.proofs.Common.{◌≡◌, ◌<◌, map, length, arith, ap, ◌∙◌, sym, slice_get, Some, None}
 use Rattle.std.proofs.lemmas.Result.{err_from_is_err_and}
 use Rattle.std.specs.Option.{option_map, option_copied}
 use Rattle.flow_ast.specs.DeclView.{function_of}
@@ -15,91 +15,91 @@ use Rattle.flow_eval.specs.View.{setting_of, else_run}
 use Rattle.flow_eval.proofs.Steps.{spent_at, too_deep_at, run_deeper, settled, loop_next, loop_continue, loop_halts}
 use Rattle.flow_eval.proofs.Parts.{for_parts_ran, handler_ran, modify_ran}
 use Rattle.flow_eval.proofs.StatementKinds.{comes_if, comes_while, comes_for, comes_loop, comes_try, stmt_ran}
-use Rattle.flow_eval.proofs.evaluate.+evaluate.Goals as goal
+use Rattle.flow_eval.proofs.+evaluate.Goals as goal
 
-pub run_at-returns-then-turns-eq0-clause-gives : goal.run_at-returns-then-turns-eq0-clause-gives
-run_at-returns-then-turns-eq0-clause-gives g t c =
+pub evaluate::run_at-returns-then-turns-eq0-clause-gives : goal.evaluate::run_at-returns-then-turns-eq0-clause-gives
+evaluate::run_at-returns-then-turns-eq0-clause-gives g t c =
     (spent_at (setting_of g.C.CellView.content c.args.setting.now) c.args.nest c.args.setting.now.functions.now c.args.function (map value_of c.args.args.items) c.args.turns.now.left c.requires c.if-turns-eq0.true, c.if-turns-eq0.true)
 
-pub run_at-returns-then-nest-eq0-clause-gives : goal.run_at-returns-then-nest-eq0-clause-gives
-run_at-returns-then-nest-eq0-clause-gives g t c =
+pub evaluate::run_at-returns-then-nest-eq0-clause-gives : goal.evaluate::run_at-returns-then-nest-eq0-clause-gives
+evaluate::run_at-returns-then-nest-eq0-clause-gives g t c =
     let some : 0 < c.args.turns.now.left = omega (arith, c.if-turns-eq0.false) in
     too_deep_at (setting_of g.C.CellView.content c.args.setting.now) c.args.nest c.args.setting.now.functions.now c.args.function (map value_of c.args.args.items) c.args.turns.now.left c.requires c.if-nest-eq0.true some
 
-pub run_at-returns-clause-gives : goal.run_at-returns-clause-gives
-run_at-returns-clause-gives g t c =
+pub evaluate::run_at-returns-clause-gives : goal.evaluate::run_at-returns-clause-gives
+evaluate::run_at-returns-clause-gives g t c =
     let some : 0 < c.args.turns.now.left = omega (arith, c.if-turns-eq0.false) in
     let room : 0 < c.args.nest = omega (arith, c.if-nest-eq0.false) in
     run_deeper (setting_of g.C.CellView.content c.args.setting.now) c.args.nest (slice_get (map function_of c.args.setting.now.functions.now) c.args.function) (map value_of c.args.args.items) c.args.turns.now.left c.run_called.result c.run_called.new.turns.left room some c.run_called.ensures.gives
 
-pub run_kind-returns-in-If-clause-gives : goal.run_kind-returns-in-If-clause-gives
-run_kind-returns-in-If-clause-gives g t c =
+pub statements::run_kind-returns-in-If-clause-gives : goal.statements::run_kind-returns-in-If-clause-gives
+statements::run_kind-returns-in-If-clause-gives g t c =
     settled (if_run (setting_of g.C.CellView.content c.args.setting.now) (run_function (setting_of g.C.CellView.content c.args.setting.now) c.args.nest) (expr_of c.in-If.test) (scope (exec (setting_of g.C.CellView.content c.args.setting.now) (run_function (setting_of g.C.CellView.content c.args.setting.now) c.args.nest) (body_of c.in-If.body.items) (option_copied c.args.caught))) (else_run (setting_of g.C.CellView.content c.args.setting.now) (run_function (setting_of g.C.CellView.content c.args.setting.now) c.args.nest) (else_of c.in-If.otherwise) (option_copied c.args.caught)) (map var_of c.args.locals.now.items) c.args.turns.now.left) _ _ c.run_if.result _ _ c.run_if.ensures.gives
     (comes_if (setting_of g.C.CellView.content c.args.setting.now) (run_function (setting_of g.C.CellView.content c.args.setting.now) c.args.nest) (option_copied c.args.caught) (map var_of c.args.locals.now.items) c.args.turns.now.left c.args.at c.args.kind.now c.in-If.test c.in-If.body c.in-If.otherwise c.in-If.is)
 
-pub run_kind-returns-in-While-clause-gives : goal.run_kind-returns-in-While-clause-gives
-run_kind-returns-in-While-clause-gives g t c =
+pub statements::run_kind-returns-in-While-clause-gives : goal.statements::run_kind-returns-in-While-clause-gives
+statements::run_kind-returns-in-While-clause-gives g t c =
     settled (loop_run (setting_of g.C.CellView.content c.args.setting.now) (run_function (setting_of g.C.CellView.content c.args.setting.now) c.args.nest) (Some (expr_of c.in-While.test)) skip (exec (setting_of g.C.CellView.content c.args.setting.now) (run_function (setting_of g.C.CellView.content c.args.setting.now) c.args.nest) (body_of c.in-While.body.items) (option_copied c.args.caught)) (map var_of c.args.locals.now.items) c.args.turns.now.left) _ _ c.run_loop.result _ _ c.run_loop.ensures.gives
     (comes_while (setting_of g.C.CellView.content c.args.setting.now) (run_function (setting_of g.C.CellView.content c.args.setting.now) c.args.nest) (option_copied c.args.caught) (map var_of c.args.locals.now.items) c.args.turns.now.left c.args.at c.args.kind.now c.in-While.test c.in-While.body c.in-While.is)
 
-pub run_kind-returns-in-For-clause-gives : goal.run_kind-returns-in-For-clause-gives
-run_kind-returns-in-For-clause-gives g t c =
+pub statements::run_kind-returns-in-For-clause-gives : goal.statements::run_kind-returns-in-For-clause-gives
+statements::run_kind-returns-in-For-clause-gives g t c =
     settled (scope (for_run (setting_of g.C.CellView.content c.args.setting.now) (run_function (setting_of g.C.CellView.content c.args.setting.now) c.args.nest) (exec (setting_of g.C.CellView.content c.args.setting.now) (run_function (setting_of g.C.CellView.content c.args.setting.now) c.args.nest) (simple_of c.in-For.init) (option_copied c.args.caught)) (option_map expr_of c.in-For.test) (exec (setting_of g.C.CellView.content c.args.setting.now) (run_function (setting_of g.C.CellView.content c.args.setting.now) c.args.nest) (simple_of c.in-For.step) (option_copied c.args.caught)) (exec (setting_of g.C.CellView.content c.args.setting.now) (run_function (setting_of g.C.CellView.content c.args.setting.now) c.args.nest) (body_of c.in-For.body.items) (option_copied c.args.caught))) (map var_of c.args.locals.now.items) c.args.turns.now.left) _ _ c.run_for.result _ _ c.run_for.ensures.gives
     (comes_for (setting_of g.C.CellView.content c.args.setting.now) (run_function (setting_of g.C.CellView.content c.args.setting.now) c.args.nest) (option_copied c.args.caught) (map var_of c.args.locals.now.items) c.args.turns.now.left c.args.at c.args.kind.now c.in-For.init c.in-For.test c.in-For.step c.in-For.body c.in-For.is)
 
-pub run_kind-returns-in-Loop-clause-gives : goal.run_kind-returns-in-Loop-clause-gives
-run_kind-returns-in-Loop-clause-gives g t c =
+pub statements::run_kind-returns-in-Loop-clause-gives : goal.statements::run_kind-returns-in-Loop-clause-gives
+statements::run_kind-returns-in-Loop-clause-gives g t c =
     settled (loop_run (setting_of g.C.CellView.content c.args.setting.now) (run_function (setting_of g.C.CellView.content c.args.setting.now) c.args.nest) None skip (exec (setting_of g.C.CellView.content c.args.setting.now) (run_function (setting_of g.C.CellView.content c.args.setting.now) c.args.nest) (body_of c.in-Loop.body.items) (option_copied c.args.caught)) (map var_of c.args.locals.now.items) c.args.turns.now.left) _ _ c.run_loop-in-Loop.result _ _ c.run_loop-in-Loop.ensures.gives
     (comes_loop (setting_of g.C.CellView.content c.args.setting.now) (run_function (setting_of g.C.CellView.content c.args.setting.now) c.args.nest) (option_copied c.args.caught) (map var_of c.args.locals.now.items) c.args.turns.now.left c.args.at c.args.kind.now c.in-Loop.body c.in-Loop.is)
 
-pub run_kind-returns-in-Try-clause-gives : goal.run_kind-returns-in-Try-clause-gives
-run_kind-returns-in-Try-clause-gives g t c =
+pub statements::run_kind-returns-in-Try-clause-gives : goal.statements::run_kind-returns-in-Try-clause-gives
+statements::run_kind-returns-in-Try-clause-gives g t c =
     settled (try_run (exec (setting_of g.C.CellView.content c.args.setting.now) (run_function (setting_of g.C.CellView.content c.args.setting.now) c.args.nest) (body_of c.in-Try.body.items) (option_copied c.args.caught)) c.in-Try.error.name (exec (setting_of g.C.CellView.content c.args.setting.now) (run_function (setting_of g.C.CellView.content c.args.setting.now) c.args.nest) (body_of c.in-Try.handler.items) (Some c.in-Try.error.name)) (map var_of c.args.locals.now.items) c.args.turns.now.left) _ _ c.run_try.result _ _ c.run_try.ensures.gives
     (comes_try (setting_of g.C.CellView.content c.args.setting.now) (run_function (setting_of g.C.CellView.content c.args.setting.now) c.args.nest) (option_copied c.args.caught) (map var_of c.args.locals.now.items) c.args.turns.now.left c.args.at c.args.kind.now c.in-Try.body c.in-Try.error c.in-Try.handler c.in-Try.is)
 
-pub run_loop-returns-in_err-run_turn-clause-gives : goal.run_loop-returns-in_err-run_turn-clause-gives
-run_loop-returns-in_err-run_turn-clause-gives g t c =
+pub statements::run_loop-returns-in_err-run_turn-clause-gives : goal.statements::run_loop-returns-in_err-run_turn-clause-gives
+statements::run_loop-returns-in_err-run_turn-clause-gives g t c =
     let pos : 0 < c.loop-turns.turns.left = omega (arith, c.loop-turns-test.true) in
     let p = err_from_is_err_and c.from_residual.result c.from_residual.ensures.1 in
     rw (p.1, p.2) (loop_halts (turn_run (setting_of g.C.CellView.content c.args.setting.now) (run_function (setting_of g.C.CellView.content c.args.setting.now) c.args.nest) (option_map expr_of (option_copied c.args.test)) (exec (setting_of g.C.CellView.content c.args.setting.now) (run_function (setting_of g.C.CellView.content c.args.setting.now) c.args.nest) (simple_of (option_copied c.args.step)) (option_copied c.args.caught)) (exec (setting_of g.C.CellView.content c.args.setting.now) (run_function (setting_of g.C.CellView.content c.args.setting.now) c.args.nest) (body_of c.args.body.now.items) (option_copied c.args.caught))) (loop_run (setting_of g.C.CellView.content c.args.setting.now) (run_function (setting_of g.C.CellView.content c.args.setting.now) c.args.nest) (option_map expr_of (option_copied c.args.test)) (exec (setting_of g.C.CellView.content c.args.setting.now) (run_function (setting_of g.C.CellView.content c.args.setting.now) c.args.nest) (simple_of (option_copied c.args.step)) (option_copied c.args.caught)) (exec (setting_of g.C.CellView.content c.args.setting.now) (run_function (setting_of g.C.CellView.content c.args.setting.now) c.args.nest) (body_of c.args.body.now.items) (option_copied c.args.caught)) (map var_of c.args.locals.now.items) c.args.turns.now.left) (map var_of c.loop-turns.locals.items) (map var_of c.run_turn.new.locals.items) c.loop-turns.turns.left c.run_turn.new.turns.left c.in_err-run_turn.field-0.0 c.loop-turns.invariant.comes pos c.in_err-run_turn.ensures.gives)
 
-pub run_loop-loop-turns-preserved-in-Next : goal.run_loop-loop-turns-preserved-in-Next
-run_loop-loop-turns-preserved-in-Next g t c =
+pub statements::run_loop-loop-turns-preserved-in-Next : goal.statements::run_loop-loop-turns-preserved-in-Next
+statements::run_loop-loop-turns-preserved-in-Next g t c =
     let pos : 0 < c.loop-turns.turns.left = omega (arith, c.loop-turns-test.true) in
     record {
       fewer = omega (arith, c.run_turn.ensures.fewer, c.loop-turns.invariant.fewer);
       comes = loop_next (turn_run (setting_of g.C.CellView.content c.args.setting.now) (run_function (setting_of g.C.CellView.content c.args.setting.now) c.args.nest) (option_map expr_of (option_copied c.args.test)) (exec (setting_of g.C.CellView.content c.args.setting.now) (run_function (setting_of g.C.CellView.content c.args.setting.now) c.args.nest) (simple_of (option_copied c.args.step)) (option_copied c.args.caught)) (exec (setting_of g.C.CellView.content c.args.setting.now) (run_function (setting_of g.C.CellView.content c.args.setting.now) c.args.nest) (body_of c.args.body.now.items) (option_copied c.args.caught))) (loop_run (setting_of g.C.CellView.content c.args.setting.now) (run_function (setting_of g.C.CellView.content c.args.setting.now) c.args.nest) (option_map expr_of (option_copied c.args.test)) (exec (setting_of g.C.CellView.content c.args.setting.now) (run_function (setting_of g.C.CellView.content c.args.setting.now) c.args.nest) (simple_of (option_copied c.args.step)) (option_copied c.args.caught)) (exec (setting_of g.C.CellView.content c.args.setting.now) (run_function (setting_of g.C.CellView.content c.args.setting.now) c.args.nest) (body_of c.args.body.now.items) (option_copied c.args.caught)) (map var_of c.args.locals.now.items) c.args.turns.now.left) (map var_of c.loop-turns.locals.items) (map var_of c.run_turn.new.locals.items) c.loop-turns.turns.left c.run_turn.new.turns.left c.in_ok-run_turn.field-0 c.loop-turns.invariant.comes pos c.run_turn.ensures.fewer c.in_ok-run_turn.ensures.gives c.in-Next.is;
     }
 
-pub run_loop-loop-turns-preserved : goal.run_loop-loop-turns-preserved
-run_loop-loop-turns-preserved g t c =
+pub statements::run_loop-loop-turns-preserved : goal.statements::run_loop-loop-turns-preserved
+statements::run_loop-loop-turns-preserved g t c =
     let pos : 0 < c.loop-turns.turns.left = omega (arith, c.loop-turns-test.true) in
     record {
       fewer = omega (arith, c.run_turn.ensures.fewer, c.loop-turns.invariant.fewer);
       comes = loop_continue (turn_run (setting_of g.C.CellView.content c.args.setting.now) (run_function (setting_of g.C.CellView.content c.args.setting.now) c.args.nest) (option_map expr_of (option_copied c.args.test)) (exec (setting_of g.C.CellView.content c.args.setting.now) (run_function (setting_of g.C.CellView.content c.args.setting.now) c.args.nest) (simple_of (option_copied c.args.step)) (option_copied c.args.caught)) (exec (setting_of g.C.CellView.content c.args.setting.now) (run_function (setting_of g.C.CellView.content c.args.setting.now) c.args.nest) (body_of c.args.body.now.items) (option_copied c.args.caught))) (loop_run (setting_of g.C.CellView.content c.args.setting.now) (run_function (setting_of g.C.CellView.content c.args.setting.now) c.args.nest) (option_map expr_of (option_copied c.args.test)) (exec (setting_of g.C.CellView.content c.args.setting.now) (run_function (setting_of g.C.CellView.content c.args.setting.now) c.args.nest) (simple_of (option_copied c.args.step)) (option_copied c.args.caught)) (exec (setting_of g.C.CellView.content c.args.setting.now) (run_function (setting_of g.C.CellView.content c.args.setting.now) c.args.nest) (body_of c.args.body.now.items) (option_copied c.args.caught)) (map var_of c.args.locals.now.items) c.args.turns.now.left) (map var_of c.loop-turns.locals.items) (map var_of c.run_turn.new.locals.items) c.loop-turns.turns.left c.run_turn.new.turns.left c.in_ok-run_turn.field-0 c.loop-turns.invariant.comes pos c.run_turn.ensures.fewer c.in_ok-run_turn.ensures.gives c.in-Continue.is;
     }
 
-pub run_stmt-returns-clause-gives : goal.run_stmt-returns-clause-gives
-run_stmt-returns-clause-gives g t c =
+pub statements::run_stmt-returns-clause-gives : goal.statements::run_stmt-returns-clause-gives
+statements::run_stmt-returns-clause-gives g t c =
     stmt_ran (setting_of g.C.CellView.content c.args.setting.now) (run_function (setting_of g.C.CellView.content c.args.setting.now) c.args.nest) (option_copied c.args.caught) (map var_of c.args.locals.now.items) c.args.turns.now.left c.args.stmt.now c.run_kind.result (map var_of c.run_kind.new.locals.items) c.run_kind.new.turns.left c.run_kind.ensures.gives
 
-pub run_handler-returns-clause-gives : goal.run_handler-returns-clause-gives
-run_handler-returns-clause-gives g t c =
+pub statements::run_handler-returns-clause-gives : goal.statements::run_handler-returns-clause-gives
+statements::run_handler-returns-clause-gives g t c =
     let error : value_of (Error c.args.code) ≡ ErrorValue c.args.code.0 =
     ap value_of (sym (rolls-Error c.args.code)) ∙ fold-roll-Value ValueTree value_step (layer.Error c.args.code) in
     let count : c.len-count.result ≡ length c.args.locals.now.items = omega (arith, c.len-count.ensures, c.args.locals.now.ok.0) in
     handler_ran (setting_of g.C.CellView.content c.args.setting.now) (run_function (setting_of g.C.CellView.content c.args.setting.now) c.args.nest) c.args.error.now.name c.args.handler.now.items c.deref.result.now c.args.code.0 c.len-count.result c.run_body-flow.result c.args.locals.now.items c.run_body-flow.new.locals.items c.truncate.new.self.items
     (map var_of c.bind.new.vars.items) c.args.turns.now.left c.run_body-flow.new.turns.left c.deref.ensures.value (c.in_ok-bind.ensures ∙ ap (bound (map var_of c.args.locals.now.items) c.args.error.now.name) error) count c.truncate.ensures.items c.run_body-flow.ensures.gives
 
-pub run_for_parts-returns-in-Next-clause-gives : goal.run_for_parts-returns-in-Next-clause-gives
-run_for_parts-returns-in-Next-clause-gives g t c =
+pub statements::run_for_parts-returns-in-Next-clause-gives : goal.statements::run_for_parts-returns-in-Next-clause-gives
+statements::run_for_parts-returns-in-Next-clause-gives g t c =
     for_parts_ran (setting_of g.C.CellView.content c.args.setting.now) (run_function (setting_of g.C.CellView.content c.args.setting.now) c.args.nest) (option_copied c.args.caught) c.args.init.now (option_copied c.as_ref.result) c.args.test.now (option_copied c.as_ref-in-Next.result) c.args.step.now (option_copied c.as_ref-in-Next-2.result)
     (exec (setting_of g.C.CellView.content c.args.setting.now) (run_function (setting_of g.C.CellView.content c.args.setting.now) c.args.nest) (body_of c.args.body.now.items) (option_copied c.args.caught)) c.in_ok-run_part.field-0 c.run_loop.result (map var_of c.args.locals.now.items) (map var_of c.run_part.new.locals.items) (map var_of c.run_loop.new.locals.items)
     c.args.turns.now.left c.run_part.new.turns.left c.run_loop.new.turns.left
     c.as_ref.ensures.value c.as_ref-in-Next.ensures.value c.as_ref-in-Next-2.ensures.value c.in-Next.is c.in_ok-run_part.ensures.gives c.run_loop.ensures.gives
 
-pub run_modify-returns-clause-gives : goal.run_modify-returns-clause-gives
-run_modify-returns-clause-gives g t c =
+pub statements::run_modify-returns-clause-gives : goal.statements::run_modify-returns-clause-gives
+statements::run_modify-returns-clause-gives g t c =
     modify_ran (setting_of g.C.CellView.content c.args.setting.now) (run_function (setting_of g.C.CellView.content c.args.setting.now) c.args.nest) c.args.target.now.path.items (change_of c.args.change.now) (value_of c.in-Some.old.now) (value_of c.in_ok-value.value) (value_of c.in_ok-value-2.value) c.store.result
     (map var_of c.args.locals.now.items) (map var_of c.store.new.locals.items) c.args.turns.now.left c.operand.new.turns.left
     (sym c.in-Some.ensures) c.in_ok-value.ensures.gives c.in_ok-value-2.ensures c.store.ensures

@@ -1,0 +1,650 @@
+// Operators, calls and methods, with what they come to.
+
+ghost use Rattle.std.specs.Prelude.{◌≡◌};
+ghost use Rattle.std.specs.Option.{option_map, option_copied};
+ghost use Rattle.flow_value.specs.View.{outcome_of};
+
+mod countdown;
+mod statements;
+
+use crate::cells::CellView;
+use crate::evaluate::{Setting, Turns, evaluate};
+use crate::stop::Halt;
+use crate::variables::{Var, VarList, Vars};
+use flow_ast::expr::{Expr, Op};
+use flow_ast::ty::Ident;
+use flow_base::ids::{CellId, ErrorCode};
+use flow_base::memory::NoMemory;
+use flow_base::name::{Name, is_name};
+use flow_base::place::Place;
+use flow_base::text::Text;
+use flow_value::value::{Kind, Outcome, Value};
+use std::alloc::Global;
+use std::test::Fail;
+
+const START: Place = Place {
+    line: 1,
+    column: 1,
+    byte: 0,
+};
+
+const LEAST: i64 = i64::MIN;
+
+const GREATEST: i64 = i64::MAX;
+
+// An operand or an argument.
+#[derive(Clone, Copy, Debug)]
+enum Arg {
+    Int(i64),
+    Bool(bool),
+    Text(&'static [u8]),
+    Void,
+    Error(i64),
+    Var(&'static [u8]),
+    Call(&'static [u8]),
+}
+
+// What is wanted.
+#[derive(Clone, Copy, Debug)]
+enum Want {
+    Int(i64),
+    Bool(bool),
+    Text(&'static [u8]),
+    Void,
+    Error(u16),
+    Ref(Kind, u64),
+    Throws(u16),
+    Spent,
+    NoMeaning,
+}
+
+fn is_wanted(value: &Value, want: Want) -> bool {
+    match want {
+        Want::Int(n) => matches!(value, Value::Int(m) if *m == n),
+        Want::Bool(b) => matches!(value, Value::Bool(c) if *c == b),
+        Want::Text(bytes) => matches!(value, Value::Text(text) if text.bytes() == bytes),
+        Want::Void => matches!(value, Value::Void),
+        Want::Error(n) => matches!(value, Value::Error(code) if code.0 == n),
+        Want::Ref(kind, n) => matches!(value, Value::Ref(k, cell) if *k == kind && cell.0 == n),
+        Want::Throws(_) | Want::Spent | Want::NoMeaning => false,
+    }
+}
+
+fn comes_to(outcome: &Result<Value, Halt>, want: Want) -> bool {
+    match outcome {
+        Ok(value) => is_wanted(value, want),
+        Err(Halt::Thrown(code)) => matches!(want, Want::Throws(n) if n == code.0),
+        Err(Halt::Spent) => matches!(want, Want::Spent),
+        Err(Halt::NoMeaning) => matches!(want, Want::NoMeaning),
+        Err(Halt::OutOfMemory) => false,
+    }
+}
+
+// A name; no test has a word that is none.
+fn name(alloc: Global, word: &[u8]) -> Result<Name, NoMemory> {
+    if !is_name(word) {
+        return Err(NoMemory);
+    }
+    Name::new(alloc, word)
+}
+
+fn ident(alloc: Global, word: &[u8]) -> Result<Ident, NoMemory> {
+    Ok(Ident {
+        name: name(alloc, word)?,
+        at: START,
+    })
+}
+
+fn text(alloc: Global, bytes: &[u8]) -> Result<Text, NoMemory> {
+    if bytes.len() > Text::LIMIT {
+        return Err(NoMemory);
+    }
+    Text::new(alloc, bytes)
+}
+
+fn var(alloc: Global, word: &[u8]) -> Result<Expr, NoMemory> {
+    Ok(Expr::Var(ident(alloc, word)?))
+}
+
+fn one(alloc: Global, arg: Expr) -> Result<Vec<Expr>, NoMemory> {
+    let mut args = Vec::new(alloc);
+    args.push(arg)?;
+    Ok(args)
+}
+
+fn arg_expr(alloc: Global, given: Arg) -> Result<Expr, NoMemory> {
+    match given {
+        Arg::Int(n) => Ok(Expr::Int(n)),
+        Arg::Bool(b) => Ok(Expr::Bool(b)),
+        Arg::Text(bytes) => Ok(Expr::Text(text(alloc, bytes)?)),
+        Arg::Void => Ok(Expr::VoidValue),
+        Arg::Error(n) => { Ok(Expr::Call(ident(alloc, b"error")?, one(alloc, Expr::Int(n))?)) }
+        Arg::Var(word) => var(alloc, word),
+        Arg::Call(word) => Ok(Expr::Call(ident(alloc, word)?, Vec::new(alloc))),
+    }
+}
+
+fn arg_exprs(alloc: Global, list: &[Arg]) -> Result<Vec<Expr>, NoMemory> {
+    let mut args = Vec::new(alloc);
+    for arg in list {
+        args.push(arg_expr(alloc, *arg)?)?;
+    }
+    Ok(args)
+}
+
+fn binary(alloc: Global, op: Op, left: Expr, right: Expr) -> Result<Expr, NoMemory> {
+    Ok(Expr::Binary(op, Box::new(alloc, left)?, Box::new(alloc, right)?))
+}
+
+// Every cell holds the same, or is not set.
+#[derive(Drop)]
+struct Every {
+    outcome: Option<Outcome>,
+}
+
+impl CellView for Every {
+    ghost content = { λ every _. option_map outcome_of every.outcome };
+
+    fn seen(&self, _cell: CellId) -> Option<&Outcome> {
+        self.outcome.as_ref()
+    }
+}
+
+// The value of an expression over these variables and cells, with no functions and no turns.
+fn value(alloc: Global, expr: &Expr, vars: &[Var], view: &Every) -> Result<Value, Halt> {
+    let setting = Setting {
+        alloc,
+        records: &[],
+        functions: &[],
+        view,
+        time: 17,
+    };
+    let mut turns = Turns { left: 0 };
+    evaluate(
+        &setting,
+        64,
+        &Vars::Outer(&VarList { vars }),
+        expr,
+        &mut turns,
+    )
+}
+
+const OPERATORS: [(Op, Arg, Arg, Want); 61] = [
+    (
+        Op::Add,
+        Arg::Int(GREATEST),
+        Arg::Int(0),
+        Want::Int(GREATEST),
+    ),
+    (Op::Add, Arg::Int(GREATEST), Arg::Int(1), Want::Throws(9001)),
+    (Op::Add, Arg::Int(LEAST), Arg::Int(-1), Want::Throws(9001)),
+    (Op::Sub, Arg::Int(LEAST), Arg::Int(1), Want::Throws(9001)),
+    (Op::Sub, Arg::Int(-1), Arg::Int(LEAST), Want::Int(GREATEST)),
+    (Op::Sub, Arg::Int(0), Arg::Int(LEAST), Want::Throws(9001)),
+    (
+        Op::Mul,
+        Arg::Int(GREATEST),
+        Arg::Int(-1),
+        Want::Int(-GREATEST),
+    ),
+    (Op::Mul, Arg::Int(LEAST), Arg::Int(-1), Want::Throws(9001)),
+    (
+        Op::Mul,
+        Arg::Int(3_037_000_500),
+        Arg::Int(3_037_000_500),
+        Want::Throws(9001),
+    ),
+    (Op::Div, Arg::Int(7), Arg::Int(-2), Want::Int(-3)),
+    (Op::Div, Arg::Int(-7), Arg::Int(2), Want::Int(-3)),
+    (Op::Div, Arg::Int(LEAST), Arg::Int(-1), Want::Throws(9001)),
+    (Op::Div, Arg::Int(1), Arg::Int(0), Want::Throws(9001)),
+    (Op::Rem, Arg::Int(7), Arg::Int(-2), Want::Int(1)),
+    (Op::Rem, Arg::Int(-7), Arg::Int(2), Want::Int(-1)),
+    (Op::Rem, Arg::Int(LEAST), Arg::Int(-1), Want::Throws(9001)),
+    (Op::Rem, Arg::Int(1), Arg::Int(0), Want::Throws(9001)),
+    (Op::Eq, Arg::Int(3), Arg::Int(3), Want::Bool(true)),
+    (Op::Ne, Arg::Int(3), Arg::Int(3), Want::Bool(false)),
+    (
+        Op::Lt,
+        Arg::Int(LEAST),
+        Arg::Int(GREATEST),
+        Want::Bool(true),
+    ),
+    (Op::Lt, Arg::Int(3), Arg::Int(3), Want::Bool(false)),
+    (Op::Le, Arg::Int(3), Arg::Int(3), Want::Bool(true)),
+    (Op::Le, Arg::Int(4), Arg::Int(3), Want::Bool(false)),
+    (Op::Gt, Arg::Int(-3), Arg::Int(-4), Want::Bool(true)),
+    (Op::Gt, Arg::Int(3), Arg::Int(3), Want::Bool(false)),
+    (Op::Ge, Arg::Int(3), Arg::Int(3), Want::Bool(true)),
+    (Op::Ge, Arg::Int(-4), Arg::Int(-3), Want::Bool(false)),
+    (
+        Op::Add,
+        Arg::Text(b"ab"),
+        Arg::Text(b"c"),
+        Want::Text(b"abc"),
+    ),
+    (Op::Add, Arg::Text(b""), Arg::Text(b""), Want::Text(b"")),
+    (Op::Eq, Arg::Text(b"a"), Arg::Text(b"a"), Want::Bool(true)),
+    (Op::Ne, Arg::Text(b"a"), Arg::Text(b"b"), Want::Bool(true)),
+    (Op::Lt, Arg::Text(b"a"), Arg::Text(b"ab"), Want::Bool(true)),
+    (Op::Lt, Arg::Text(b"Z"), Arg::Text(b"a"), Want::Bool(true)),
+    (Op::Le, Arg::Text(b"a"), Arg::Text(b"a"), Want::Bool(true)),
+    (Op::Gt, Arg::Text(b"b"), Arg::Text(b"ab"), Want::Bool(true)),
+    (Op::Ge, Arg::Text(b""), Arg::Text(b"a"), Want::Bool(false)),
+    (Op::Eq, Arg::Bool(true), Arg::Bool(true), Want::Bool(true)),
+    (Op::Ne, Arg::Bool(true), Arg::Bool(true), Want::Bool(false)),
+    (Op::Or, Arg::Bool(false), Arg::Bool(true), Want::Bool(true)),
+    (
+        Op::Or,
+        Arg::Bool(false),
+        Arg::Bool(false),
+        Want::Bool(false),
+    ),
+    (
+        Op::And,
+        Arg::Bool(true),
+        Arg::Bool(false),
+        Want::Bool(false),
+    ),
+    (Op::And, Arg::Bool(true), Arg::Bool(true), Want::Bool(true)),
+    // the second operand isn't evaluated
+    (Op::Or, Arg::Bool(true), Arg::Error(65536), Want::Bool(true)),
+    (
+        Op::And,
+        Arg::Bool(false),
+        Arg::Error(65536),
+        Want::Bool(false),
+    ),
+    // the first error stops, whatever the second operand is
+    (
+        Op::Or,
+        Arg::Bool(false),
+        Arg::Error(65536),
+        Want::Throws(9007),
+    ),
+    (
+        Op::And,
+        Arg::Bool(true),
+        Arg::Error(65536),
+        Want::Throws(9007),
+    ),
+    (
+        Op::Add,
+        Arg::Error(-1),
+        Arg::Var(b"absent"),
+        Want::Throws(9007),
+    ),
+    (
+        Op::Add,
+        Arg::Var(b"absent"),
+        Arg::Error(-1),
+        Want::NoMeaning,
+    ),
+    (Op::Add, Arg::Int(1), Arg::Text(b"a"), Want::NoMeaning),
+    (Op::Sub, Arg::Text(b"a"), Arg::Text(b"a"), Want::NoMeaning),
+    (Op::Lt, Arg::Bool(true), Arg::Bool(true), Want::NoMeaning),
+    (Op::Eq, Arg::Void, Arg::Void, Want::NoMeaning),
+    (Op::Eq, Arg::Error(1), Arg::Error(1), Want::NoMeaning),
+    (Op::Or, Arg::Int(1), Arg::Bool(true), Want::NoMeaning),
+    (Op::Or, Arg::Bool(false), Arg::Int(1), Want::NoMeaning),
+    (Op::And, Arg::Bool(true), Arg::Int(1), Want::NoMeaning),
+    (Op::Add, Arg::Call(b"now"), Arg::Int(1), Want::Int(18)),
+    (
+        Op::Add,
+        Arg::Var(b"error_code_timed_out"),
+        Arg::Int(0),
+        Want::Int(1004),
+    ),
+    (
+        Op::Add,
+        Arg::Var(b"error_code_end_of_stream"),
+        Arg::Int(0),
+        Want::Int(1),
+    ),
+    (
+        Op::Add,
+        Arg::Var(b"error_code_broken_promise"),
+        Arg::Int(0),
+        Want::Int(1100),
+    ),
+    (
+        Op::Sub,
+        Arg::Var(b"error_code_operation_cancelled"),
+        Arg::Var(b"error_code_actor_cancelled"),
+        Want::Int(0),
+    ),
+];
+
+#[test]
+fn operators_at_their_edges(rt: HostRuntime) -> Result<(), Fail> {
+    let alloc = rt.alloc();
+    let unset = Every { outcome: None };
+    for (op, left, right, want) in OPERATORS {
+        let left_expr = arg_expr(alloc, left)?;
+        let expr = binary(alloc, op, left_expr, arg_expr(alloc, right)?)?;
+        let result = value(alloc, &expr, &[], &unset);
+        assert!(rt; comes_to(&result, want), "{left:?} {op:?} {right:?}");
+    }
+    Ok(())
+}
+
+const CALLS: [(&[u8], &[Arg], Want); 35] = [
+    (b"to_string", &[Arg::Int(0)], Want::Text(b"0")),
+    (
+        b"to_string",
+        &[Arg::Int(LEAST)],
+        Want::Text(b"-9223372036854775808"),
+    ),
+    (
+        b"to_string",
+        &[Arg::Int(GREATEST)],
+        Want::Text(b"9223372036854775807"),
+    ),
+    (b"to_string", &[Arg::Bool(true)], Want::NoMeaning),
+    (b"to_int", &[Arg::Text(b"0")], Want::Int(0)),
+    (b"to_int", &[Arg::Text(b"-0")], Want::Int(0)),
+    (b"to_int", &[Arg::Text(b"007")], Want::Int(7)),
+    (
+        b"to_int",
+        &[Arg::Text(b"9223372036854775807")],
+        Want::Int(GREATEST),
+    ),
+    (
+        b"to_int",
+        &[Arg::Text(b"9223372036854775808")],
+        Want::Throws(9007),
+    ),
+    (
+        b"to_int",
+        &[Arg::Text(b"-9223372036854775808")],
+        Want::Int(LEAST),
+    ),
+    (
+        b"to_int",
+        &[Arg::Text(b"-9223372036854775809")],
+        Want::Throws(9007),
+    ),
+    (
+        b"to_int",
+        &[Arg::Text(b"99999999999999999999999999")],
+        Want::Throws(9007),
+    ),
+    (b"to_int", &[Arg::Text(b"")], Want::Throws(9007)),
+    (b"to_int", &[Arg::Text(b"-")], Want::Throws(9007)),
+    (b"to_int", &[Arg::Text(b"+1")], Want::Throws(9007)),
+    (b"to_int", &[Arg::Text(b" 1")], Want::Throws(9007)),
+    (b"to_int", &[Arg::Text(b"1 ")], Want::Throws(9007)),
+    (b"to_int", &[Arg::Text(b"--1")], Want::Throws(9007)),
+    (b"to_int", &[Arg::Int(1)], Want::NoMeaning),
+    (b"now", &[], Want::Int(17)),
+    (b"end_of_stream", &[], Want::Error(1)),
+    (b"timed_out", &[], Want::Error(1004)),
+    (b"broken_promise", &[], Want::Error(1100)),
+    (b"operation_cancelled", &[], Want::Error(1101)),
+    (b"actor_cancelled", &[], Want::Error(1101)),
+    (b"error", &[Arg::Int(0)], Want::Error(0)),
+    (b"error", &[Arg::Int(65535)], Want::Error(65535)),
+    (b"error", &[Arg::Int(65536)], Want::Throws(9007)),
+    (b"error", &[Arg::Int(-1)], Want::Throws(9007)),
+    (b"error", &[Arg::Void], Want::NoMeaning),
+    (
+        b"to_int",
+        &[Arg::Text(b"x"), Arg::Error(-1)],
+        Want::Throws(9007),
+    ),
+    // effects and statement calls are no expressions here
+    (b"randomInt", &[Arg::Int(0), Arg::Int(1)], Want::NoMeaning),
+    (b"delay", &[Arg::Int(1)], Want::NoMeaning),
+    (b"trace", &[Arg::Int(1)], Want::NoMeaning),
+    (b"absent", &[], Want::NoMeaning),
+];
+
+#[test]
+fn predefined_calls(rt: HostRuntime) -> Result<(), Fail> {
+    let alloc = rt.alloc();
+    let unset = Every { outcome: None };
+    for (word, args, want) in CALLS {
+        let expr = Expr::Call(ident(alloc, word)?, arg_exprs(alloc, args)?);
+        let came = value(alloc, &expr, &[], &unset);
+        assert!(rt; comes_to(&came, want), "{word:?} {args:?}");
+    }
+    Ok(())
+}
+
+const METHODS: [(Arg, &[u8], &[Arg], Want); 18] = [
+    (Arg::Call(b"timed_out"), b"code", &[], Want::Int(1004)),
+    (Arg::Error(65535), b"code", &[], Want::Int(65535)),
+    (Arg::Error(65536), b"code", &[], Want::Throws(9007)),
+    (Arg::Text(b""), b"size", &[], Want::Int(0)),
+    (Arg::Text(b"abc"), b"size", &[], Want::Int(3)),
+    (
+        Arg::Text(b"abc"),
+        b"substr",
+        &[Arg::Int(0), Arg::Int(2)],
+        Want::Text(b"ab"),
+    ),
+    (
+        Arg::Text(b"abc"),
+        b"substr",
+        &[Arg::Int(1), Arg::Int(1)],
+        Want::Text(b"b"),
+    ),
+    (
+        Arg::Text(b"abc"),
+        b"substr",
+        &[Arg::Int(1), Arg::Int(5)],
+        Want::Text(b"bc"),
+    ),
+    (
+        Arg::Text(b"abc"),
+        b"substr",
+        &[Arg::Int(0), Arg::Int(GREATEST)],
+        Want::Text(b"abc"),
+    ),
+    (
+        Arg::Text(b"abc"),
+        b"substr",
+        &[Arg::Int(3), Arg::Int(1)],
+        Want::Text(b""),
+    ),
+    (
+        Arg::Text(b"abc"),
+        b"substr",
+        &[Arg::Int(4), Arg::Int(0)],
+        Want::Throws(9007),
+    ),
+    (
+        Arg::Text(b"abc"),
+        b"substr",
+        &[Arg::Int(-1), Arg::Int(1)],
+        Want::Throws(9007),
+    ),
+    (
+        Arg::Text(b"abc"),
+        b"substr",
+        &[Arg::Int(0), Arg::Int(-1)],
+        Want::Throws(9007),
+    ),
+    (
+        Arg::Text(b"abc"),
+        b"substr",
+        &[Arg::Int(0), Arg::Text(b"")],
+        Want::NoMeaning,
+    ),
+    (Arg::Text(b"abc"), b"code", &[], Want::NoMeaning),
+    (Arg::Int(1), b"size", &[], Want::NoMeaning),
+    (Arg::Text(b"abc"), b"absent", &[], Want::NoMeaning),
+    (Arg::Call(b"absent"), b"size", &[], Want::NoMeaning),
+];
+
+#[test]
+fn methods_of_values(rt: HostRuntime) -> Result<(), Fail> {
+    let alloc = rt.alloc();
+    let unset = Every { outcome: None };
+    for (base, word, args, want) in METHODS {
+        let of = Box::new(alloc, arg_expr(alloc, base)?)?;
+        let expr = Expr::Method(of, ident(alloc, word)?, arg_exprs(alloc, args)?);
+        let came = value(alloc, &expr, &[], &unset);
+        assert!(rt; comes_to(&came, want), "{base:?} {word:?} {args:?}");
+    }
+    Ok(())
+}
+
+// A method of a reference, and what it comes to where the cell isn't set, holds 5, and holds 1004.
+const REFERENCES: [(Kind, &[u8], [Want; 3]); 10] = [
+    (
+        Kind::Future,
+        b"isReady",
+        [Want::Bool(false), Want::Bool(true), Want::Bool(true)],
+    ),
+    (
+        Kind::Future,
+        b"isError",
+        [Want::Bool(false), Want::Bool(false), Want::Bool(true)],
+    ),
+    (
+        Kind::Future,
+        b"get",
+        [Want::Throws(9006), Want::Int(5), Want::Throws(1004)],
+    ),
+    (
+        Kind::Future,
+        b"isSet",
+        [Want::NoMeaning, Want::NoMeaning, Want::NoMeaning],
+    ),
+    (
+        Kind::Promise,
+        b"isSet",
+        [Want::Bool(false), Want::Bool(true), Want::Bool(true)],
+    ),
+    (
+        Kind::Promise,
+        b"getFuture",
+        [
+            Want::Ref(Kind::Future, 3),
+            Want::Ref(Kind::Future, 3),
+            Want::Ref(Kind::Future, 3),
+        ],
+    ),
+    (
+        Kind::Promise,
+        b"get",
+        [Want::NoMeaning, Want::NoMeaning, Want::NoMeaning],
+    ),
+    (
+        Kind::PromiseStream,
+        b"getFuture",
+        [
+            Want::Ref(Kind::FutureStream, 3),
+            Want::Ref(Kind::FutureStream, 3),
+            Want::Ref(Kind::FutureStream, 3),
+        ],
+    ),
+    (
+        Kind::PromiseStream,
+        b"isSet",
+        [Want::NoMeaning, Want::NoMeaning, Want::NoMeaning],
+    ),
+    (
+        Kind::FutureStream,
+        b"getFuture",
+        [Want::NoMeaning, Want::NoMeaning, Want::NoMeaning],
+    ),
+];
+
+fn one_var(alloc: Global, word: &[u8], value: Value) -> Result<Vec<Var>, NoMemory> {
+    let mut vars = Vec::new(alloc);
+    vars.push(Var {
+        name: name(alloc, word)?,
+        value,
+    })?;
+    Ok(vars)
+}
+
+#[test]
+fn methods_of_references(rt: HostRuntime) -> Result<(), Fail> {
+    let alloc = rt.alloc();
+    let unset = Every { outcome: None };
+    let good = Every {
+        outcome: Some(Outcome::Value(Value::Int(5))),
+    };
+    let bad = Every {
+        outcome: Some(Outcome::Error(ErrorCode(1004))),
+    };
+    for (kind, word, wants) in REFERENCES {
+        let vars = one_var(alloc, b"r", Value::Ref(kind, CellId(3)))?;
+        let of = Box::new(alloc, var(alloc, b"r")?)?;
+        let expr = Expr::Method(of, ident(alloc, word)?, Vec::new(alloc));
+        assert!(rt;
+            comes_to(&value(alloc, &expr, &vars, &unset), wants[0]),
+            "{kind:?} {word:?}"
+        );
+        assert!(rt;
+            comes_to(&value(alloc, &expr, &vars, &good), wants[1]),
+            "{kind:?} {word:?}"
+        );
+        assert!(rt;
+            comes_to(&value(alloc, &expr, &vars, &bad), wants[2]),
+            "{kind:?} {word:?}"
+        );
+    }
+    Ok(())
+}
+
+#[test]
+fn texts_records_and_single_operands(rt: HostRuntime) -> Result<(), Fail> {
+    let alloc = rt.alloc();
+    let unset = Every { outcome: None };
+    let mut bytes = Vec::new(alloc);
+    for _ in 0..Text::LIMIT {
+        bytes.push(b'a')?;
+    }
+    let vars = one_var(alloc, b"t", Value::Text(text(alloc, &bytes)?))?;
+    let fits = binary(
+        alloc,
+        Op::Add,
+        var(alloc, b"t")?,
+        arg_expr(alloc, Arg::Text(b""))?,
+    )?;
+    assert!(rt;
+        comes_to(
+            &value(
+                alloc,
+                &binary(alloc, Op::Eq, fits, var(alloc, b"t")?)?,
+                &vars,
+                &unset
+            ),
+            Want::Bool(true)
+        )
+    );
+    let long = binary(
+        alloc,
+        Op::Add,
+        var(alloc, b"t")?,
+        arg_expr(alloc, Arg::Text(b"b"))?,
+    )?;
+    assert!(rt; comes_to(&value(alloc, &long, &vars, &unset), Want::Throws(9002)));
+    for (word, want) in [
+        (b"from".as_slice(), Want::Int(1)),
+        (b"port".as_slice(), Want::Int(2)),
+        (b"text".as_slice(), Want::Text(b"x")),
+        (b"absent".as_slice(), Want::NoMeaning),
+    ] {
+        let fields = arg_exprs(alloc, &[Arg::Int(1), Arg::Int(2), Arg::Text(b"x")])?;
+        let packet = Box::new(alloc, Expr::Call(ident(alloc, b"Packet")?, fields))?;
+        let expr = Expr::Field(packet, ident(alloc, word)?);
+        assert!(rt;
+            comes_to(&value(alloc, &expr, &[], &unset), want),
+            "{word:?}"
+        );
+    }
+    let least = Expr::Neg(Box::new(alloc, Expr::Int(LEAST))?);
+    assert!(rt; comes_to(&value(alloc, &least, &[], &unset), Want::Throws(9001)));
+    let greatest = Expr::Neg(Box::new(alloc, Expr::Int(GREATEST))?);
+    assert!(rt; comes_to(&value(alloc, &greatest, &[], &unset), Want::Int(-GREATEST)));
+    let lie = Expr::Not(Box::new(alloc, Expr::Bool(true))?);
+    assert!(rt; comes_to(&value(alloc, &lie, &[], &unset), Want::Bool(false)));
+    let void = Expr::Paren(Box::new(alloc, Expr::VoidValue)?);
+    assert!(rt; comes_to(&value(alloc, &void, &[], &unset), Want::Void));
+    Ok(())
+}

@@ -1,0 +1,26 @@
+-- Short names for the terms of worked runs.
+use Rattle.std.specs.Prelude.{ℕ, List}
+use Rattle.flow_base.specs.declared.place.Place.{Place}
+use Rattle.flow_base.specs.declared.ids.ProcId.{ProcId}
+use Rattle.flow_base.specs.declared.ids.ActorId.{ActorId}
+use Rattle.flow_base.specs.declared.ids.CellId.{CellId}
+use Rattle.flow_base.specs.declared.ids.ErrorCode.{ErrorCode}
+use Rattle.flow_ast.specs.declared.ty.Ident.{Ident}
+
+abbrev pub nowhere : Place
+nowhere = record { line = 1; column = 1; byte = 0 }
+
+abbrev pub id : List ℕ → Ident
+id x = record { name = x; at = nowhere }
+
+abbrev pub process : ℕ → ProcId
+process n = record { 0 = n }
+
+abbrev pub actor : ℕ → ActorId
+actor n = record { 0 = n }
+
+abbrev pub cell : ℕ → CellId
+cell n = record { 0 = n }
+
+abbrev pub error : ℕ → ErrorCode
+error n = record { 0 = n }

@@ -1,0 +1,111 @@
+-- What the world holds beside its processes: time, pending events, the script, links, disks and drawn
+-- words; and how it serves what a process asks.
+use Rattle.std.specs.Prelude.{ℕ, suc, ◌+◌, ◌-◌, ◌%◌, Bool, true, false, ◌&&◌, ◌||◌, List, [], ◌∷◌, ◌++◌, nat_eq, nat_lt, slice_index_or, if◌then◌else◌}
+use Rattle.flow_base.specs.declared.ids.ProcId.{ProcId}
+use Rattle.flow_trace.specs.declared.line.Line.{Line}
+use Rattle.flow_trace.specs.declared.line.Line.TheVariants as line
+use Rattle.flow_worldfile.specs.Worlds as file
+use Rattle.flow_worldfile.specs.declared.directive.Order.{Order}
+use Rattle.flow_draw.specs.Words.{word_at}
+use Rattle.flow_meaning.specs.Asks.{DiskCall, Request, Drew, Timer, Packet, Disks, Supply}
+use Rattle.flow_meaning.specs.Burst.{Host}
+use Rattle.flow_meaning.specs.Disk.{Disk}
+
+-- What happens when a pending event comes: a process boots; a timer or a disk request of a process sets a
+-- cell; a packet arrives, with its number, its sender, and the process and port for which it is meant.
+pub data What : Type 0 where
+  Boots : (process : ℕ) → What
+  Rings : (process cell : ℕ) → What
+  Arrives : (number from to port : ℕ) → (text : List ℕ) → What
+  Answers : (process cell : ℕ) → DiskCall ℕ → What
+
+-- a pending event; events are numbered from 1 in the order of making
+pub record Pending : Type 0 where
+  pub time : ℕ
+  pub number : ℕ
+  pub what : What
+
+-- The world without its processes: what its file says; the time; how many events have run and how many were
+-- made; how many packets were sent and words drawn; the pending events in the order of making; the lines of
+-- the script that are left, in the order of the file; the links that are cut, by their two processes; the disk
+-- of each process; and the process of the event in progress.
+pub record Outside : Type 0 where
+  pub file : file.World
+  pub time : ℕ
+  pub ran : ℕ
+  pub made : ℕ
+  pub sent : ℕ
+  pub drawn : ℕ
+  pub pending : List Pending
+  pub script : List (ℕ × Order)
+  pub cuts : List (ℕ × ℕ)
+  pub disks : List Disk
+  pub active : ℕ
+
+abbrev pub process_id : ℕ → ProcId
+process_id p = record { 0 = p }
+
+-- the word that is drawn so many words from now
+abbrev pub word_in : Outside → ℕ → ℕ
+word_in w k = word_at w.file.seed w.file.words (w.drawn + k)
+
+-- what a word gives in a range: the first number of the range, and as many more as the remainder by its width says
+abbrev pub draw_in : ℕ × ℕ → ℕ → ℕ
+draw_in range word = range.0 + word % (range.1 - range.0)
+
+abbrev pub with_drawn : Outside → ℕ → Outside
+with_drawn w n = record w { drawn = w.drawn + n }
+
+-- one more pending event
+abbrev pub with_pending : Outside → ℕ → What → Outside
+with_pending w time what =
+    record w { made = suc w.made; pending = w.pending ++ record { time = time; number = suc w.made; what = what } ∷ [] }
+
+-- a link is cut for both directions
+abbrev pub is_link : ℕ → ℕ → ℕ × ℕ → Bool
+is_link p q c = (nat_eq p c.0 && nat_eq q c.1) || (nat_eq p c.1 && nat_eq q c.0)
+
+abbrev pub is_cut : List (ℕ × ℕ) → ℕ → ℕ → Bool
+is_cut [] p q = false
+is_cut (c ∷ cs) p q = is_link p q c || is_cut cs p q
+
+abbrev pub healed : List (ℕ × ℕ) → ℕ → ℕ → List (ℕ × ℕ)
+healed [] p q = []
+healed (c ∷ cs) p q = if is_link p q c then healed cs p q else c ∷ healed cs p q
+
+-- A packet is numbered. Over a cut link it is lost without a draw; else a word below the permille of the
+-- file loses it; else the next word gives its delay.
+abbrev pub arriving : Outside → (number to port : ℕ) → List ℕ → Outside
+arriving w m q port text =
+    with_pending (with_drawn w 2) (w.time + draw_in w.file.latency (word_in w 1)) (Arrives m w.active q port text)
+
+abbrev pub over_link : Bool → Bool → Outside → (number to port : ℕ) → List ℕ → List Line × Outside
+over_link true lost w m q port text = (line.LostCut m ∷ [], w)
+over_link false true w m q port text = (line.LostDraw m ∷ [], with_drawn w 1)
+over_link false false w m q port text = ([], arriving w m q port text)
+
+abbrev pub is_lost : Outside → Bool
+is_lost w = nat_lt (word_in w 0 % 1000) w.file.loss
+
+abbrev pub after_line : Line → List Line × Outside → List Line × Outside
+after_line l r = (l ∷ r.0, r.1)
+
+abbrev pub send_packet : Outside → (to port : ℕ) → List ℕ → List Line × Outside
+send_packet w q port text =
+    after_line (line.Send w.sent (process_id q) port text)
+    (over_link (is_cut w.cuts w.active q) (is_lost w) w w.sent q port text)
+
+-- the world after a request of the process of its event, and the lines that this writes
+abbrev pub serve : Request → Outside → List Line × Outside
+serve Drew w = ([], with_drawn w 1)
+serve (Timer cell time) w = ([], with_pending w time (Rings w.active cell))
+serve (Packet q port text) w = send_packet (record w { sent = suc w.sent }) q port text
+serve (Disks cell call) w =
+    ([], with_pending (with_drawn w 1) (w.time + draw_in w.file.diskdelay (word_in w 0)) (Answers w.active cell call))
+
+-- what the world hands to a step
+abbrev pub supply : Outside → Supply
+supply w = record { now = w.time; processes = w.file.processes; word = word_in w 0 }
+
+abbrev pub host : Host Outside
+host = record { supply = supply; serve = serve }

@@ -1,0 +1,63 @@
+// Laws of runs.
+
+ghost use Rattle.flow_ast.specs.Decls.{ProgramTree};
+ghost use Rattle.flow_class.specs.Classes.{RawTree};
+ghost use Rattle.flow_meaning.specs.Law.{Simulates, BurstsFollow, BurstsReturn, BurstsOnce};
+ghost use Rattle.flow_meaning.specs.Turns.{Thrifty, WritesFirst};
+ghost use Rattle.flow_meaning.specs.Runs.{RunsOnce};
+ghost use Rattle.flow_meaning.specs.Source.{source};
+ghost use Rattle.flow_meaning.specs.Class.{classes};
+
+/// Two kinds of actors, the world around a process of either, and a relation between actors of the two.
+pub trait TwoKinds {
+    ghost use Rattle.flow_meaning.specs.Process.{Engine};
+    ghost use Rattle.flow_meaning.specs.Burst.{Host};
+
+    /// The actors of the first kind.
+    ghost First: { Type 0 };
+
+    /// The actors of the second kind.
+    ghost Second: { Type 0 };
+
+    /// What can change in the world.
+    ghost World: { Type 0 };
+
+    /// How actors of the first kind run.
+    ghost first: { Engine First };
+
+    /// How actors of the second kind run.
+    ghost second: { Engine Second };
+
+    /// The world around a process.
+    ghost host: { Host World };
+
+    /// Which actors are related.
+    ghost related: { First → Second → Type 0 };
+}
+
+/// Where the second kind asks for what the first asks, between related actors, each burst of the first
+/// has a burst of the second with equal lines, cells, tasks and requests, and each burst of the second
+/// one of the first.
+pub fn bursts_alike<K: TwoKinds>()
+    ensures follow { Simulates K.first K.second K.related → BurstsFollow K.first K.second K.host K.related }
+    ensures back { Simulates K.first K.second K.related → BurstsReturn K.first K.second K.host K.related }
+{}
+
+/// A burst comes to one end.
+pub fn burst_once<K: TwoKinds>()
+    ensures { BurstsOnce K.first K.host }
+{}
+
+/// A run from a world has one list of states and one trace.
+pub fn run_once<K: TwoKinds>()
+    ensures { RunsOnce K.first }
+{}
+
+/// A burst that was stopped, for want of turns say, has written a first part of what the same burst
+/// writes with more turns: where actors see of their turns only whether there are enough, as those of
+/// every program and of all classes do.
+pub fn stopped_first<K: TwoKinds>()
+    ensures thrifty { Thrifty K.first → WritesFirst K.first K.host }
+    ensures source { (p : ProgramTree) → WritesFirst (source p) K.host }
+    ensures classes { (c : RawTree) → WritesFirst (classes c) K.host }
+{}

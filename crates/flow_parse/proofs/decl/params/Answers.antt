@@ -1,0 +1,42 @@
+use Rattle.std.proofs.Common.{arith, refl, sym, ap, subst, ◌∙◌, ◌++◌, ◌∷◌, [], ◌+◌, suc}
+use Rattle.flow_ast.specs.declared.token.Token.TheVariants as token
+use Rattle.flow_ast.specs.declared.token.Sign.TheVariants as sign
+use Rattle.flow_ast.specs.DeclView.{params_of}
+use Rattle.flow_parse.specs.Reading.{Any, Reads}
+use Rattle.flow_parse.specs.Parts.{Params}
+use Rattle.flow_parse.proofs.Leaves.{done, tok_reads}
+use Rattle.std.proofs.Common.{◌≡◌, length, length-append}
+use Rattle.flow_parse.proofs.Decls.{no_params_left}
+use Rattle.flow_parse.proofs.Loops.{params_init, params_step, params_done}
+use Rattle.flow_parse.proofs.decl.params.Goals as goal
+
+pub returns-then-is_sign-clause-reads : goal.returns-then-is_sign-clause-reads
+returns-then-is_sign-clause-reads c =
+    let t = c.args.tokens.now in
+    let k = tok_reads t c.args.at (token.Sign sign.CloseRound) (c.if-is_sign.ensures.sign.0 refl) in
+    subst (λ xs. Reads Params Any t.spots.items c.args.at (params_of xs) (c.args.at + 1)) (sym c.new-params.ensures.items) (done t.spots.items (no_params_left t c.args.at c.requires.within) k)
+
+pub items-init : goal.items-init
+items-init c =
+    let t = c.args.tokens.now in
+    let q = c.in_ok-push.ensures.items ∙ ap (λ z. z ++ c.in_ok-first.first ∷ []) c.new-params.ensures.items in
+    let l = params_init t c.args.at c.in_ok-first.at c.push.new.self.items c.in_ok-first.first c.requires.within q c.in_ok-first.ensures.reads in
+    let n = ap length q in
+    (c.in_ok-first.ensures.moves.0, c.in_ok-first.ensures.moves.1, omega (arith, n), omega (arith, n), l)
+
+pub items-preserved : goal.items-preserved
+items-preserved c =
+    let t = c.args.tokens.now in
+    let s = t.spots.items in
+    let i = c.items.invariant in
+    let n = c.items.number in
+    let e : n + 1 ≡ suc n = omega arith in
+    let k = tok_reads t c.items.at (token.Sign sign.Comma) (c.items-test.ensures.sign.0 refl) in
+    let q = c.in_ok-push-2.ensures.items in
+    let m = ap length q ∙ length-append c.items.params.items (c.in_ok-next.next ∷ []) in
+    let l = params_step s c.args.at c.items.at c.in_ok-next.to n (n + 1) _ c.items.params.items c.push-in-items.new.self.items c.in_ok-next.next q e i.4 k c.in_ok-next.ensures.reads in
+    (omega (arith, i.0, c.in_ok-next.ensures.moves.0), c.in_ok-next.ensures.moves.1, omega (arith, m, i.2), omega (arith, m, i.2, c.in_ok-next.ensures.few), l)
+
+pub returns-clause-reads : goal.returns-clause-reads
+returns-clause-reads c =
+    params_done c.args.tokens.now.spots.items c.args.at c.items.at c.in_ok-to.to c.items.number _ c.items.params.items c.items.invariant.4 c.in_ok-to.ensures.reads

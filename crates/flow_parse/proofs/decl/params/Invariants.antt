@@ -1,0 +1,13 @@
+use Rattle.std.proofs.Common.{◌≡◌, ◌+◌, ◌-◌, ◌≤◌, ◌<◌, length}
+use Rattle.flow_parse.specs.Reading.{Any}
+use Rattle.flow_parse.specs.Parts.{Params, MoreParams}
+use Rattle.flow_parse.proofs.Leaves.{Leaves}
+use Rattle.flow_parse.proofs.Loops.{params_before}
+use Rattle.flow_parse.proofs.decl.params.Given as goal
+
+abbrev pub invariant-items : goal.invariant-items
+invariant-items l = (l.fn.at < l.at) × (l.at ≤ length l.tokens.spots.items) × (l.number ≡ length l.params.items + 1) × (length l.params.items ≤ 1000)
+    × Leaves Params Any (MoreParams l.number) Any (params_before l.params.items) l.tokens.spots.items l.fn.at l.at
+
+abbrev pub decreases-items : goal.decreases-items
+decreases-items l = length l.tokens.spots.items - l.at

@@ -1,0 +1,57 @@
+-- What a reader of a part of a program answers. A part is a relation between the tokens that it
+-- consists of, each with what begins at it, and what they mean.
+use Rattle.std.specs.Prelude.{◌≡◌, ℕ, ◌≤◌, List, [], ◌∷◌, ◌++◌, drop, length, slice_get, Result, Ok, Err}
+use Rattle.std.specs.Option.{option_map}
+use Rattle.std.specs.declared.option.Option.{Option}
+use Rattle.flow_base.specs.declared.place.Place.{Place}
+use Rattle.flow_ast.specs.declared.token.Token.{Token}
+use Rattle.flow_ast.specs.declared.token.Spot.{Spot}
+use Rattle.flow_ast.specs.declared.token.Tokens.{Tokens}
+use Rattle.flow_ast.specs.declared.ty.Ident.{Ident}
+use Rattle.flow_ast.specs.declared.fault.SourceFault.{SourceFault}
+use Rattle.flow_ast.specs.GrammarToken.{Part, Marked, opens, spots_of, Keeps}
+use Rattle.flow_ast.specs.Grammar.{name_at}
+
+abbrev pub token_at : List Spot → ℕ → Option Token
+token_at spots k = option_map (λ s. s.token) (slice_get spots k)
+
+-- one token, with which these parts begin; it means its place
+abbrev pub Opening : List Part → Token → List Marked → Place → Type 0
+Opening ps x w p = w ≡ opens ps x p ∷ []
+
+abbrev pub Tok : Token → List Marked → Place → Type 0
+Tok x w p = Opening [] x w p
+
+abbrev pub Named : List Marked → Ident → Type 0
+Named w x = w ≡ name_at x ∷ []
+
+-- one part and then another, which may depend on the first
+pub record Then {A B : Type 0} (R : List Marked → A → Type 0) (S : A → List Marked → B → Type 0) (w : List Marked) (x : A × B) : Type 0 where
+  pub first : List Marked
+  pub rest : List Marked
+  pub is : w ≡ first ++ rest
+  pub front : R first x.0
+  pub back : S x.0 rest x.1
+
+-- any tokens may follow
+abbrev pub Any : {A : Type 0} → A → List Marked → Type 0
+Any a z = Unit {0}
+
+-- The tokens from one number to another are this part. What may stand behind it is named beside it,
+-- and nothing rests on that here.
+pub record Reads {A : Type 0} (R : List Marked → A → Type 0) (F : A → List Marked → Type 0) (spots : List Spot) (from : ℕ) (a : A) (to : ℕ) : Type 0 where
+  pub after : from ≤ to
+  pub within : to ≤ length spots
+  pub marked : List Marked
+  pub rule : R marked a
+  pub is : drop from spots ≡ spots_of marked ++ drop to spots
+  pub keeps : Keeps 7 marked
+
+-- of a refusal nothing is said
+abbrev pub Fails : {A : Type 0} → (List Marked → A → Type 0) → (A → List Marked → Type 0) → Tokens → ℕ → SourceFault → Type 0
+Fails R F t from e = Unit {0}
+
+-- what is read is this part
+abbrev pub Answer : {A X : Type 0} → (List Marked → A → Type 0) → (A → List Marked → Type 0) → (X → A) → (X → ℕ) → Tokens → ℕ → Result X SourceFault → Type 0
+Answer R F view to t from (Ok x) = Reads R F t.spots.items from (view x) (to x)
+Answer R F view to t from (Err e) = Fails R F t from e

@@ -1,0 +1,219 @@
+// Declarations.
+
+ghost use Rattle.std.specs.Prelude.{◌≡◌, ℕ, ◌+◌, ◌<◌, ◌≤◌, length, IfOk, Some};
+ghost use Rattle.flow_ast.specs.declared.token.Word.TheVariants as word;
+ghost use Rattle.flow_ast.specs.declared.token.Token.TheVariants as token;
+ghost use Rattle.flow_ast.specs.DeclView.{param_of, params_of, record_of, function_of, actor_of, decl_of};
+ghost use Rattle.flow_ast.specs.GrammarDecl.{ParamRule, DeclRule};
+ghost use Rattle.flow_parse.specs.Reading.{token_at, Any, Answer};
+ghost use Rattle.flow_parse.specs.Parts.{AllFields, Params, Routine, Record, Function, Actor};
+ghost use Rattle.flow_parse.specs.Views.{routine_out};
+
+use crate::simple::{Counts, VARIABLES};
+use crate::stmt::block;
+use crate::token::{begins_type, is_sign, is_word, name, place, refused, sign, ty, word};
+use flow_ast::decl::{ActorDecl, Decl, FunctionDecl, Param, RecordDecl};
+use flow_ast::fault::{Rule, SourceFault};
+use flow_ast::stmt::Stmt;
+use flow_ast::token::{Sign, Tokens, Word};
+use flow_ast::ty::Ident;
+use flow_base::place::Place;
+use std::alloc::Global;
+
+// A parameter or a field, the one of this number in its declaration.
+fn param(
+    alloc: Global,
+    tokens: &Tokens,
+    at: usize,
+    number: u32,
+) -> Result<(Param, usize), SourceFault>
+    requires within { at ≤ length tokens.now.spots.items }
+    ensures reads { Answer (ParamRule number) Any (λ r. param_of r.0) (λ r. r.1) tokens.now at result }
+    ensures moves { IfOk result (λ r. (at < r.1) × (r.1 ≤ length tokens.now.spots.items)) }
+    ensures few { IfOk result (λ r. number ≤ 1000) }
+{
+    if number > VARIABLES {
+        let rule = if begins_type(tokens, at) {
+            Rule::L(6)
+        } else {
+            Rule::S(5)
+        };
+        return Err(refused(tokens, rule, at));
+    }
+    let (ty, at) = ty(alloc, tokens, at, 1)?;
+    let (name, to) = name(alloc, tokens, at)?;
+    Ok((Param { ty, name }, to))
+}
+
+// The fields of a record, one or more, with the brace behind them.
+fn fields(alloc: Global, tokens: &Tokens, at: usize) -> Result<(Vec<Param>, usize), SourceFault>
+    requires within { at ≤ length tokens.now.spots.items }
+    ensures reads { Answer AllFields Any (λ r. params_of r.0.items) (λ r. r.1) tokens.now at result }
+    ensures moves { IfOk result (λ r. (at < r.1) × (r.1 ≤ length tokens.now.spots.items)) }
+{
+    let mut fields = Vec::new(alloc);
+    let (first, at) = param(alloc, tokens, at, 1)?;
+    fields.push(first)?;
+    let mut at = sign(tokens, at, Sign::Semicolon)?;
+    let mut number = 2;
+    'items: while !is_sign(tokens, at, Sign::CloseCurly) {
+        let (field, to) = param(alloc, tokens, at, number)?;
+        fields.push(field)?;
+        at = sign(tokens, to, Sign::Semicolon)?;
+        number += 1;
+    }
+    Ok((fields, at + 1))
+}
+
+// The parameters of a routine, with the bracket behind them.
+fn params(alloc: Global, tokens: &Tokens, at: usize) -> Result<(Vec<Param>, usize), SourceFault>
+    requires within { at ≤ length tokens.now.spots.items }
+    ensures reads { Answer Params Any (λ r. params_of r.0.items) (λ r. r.1) tokens.now at result }
+    ensures moves { IfOk result (λ r. (at < r.1) × (r.1 ≤ length tokens.now.spots.items)) }
+    ensures few { IfOk result (λ r. length r.0.items ≤ 1000) }
+{
+    let mut params = Vec::new(alloc);
+    if is_sign(tokens, at, Sign::CloseRound) {
+        return Ok((params, at + 1));
+    }
+    let (first, mut at) = param(alloc, tokens, at, 1)?;
+    params.push(first)?;
+    let mut number = 2;
+    'items: while is_sign(tokens, at, Sign::Comma) {
+        let (next, to) = param(alloc, tokens, at + 1, number)?;
+        params.push(next)?;
+        at = to;
+        number += 1;
+    }
+    let to = sign(tokens, at, Sign::CloseRound)?;
+    Ok((params, to))
+}
+
+fn record(alloc: Global, tokens: &Tokens, at: usize) -> Result<(RecordDecl, usize), SourceFault>
+    requires within { at ≤ length tokens.now.spots.items }
+    requires here { token_at tokens.now.spots.items at ≡ Some (token.Word word.Struct) }
+    ensures reads { Answer Record Any (λ r. record_of r.0) (λ r. r.1) tokens.now at result }
+    ensures moves { IfOk result (λ r. (at < r.1) × (r.1 ≤ length tokens.now.spots.items)) }
+{
+    let here = place(tokens, at);
+    let (name, at) = name(alloc, tokens, at + 1)?;
+    let at = sign(tokens, at, Sign::OpenCurly)?;
+    let (fields, at) = fields(alloc, tokens, at)?;
+    let to = sign(tokens, at, Sign::Semicolon)?;
+    let record = RecordDecl {
+        at: here,
+        name,
+        fields,
+    };
+    Ok((record, to))
+}
+
+/// A name, parameters and a body that were read.
+#[derive(Drop, Debug)]
+pub struct ReadRoutine {
+    pub name: Ident,
+    pub params: Vec<Param>,
+    pub body: Vec<Stmt>,
+    pub close: Place,
+    pub to: usize,
+}
+
+// How many parameters there are.
+fn count(params: &Vec<Param>) -> u32
+    requires { length params.now.items ≤ 1000 }
+    ensures { result ≡ length params.now.items }
+{
+    params.len() as u32
+}
+
+fn routine(
+    alloc: Global,
+    tokens: &Tokens,
+    at: usize,
+    actor: bool,
+) -> Result<ReadRoutine, SourceFault>
+    requires within { at ≤ length tokens.now.spots.items }
+    ensures reads { Answer (Routine actor) Any routine_out (λ r. r.to) tokens.now at result }
+    ensures moves { IfOk result (λ r. (at < r.to) × (r.to ≤ length tokens.now.spots.items)) }
+{
+    let (name, at) = name(alloc, tokens, at)?;
+    let at = sign(tokens, at, Sign::OpenRound)?;
+    let (params, at) = params(alloc, tokens, at)?;
+    let counts = Counts {
+        statements: 0,
+        variables: count(&params),
+    };
+    let read = block(alloc, tokens, at, actor, 2, counts)?;
+    Ok(ReadRoutine {
+        name,
+        params,
+        body: read.body,
+        close: read.close,
+        to: read.to,
+    })
+}
+
+fn function(alloc: Global, tokens: &Tokens, at: usize) -> Result<(FunctionDecl, usize), SourceFault>
+    requires within { at ≤ length tokens.now.spots.items }
+    ensures reads { Answer Function Any (λ r. function_of r.0) (λ r. r.1) tokens.now at result }
+    ensures moves { IfOk result (λ r. (at < r.1) × (r.1 ≤ length tokens.now.spots.items)) }
+{
+    let here = place(tokens, at);
+    let (returns, at) = ty(alloc, tokens, at, 1)?;
+    let read = routine(alloc, tokens, at, false)?;
+    let function = FunctionDecl {
+        at: here,
+        returns,
+        name: read.name,
+        params: read.params,
+        body: read.body,
+        close: read.close,
+    };
+    Ok((function, read.to))
+}
+
+fn actor(alloc: Global, tokens: &Tokens, at: usize) -> Result<(ActorDecl, usize), SourceFault>
+    requires within { at ≤ length tokens.now.spots.items }
+    requires here { token_at tokens.now.spots.items at ≡ Some (token.Word word.Actor) }
+    ensures reads { Answer Actor Any (λ r. actor_of r.0) (λ r. r.1) tokens.now at result }
+    ensures moves { IfOk result (λ r. (at < r.1) × (r.1 ≤ length tokens.now.spots.items)) }
+{
+    let here = place(tokens, at);
+    let at = word(tokens, at + 1, Word::Future)?;
+    let at = sign(tokens, at, Sign::Less)?;
+    let (returns, at) = ty(alloc, tokens, at, 2)?;
+    let at = sign(tokens, at, Sign::Greater)?;
+    let read = routine(alloc, tokens, at, true)?;
+    let actor = ActorDecl {
+        at: here,
+        returns,
+        name: read.name,
+        params: read.params,
+        body: read.body,
+        close: read.close,
+    };
+    Ok((actor, read.to))
+}
+
+/// Whether a declaration begins here.
+pub fn begins_decl(tokens: &Tokens, at: usize) -> bool {
+    is_word(tokens, at, Word::Struct) || is_word(tokens, at, Word::Actor) || begins_type(tokens, at)
+}
+
+/// The declaration that begins here, and the number of the token after it.
+pub fn decl(alloc: Global, tokens: &Tokens, at: usize) -> Result<(Decl, usize), SourceFault>
+    requires within { at ≤ length tokens.now.spots.items }
+    ensures reads { Answer DeclRule Any (λ r. decl_of r.0) (λ r. r.1) tokens.now at result }
+    ensures moves { IfOk result (λ r. (at < r.1) × (r.1 ≤ length tokens.now.spots.items)) }
+{
+    if is_word(tokens, at, Word::Struct) {
+        let (record, to) = record(alloc, tokens, at)?;
+        return Ok((Decl::Struct(record), to));
+    }
+    if is_word(tokens, at, Word::Actor) {
+        let (actor, to) = actor(alloc, tokens, at)?;
+        return Ok((Decl::Actor(actor), to));
+    }
+    let (function, to) = function(alloc, tokens, at)?;
+    Ok((Decl::Function(function), to))
+}

@@ -1,0 +1,52 @@
+// Programs.
+
+ghost use Rattle.std.specs.Prelude.{◌≡◌, ℕ, ◌<◌, ◌≤◌, length, IfOk, Err};
+ghost use Rattle.flow_ast.specs.GrammarAnswer.{place_at};
+ghost use Rattle.flow_ast.specs.GrammarDecl.{IsProgram};
+ghost use Rattle.flow_ast.specs.DeclView.{program_of};
+
+use crate::decl::{begins_decl, decl};
+use crate::token::refused;
+use flow_ast::decl::Program;
+use flow_ast::fault::{Rule, SourceFault};
+use flow_ast::token::Tokens;
+use std::alloc::Global;
+
+/// The greatest number of tokens.
+const TOKENS: usize = 200000;
+
+/// The greatest number of declarations.
+const DECLARATIONS: u32 = 4096;
+
+/// The program that these tokens are, by the grammar and within its limits. More than 200,000 tokens
+/// are refused with L2 at token 200,001. Otherwise the first token with which no program begins whose
+/// parts that have begun keep the limits is refused: with S5 where no program at all begins so, and
+/// with the least of L3 to L7 that can't be kept elsewhere; the end counts as a token. That such a
+/// token is refused, and no other, is tested and not proved.
+pub fn parse(alloc: Global, tokens: &Tokens) -> Result<Program, SourceFault>
+    ensures many { 200000 < length tokens.now.spots.items → result ≡ Err (SourceFault.Refused (Rule.L 2) (place_at tokens.now 200000)) }
+    ensures sound { IfOk result (λ p. IsProgram tokens.now (program_of p)) }
+{
+    if tokens.spots.len() > TOKENS {
+        return Err(refused(tokens, Rule::L(2), TOKENS));
+    }
+    let mut decls = Vec::new(alloc);
+    let mut at = 0;
+    let mut number = 1;
+    'items: while at < tokens.spots.len() {
+        if !begins_decl(tokens, at) {
+            return Err(refused(tokens, Rule::S(5), at));
+        }
+        if number > DECLARATIONS {
+            return Err(refused(tokens, Rule::L(3), at));
+        }
+        let (next, to) = decl(alloc, tokens, at)?;
+        decls.push(next)?;
+        at = to;
+        number += 1;
+    }
+    Ok(Program {
+        decls,
+        end: tokens.end,
+    })
+}

@@ -1,0 +1,468 @@
+// Declarations of variables, waits, paths, changes and calls.
+
+ghost use Rattle.std.specs.Prelude.{◌≡◌, ℕ, ◌+◌, ◌<◌, ◌≤◌, length, IfOk, Some, None, false};
+ghost use Rattle.std.specs.Bool.{OnTrue};
+ghost use Rattle.flow_ast.specs.declared.token.Word.TheVariants as word;
+ghost use Rattle.flow_ast.specs.declared.token.Sign.TheVariants as sign;
+ghost use Rattle.flow_ast.specs.declared.token.Token.TheVariants as token;
+ghost use Rattle.flow_ast.specs.View.{expr_of, exprs_of};
+ghost use Rattle.flow_ast.specs.StmtView.{into_of, stmt_of};
+ghost use Rattle.flow_ast.specs.Tree.{NamedType};
+ghost use Rattle.flow_ast.specs.Body.{End};
+ghost use Rattle.flow_parse.specs.Reading.{token_at, Any, Answer};
+ghost use Rattle.flow_parse.specs.Follow.{ExprEnds, Before, NotBefore};
+ghost use Rattle.flow_parse.specs.Parts.{Test, StatePart, IntoPart, OperandPart, WaitingPart, MoreNames, Args, ChangeRule, ChangedRule, DeclaredRule, ValuedRule, Unended, Init, Simple};
+ghost use Rattle.flow_parse.specs.Views.{counts_of, into_out, stmt_out, waiting_out, Stands};
+
+use crate::build;
+use crate::token::{expr, is_name, is_sign, is_word, name, place, refused, sign, ty};
+use flow_ast::expr::Expr;
+use flow_ast::fault::{Rule, SourceFault};
+use flow_ast::stmt::{Change, Into, Stmt, Waiting};
+use flow_ast::token::{Sign, Tokens, Word};
+use flow_ast::ty::{Ident, Ty};
+use flow_base::place::Place;
+use std::alloc::Global;
+
+/// The greatest number of parameters and state variables of an actor, of parameters of a function, and
+/// of fields of a record.
+pub const VARIABLES: u32 = 1000;
+
+/// How many statements, and how many parameters and state variables, have begun in a routine.
+#[derive(Clone, Copy, Debug)]
+pub struct Counts {
+    pub statements: u32,
+    pub variables: u32,
+}
+
+/// A declared variable that was read.
+#[derive(Drop, Debug)]
+pub struct ReadInto {
+    pub into: Into,
+    pub to: usize,
+    pub counts: Counts,
+}
+
+/// A statement that was read: the number of the token after it, the counts there, and whether it ends
+/// in an `if` that has no `else`.
+#[derive(Drop, Debug)]
+pub struct ReadStmt {
+    pub stmt: Stmt,
+    pub to: usize,
+    pub counts: Counts,
+    pub ends_if: bool,
+}
+
+/// A wait, and the variable that it declares, if it declares one.
+#[derive(Drop, Debug)]
+pub struct ReadWaiting {
+    pub waiting: Waiting,
+    pub to: usize,
+    pub counts: Counts,
+}
+
+/// The word `state`, or nothing: whether it stands here, the number of the token after it, and the
+/// counts there. In an actor L6 is refused at one state variable too many.
+pub fn state(
+    tokens: &Tokens,
+    at: usize,
+    actor: bool,
+    counts: Counts,
+) -> Result<(bool, usize, Counts), SourceFault>
+    requires within { at ≤ length tokens.now.spots.items }
+    ensures reads { Answer (StatePart actor (counts_of counts)) (NotBefore (token.Word word.State)) (λ r. (r.0, counts_of r.2)) (λ r. r.1) tokens.now at result }
+    ensures moves { IfOk result (λ r. (at ≤ r.1) × (r.1 ≤ length tokens.now.spots.items)) }
+{
+    if !is_word(tokens, at, Word::State) {
+        return Ok((false, at, counts));
+    }
+    if !actor {
+        return Ok((true, at + 1, counts));
+    }
+    if counts.variables >= VARIABLES {
+        return Err(refused(tokens, Rule::L(6), at));
+    }
+    let counts = Counts {
+        statements: counts.statements,
+        variables: counts.variables + 1,
+    };
+    Ok((true, at + 1, counts))
+}
+
+/// `[ "state" ] type name`.
+pub fn into(
+    alloc: Global,
+    tokens: &Tokens,
+    at: usize,
+    actor: bool,
+    depth: u32,
+    counts: Counts,
+) -> Result<ReadInto, SourceFault>
+    requires within { at ≤ length tokens.now.spots.items }
+    requires shallow { depth ≤ 64 }
+    ensures reads { Answer (IntoPart actor depth (counts_of counts)) Any into_out (λ r. r.to) tokens.now at result }
+    ensures moves { IfOk result (λ r. (at < r.to) × (r.to ≤ length tokens.now.spots.items)) }
+{
+    let (state, at, counts) = state(tokens, at, actor, counts)?;
+    let (ty, at) = ty(alloc, tokens, at, depth)?;
+    let (name, to) = name(alloc, tokens, at)?;
+    Ok(ReadInto {
+        into: Into { state, ty, name },
+        to,
+        counts,
+    })
+}
+
+/// The path that begins with a name, from what stands behind that name: `{ "." name }`.
+pub fn more_names(
+    alloc: Global,
+    tokens: &Tokens,
+    first: Ident,
+    at: usize,
+) -> Result<(Vec<Ident>, usize), SourceFault>
+    requires within { at ≤ length tokens.now.spots.items }
+    ensures reads { Answer (MoreNames first) (NotBefore (token.Sign sign.Dot)) (λ r. r.0.items) (λ r. r.1) tokens.now at result }
+    ensures moves { IfOk result (λ r. (at ≤ r.1) × (r.1 ≤ length tokens.now.spots.items)) }
+{
+    let mut path = Vec::new(alloc);
+    path.push(first)?;
+    let mut at = at;
+    'names: while is_sign(tokens, at, Sign::Dot) {
+        let (next, to) = name(alloc, tokens, at + 1)?;
+        path.push(next)?;
+        at = to;
+    }
+    Ok((path, at))
+}
+
+/// `"(" expr ")"`.
+pub fn test(
+    alloc: Global,
+    tokens: &Tokens,
+    at: usize,
+    depth: u32,
+) -> Result<(Expr, usize), SourceFault>
+    requires within { at ≤ length tokens.now.spots.items }
+    ensures reads { Answer (Test depth) Any (λ r. expr_of r.0) (λ r. r.1) tokens.now at result }
+    ensures moves { IfOk result (λ r. (at < r.1) × (r.1 ≤ length tokens.now.spots.items)) }
+{
+    let at = sign(tokens, at, Sign::OpenRound)?;
+    let (test, at) = expr(alloc, tokens, at, depth)?;
+    let to = sign(tokens, at, Sign::CloseRound)?;
+    Ok((test, to))
+}
+
+/// `( "wait" | "waitNext" ) "(" expr ")"`.
+pub fn operand(
+    alloc: Global,
+    tokens: &Tokens,
+    at: usize,
+    depth: u32,
+) -> Result<(bool, Expr, usize), SourceFault>
+    requires within { at ≤ length tokens.now.spots.items }
+    requires shallow { depth ≤ 64 }
+    ensures reads { Answer (OperandPart depth) Any (λ r. (r.0, expr_of r.1)) (λ r. r.2) tokens.now at result }
+    ensures moves { IfOk result (λ r. (at < r.2) × (r.2 ≤ length tokens.now.spots.items)) }
+{
+    if is_word(tokens, at, Word::WaitNext) {
+        let (of, to) = test(alloc, tokens, at + 1, depth + 1)?;
+        return Ok((true, of, to));
+    }
+    if is_word(tokens, at, Word::Wait) {
+        let (of, to) = test(alloc, tokens, at + 1, depth + 1)?;
+        return Ok((false, of, to));
+    }
+    Err(refused(tokens, Rule::S(5), at))
+}
+
+/// The arguments of a call behind its opening bracket, with the closing one.
+pub fn arguments(
+    alloc: Global,
+    tokens: &Tokens,
+    at: usize,
+    depth: u32,
+) -> Result<(Vec<Expr>, usize), SourceFault>
+    requires within { at ≤ length tokens.now.spots.items }
+    ensures reads { Answer (Args depth) Any (λ r. exprs_of r.0.items) (λ r. r.1) tokens.now at result }
+    ensures moves { IfOk result (λ r. (at < r.1) × (r.1 ≤ length tokens.now.spots.items)) }
+{
+    let mut args = Vec::new(alloc);
+    if is_sign(tokens, at, Sign::CloseRound) {
+        return Ok((args, at + 1));
+    }
+    let (first, to) = expr(alloc, tokens, at, depth)?;
+    args.push(first)?;
+    let mut at = to;
+    'items: while is_sign(tokens, at, Sign::Comma) {
+        let (next, to) = expr(alloc, tokens, at + 1, depth)?;
+        args.push(next)?;
+        at = to;
+    }
+    let to = sign(tokens, at, Sign::CloseRound)?;
+    Ok((args, to))
+}
+
+/// A change of a variable: what follows its path.
+pub fn change(
+    alloc: Global,
+    tokens: &Tokens,
+    place: Place,
+    path: Vec<Ident>,
+    at: usize,
+    depth: u32,
+) -> Result<(Stmt, usize), SourceFault>
+    requires within { at ≤ length tokens.now.spots.items }
+    requires shallow { depth ≤ 64 }
+    ensures reads { Answer (ChangeRule depth place path.items) ExprEnds (λ r. stmt_of r.0 End) (λ r. r.1) tokens.now at result }
+    ensures stands { IfOk result (λ r. Stands r.0) }
+    ensures moves { IfOk result (λ r. (at < r.1) × (r.1 ≤ length tokens.now.spots.items)) }
+{
+    if is_sign(tokens, at, Sign::PlusPlus) {
+        return Ok((build::modify(place, path, Change::Up), at + 1));
+    }
+    if is_sign(tokens, at, Sign::MinusMinus) {
+        return Ok((build::modify(place, path, Change::Down), at + 1));
+    }
+    if is_sign(tokens, at, Sign::PlusAssign) {
+        let (value, to) = expr(alloc, tokens, at + 1, depth + 1)?;
+        return Ok((build::modify(place, path, Change::Plus(value)), to));
+    }
+    if is_sign(tokens, at, Sign::MinusAssign) {
+        let (value, to) = expr(alloc, tokens, at + 1, depth + 1)?;
+        return Ok((build::modify(place, path, Change::Minus(value)), to));
+    }
+    let at = sign(tokens, at, Sign::Assign)?;
+    let (value, to) = expr(alloc, tokens, at, depth + 1)?;
+    Ok((build::assign(place, path, value), to))
+}
+
+// A change of a variable, or a call: what follows its path.
+fn changed(
+    alloc: Global,
+    tokens: &Tokens,
+    place: Place,
+    path: Vec<Ident>,
+    at: usize,
+    depth: u32,
+) -> Result<(Stmt, usize), SourceFault>
+    requires within { at ≤ length tokens.now.spots.items }
+    requires shallow { depth ≤ 64 }
+    ensures reads { Answer (ChangedRule depth place path.items) ExprEnds (λ r. stmt_of r.0 End) (λ r. r.1) tokens.now at result }
+    ensures stands { IfOk result (λ r. Stands r.0) }
+    ensures moves { IfOk result (λ r. (at < r.1) × (r.1 ≤ length tokens.now.spots.items)) }
+{
+    if !is_sign(tokens, at, Sign::OpenRound) {
+        return change(alloc, tokens, place, path, at, depth);
+    }
+    let (args, to) = arguments(alloc, tokens, at + 1, depth + 1)?;
+    Ok((build::call(place, path, args), to))
+}
+
+/// A declaration of a variable, what follows the name: a value, or nothing.
+pub fn declared(
+    alloc: Global,
+    tokens: &Tokens,
+    place: Place,
+    into: Into,
+    at: usize,
+    depth: u32,
+) -> Result<(Stmt, usize), SourceFault>
+    requires within { at ≤ length tokens.now.spots.items }
+    requires shallow { depth ≤ 64 }
+    ensures reads { Answer (DeclaredRule depth place (into_of into)) (Before (token.Sign sign.Semicolon)) (λ r. stmt_of r.0 End) (λ r. r.1) tokens.now at result }
+    ensures stands { IfOk result (λ r. Stands r.0) }
+    ensures moves { IfOk result (λ r. (at ≤ r.1) × (r.1 ≤ length tokens.now.spots.items)) }
+{
+    if !is_sign(tokens, at, Sign::Assign) {
+        return Ok((build::declare(place, into, None), at));
+    }
+    let (value, to) = expr(alloc, tokens, at + 1, depth + 1)?;
+    Ok((build::declare(place, into, Some(value)), to))
+}
+
+// The same in a statement, where a wait may give the value.
+fn valued(
+    alloc: Global,
+    tokens: &Tokens,
+    place: Place,
+    into: Into,
+    at: usize,
+    depth: u32,
+) -> Result<(Stmt, usize), SourceFault>
+    requires within { at ≤ length tokens.now.spots.items }
+    requires shallow { depth ≤ 64 }
+    ensures reads { Answer (ValuedRule depth place (into_of into)) (Before (token.Sign sign.Semicolon)) (λ r. stmt_of r.0 End) (λ r. r.1) tokens.now at result }
+    ensures stands { IfOk result (λ r. Stands r.0) }
+    ensures moves { IfOk result (λ r. (at ≤ r.1) × (r.1 ≤ length tokens.now.spots.items)) }
+{
+    if !is_sign(tokens, at, Sign::Assign) {
+        return Ok((build::declare(place, into, None), at));
+    }
+    let at = at + 1;
+    if is_word(tokens, at, Word::Wait) || is_word(tokens, at, Word::WaitNext) {
+        let (next, operand, to) = operand(alloc, tokens, at, depth)?;
+        return Ok((build::wait(place, Some(into), next, operand), to));
+    }
+    let (value, to) = expr(alloc, tokens, at, depth + 1)?;
+    Ok((build::declare(place, into, Some(value)), to))
+}
+
+// A variable of the type and with the name that these names are.
+fn named_into(ty: Ident, name: Ident) -> Into
+    ensures { into_of result ≡ record { state = false; ty = NamedType ty.name; name = name } }
+{
+    Into {
+        state: false,
+        ty: Ty::Named(ty.name),
+        name,
+    }
+}
+
+/// A declaration of a variable or a change of one, without its semicolon.
+pub fn init(
+    alloc: Global,
+    tokens: &Tokens,
+    at: usize,
+    actor: bool,
+    depth: u32,
+    counts: Counts,
+) -> Result<ReadStmt, SourceFault>
+    requires within { at ≤ length tokens.now.spots.items }
+    requires shallow { depth ≤ 64 }
+    ensures reads { Answer (Init actor depth (counts_of counts)) (Before (token.Sign sign.Semicolon)) stmt_out (λ r. r.to) tokens.now at result }
+    ensures stands { IfOk result (λ r. Stands r.stmt) }
+    ensures closed { IfOk result (λ r. r.ends_if ≡ false) }
+    ensures moves { IfOk result (λ r. (at < r.to) × (r.to ≤ length tokens.now.spots.items)) }
+{
+    if !is_name(tokens, at) {
+        let here = place(tokens, at);
+        let read = into(alloc, tokens, at, actor, depth, counts)?;
+        let (stmt, to) = declared(alloc, tokens, here, read.into, read.to, depth)?;
+        return Ok(ended(stmt, to, read.counts));
+    }
+    let (first, at) = name(alloc, tokens, at)?;
+    let here = first.at;
+    if !is_name(tokens, at) {
+        let (path, at) = more_names(alloc, tokens, first, at)?;
+        let (stmt, to) = change(alloc, tokens, here, path, at, depth)?;
+        return Ok(ended(stmt, to, counts));
+    }
+    let (second, at) = name(alloc, tokens, at)?;
+    let (stmt, to) = declared(alloc, tokens, here, named_into(first, second), at, depth)?;
+    Ok(ended(stmt, to, counts))
+}
+
+// A declaration, a change, a wait or a call, without its semicolon.
+fn unended(
+    alloc: Global,
+    tokens: &Tokens,
+    at: usize,
+    actor: bool,
+    depth: u32,
+    counts: Counts,
+) -> Result<ReadStmt, SourceFault>
+    requires within { at ≤ length tokens.now.spots.items }
+    requires shallow { depth ≤ 64 }
+    ensures reads { Answer (Unended actor depth (counts_of counts)) (Before (token.Sign sign.Semicolon)) stmt_out (λ r. r.to) tokens.now at result }
+    ensures stands { IfOk result (λ r. Stands r.stmt) }
+    ensures closed { IfOk result (λ r. r.ends_if ≡ false) }
+    ensures moves { IfOk result (λ r. (at < r.to) × (r.to ≤ length tokens.now.spots.items)) }
+{
+    if is_word(tokens, at, Word::Wait) || is_word(tokens, at, Word::WaitNext) {
+        let here = place(tokens, at);
+        let (next, operand, to) = operand(alloc, tokens, at, depth)?;
+        return Ok(ended(build::wait(here, None, next, operand), to, counts));
+    }
+    if !is_name(tokens, at) {
+        let here = place(tokens, at);
+        let read = into(alloc, tokens, at, actor, depth, counts)?;
+        let (stmt, to) = valued(alloc, tokens, here, read.into, read.to, depth)?;
+        return Ok(ended(stmt, to, read.counts));
+    }
+    let (first, at) = name(alloc, tokens, at)?;
+    let here = first.at;
+    if !is_name(tokens, at) {
+        let (path, at) = more_names(alloc, tokens, first, at)?;
+        let (stmt, to) = changed(alloc, tokens, here, path, at, depth)?;
+        return Ok(ended(stmt, to, counts));
+    }
+    let (second, at) = name(alloc, tokens, at)?;
+    let (stmt, to) = valued(alloc, tokens, here, named_into(first, second), at, depth)?;
+    Ok(ended(stmt, to, counts))
+}
+
+/// A statement that ends in no `if`.
+pub fn ended(stmt: Stmt, to: usize, counts: Counts) -> ReadStmt
+    ensures is { result ≡ record { stmt = stmt; to = to; counts = counts; ends_if = false } }
+    ensures same { result.stmt ≡ stmt }
+    ensures closed { result.ends_if ≡ false }
+    ensures moves { result.to ≡ to }
+{
+    ReadStmt {
+        stmt,
+        to,
+        counts,
+        ends_if: false,
+    }
+}
+
+/// A declaration, a change, a wait or a call with its semicolon.
+pub fn simple(
+    alloc: Global,
+    tokens: &Tokens,
+    at: usize,
+    actor: bool,
+    depth: u32,
+    counts: Counts,
+) -> Result<ReadStmt, SourceFault>
+    requires within { at ≤ length tokens.now.spots.items }
+    requires shallow { depth ≤ 64 }
+    ensures reads { Answer (Simple actor depth (counts_of counts)) Any stmt_out (λ r. r.to) tokens.now at result }
+    ensures stands { IfOk result (λ r. Stands r.stmt) }
+    ensures closed { IfOk result (λ r. r.ends_if ≡ false) }
+    ensures moves { IfOk result (λ r. (at < r.to) × (r.to ≤ length tokens.now.spots.items)) }
+{
+    let read = unended(alloc, tokens, at, actor, depth, counts)?;
+    let to = sign(tokens, read.to, Sign::Semicolon)?;
+    Ok(ended(read.stmt, to, read.counts))
+}
+
+/// `[ [ "state" ] type name "=" ] ( "wait" | "waitNext" ) "(" expr ")"`.
+pub fn waiting(
+    alloc: Global,
+    tokens: &Tokens,
+    at: usize,
+    actor: bool,
+    depth: u32,
+    counts: Counts,
+) -> Result<ReadWaiting, SourceFault>
+    requires within { at ≤ length tokens.now.spots.items }
+    requires shallow { depth ≤ 64 }
+    ensures reads { Answer (WaitingPart actor depth (counts_of counts)) Any waiting_out (λ r. r.to) tokens.now at result }
+    ensures moves { IfOk result (λ r. (at < r.to) × (r.to ≤ length tokens.now.spots.items)) }
+{
+    if is_word(tokens, at, Word::Wait) || is_word(tokens, at, Word::WaitNext) {
+        let (next, operand, to) = operand(alloc, tokens, at, depth)?;
+        return Ok(ReadWaiting {
+            waiting: Waiting {
+                into: None,
+                next,
+                operand,
+            },
+            to,
+            counts,
+        });
+    }
+    let read = into(alloc, tokens, at, actor, depth, counts)?;
+    let at = sign(tokens, read.to, Sign::Assign)?;
+    let (next, operand, to) = operand(alloc, tokens, at, depth)?;
+    Ok(ReadWaiting {
+        waiting: Waiting {
+            into: Some(read.into),
+            next,
+            operand,
+        },
+        to,
+        counts: read.counts,
+    })
+}

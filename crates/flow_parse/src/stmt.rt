@@ -1,0 +1,757 @@
+// Statements.
+
+ghost use Rattle.std.specs.Prelude.{◌≡◌, ℕ, ◌+◌, ◌<◌, ◌≤◌, length, IfOk, Some, None, true};
+ghost use Rattle.std.specs.Option.{option_map};
+ghost use Rattle.flow_ast.specs.declared.token.Word.TheVariants as word;
+ghost use Rattle.flow_ast.specs.declared.token.Sign.TheVariants as sign;
+ghost use Rattle.flow_ast.specs.declared.token.Token.TheVariants as token;
+ghost use Rattle.flow_ast.specs.View.{expr_of};
+ghost use Rattle.flow_ast.specs.StmtView.{stmt_of};
+ghost use Rattle.flow_ast.specs.Body.{End};
+ghost use Rattle.flow_ast.specs.GrammarStmt.{one_statement};
+ghost use Rattle.flow_parse.specs.Reading.{token_at, Any, Answer};
+ghost use Rattle.flow_parse.specs.Follow.{ExprEnds, NotBefore};
+ghost use Rattle.flow_parse.specs.Parts.{NoElse, Assignment, Catch, AllWhens, MaybeExpr, StartPart, NextPart, Plain, One, BodyPart, Closing, Block, WhenPart, WhensPart};
+ghost use Rattle.flow_parse.specs.Views.{counts_of, stmt_out, body_out, block_out, when_out, whens_out, part_out, Stands};
+
+use crate::build;
+use crate::simple::{Counts, ReadStmt, change, ended, init, more_names, simple, test, waiting};
+use crate::token::{
+    DEPTH, begins_type, expr, is_name, is_sign, is_word, name, place, refused, sign, word,
+};
+use flow_ast::expr::Expr;
+use flow_ast::fault::{Rule, SourceFault};
+use flow_ast::stmt::{Stmt, Waiting, When};
+use flow_ast::token::{Sign, Token, Tokens, Word};
+use flow_ast::ty::Ident;
+use flow_base::place::Place;
+use std::alloc::Global;
+
+/// The greatest number of statements of a function or an actor.
+const STATEMENTS: u32 = 10000;
+
+/// The greatest number of branches of a `choose`.
+const BRANCHES: u32 = 64;
+
+/// A body that was read.
+#[derive(Drop, Debug)]
+pub struct ReadBody {
+    pub body: Vec<Stmt>,
+    pub to: usize,
+    pub counts: Counts,
+    pub ends_if: bool,
+}
+
+/// Statements that were read, and the place of the brace that closes them.
+#[derive(Drop, Debug)]
+pub struct ReadBlock {
+    pub body: Vec<Stmt>,
+    pub to: usize,
+    pub counts: Counts,
+    pub close: Place,
+}
+
+/// A branch that was read.
+#[derive(Drop, Debug)]
+pub struct ReadWhen {
+    pub at: Place,
+    pub waiting: Waiting,
+    pub body: Vec<Stmt>,
+    pub to: usize,
+    pub counts: Counts,
+}
+
+/// Branches that were read.
+#[derive(Drop, Debug)]
+pub struct ReadWhens {
+    pub branches: Vec<When>,
+    pub to: usize,
+    pub counts: Counts,
+}
+
+/// An optional part of a `for` that was read.
+#[derive(Drop, Debug)]
+pub struct ReadPart {
+    pub part: Option<Box<Stmt>>,
+    pub to: usize,
+    pub counts: Counts,
+}
+
+// Whether a statement begins with this word.
+fn is_stmt_word(word: Word) -> bool {
+    match word {
+        Word::If | Word::While | Word::For | Word::Loop | Word::Break | Word::Continue => true,
+        Word::Return | Word::Throw | Word::Try | Word::Choose => true,
+        Word::Wait | Word::WaitNext => true,
+        _ => false,
+    }
+}
+
+// Whether a declaration or a change of a variable begins here.
+fn begins_init(tokens: &Tokens, at: usize) -> bool {
+    is_word(tokens, at, Word::State) || begins_type(tokens, at)
+}
+
+// Whether a statement begins here.
+fn begins_stmt(tokens: &Tokens, at: usize) -> bool {
+    if begins_init(tokens, at) {
+        return true;
+    }
+    match tokens.spots.get(at) {
+        Some(spot) => match &spot.token {
+            Token::Word(word) => is_stmt_word(*word),
+            Token::Sign(sign) => *sign == Sign::OpenCurly,
+            _ => false,
+        },
+        None => false,
+    }
+}
+
+// One more statement, which begins here: L4 where it is one too many, then L5 where it is too deep.
+fn begin(tokens: &Tokens, at: usize, depth: u32, counts: Counts) -> Result<Counts, SourceFault>
+    ensures within { IfOk result (λ c. (depth ≤ 64) × (counts.statements < 10000)) }
+    ensures one { IfOk result (λ c. counts_of c ≡ one_statement (counts_of counts)) }
+{
+    if counts.statements >= STATEMENTS {
+        return Err(refused(tokens, Rule::L(4), at));
+    }
+    if depth > DEPTH {
+        return Err(refused(tokens, Rule::L(5), at));
+    }
+    Ok(Counts {
+        statements: counts.statements + 1,
+        variables: counts.variables,
+    })
+}
+
+// A statement in a list of statements.
+#[cycle(stmt)]
+fn stmt(
+    alloc: Global,
+    tokens: &Tokens,
+    at: usize,
+    actor: bool,
+    depth: u32,
+    counts: Counts,
+) -> Result<ReadStmt, SourceFault>
+    requires within { at ≤ length tokens.now.spots.items }
+    requires shallow { depth ≤ 65 }
+    ensures reads { Answer (One actor depth (counts_of counts)) NoElse stmt_out (λ r. r.to) tokens.now at result }
+    ensures stands { IfOk result (λ r. Stands r.stmt) }
+    ensures moves { IfOk result (λ r. (at < r.to) × (r.to ≤ length tokens.now.spots.items)) }
+{
+    if !begins_stmt(tokens, at) {
+        return Err(refused(tokens, Rule::S(5), at));
+    }
+    let counts = begin(tokens, at, depth, counts)?;
+    if !is_sign(tokens, at, Sign::OpenCurly) {
+        return plain(alloc, tokens, at, actor, depth, counts);
+    }
+    let read = block(alloc, tokens, at, actor, depth + 1, counts)?;
+    let here = place(tokens, at);
+    Ok(ended(build::block(here, read.body), read.to, read.counts))
+}
+
+// The body of a statement or a branch.
+#[cycle(stmt)]
+fn body(
+    alloc: Global,
+    tokens: &Tokens,
+    at: usize,
+    actor: bool,
+    depth: u32,
+    counts: Counts,
+) -> Result<ReadBody, SourceFault>
+    requires within { at ≤ length tokens.now.spots.items }
+    requires shallow { depth ≤ 65 }
+    ensures reads { Answer (BodyPart actor depth (counts_of counts)) NoElse body_out (λ r. r.to) tokens.now at result }
+    ensures moves { IfOk result (λ r. (at < r.to) × (r.to ≤ length tokens.now.spots.items)) }
+{
+    if is_sign(tokens, at, Sign::OpenCurly) {
+        let read = block(alloc, tokens, at, actor, depth, counts)?;
+        return Ok(ReadBody {
+            body: read.body,
+            to: read.to,
+            counts: read.counts,
+            ends_if: false,
+        });
+    }
+    if !begins_stmt(tokens, at) {
+        return Err(refused(tokens, Rule::S(5), at));
+    }
+    let counts = begin(tokens, at, depth, counts)?;
+    let read = plain(alloc, tokens, at, actor, depth, counts)?;
+    let mut body = Vec::new(alloc);
+    body.push(read.stmt)?;
+    Ok(ReadBody {
+        body,
+        to: read.to,
+        counts: read.counts,
+        ends_if: read.ends_if,
+    })
+}
+
+/// Statements in braces.
+#[cycle(stmt)]
+pub fn block(
+    alloc: Global,
+    tokens: &Tokens,
+    at: usize,
+    actor: bool,
+    depth: u32,
+    counts: Counts,
+) -> Result<ReadBlock, SourceFault>
+    requires within { at ≤ length tokens.now.spots.items }
+    requires shallow { depth ≤ 65 }
+    ensures reads { Answer (Block actor depth (counts_of counts)) Any block_out (λ r. r.to) tokens.now at result }
+    ensures moves { IfOk result (λ r. (at < r.to) × (r.to ≤ length tokens.now.spots.items)) }
+{
+    let at = sign(tokens, at, Sign::OpenCurly)?;
+    stmts(alloc, tokens, at, actor, depth, counts)
+}
+
+// Statements up to a closing brace, with it.
+#[cycle(stmt)]
+fn stmts(
+    alloc: Global,
+    tokens: &Tokens,
+    at: usize,
+    actor: bool,
+    depth: u32,
+    counts: Counts,
+) -> Result<ReadBlock, SourceFault>
+    requires within { at ≤ length tokens.now.spots.items }
+    requires shallow { depth ≤ 65 }
+    ensures reads { Answer (Closing actor depth (counts_of counts)) Any block_out (λ r. r.to) tokens.now at result }
+    ensures moves { IfOk result (λ r. (at < r.to) × (r.to ≤ length tokens.now.spots.items)) }
+{
+    let mut body = Vec::new(alloc);
+    let mut at = at;
+    let mut counts = counts;
+    'items: while !is_sign(tokens, at, Sign::CloseCurly) {
+        let read = stmt(alloc, tokens, at, actor, depth, counts)?;
+        body.push(read.stmt)?;
+        at = read.to;
+        counts = read.counts;
+    }
+    Ok(ReadBlock {
+        body,
+        to: at + 1,
+        counts,
+        close: place(tokens, at),
+    })
+}
+
+// A statement that is no block.
+#[cycle(stmt)]
+fn plain(
+    alloc: Global,
+    tokens: &Tokens,
+    at: usize,
+    actor: bool,
+    depth: u32,
+    counts: Counts,
+) -> Result<ReadStmt, SourceFault>
+    requires within { at ≤ length tokens.now.spots.items }
+    requires shallow { depth ≤ 64 }
+    ensures reads { Answer (Plain actor depth (counts_of counts)) NoElse stmt_out (λ r. r.to) tokens.now at result }
+    ensures stands { IfOk result (λ r. Stands r.stmt) }
+    ensures moves { IfOk result (λ r. (at < r.to) × (r.to ≤ length tokens.now.spots.items)) }
+{
+    if is_word(tokens, at, Word::If) {
+        return if_stmt(alloc, tokens, at, actor, depth, counts);
+    }
+    if is_word(tokens, at, Word::While) {
+        return while_stmt(alloc, tokens, at, actor, depth, counts);
+    }
+    if is_word(tokens, at, Word::For) {
+        return for_stmt(alloc, tokens, at, actor, depth, counts);
+    }
+    if is_word(tokens, at, Word::Loop) {
+        return loop_stmt(alloc, tokens, at, actor, depth, counts);
+    }
+    if is_word(tokens, at, Word::Try) {
+        return try_stmt(alloc, tokens, at, actor, depth, counts);
+    }
+    if is_word(tokens, at, Word::Choose) {
+        return choose(alloc, tokens, at, actor, depth, counts);
+    }
+    leap(alloc, tokens, at, actor, depth, counts)
+}
+
+// A statement that holds no other statement.
+fn leap(
+    alloc: Global,
+    tokens: &Tokens,
+    at: usize,
+    actor: bool,
+    depth: u32,
+    counts: Counts,
+) -> Result<ReadStmt, SourceFault>
+    requires within { at ≤ length tokens.now.spots.items }
+    requires shallow { depth ≤ 64 }
+    ensures reads { Answer (Plain actor depth (counts_of counts)) NoElse stmt_out (λ r. r.to) tokens.now at result }
+    ensures stands { IfOk result (λ r. Stands r.stmt) }
+    ensures moves { IfOk result (λ r. (at < r.to) × (r.to ≤ length tokens.now.spots.items)) }
+{
+    if is_word(tokens, at, Word::Return) {
+        return return_stmt(alloc, tokens, at, actor, depth, counts);
+    }
+    if is_word(tokens, at, Word::Throw) {
+        return throw_stmt(alloc, tokens, at, actor, depth, counts);
+    }
+    if is_word(tokens, at, Word::Break) {
+        return break_stmt(tokens, at, actor, depth, counts);
+    }
+    if is_word(tokens, at, Word::Continue) {
+        return continue_stmt(tokens, at, actor, depth, counts);
+    }
+    let read = simple(alloc, tokens, at, actor, depth, counts)?;
+    Ok(ended(read.stmt, read.to, read.counts))
+}
+
+fn break_stmt(
+    tokens: &Tokens,
+    at: usize,
+    actor: bool,
+    depth: u32,
+    counts: Counts,
+) -> Result<ReadStmt, SourceFault>
+    requires within { at ≤ length tokens.now.spots.items }
+    requires here { token_at tokens.now.spots.items at ≡ Some (token.Word word.Break) }
+    ensures reads { Answer (Plain actor depth (counts_of counts)) NoElse stmt_out (λ r. r.to) tokens.now at result }
+    ensures stands { IfOk result (λ r. Stands r.stmt) }
+    ensures moves { IfOk result (λ r. (at < r.to) × (r.to ≤ length tokens.now.spots.items)) }
+{
+    let here = place(tokens, at);
+    let to = sign(tokens, at + 1, Sign::Semicolon)?;
+    Ok(ended(build::break_stmt(here), to, counts))
+}
+
+fn continue_stmt(
+    tokens: &Tokens,
+    at: usize,
+    actor: bool,
+    depth: u32,
+    counts: Counts,
+) -> Result<ReadStmt, SourceFault>
+    requires within { at ≤ length tokens.now.spots.items }
+    requires here { token_at tokens.now.spots.items at ≡ Some (token.Word word.Continue) }
+    ensures reads { Answer (Plain actor depth (counts_of counts)) NoElse stmt_out (λ r. r.to) tokens.now at result }
+    ensures stands { IfOk result (λ r. Stands r.stmt) }
+    ensures moves { IfOk result (λ r. (at < r.to) × (r.to ≤ length tokens.now.spots.items)) }
+{
+    let here = place(tokens, at);
+    let to = sign(tokens, at + 1, Sign::Semicolon)?;
+    Ok(ended(build::continue_stmt(here), to, counts))
+}
+
+// An `else` belongs to the nearest `if` that has none.
+#[cycle(stmt)]
+fn if_stmt(
+    alloc: Global,
+    tokens: &Tokens,
+    at: usize,
+    actor: bool,
+    depth: u32,
+    counts: Counts,
+) -> Result<ReadStmt, SourceFault>
+    requires within { at ≤ length tokens.now.spots.items }
+    requires shallow { depth ≤ 64 }
+    requires here { token_at tokens.now.spots.items at ≡ Some (token.Word word.If) }
+    ensures reads { Answer (Plain actor depth (counts_of counts)) NoElse stmt_out (λ r. r.to) tokens.now at result }
+    ensures stands { IfOk result (λ r. Stands r.stmt) }
+    ensures moves { IfOk result (λ r. (at < r.to) × (r.to ≤ length tokens.now.spots.items)) }
+{
+    let here = place(tokens, at);
+    let (test, at) = test(alloc, tokens, at + 1, depth + 1)?;
+    let then = body(alloc, tokens, at, actor, depth + 1, counts)?;
+    if then.ends_if || !is_word(tokens, then.to, Word::Else) {
+        return Ok(ReadStmt {
+            stmt: build::if_stmt(here, test, then.body),
+            to: then.to,
+            counts: then.counts,
+            ends_if: true,
+        });
+    }
+    let other = body(alloc, tokens, then.to + 1, actor, depth + 1, then.counts)?;
+    Ok(ReadStmt {
+        stmt: build::if_else(here, test, then.body, other.body),
+        to: other.to,
+        counts: other.counts,
+        ends_if: other.ends_if,
+    })
+}
+
+#[cycle(stmt)]
+fn while_stmt(
+    alloc: Global,
+    tokens: &Tokens,
+    at: usize,
+    actor: bool,
+    depth: u32,
+    counts: Counts,
+) -> Result<ReadStmt, SourceFault>
+    requires within { at ≤ length tokens.now.spots.items }
+    requires shallow { depth ≤ 64 }
+    requires here { token_at tokens.now.spots.items at ≡ Some (token.Word word.While) }
+    ensures reads { Answer (Plain actor depth (counts_of counts)) NoElse stmt_out (λ r. r.to) tokens.now at result }
+    ensures stands { IfOk result (λ r. Stands r.stmt) }
+    ensures moves { IfOk result (λ r. (at < r.to) × (r.to ≤ length tokens.now.spots.items)) }
+{
+    let here = place(tokens, at);
+    let (test, at) = test(alloc, tokens, at + 1, depth + 1)?;
+    let read = body(alloc, tokens, at, actor, depth + 1, counts)?;
+    Ok(ReadStmt {
+        stmt: build::while_stmt(here, test, read.body),
+        to: read.to,
+        counts: read.counts,
+        ends_if: read.ends_if,
+    })
+}
+
+#[cycle(stmt)]
+fn loop_stmt(
+    alloc: Global,
+    tokens: &Tokens,
+    at: usize,
+    actor: bool,
+    depth: u32,
+    counts: Counts,
+) -> Result<ReadStmt, SourceFault>
+    requires within { at ≤ length tokens.now.spots.items }
+    requires shallow { depth ≤ 64 }
+    requires here { token_at tokens.now.spots.items at ≡ Some (token.Word word.Loop) }
+    ensures reads { Answer (Plain actor depth (counts_of counts)) NoElse stmt_out (λ r. r.to) tokens.now at result }
+    ensures stands { IfOk result (λ r. Stands r.stmt) }
+    ensures moves { IfOk result (λ r. (at < r.to) × (r.to ≤ length tokens.now.spots.items)) }
+{
+    let here = place(tokens, at);
+    let read = body(alloc, tokens, at + 1, actor, depth + 1, counts)?;
+    Ok(ReadStmt {
+        stmt: build::loop_stmt(here, read.body),
+        to: read.to,
+        counts: read.counts,
+        ends_if: read.ends_if,
+    })
+}
+
+fn boxed(alloc: Global, stmt: Stmt) -> Result<Box<Stmt>, SourceFault>
+    ensures { IfOk result (λ b. b.value ≡ stmt) }
+{
+    Ok(Box::new(alloc, stmt)?)
+}
+
+// The init of a `for`, if there is one, and the semicolon behind it.
+fn start_part(
+    alloc: Global,
+    tokens: &Tokens,
+    at: usize,
+    actor: bool,
+    depth: u32,
+    counts: Counts,
+) -> Result<ReadPart, SourceFault>
+    requires within { at ≤ length tokens.now.spots.items }
+    requires shallow { depth ≤ 65 }
+    ensures reads { Answer (StartPart actor depth (counts_of counts)) Any part_out (λ r. r.to) tokens.now at result }
+    ensures moves { IfOk result (λ r. (at < r.to) × (r.to ≤ length tokens.now.spots.items)) }
+{
+    if is_sign(tokens, at, Sign::Semicolon) {
+        return Ok(ReadPart {
+            part: None,
+            to: at + 1,
+            counts,
+        });
+    }
+    if !begins_init(tokens, at) {
+        return Err(refused(tokens, Rule::S(5), at));
+    }
+    let counts = begin(tokens, at, depth, counts)?;
+    let read = init(alloc, tokens, at, actor, depth, counts)?;
+    let to = sign(tokens, read.to, Sign::Semicolon)?;
+    let part = boxed(alloc, read.stmt)?;
+    Ok(ReadPart {
+        part: Some(part),
+        to,
+        counts: read.counts,
+    })
+}
+
+// The step of a `for`, if there is one, and the bracket behind it.
+fn next_part(
+    alloc: Global,
+    tokens: &Tokens,
+    at: usize,
+    depth: u32,
+    counts: Counts,
+) -> Result<ReadPart, SourceFault>
+    requires within { at ≤ length tokens.now.spots.items }
+    requires shallow { depth ≤ 65 }
+    ensures reads { Answer (NextPart depth (counts_of counts)) Any part_out (λ r. r.to) tokens.now at result }
+    ensures moves { IfOk result (λ r. (at < r.to) × (r.to ≤ length tokens.now.spots.items)) }
+{
+    if is_sign(tokens, at, Sign::CloseRound) {
+        return Ok(ReadPart {
+            part: None,
+            to: at + 1,
+            counts,
+        });
+    }
+    if !is_name(tokens, at) {
+        return Err(refused(tokens, Rule::S(5), at));
+    }
+    let counts = begin(tokens, at, depth, counts)?;
+    let (stmt, at) = assignment(alloc, tokens, at, depth)?;
+    let to = sign(tokens, at, Sign::CloseRound)?;
+    let part = boxed(alloc, stmt)?;
+    Ok(ReadPart {
+        part: Some(part),
+        to,
+        counts,
+    })
+}
+
+// A change of a variable.
+fn assignment(
+    alloc: Global,
+    tokens: &Tokens,
+    at: usize,
+    depth: u32,
+) -> Result<(Stmt, usize), SourceFault>
+    requires within { at ≤ length tokens.now.spots.items }
+    requires shallow { depth ≤ 64 }
+    ensures reads { Answer (Assignment depth) ExprEnds (λ r. stmt_of r.0 End) (λ r. r.1) tokens.now at result }
+    ensures moves { IfOk result (λ r. (at < r.1) × (r.1 ≤ length tokens.now.spots.items)) }
+{
+    let (first, at) = name(alloc, tokens, at)?;
+    let here = first.at;
+    let (path, at) = more_names(alloc, tokens, first, at)?;
+    change(alloc, tokens, here, path, at, depth)
+}
+
+// An expression, or nothing, and the semicolon behind it.
+fn maybe_expr(
+    alloc: Global,
+    tokens: &Tokens,
+    at: usize,
+    depth: u32,
+) -> Result<(Option<Expr>, usize), SourceFault>
+    requires within { at ≤ length tokens.now.spots.items }
+    ensures reads { Answer (MaybeExpr depth) Any (λ r. option_map expr_of r.0) (λ r. r.1) tokens.now at result }
+    ensures moves { IfOk result (λ r. (at < r.1) × (r.1 ≤ length tokens.now.spots.items)) }
+{
+    if is_sign(tokens, at, Sign::Semicolon) {
+        return Ok((None, at + 1));
+    }
+    let (expr, at) = expr(alloc, tokens, at, depth)?;
+    let to = sign(tokens, at, Sign::Semicolon)?;
+    Ok((Some(expr), to))
+}
+
+#[cycle(stmt)]
+fn for_stmt(
+    alloc: Global,
+    tokens: &Tokens,
+    at: usize,
+    actor: bool,
+    depth: u32,
+    counts: Counts,
+) -> Result<ReadStmt, SourceFault>
+    requires within { at ≤ length tokens.now.spots.items }
+    requires shallow { depth ≤ 64 }
+    requires here { token_at tokens.now.spots.items at ≡ Some (token.Word word.For) }
+    ensures reads { Answer (Plain actor depth (counts_of counts)) NoElse stmt_out (λ r. r.to) tokens.now at result }
+    ensures stands { IfOk result (λ r. Stands r.stmt) }
+    ensures moves { IfOk result (λ r. (at < r.to) × (r.to ≤ length tokens.now.spots.items)) }
+{
+    let here = place(tokens, at);
+    let at = sign(tokens, at + 1, Sign::OpenRound)?;
+    let start = start_part(alloc, tokens, at, actor, depth + 1, counts)?;
+    let (test, at) = maybe_expr(alloc, tokens, start.to, depth + 1)?;
+    let next = next_part(alloc, tokens, at, depth + 1, start.counts)?;
+    let read = body(alloc, tokens, next.to, actor, depth + 1, next.counts)?;
+    Ok(ReadStmt {
+        stmt: build::for_stmt(here, start.part, test, next.part, read.body),
+        to: read.to,
+        counts: read.counts,
+        ends_if: read.ends_if,
+    })
+}
+
+fn return_stmt(
+    alloc: Global,
+    tokens: &Tokens,
+    at: usize,
+    actor: bool,
+    depth: u32,
+    counts: Counts,
+) -> Result<ReadStmt, SourceFault>
+    requires within { at ≤ length tokens.now.spots.items }
+    requires shallow { depth ≤ 64 }
+    requires here { token_at tokens.now.spots.items at ≡ Some (token.Word word.Return) }
+    ensures reads { Answer (Plain actor depth (counts_of counts)) NoElse stmt_out (λ r. r.to) tokens.now at result }
+    ensures stands { IfOk result (λ r. Stands r.stmt) }
+    ensures moves { IfOk result (λ r. (at < r.to) × (r.to ≤ length tokens.now.spots.items)) }
+{
+    let here = place(tokens, at);
+    let (value, at) = expr(alloc, tokens, at + 1, depth + 1)?;
+    let to = sign(tokens, at, Sign::Semicolon)?;
+    Ok(ended(build::return_stmt(here, value), to, counts))
+}
+
+fn throw_stmt(
+    alloc: Global,
+    tokens: &Tokens,
+    at: usize,
+    actor: bool,
+    depth: u32,
+    counts: Counts,
+) -> Result<ReadStmt, SourceFault>
+    requires within { at ≤ length tokens.now.spots.items }
+    requires shallow { depth ≤ 64 }
+    requires here { token_at tokens.now.spots.items at ≡ Some (token.Word word.Throw) }
+    ensures reads { Answer (Plain actor depth (counts_of counts)) NoElse stmt_out (λ r. r.to) tokens.now at result }
+    ensures stands { IfOk result (λ r. Stands r.stmt) }
+    ensures moves { IfOk result (λ r. (at < r.to) × (r.to ≤ length tokens.now.spots.items)) }
+{
+    let here = place(tokens, at);
+    let (error, to) = maybe_expr(alloc, tokens, at + 1, depth + 1)?;
+    Ok(ended(build::throw_stmt(here, error), to, counts))
+}
+
+// `"catch" "(" "Error" "&" name ")"`.
+fn catch(alloc: Global, tokens: &Tokens, at: usize) -> Result<(Ident, usize), SourceFault>
+    requires within { at ≤ length tokens.now.spots.items }
+    ensures reads { Answer Catch Any (λ r. r.0) (λ r. r.1) tokens.now at result }
+    ensures moves { IfOk result (λ r. (at < r.1) × (r.1 ≤ length tokens.now.spots.items)) }
+{
+    let at = word(tokens, at, Word::Catch)?;
+    let at = sign(tokens, at, Sign::OpenRound)?;
+    let at = word(tokens, at, Word::Error)?;
+    let at = sign(tokens, at, Sign::Amp)?;
+    let (error, at) = name(alloc, tokens, at)?;
+    let to = sign(tokens, at, Sign::CloseRound)?;
+    Ok((error, to))
+}
+
+#[cycle(stmt)]
+fn try_stmt(
+    alloc: Global,
+    tokens: &Tokens,
+    at: usize,
+    actor: bool,
+    depth: u32,
+    counts: Counts,
+) -> Result<ReadStmt, SourceFault>
+    requires within { at ≤ length tokens.now.spots.items }
+    requires shallow { depth ≤ 64 }
+    requires here { token_at tokens.now.spots.items at ≡ Some (token.Word word.Try) }
+    ensures reads { Answer (Plain actor depth (counts_of counts)) NoElse stmt_out (λ r. r.to) tokens.now at result }
+    ensures stands { IfOk result (λ r. Stands r.stmt) }
+    ensures moves { IfOk result (λ r. (at < r.to) × (r.to ≤ length tokens.now.spots.items)) }
+{
+    let here = place(tokens, at);
+    let inner = block(alloc, tokens, at + 1, actor, depth + 1, counts)?;
+    let (error, at) = catch(alloc, tokens, inner.to)?;
+    let handler = block(alloc, tokens, at, actor, depth + 1, inner.counts)?;
+    let stmt = build::try_stmt(here, inner.body, error, handler.body);
+    Ok(ended(stmt, handler.to, handler.counts))
+}
+
+#[cycle(stmt)]
+fn choose(
+    alloc: Global,
+    tokens: &Tokens,
+    at: usize,
+    actor: bool,
+    depth: u32,
+    counts: Counts,
+) -> Result<ReadStmt, SourceFault>
+    requires within { at ≤ length tokens.now.spots.items }
+    requires shallow { depth ≤ 64 }
+    requires here { token_at tokens.now.spots.items at ≡ Some (token.Word word.Choose) }
+    ensures reads { Answer (Plain actor depth (counts_of counts)) NoElse stmt_out (λ r. r.to) tokens.now at result }
+    ensures stands { IfOk result (λ r. Stands r.stmt) }
+    ensures moves { IfOk result (λ r. (at < r.to) × (r.to ≤ length tokens.now.spots.items)) }
+{
+    let here = place(tokens, at);
+    let at = sign(tokens, at + 1, Sign::OpenCurly)?;
+    let read = whens(alloc, tokens, at, actor, depth + 1, counts)?;
+    Ok(ended(build::choose(here, read.branches), read.to, read.counts))
+}
+
+// Branches, one at least, and the brace that closes them.
+#[cycle(stmt)]
+fn whens(
+    alloc: Global,
+    tokens: &Tokens,
+    at: usize,
+    actor: bool,
+    depth: u32,
+    counts: Counts,
+) -> Result<ReadWhens, SourceFault>
+    requires within { at ≤ length tokens.now.spots.items }
+    requires shallow { depth ≤ 65 }
+    ensures reads { Answer (AllWhens actor depth (counts_of counts)) Any whens_out (λ r. r.to) tokens.now at result }
+    ensures moves { IfOk result (λ r. (at < r.to) × (r.to ≤ length tokens.now.spots.items)) }
+{
+    let first = when(alloc, tokens, at, actor, depth, 1, counts)?;
+    let mut branches = Vec::new(alloc);
+    let mut at = first.to;
+    let mut counts = first.counts;
+    let mut number = 2;
+    branches.push(build::when_branch(first.at, first.waiting, first.body))?;
+    'branches: while is_word(tokens, at, Word::When) {
+        let read = when(alloc, tokens, at, actor, depth, number, counts)?;
+        branches.push(build::when_branch(read.at, read.waiting, read.body))?;
+        at = read.to;
+        counts = read.counts;
+        number += 1;
+    }
+    let to = sign(tokens, at, Sign::CloseCurly)?;
+    Ok(ReadWhens {
+        branches,
+        to,
+        counts,
+    })
+}
+
+// The branch of this number.
+#[cycle(stmt)]
+fn when(
+    alloc: Global,
+    tokens: &Tokens,
+    at: usize,
+    actor: bool,
+    depth: u32,
+    number: u32,
+    counts: Counts,
+) -> Result<ReadWhen, SourceFault>
+    requires within { at ≤ length tokens.now.spots.items }
+    requires shallow { depth ≤ 65 }
+    ensures reads { Answer (WhenPart actor depth number (counts_of counts)) (NotBefore (token.Word word.Else)) when_out (λ r. r.to) tokens.now at result }
+    ensures few { IfOk result (λ r. number ≤ 64) }
+    ensures moves { IfOk result (λ r. (at < r.to) × (r.to ≤ length tokens.now.spots.items)) }
+{
+    if !is_word(tokens, at, Word::When) {
+        return Err(refused(tokens, Rule::S(5), at));
+    }
+    if depth > DEPTH {
+        return Err(refused(tokens, Rule::L(5), at));
+    }
+    if number > BRANCHES {
+        return Err(refused(tokens, Rule::L(7), at));
+    }
+    let here = place(tokens, at);
+    let at = sign(tokens, at + 1, Sign::OpenRound)?;
+    let read = waiting(alloc, tokens, at, actor, depth, counts)?;
+    let at = sign(tokens, read.to, Sign::CloseRound)?;
+    let inner = body(alloc, tokens, at, actor, depth + 1, read.counts)?;
+    Ok(ReadWhen {
+        at: here,
+        waiting: read.waiting,
+        body: inner.body,
+        to: inner.to,
+        counts: inner.counts,
+    })
+}
