@@ -9,7 +9,7 @@ use Rattle.flow_ast.specs.Tree.{TypeTree}
 use Rattle.flow_ast.specs.Decls.{ParamTree, RecordTree, RoutineTree, DeclTree, StructDecl, FunctionDecl, ActorDecl}
 use Rattle.flow_ast.specs.GrammarToken.{Declaration, Node, Variable, Marked, begin}
 use Rattle.flow_ast.specs.Grammar.{sign_at, word_at, name_at}
-use Rattle.flow_ast.specs.GrammarStmt.{Counts, StmtsRule}
+use Rattle.flow_ast.specs.GrammarStmt.{StmtsRule}
 use Rattle.flow_ast.specs.GrammarDecl.{ParamRule, param, FieldsRule, no_fields, more_fields, MoreParamsRule, end_params, more_params, ParamsRule, no_params, some_params, RecordRule, fields, RoutineRule, routine, DeclRule, record_decl, function_decl, actor_decl, DeclsRule, no_decls, more_decls}
 use Rattle.flow_ast.specs.Canon.{type_text, named_text, line, fields_text, more_params_text, params_text, routine_text, decl_text, decls_text, body_text, first_place, bare_ident, bare_param, bare_record, bare_routine, bare_decl}
 use Rattle.flow_show.proofs.Going.{Piece, Any, nothing, both, as_rule, begun, begin_some, behind, spaced, lined, under, blank}
@@ -151,9 +151,6 @@ routine_is w r = routine_by w r.name.name (params_text r.params) (body_text 1 r.
 
 same_length : (xs ys : List ParamTree) → map bare_param xs ≡ map bare_param ys → length ys ≡ length xs
 same_length xs ys e = omega (arith, ap length e, length-map xs bare_param, length-map ys bare_param)
-
-counts_of : List ParamTree → Counts
-counts_of ps = record { statements = 0; variables = length ps }
 
 pub routine_piece : {actor : Bool} {at : Place} {t : TypeTree} {m : List Marked} {r : RoutineTree} → RoutineRule actor at t m r → AllValid m
     → Piece {X = RoutineKept actor t r} (λ y. y.marked) m (tail_text r) Any
