@@ -12,6 +12,7 @@ pub mod RowsCancel
 pub mod RowsStreams
 pub mod RowsWorld
 pub mod RowsViews
+pub mod RowsOrder
 pub mod Alike
 pub mod Lift
 pub mod BurstOnce
