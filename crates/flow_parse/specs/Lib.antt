@@ -1,5 +1,6 @@
 pub mod Follow
 pub mod Form
+pub mod Laws
 pub mod Parts
 pub mod Reading
 pub mod Views

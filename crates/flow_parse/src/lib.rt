@@ -5,6 +5,7 @@
 pub mod build;
 pub mod decl;
 pub mod form;
+pub mod laws;
 pub mod parse;
 pub mod simple;
 pub mod stmt;
