@@ -1,6 +1,7 @@
 pub mod Follow
 pub mod Form
 pub mod Laws
+pub mod ParseAnswer
 pub mod Parts
 pub mod Reading
 pub mod Views
