@@ -590,6 +590,3 @@ fn arg_types(alloc: Global, args: &[Expr], scope: &Scope) -> Result<Option<Vec<T
     }
     Ok(Some(types))
 }
-
-#[cfg(test)]
-mod tests;

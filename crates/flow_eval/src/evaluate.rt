@@ -44,6 +44,7 @@ pub struct Turns {
     pub left: u32,
 }
 
+/// The truth value that a value is, if it is one.
 pub fn bool_of(value: &Value) -> Option<bool>
     ensures { result ≡ bool_of (value_of value.now) }
 {

@@ -13,6 +13,4 @@ mod predefined;
 mod records;
 mod statements;
 pub mod stop;
-#[cfg(test)]
-mod tests;
 pub mod variables;

@@ -55,7 +55,7 @@ fn change_sign(change: &Change) -> Op
     }
 }
 
-// What a function comes to whose body ended so.
+/// What a function comes to whose body ended so.
 pub fn finished(flow: Result<Flow, Halt>) -> Result<Value, Halt>
     ensures { (r : Run) (vars : Locals) (left : ℕ) → Ran r flow vars left → Gives (finished r) result left }
 {

@@ -5,6 +5,4 @@ pub mod expr;
 pub mod kind;
 pub mod laws;
 pub mod stop;
-#[cfg(test)]
-mod tests;
 pub mod ty;

@@ -9,6 +9,4 @@ pub mod laws;
 pub mod parse;
 pub mod simple;
 pub mod stmt;
-#[cfg(test)]
-mod tests;
 pub mod token;

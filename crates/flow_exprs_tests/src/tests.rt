@@ -1,7 +1,5 @@
 // Texts and what they are read as.
 
-use crate::expr::parse_expr;
-use crate::ty::parse_type;
 use flow_ast::expr::{Expr, Op};
 use flow_ast::fault::{Rule, SourceFault};
 use flow_ast::token::{Sign, Spot, Token, Tokens, Word};
@@ -9,6 +7,8 @@ use flow_ast::ty::Ty;
 use flow_base::memory::NoMemory;
 use flow_base::name::Name;
 use flow_base::place::Place;
+use flow_exprs::expr::parse_expr;
+use flow_exprs::ty::parse_type;
 use std::alloc::Global;
 use std::test::Fail;
 

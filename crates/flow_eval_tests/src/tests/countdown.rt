@@ -13,11 +13,6 @@ ghost use Rattle.flow_value.specs.Values.{IntValue};
 ghost use Rattle.flow_eval.specs.Variables.{var_of};
 ghost use Rattle.flow_eval.specs.Example.{start, word, n, call_f, countdown, countdown_body};
 
-use crate::cells::NoCells;
-use crate::eval::{Plain, call, eval};
-use crate::evaluate::Turns;
-use crate::stop::{OUT_OF_RANGE, Stop};
-use crate::variables::Var;
 use flow_ast::decl::{FunctionDecl, Param};
 use flow_ast::expr::{Expr, Op};
 use flow_ast::stmt::{Stmt, StmtKind};
@@ -25,6 +20,11 @@ use flow_ast::ty::{Ident, Ty};
 use flow_base::memory::NoMemory;
 use flow_base::name::Name;
 use flow_base::place::Place;
+use flow_eval::cells::NoCells;
+use flow_eval::eval::{Plain, call, eval};
+use flow_eval::evaluate::Turns;
+use flow_eval::stop::{OUT_OF_RANGE, Stop};
+use flow_eval::variables::Var;
 use flow_value::value::Value;
 use std::alloc::Global;
 use std::test::Fail;
@@ -173,7 +173,7 @@ fn int_var(alloc: Global, m: i64) -> Result<Vec<Var>, NoMemory>
     Ok(vars)
 }
 
-#[tactic(auto, using(crate::proofs::Examples::countdown_called))]
+#[tactic(auto, using(flow_eval::proofs::Examples::countdown_called))]
 fn called(
     alloc: Global,
     plain: &Plain,
@@ -206,7 +206,7 @@ fn calls_a_function(rt: HostRuntime) -> Result<(), Fail> {
 }
 
 #[test]
-#[tactic(auto, using(crate::proofs::Examples::countdown_typed))]
+#[tactic(auto, using(flow_eval::proofs::Examples::countdown_typed))]
 fn evaluates_over_variables(rt: HostRuntime) -> Result<(), Fail> {
     let alloc = rt.alloc();
     let plain = program(alloc)?;

@@ -2,10 +2,16 @@
 
 ghost use Rattle.flow_base.specs.Names.{IsName};
 
-use super::*;
-use crate::ty::Ident;
+use flow_ast::decl::{ActorDecl, FunctionDecl, Param, RecordDecl};
+use flow_ast::expr::{Expr, Op};
+use flow_ast::scope::{ExprType, Scope};
+use flow_ast::ty::{Ident, Ty};
+use flow_ast::typing::{same_type, type_expr};
+use flow_base::memory::NoMemory;
+use flow_base::name::Name;
 use flow_base::place::Place;
 use flow_base::text::Text;
+use std::alloc::Global;
 use std::process::Abort;
 use std::test::Fail;
 
@@ -82,7 +88,7 @@ fn get(alloc: Global, of: &[u8], name: &[u8]) -> Result<Expr, NoMemory>
 }
 
 fn future(alloc: Global, of: Ty) -> Result<Ty, NoMemory> {
-    Ok(Ty::Future(boxed(alloc, of)?))
+    Ok(Ty::Future(Box::new(alloc, of)?))
 }
 
 fn binary(alloc: Global, op: Op, left: Expr, right: Expr) -> Result<Expr, NoMemory> {
@@ -146,9 +152,9 @@ fn vars(alloc: Global) -> Result<Vec<Param>, NoMemory> {
     vars.push(param(alloc, Ty::Int, b"n")?)?;
     vars.push(param(alloc, Ty::Str, b"t")?)?;
     vars.push(param(alloc, Ty::Error, b"e")?)?;
-    vars.push(param(alloc, Ty::Future(boxed(alloc, Ty::Int)?), b"f")?)?;
-    vars.push(param(alloc, Ty::Promise(boxed(alloc, Ty::Void)?), b"p")?)?;
-    vars.push(param(alloc, Ty::PromiseStream(boxed(alloc, Ty::Bool)?), b"s")?)?;
+    vars.push(param(alloc, Ty::Future(Box::new(alloc, Ty::Int)?), b"f")?)?;
+    vars.push(param(alloc, Ty::Promise(Box::new(alloc, Ty::Void)?), b"p")?)?;
+    vars.push(param(alloc, Ty::PromiseStream(Box::new(alloc, Ty::Bool)?), b"s")?)?;
     vars.push(param(alloc, Ty::Named(Name::new(alloc, b"Pair")?), b"q")?)?;
     vars.push(param(alloc, Ty::Named(Name::new(alloc, b"Packet")?), b"k")?)?;
     Ok(vars)
@@ -307,7 +313,7 @@ fn references(rt: &impl Abort, alloc: Global, scope: &Scope) -> Result<(), NoMem
         alloc,
         scope,
         get(alloc, b"s", b"getFuture")?,
-        Ty::FutureStream(boxed(alloc, Ty::Bool)?),
+        Ty::FutureStream(Box::new(alloc, Ty::Bool)?),
     )?;
     none(
         rt,

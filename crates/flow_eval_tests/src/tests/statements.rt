@@ -1,14 +1,14 @@
 // Statements of functions, with what they come to and the turns that they take.
 
 use super::{Arg, START, Want, arg_expr, binary, comes_to, ident, var};
-use crate::cells::NoCells;
-use crate::evaluate::{Setting, Turns, run_at};
-use crate::variables::VarList;
 use flow_ast::decl::{FunctionDecl, Param};
 use flow_ast::expr::{Expr, Op};
 use flow_ast::stmt::{Change, Into, Stmt, StmtKind, Target};
 use flow_ast::ty::Ty;
 use flow_base::memory::NoMemory;
+use flow_eval::cells::NoCells;
+use flow_eval::evaluate::{Setting, Turns, run_at};
+use flow_eval::variables::VarList;
 use flow_value::value::Value;
 use std::alloc::Global;
 use std::test::Fail;

@@ -1,6 +1,5 @@
 // Texts and what they are read as.
 
-use crate::parse::parse;
 use flow_ast::decl::Decl;
 use flow_ast::fault::{Rule, SourceFault};
 use flow_ast::stmt::StmtKind;
@@ -8,6 +7,7 @@ use flow_ast::token::{Sign, Spot, Token, Tokens, Word};
 use flow_base::memory::NoMemory;
 use flow_base::name::Name;
 use flow_base::place::Place;
+use flow_parse::parse::parse;
 use std::alloc::Global;
 use std::test::Fail;
 
