@@ -14,8 +14,8 @@ use Rattle.flow_ast.specs.Grammar.{ExprRule, sign_at, word_at, name_at}
 use Rattle.flow_ast.specs.GrammarStmt.{Counts, BlockRule, braces, PlainRule, if_stmt, if_else_stmt, while_stmt, for_stmt, loop_stmt, break_stmt, continue_stmt, return_stmt, throw_stmt, try_stmt, choose_stmt, init_stmt, wait_stmt, call_stmt}
 use Rattle.flow_parse.specs.Reading.{Tok, Then}
 use Rattle.flow_parse.specs.Parts.{Out, Test, MaybeExpr, StartPart, NextPart, BodyPart, Block, Catch, AllWhens}
-use Rattle.flow_parse.proofs.Variables.{closed}
-use Rattle.flow_parse.proofs.Stmts.{with, ClosedBody}
+use Rattle.flow_parse.proofs.Shapes.{closed}
+use Rattle.flow_parse.proofs.Shapes.{with, ClosedBody}
 
 -- the first word of a statement
 abbrev pub opener : {actor : Bool} {d : ℕ} {c c' : Counts} {w : List Marked} {p : Place} {rest body : Body} {b : Bool} → PlainRule actor d c c' w p rest body b → Option Word

@@ -17,7 +17,7 @@ use Rattle.flow_ast.specs.GrammarDecl.{ParamRule, param, FieldsRule, no_fields, 
 use Rattle.flow_parse.specs.Reading.{Tok, Named, Then, Any}
 use Rattle.flow_parse.specs.Follow.{AtEnd}
 use Rattle.flow_parse.specs.Parts.{BlockOut, Placed, Marks, Block, FieldsPart, AllFields, MoreParams, Params, RoutineOut, Routine}
-use Rattle.flow_parse.proofs.Decls.{TypeName}
+use Rattle.flow_parse.proofs.Shapes.{TypeName}
 use Rattle.flow_parse.proofs.Looking.{Looks, Back}
 use Rattle.flow_parse.proofs.Backs.{Formed, front, tok_front}
 use Rattle.flow_parse.proofs.Begins.{Starts, starts_is, starts_looks, looks_is, TypeToken, type_starts}

@@ -18,9 +18,7 @@ use Rattle.flow_parse.specs.Follow.{AtEnd}
 use Rattle.flow_parse.specs.Parts.{Placed, Marks, Block, FieldsPart, AllFields, MoreParams, Params, Routine, Record, Function, Actor}
 use Rattle.flow_parse.proofs.Leaves.{Leaves, nothing, narrow, glue, behind, starts_append}
 use Rattle.flow_parse.proofs.Stmts.{closed_by}
-
-abbrev pub TypeName : List Marked → TypeTree × Ident → Type 0
-TypeName w x = Then (TypeRule 1) (λ y. Named) w x
+use Rattle.flow_parse.proofs.Shapes.{TypeName}
 
 record_rule : (at p q r : Place) (x : Ident) (xs w : List Marked) (fs : List ParamTree) → FieldsRule 1 xs fs → 0 < length fs
     → w ≡ word_at word.Struct at ∷ name_at x ∷ sign_at sign.OpenCurly p ∷ (xs ++ (sign_at sign.CloseCurly q ∷ sign_at sign.Semicolon r ∷ [])) → RecordRule w (record { at = at; name = x; fields = fs })

@@ -1,5 +1,5 @@
 -- What is left of a part when some of its tokens have been read.
-use Rattle.std.proofs.Common.{◌≡◌, ℕ, zero, suc, ◌+◌, ◌≤◌, ◌<◌, List, [], ◌∷◌, ◌++◌, length, drop, refl, sym, ap, ◌∙◌, subst, arith, append_assoc, slice_get, length-append, length-drop}
+use Rattle.std.proofs.Common.{◌≡◌, ℕ, zero, suc, ◌+◌, ◌-◌, ◌≤◌, ◌<◌, List, [], ◌∷◌, ◌++◌, length, drop, take, refl, sym, ap, ◌∙◌, subst, arith, append_assoc, slice_get, length-append, length-drop}
 use Rattle.std.specs.Prelude.{unwrap_or, Result, Ok, Err}
 use Rattle.std.specs.Option.{option_map}
 use Rattle.std.specs.declared.option.Option.{Option}
@@ -12,15 +12,39 @@ use Rattle.flow_ast.specs.declared.token.Token.TheVariants as token
 use Rattle.flow_ast.specs.declared.token.Spot.{Spot}
 use Rattle.flow_ast.specs.declared.token.Tokens.{Tokens}
 use Rattle.flow_ast.specs.declared.ty.Ident.{Ident}
+use Rattle.flow_ast.specs.declared.fault.Rule.TheVariants as rule
 use Rattle.flow_ast.specs.declared.fault.SourceFault.{SourceFault}
+use Rattle.flow_ast.specs.declared.fault.SourceFault.TheVariants.{Refused, AcrossWait, OutOfMemory}
 use Rattle.flow_ast.specs.Grammar.{name_at, node_name}
 use Rattle.flow_ast.specs.GrammarStmt.{Counts, StartsAt, begin_statement}
-use Rattle.flow_ast.specs.GrammarToken.{Part, Statement, Node, Marked, opens, begin, spots_of, InLimits, AllInLimits, Keeps}
+use Rattle.flow_ast.specs.GrammarToken.{Part, Statement, Node, Marked, opens, begin, spots_of, InLimits, AllInLimits, Keeps, Good}
 use Rattle.flow_ast.specs.GrammarAnswer.{place_at}
 use Rattle.flow_ast.proofs.GrammarLists.{spots_append, spots_begin, keeps_append, keeps_begin, length_spots}
 use Rattle.flow_exprs.specs.Answer.{ident_of, ident_in, ident_at}
 use Rattle.flow_parse.specs.Reading.{token_at, Opening, Tok, Named, Then, Any, Reads, Answer}
 use Rattle.flow_parse.specs.Parts.{NodeName, Placed, Begun, Marks}
+use Rattle.flow_parse.specs.Failing.{Sees, Only, Stops, StopsAt, Fails}
+use Rattle.flow_parse.proofs.Looking.{Looks, first_of, Back}
+use Rattle.flow_parse.proofs.Begins.{Starts, looks_is}
+use Rattle.flow_parse.proofs.Exact.{only_then, only_narrow, opening_only, named_only}
+use Rattle.flow_parse.proofs.ExactParts.{nil_only, marks_only, placed_only}
+use Rattle.flow_parse.proofs.Failing.{Inhabited, stops_first, stops_then, stops_narrow, stops_none, stops_marks, stops_beyond, stops_placed}
+
+drop_nothing : (i : ℕ) → drop {A = Spot} i [] ≡ []
+drop_nothing zero = refl
+drop_nothing (suc i) = refl
+
+pub drop_drop : (i j : ℕ) (xs : List Spot) → drop i (drop j xs) ≡ drop (j + i) xs
+drop_drop i zero xs = let e : 0 + i ≡ i = omega arith in ap (λ n. drop n xs) (sym e)
+drop_drop i (suc j) [] = drop_nothing i ∙ sym (drop_nothing (suc j + i))
+drop_drop i (suc j) (x ∷ xs) = let e : suc j + i ≡ suc (j + i) = omega arith in drop_drop i j xs ∙ ap (λ n. drop n (x ∷ xs)) (sym e)
+
+-- the next token, as the code looks at it
+pub next_is : (spots : List Spot) (at : ℕ) → first_of (drop at spots) ≡ token_at spots at
+next_is [] zero = refl
+next_is [] (suc at) = refl
+next_is (x ∷ xs) zero = refl
+next_is (x ∷ xs) (suc at) = next_is xs at
 
 drop_one : (xs : List Spot) (i : ℕ) (x : Spot) → slice_get xs i ≡ Some x → drop i xs ≡ x ∷ drop (i + 1) xs
 drop_one [] i x h = absurd (cc)
@@ -48,12 +72,14 @@ here t at x e = here_of t at x (slice_get t.spots.items at) refl e
 pub opening_reads : (t : Tokens) (at : ℕ) (ps : List Part) (x : Token) → token_at t.spots.items at ≡ Some x → AllInLimits 7 ps → Reads (Opening ps x) Any t.spots.items at (place_at t at) (at + 1)
 opening_reads t at ps x e k =
     let h = here t at x e in
-    record { after = omega arith; within = omega (arith, h.within); marked = opens ps x (place_at t at) ∷ []; rule = refl; is = h.is; keeps = (k, tt) }
+    let i : 1 ≡ at + 1 - at = omega arith in
+    record { after = omega arith; within = omega (arith, h.within); marked = opens ps x (place_at t at) ∷ []; rule = refl; is = h.is; keeps = (k, tt); only = subst (λ j. Only (Opening ps x) Any (place_at t at) j (drop at t.spots.items)) i (subst (Only (Opening ps x) Any (place_at t at) 1) (sym h.is) (opening_only ps x (place_at t at) (drop (at + 1) t.spots.items))) }
 
 pub tok_reads : (t : Tokens) (at : ℕ) (x : Token) → token_at t.spots.items at ≡ Some x → Reads (Tok x) Any t.spots.items at (place_at t at) (at + 1)
 tok_reads t at x e = opening_reads t at [] x e tt
 
--- the tokens read up to a place leave one part of another
+-- Of W, which begins at one token, V is left at another: whatever the tokens from there are as V, those
+-- from the first on are as W, and where they stop to be V, they stop to be W.
 pub record Leaves {A B : Type 0} (W : List Marked → A → Type 0) (FW : A → List Marked → Type 0) (V : List Marked → B → Type 0) (FV : B → List Marked → Type 0) (g : B → A) (spots : List Spot) (from at : ℕ) : Type 0 where
   pub after : from ≤ at
   pub within : at ≤ length spots
@@ -61,57 +87,137 @@ pub record Leaves {A B : Type 0} (W : List Marked → A → Type 0) (FW : A → 
   pub is : drop from spots ≡ spots_of marked ++ drop at spots
   pub keeps : Keeps 7 marked
   pub sound : (v : List Marked) (b : B) → V v b → W (marked ++ v) (g b)
+  pub only : (b : B) (i : ℕ) → Only V FV b i (drop at spots) → Only W FW (g b) ((at - from) + i) (drop from spots)
+  pub stops : (n k : ℕ) → n ≤ 7 → Stops V FV n (drop at spots) k → Stops W FW n (drop from spots) ((at - from) + k)
+
+-- One part is another where the next token is this one: whatever is the first is the second.
+pub record Turns {B C : Type 0} (V : List Marked → B → Type 0) (FV : B → List Marked → Type 0) (U : List Marked → C → Type 0) (FU : C → List Marked → Type 0) (h : C → B) (o : Option Token) : Type 0 where
+  pub back : (w z : List Marked) (b : B) → V w b → FV b z → Looks o (w ++ z) → Back V FV U FU h w z b
+  pub forth : (w : List Marked) (c : C) → U w c → V w (h c)
+
+-- One part and then another: what may follow the first where the second is read, and that there is
+-- always a second.
+pub record Link {A B : Type 0} (R : List Marked → A → Type 0) (FR : A → List Marked → Type 0) (S : A → List Marked → B → Type 0) (F : A × B → List Marked → Type 0) : Type 0 where
+  pub follows : (a : A) (b : B) (v z : List Marked) → S a v b → F (a, b) z → FR a (v ++ z)
+  pub more : (a : A) → Inhabited (S a)
+
+-- anything may follow the first
+pub free : {A B : Type 0} {R : List Marked → A → Type 0} {S : A → List Marked → B → Type 0} {F : A × B → List Marked → Type 0} → ((a : A) → Inhabited (S a)) → Link R Any S F
+free more = record { follows = λ a b v z s f. tt; more = more }
 
 module _ (spots : List Spot) where
   pub nothing : {A : Type 0} (W : List Marked → A → Type 0) (FW : A → List Marked → Type 0) (at : ℕ) → at ≤ length spots → Leaves W FW W FW (λ b. b) spots at at
-  nothing W FW at h = record { after = omega arith; within = h; marked = []; is = refl; keeps = tt; sound = λ v b r. r }
+  nothing W FW at h = record {
+    after = omega arith; within = h; marked = []; is = refl; keeps = tt; sound = λ v b r. r;
+    only = λ b i o. let e : i ≡ at - at + i = omega arith in subst (λ j. Only W FW b j (drop at spots)) e o;
+    stops = λ n k le s. let e : k ≡ at - at + k = omega arith in subst (Stops W FW n (drop at spots)) e s;
+  }
 
-  -- what is left is another part, with the same tokens
-  pub narrow : {A B C : Type 0} {W : List Marked → A → Type 0} {FW : A → List Marked → Type 0} {V : List Marked → B → Type 0} {FV : B → List Marked → Type 0} {g : B → A} {from at : ℕ}
-      (U : List Marked → C → Type 0) (FU : C → List Marked → Type 0) (h : C → B) → ((u : List Marked) (c : C) → U u c → V u (h c)) → Leaves W FW V FV g spots from at → Leaves W FW U FU (λ c. g (h c)) spots from at
-  narrow U FU h to l = record { after = l.after; within = l.within; marked = l.marked; is = l.is; keeps = l.keeps; sound = λ u c r. l.sound u (h c) (to u c r) }
+  -- the next token says that what is left is another part
+  pub narrow : {A B C : Type 0} {W : List Marked → A → Type 0} {FW : A → List Marked → Type 0} {V : List Marked → B → Type 0} {FV : B → List Marked → Type 0} {U : List Marked → C → Type 0} {FU : C → List Marked → Type 0} {g : B → A} {h : C → B} {o : Option Token} {from at : ℕ}
+      → token_at spots at ≡ o → Turns V FV U FU h o → Leaves W FW V FV g spots from at → Leaves W FW U FU (λ c. g (h c)) spots from at
+  narrow {V = V} {FV = FV} {U = U} {FU = FU} {h = h} {o = o} {at = at} e u l =
+      let f : first_of (drop at spots) ≡ o = next_is spots at ∙ e in
+      record {
+        after = l.after; within = l.within; marked = l.marked; is = l.is; keeps = l.keeps; sound = λ v c r. l.sound v (h c) (u.forth v c r);
+        only = λ c i p. l.only (h c) i (only_narrow V FV U FU h o u.back i (drop at spots) c f p);
+        stops = λ n k le s. l.stops n k le (stops_narrow V FV U FU h o n k (drop at spots) f u.back u.forth s);
+      }
 
   -- a first part has been read
   pub then_reads : {A B C : Type 0} {W : List Marked → A → Type 0} {FW : A → List Marked → Type 0} {R : List Marked → B → Type 0} {FR : B → List Marked → Type 0} {S : B → List Marked → C → Type 0} {FV : B × C → List Marked → Type 0} {g : B × C → A} {from at to : ℕ} {b : B}
-      → Leaves W FW (Then R S) FV g spots from at → Reads R FR spots at b to → Leaves W FW (S b) (λ c. FV (b, c)) (λ c. g (b, c)) spots from to
-  then_reads {W} {FW} {R} {FR} {S} {FV} {g} {from} {at} {to} {b} l r = record {
-    after = omega (arith, l.after, r.after);
-    within = r.within;
-    marked = l.marked ++ r.marked;
-    is = l.is ∙ ap (λ z. spots_of l.marked ++ z) r.is ∙ sym (append_assoc (spots_of l.marked) (spots_of r.marked) (drop to spots)) ∙ ap (λ z. z ++ drop to spots) (sym (spots_append l.marked r.marked));
-    keeps = keeps_append 7 l.marked r.marked l.keeps r.keeps;
-    sound = λ v c s. subst (λ z. W z (g (b, c))) (sym (append_assoc l.marked r.marked v)) (l.sound (r.marked ++ v) (b, c) (record { first = r.marked; rest = v; is = refl; front = r.rule; back = s }));
-  }
+      → Link R FR S FV → Leaves W FW (Then R S) FV g spots from at → Reads R FR spots at b to → Leaves W FW (S b) (λ c. FV (b, c)) (λ c. g (b, c)) spots from to
+  then_reads {W = W} {FW = FW} {R = R} {FR = FR} {S = S} {FV = FV} {g = g} {from = from} {at = at} {to = to} {b = b} k l r =
+      let m : length r.marked ≡ to - at = omega (arith, r.after, r.within, ap length r.is, length-append (spots_of r.marked) (drop to spots), length-drop at spots, length-drop to spots, length_spots r.marked) in
+      let d : drop (to - at) (drop at spots) ≡ drop to spots = drop_drop (to - at) at spots ∙ (let e : at + (to - at) ≡ to = omega (arith, r.after) in ap (λ n. drop n spots) e) in
+      let o2 : Only R FR b (length r.marked) (spots_of r.marked ++ drop to spots) = subst (λ ts. Only R FR b (length r.marked) ts) r.is (subst (λ i. Only R FR b i (drop at spots)) (sym m) r.only) in
+      record {
+        after = omega (arith, l.after, r.after);
+        within = r.within;
+        marked = l.marked ++ r.marked;
+        is = l.is ∙ ap (λ z. spots_of l.marked ++ z) r.is ∙ sym (append_assoc (spots_of l.marked) (spots_of r.marked) (drop to spots)) ∙ ap (λ z. z ++ drop to spots) (sym (spots_append l.marked r.marked));
+        keeps = keeps_append 7 l.marked r.marked l.keeps r.keeps;
+        sound = λ v c s. subst (λ z. W z (g (b, c))) (sym (append_assoc l.marked r.marked v)) (l.sound (r.marked ++ v) (b, c) (record { first = r.marked; rest = v; is = refl; front = r.rule; back = s }));
+        only = λ c i p.
+            let q = only_then R FR S FV k.follows (to - at) i (drop at spots) b c r.only (subst (Only (S b) (λ c. FV (b, c)) c i) (sym d) p) in
+            let e : at - from + (to - at + i) ≡ to - from + i = omega (arith, l.after, r.after) in
+            subst (λ j. Only W FW (g (b, c)) j (drop from spots)) e (l.only (b, c) (to - at + i) q);
+        stops = λ n j le s.
+            let q = stops_then R FR S FV k.follows n j r.marked b (drop to spots) le r.rule r.keeps o2 s in
+            let q2 = subst (λ ts. Stops (Then R S) FV n ts (length r.marked + j)) (sym r.is) q in
+            let e : at - from + (length r.marked + j) ≡ to - from + j = omega (arith, l.after, r.after, m) in
+            subst (Stops W FW n (drop from spots)) e (l.stops n (length r.marked + j) le q2);
+      }
 
   -- the rest has been read
-  pub done : {A B : Type 0} {W : List Marked → A → Type 0} {FW : A → List Marked → Type 0} {V : List Marked → B → Type 0} {FV : B → List Marked → Type 0} {FR : B → List Marked → Type 0} {g : B → A} {from at to : ℕ} {b : B}
-      → Leaves W FW V FV g spots from at → Reads V FR spots at b to → Reads W FW spots from (g b) to
-  done {W} {FW} {V} {FV} {FR} {g} {from} {at} {to} {b} l r = record {
-    after = omega (arith, l.after, r.after);
-    within = r.within;
-    marked = l.marked ++ r.marked;
-    rule = l.sound r.marked _ r.rule;
-    is = l.is ∙ ap (λ z. spots_of l.marked ++ z) r.is ∙ sym (append_assoc (spots_of l.marked) (spots_of r.marked) (drop to spots)) ∙ ap (λ z. z ++ drop to spots) (sym (spots_append l.marked r.marked));
-    keeps = keeps_append 7 l.marked r.marked l.keeps r.keeps;
-  }
+  pub done : {A B : Type 0} {W : List Marked → A → Type 0} {FW : A → List Marked → Type 0} {V : List Marked → B → Type 0} {FV : B → List Marked → Type 0} {g : B → A} {from at to : ℕ} {b : B}
+      → Leaves W FW V FV g spots from at → Reads V FV spots at b to → Reads W FW spots from (g b) to
+  done {W = W} {FW = FW} {V = V} {FV = FV} {g = g} {from = from} {at = at} {to = to} {b = b} l r =
+      let e : at - from + (to - at) ≡ to - from = omega (arith, l.after, r.after) in
+      record {
+        after = omega (arith, l.after, r.after);
+        within = r.within;
+        marked = l.marked ++ r.marked;
+        rule = l.sound r.marked _ r.rule;
+        is = l.is ∙ ap (λ z. spots_of l.marked ++ z) r.is ∙ sym (append_assoc (spots_of l.marked) (spots_of r.marked) (drop to spots)) ∙ ap (λ z. z ++ drop to spots) (sym (spots_append l.marked r.marked));
+        keeps = keeps_append 7 l.marked r.marked l.keeps r.keeps;
+        only = subst (λ j. Only W FW (g b) j (drop from spots)) e (l.only b (to - at) r.only);
+      }
 
   -- nothing is left to be read
   pub ended : {A B : Type 0} {W : List Marked → A → Type 0} {FW : A → List Marked → Type 0} {V : List Marked → B → Type 0} {FV : B → List Marked → Type 0} {g : B → A} {from at : ℕ} (b : B)
-      → V [] b → Leaves W FW V FV g spots from at → Reads W FW spots from (g b) at
-  ended {W} {g} b e l = record { after = l.after; within = l.within; marked = l.marked; rule = subst (λ z. W z (g b)) (append-nil l.marked) (l.sound [] b e); is = l.is; keeps = l.keeps }
+      → Reads V FV spots at b at → Leaves W FW V FV g spots from at → Reads W FW spots from (g b) at
+  ended b r l = done l r
 
   -- the same meaning in other words
   pub means : {A B : Type 0} {W : List Marked → A → Type 0} {FW : A → List Marked → Type 0} {V : List Marked → B → Type 0} {FV : B → List Marked → Type 0} {g : B → A} {from at : ℕ} (h : B → A) → ((b : B) → g b ≡ h b)
       → Leaves W FW V FV g spots from at → Leaves W FW V FV h spots from at
-  means {W} {g} h e l = record { after = l.after; within = l.within; marked = l.marked; is = l.is; keeps = l.keeps; sound = λ v b r. subst (λ a. W (l.marked ++ v) a) (e b) (l.sound v b r) }
+  means {W = W} {FW = FW} {g = g} {from = from} {at = at} h e l = record {
+    after = l.after; within = l.within; marked = l.marked; is = l.is; keeps = l.keeps; sound = λ v b r. subst (λ a. W (l.marked ++ v) a) (e b) (l.sound v b r);
+    only = λ b i o. subst (λ a. Only W FW a ((at - from) + i) (drop from spots)) (e b) (l.only b i o);
+    stops = l.stops;
+  }
 
-  -- what was read is also another part
-  pub become : {A B : Type 0} {R : List Marked → B → Type 0} {FR : B → List Marked → Type 0} (W : List Marked → A → Type 0) (FW : A → List Marked → Type 0) {from to : ℕ} {b : B} (h : B → A) → ((w : List Marked) (b : B) → R w b → W w (h b))
+  -- what was read is also another part, which the next token says
+  pub become : {A B : Type 0} {W : List Marked → A → Type 0} {FW : A → List Marked → Type 0} {R : List Marked → B → Type 0} {FR : B → List Marked → Type 0} {h : B → A} {o : Option Token} {from to : ℕ} {b : B} → token_at spots from ≡ o → Turns W FW R FR h o
       → Reads R FR spots from b to → Reads W FW spots from (h b) to
-  become W FW {b} h f r = record { after = r.after; within = r.within; marked = r.marked; rule = f r.marked b r.rule; is = r.is; keeps = r.keeps }
+  become {W = W} {FW = FW} {from = from} e u r = done (narrow e u (nothing W FW from (omega (arith, r.after, r.within)))) r
 
-  pub empty : {A : Type 0} (W : List Marked → A → Type 0) (FW : A → List Marked → Type 0) (at : ℕ) (a : A) → at ≤ length spots → W [] a → Reads W FW spots at a at
-  empty W FW at a h r = record { after = omega arith; within = h; marked = []; rule = r; is = refl; keeps = tt }
+  -- nothing stands here, which the next token says
+  pub empty : {A : Type 0} (W : List Marked → A → Type 0) (FW : A → List Marked → Type 0) (at : ℕ) (a : A) (o : Option Token) → at ≤ length spots → token_at spots at ≡ o → W [] a → ((w z : List Marked) (b : A) → W w b → FW b z → Looks o (w ++ z) → (b ≡ a) × (w ≡ [])) → Reads W FW spots at a at
+  empty W FW at a o h e r f =
+      let i : 0 ≡ at - at = omega arith in
+      record { after = omega arith; within = h; marked = []; rule = r; is = refl; keeps = tt; only = subst (λ j. Only W FW a j (drop at spots)) i (nil_only W FW a o (drop at spots) (next_is spots at ∙ e) f) }
+
+-- What is refused of what is left is refused of the whole.
+module _ {A B : Type 0} {W : List Marked → A → Type 0} {FW : A → List Marked → Type 0} {V : List Marked → B → Type 0} {FV : B → List Marked → Type 0} {g : B → A} (t : Tokens) {from at : ℕ} (l : Leaves W FW V FV g t.spots.items from at) where
+  stops_at : (n : ℕ) (p : Place) → n ≤ 7 → StopsAt V FV n t at p → StopsAt W FW n t from p
+  stops_at n p le s =
+      let e : at + s.number ≡ from + ((at - from) + s.number) = omega (arith, l.after) in
+      record { number = (at - from) + s.number; place = s.place ∙ ap (place_at t) e; stops = l.stops n s.number le s.stops }
+
+  pub fails : (e : SourceFault) → Fails V FV t at e → Fails W FW t from e
+  fails (Refused (rule.S n) p) a = (a.0, stops_at 2 p (omega arith) a.1)
+  fails (Refused (rule.L n) p) a = (a.0, a.1, stops_at n p a.1 a.2)
+  fails (Refused (rule.K n) p) a = a
+  fails (AcrossWait p q r) a = a
+  fails OutOfMemory a = tt
+
+-- a first part of what is left is refused
+module _ {B C : Type 0} {R : List Marked → B → Type 0} {FR : B → List Marked → Type 0} {S : B → List Marked → C → Type 0} {FV : B × C → List Marked → Type 0} (k : Link R FR S FV) (t : Tokens) (at : ℕ) where
+  stops_at_first : (n : ℕ) (p : Place) → StopsAt R FR n t at p → StopsAt (Then R S) FV n t at p
+  stops_at_first n p s = record { number = s.number; place = s.place; stops = stops_first R FR S FV k.follows n s.number (drop at t.spots.items) k.more s.stops }
+
+  fails_at_first : (e : SourceFault) → Fails R FR t at e → Fails (Then R S) FV t at e
+  fails_at_first (Refused (rule.S n) p) a = (a.0, stops_at_first 2 p a.1)
+  fails_at_first (Refused (rule.L n) p) a = (a.0, a.1, stops_at_first n p a.2)
+  fails_at_first (Refused (rule.K n) p) a = a
+  fails_at_first (AcrossWait p q r) a = a
+  fails_at_first OutOfMemory a = tt
+
+pub first_fails : {A B C : Type 0} {W : List Marked → A → Type 0} {FW : A → List Marked → Type 0} {R : List Marked → B → Type 0} {FR : B → List Marked → Type 0} {S : B → List Marked → C → Type 0} {FV : B × C → List Marked → Type 0} {g : B × C → A} (t : Tokens) {from at : ℕ}
+    → Link R FR S FV → Leaves W FW (Then R S) FV g t.spots.items from at → (e : SourceFault) → Fails R FR t at e → Fails W FW t from e
+first_fails t {at = at} k l e a = fails t l e (fails_at_first k t at e a)
 
 -- a list of its parts
 pub glue : {w r b : List Marked} (a : List Marked) → w ≡ a ++ r → r ≡ b → w ≡ a ++ b
@@ -131,76 +237,126 @@ get_drop [] (suc a) x zs e = absurd (cc)
 get_drop (y ∷ ys) zero x zs e = let h : y ≡ x = cc in ap (λ z. Some z) h
 get_drop (y ∷ ys) (suc a) x zs e = get_drop ys a x zs e
 
-pub placed_reads : {A : Type 0} {R : List Marked → A → Type 0} {F : A → List Marked → Type 0} {a : A} (t : Tokens) (FP : Place × A → List Marked → Type 0) (from to : ℕ) → from < to → Reads R F t.spots.items from a to → Reads (Placed R) FP t.spots.items from (place_at t from, a) to
-placed_reads t FP from to lt r =
+pub placed_reads : {A : Type 0} {R : List Marked → A → Type 0} {F : A → List Marked → Type 0} {a : A} (t : Tokens) (from to : ℕ) → from < to → Reads R F t.spots.items from a to → Reads (Placed R) (λ x. F x.1) t.spots.items from (place_at t from, a) to
+placed_reads {R = R} {F = F} {a = a} t from to lt r =
     let spots = t.spots.items in
     let n : 0 < length r.marked = omega (arith, ap length r.is, length-append (spots_of r.marked) (drop to spots), length-drop from spots, length-drop to spots, length_spots r.marked, r.within) in
+    let place = λ (x : Spot) (zs : List Spot) (e : drop from spots ≡ x ∷ zs). sym (ap (λ o. unwrap_or (option_map (λ s. s.at) o) t.end) (get_drop spots from x zs e)) in
     record {
       after = r.after;
       within = r.within;
       marked = r.marked;
-      rule = (starts_first r.marked (drop to spots) (drop from spots) (place_at t from) n r.is (λ x zs e. sym (ap (λ o. unwrap_or (option_map (λ s. s.at) o) t.end) (get_drop spots from x zs e))), r.rule);
+      rule = (starts_first r.marked (drop to spots) (drop from spots) (place_at t from) n r.is place, r.rule);
       is = r.is;
       keeps = r.keeps;
+      only = placed_where (drop from spots) (place_at t from) (to - from) (omega (arith, length-drop from spots, r.within)) place r.only;
     }
+  where
+    placed_where : (ts : List Spot) (p : Place) (i : ℕ) → 0 < length ts → ((x : Spot) (zs : List Spot) → ts ≡ x ∷ zs → x.at ≡ p) → Only R F a i ts → Only (Placed R) (λ x. F x.1) (p, a) i ts
+    placed_where [] p i h f o = absurd (omega arith)
+    placed_where (x ∷ zs) p i h f o = subst (λ q. Only (Placed R) (λ y. F y.1) (q, a) i (x ∷ zs)) (f x zs refl) (placed_only R F a i x zs o)
 
 pub starts_append : (xs ys : List Marked) (p : Place) → StartsAt xs p → StartsAt (xs ++ ys) p
 starts_append [] ys p h = absurd h
 starts_append (x ∷ xs) ys p h = h
 
--- a name that is a type
-pub node_reads : (spots : List Spot) (d from to : ℕ) (x : Ident) → d ≤ 64 → Reads Named Any spots from x to → Reads (NodeName d) Any spots from x to
-node_reads spots d from to x h r = record {
-  after = r.after;
-  within = r.within;
-  marked = node_name d x ∷ [];
-  rule = refl;
-  is = r.is ∙ ap (λ z. spots_of z ++ drop to spots) r.rule;
-  keeps = (((λ l. h), tt), tt);
-}
-
--- a part that is a statement
-pub begun_reads : {A : Type 0} {R : List Marked → A → Type 0} {F : A → List Marked → Type 0} {a : A} {from to : ℕ} (spots : List Spot) (c : Counts) (d : ℕ) → c.statements < 10000 → d ≤ 64 → Reads R F spots from a to → Reads (Begun c d R) F spots from a to
-begun_reads {from} {to} spots c d l m r = record {
-  after = r.after;
-  within = r.within;
-  marked = begin_statement c d r.marked;
-  rule = (r.marked, r.rule, refl);
-  is = r.is ∙ ap (λ z. z ++ drop to spots) (sym (spots_begin (Statement (suc c.statements)) (begin (Node d) r.marked) ∙ spots_begin (Node d) r.marked));
-  keeps = keeps_begin 7 (Statement (suc c.statements)) (begin (Node d) r.marked) (λ h. omega arith) (keeps_begin 7 (Node d) r.marked (λ h. m) r.keeps);
-}
-
--- an answer for one part is one for another
-pub answer_become : {A B X : Type 0} (R : List Marked → B → Type 0) (FR : B → List Marked → Type 0) (v : X → B) (to : X → ℕ) (t : Tokens) (from : ℕ) (W : List Marked → A → Type 0) (FW : A → List Marked → Type 0) (h : B → A) → ((w : List Marked) (b : B) → R w b → W w (h b))
-    → (r : Result X SourceFault) → Answer R FR v to t from r → Answer W FW (λ x. h (v x)) to t from r
-answer_become R FR v to t from W FW h f (Ok x) a = become t.spots.items W FW h f a
-answer_become R FR v to t from W FW h f (Err e) a = tt
-
-pub answer_begun : {A X : Type 0} (R : List Marked → A → Type 0) (F : A → List Marked → Type 0) (v : X → A) (to : X → ℕ) (t : Tokens) (from : ℕ) (c : Counts) (d : ℕ) → c.statements < 10000 → d ≤ 64
-    → (r : Result X SourceFault) → Answer R F v to t from r → Answer (Begun c d R) F v to t from r
-answer_begun R F v to t from c d l m (Ok x) a = begun_reads t.spots.items c d l m a
-answer_begun R F v to t from c d l m (Err e) a = tt
-
+-- a part that begins with another
 pub marks_reads : {A : Type 0} {R : List Marked → A → Type 0} {F : A → List Marked → Type 0} {a : A} {from to : ℕ} (spots : List Spot) (p : Part) → InLimits 7 p → Reads R F spots from a to → Reads (Marks p R) F spots from a to
-marks_reads {to = to} spots p l r = record {
+marks_reads {R = R} {F = F} {a = a} {from = from} {to = to} spots p l r = record {
   after = r.after;
   within = r.within;
   marked = begin p r.marked;
   rule = (r.marked, r.rule, refl);
   is = r.is ∙ ap (λ z. z ++ drop to spots) (sym (spots_begin p r.marked));
   keeps = keeps_begin 7 p r.marked l r.keeps;
+  only = marks_only R F p a (to - from) (drop from spots) r.only;
 }
+
+-- a name that is a type
+node_turns : (d : ℕ) (o : Option Token) → Turns (NodeName d) Any (Marks (Node d) Named) Any (λ x. x) o
+node_turns d o = record { back = λ w z b r f l. record { tree = b; rule = (name_at b ∷ [], refl, r); is = refl; follows = tt }; forth = λ w c r. r.2 ∙ ap (begin (Node d)) r.1 }
+
+pub node_reads : (spots : List Spot) (d from to : ℕ) (x : Ident) → d ≤ 64 → Reads Named Any spots from x to → Reads (NodeName d) Any spots from x to
+node_reads spots d from to x h r = become spots refl (node_turns d (token_at spots from)) (marks_reads spots (Node d) (λ l. h) r)
+
+-- a part that is a statement
+begun_turns : {A : Type 0} (R : List Marked → A → Type 0) (F : A → List Marked → Type 0) (c : Counts) (d : ℕ) (o : Option Token) → Turns (Begun c d R) F (Marks (Statement (suc c.statements)) (Marks (Node d) R)) F (λ x. x) o
+begun_turns R F c d o = record { back = λ w z b r f l. record { tree = b; rule = (begin (Node d) r.0, (r.0, r.1, refl), r.2); is = refl; follows = f }; forth = λ w x r. (r.1.0, r.1.1, r.2 ∙ ap (begin (Statement (suc c.statements))) r.1.2) }
+
+-- an answer for one part is one for another, which the next token says
+pub answer_become : {A B X : Type 0} {W : List Marked → A → Type 0} {FW : A → List Marked → Type 0} {R : List Marked → B → Type 0} {FR : B → List Marked → Type 0} {h : B → A} {o : Option Token} (v : X → B) (to : X → ℕ) (t : Tokens) (from : ℕ) → from ≤ length t.spots.items → token_at t.spots.items from ≡ o → Turns W FW R FR h o
+    → (r : Result X SourceFault) → Answer R FR v to t from r → Answer W FW (λ x. h (v x)) to t from r
+answer_become v to t from b e u (Ok x) a = become t.spots.items e u a
+answer_become {W = W} {FW = FW} v to t from b e u (Err f) a = fails t (narrow t.spots.items e u (nothing t.spots.items W FW from b)) f a
+
+-- a part that begins with another and keeps its limit is refused where it is refused alone
+pub marks_fails : {A : Type 0} (R : List Marked → A → Type 0) (F : A → List Marked → Type 0) (p : Part) (t : Tokens) (from : ℕ) → ((m : ℕ) → m ≤ 7 → InLimits m p) → (e : SourceFault) → Fails R F t from e → Fails (Marks p R) F t from e
+marks_fails R F p t from k = each
+  where
+    at_place : (n : ℕ) (q : Place) → n ≤ 7 → StopsAt R F n t from q → StopsAt (Marks p R) F n t from q
+    at_place n q le s = record { number = s.number; place = s.place; stops = stops_marks R F p n s.number (drop from t.spots.items) le k s.stops }
+
+    each : (e : SourceFault) → Fails R F t from e → Fails (Marks p R) F t from e
+    each (Refused (rule.S n) q) a = (a.0, at_place 2 q (omega arith) a.1)
+    each (Refused (rule.L n) q) a = (a.0, a.1, at_place n q a.1 a.2)
+    each (Refused (rule.K n) q) a = a
+    each (AcrossWait q r s) a = a
+    each OutOfMemory a = tt
+
+pub answer_marks : {A X : Type 0} (R : List Marked → A → Type 0) (F : A → List Marked → Type 0) (p : Part) (v : X → A) (to : X → ℕ) (t : Tokens) (from : ℕ) → ((m : ℕ) → m ≤ 7 → InLimits m p) → (r : Result X SourceFault) → Answer R F v to t from r → Answer (Marks p R) F v to t from r
+answer_marks R F p v to t from k (Ok x) a = marks_reads t.spots.items p (k 7 (omega arith)) a
+answer_marks R F p v to t from k (Err e) a = marks_fails R F p t from k e a
+
+pub answer_begun : {A X : Type 0} (R : List Marked → A → Type 0) (F : A → List Marked → Type 0) (v : X → A) (to : X → ℕ) (t : Tokens) (from : ℕ) (c : Counts) (d : ℕ) → from ≤ length t.spots.items → c.statements < 10000 → d ≤ 64
+    → (r : Result X SourceFault) → Answer R F v to t from r → Answer (Begun c d R) F v to t from r
+answer_begun R F v to t from c d b l m r a =
+    answer_become v to t from b refl (begun_turns R F c d (token_at t.spots.items from)) r
+    (answer_marks (Marks (Node d) R) F (Statement (suc c.statements)) v to t from (λ n le h. omega arith) r (answer_marks R F (Node d) v to t from (λ n le h. m) r a))
+
+-- a part with the place of its first token
+pub placed_fails : {A : Type 0} (R : List Marked → A → Type 0) (F : A → List Marked → Type 0) (P : Token → Type 0) → ((w : List Marked) (a : A) → R w a → Starts P w) → (t : Tokens) (from : ℕ) → (e : SourceFault) → Fails R F t from e → Fails (Placed R) (λ x. F x.1) t from e
+placed_fails R F P begins t from = each
+  where
+    at_place : (n : ℕ) (q : Place) → StopsAt R F n t from q → StopsAt (Placed R) (λ x. F x.1) n t from q
+    at_place n q s = record { number = s.number; place = s.place; stops = stops_placed R F P begins n s.number (drop from t.spots.items) s.stops }
+
+    each : (e : SourceFault) → Fails R F t from e → Fails (Placed R) (λ x. F x.1) t from e
+    each (Refused (rule.S n) q) a = (a.0, at_place 2 q a.1)
+    each (Refused (rule.L n) q) a = (a.0, a.1, at_place n q a.2)
+    each (Refused (rule.K n) q) a = a
+    each (AcrossWait q r s) a = a
+    each OutOfMemory a = tt
+
+-- no such part can begin here, as the next token says
+pub none_fails : {A : Type 0} (R : List Marked → A → Type 0) (F : A → List Marked → Type 0) (t : Tokens) (at : ℕ) → Inhabited R → ((w z : List Marked) (b : A) → R w b → F b z → Looks (token_at t.spots.items at) (w ++ z) → ⊥) → Fails R F t at (Refused (rule.S 5) (place_at t at))
+none_fails R F t at any f =
+    let e : at ≡ at + 0 = omega arith in
+    (refl, record { number = 0; place = ap (place_at t) e; stops = stops_none R F (token_at t.spots.items at) (drop at t.spots.items) (next_is t.spots.items at) any f })
+
+-- another token stands here
+pub tok_fails : (t : Tokens) (at : ℕ) (x : Token) → (token_at t.spots.items at ≡ Some x → ⊥) → Fails (Tok x) Any t at (Refused (rule.S 5) (place_at t at))
+tok_fails t at x f = none_fails (Tok x) Any t at (record { marked = opens [] x (place_at t at) ∷ []; tree = place_at t at; rule = refl }) (λ w z p r g l. f (looks_is (token_at t.spots.items at) (opens [] x p) [] z r l))
+
+-- A part could begin here, but not with this number or at this depth.
+pub beyond_fails : {A : Type 0} (R : List Marked → A → Type 0) (F : A → List Marked → Type 0) (p : Part) (n : ℕ) (t : Tokens) (at : ℕ) → 3 ≤ n → n ≤ 7 → at < length t.spots.items → (InLimits n p → ⊥) → ((m : ℕ) → m < n → InLimits m p) → (P : Token → Type 0) → ((w : List Marked) (b : A) → R w b → Starts P w)
+    → Inhabited R → ((m : ℕ) → m < n → Good R m (take 1 (drop at t.spots.items))) → Fails (Marks p R) F t at (Refused (rule.L n) (place_at t at))
+beyond_fails R F p n t at l h lt out keep P begins any here =
+    let e : at ≡ at + 0 = omega arith in
+    (l, h, record { number = 0; place = ap (place_at t) e; stops = stops_beyond R F p n (drop at t.spots.items) (omega (arith, length-drop at t.spots.items)) out keep P begins any here })
 
 -- a name
 name_of : (t : Tokens) (at : ℕ) (s : Spot) (x : Ident) → slice_get t.spots.items at ≡ Some s → s.token ≡ token.Name x.name → s.at ≡ x.at → Reads Named Any t.spots.items at x (at + 1)
 name_of t at s x g e f =
+    let d : drop at t.spots.items ≡ record { token = token.Name x.name; at = x.at } ∷ drop (at + 1) t.spots.items = drop_one t.spots.items at s g ∙ ap (λ y. y ∷ drop (at + 1) t.spots.items) (spot_is s (token.Name x.name) x.at e f) in
+    let i : 1 ≡ at + 1 - at = omega arith in
     record {
       after = omega arith;
       within = omega (arith, slice_get_within t.spots.items at s g);
       marked = name_at x ∷ [];
       rule = refl;
-      is = drop_one t.spots.items at s g ∙ ap (λ y. y ∷ drop (at + 1) t.spots.items) (spot_is s (token.Name x.name) x.at e f);
+      is = d;
       keeps = (tt, tt);
+      only = subst (λ j. Only Named Any x j (drop at t.spots.items)) i (subst (Only Named Any x 1) (sym d) (named_only x (drop (at + 1) t.spots.items)));
     }
 
 names : (x : Token) (p : Place) (y : Ident) → ident_of x p ≡ Some y → (x ≡ token.Name y.name) × (p ≡ y.at)
@@ -222,10 +378,10 @@ pub deeper : {A : Type 0} {F : A → List Marked → Type 0} {spots : List Spot}
 deeper {F = F} {spots = spots} {from = from} {to = to} {a = a} R d r = let e : d + 1 ≡ suc d = omega arith in subst (λ k. Reads (R k) F spots from a to) e r
 
 -- an answer for what is left
-pub answer_done : {A B X : Type 0} {W : List Marked → A → Type 0} {FW : A → List Marked → Type 0} {V : List Marked → B → Type 0} {FV : B → List Marked → Type 0} {g : B → A} {from at : ℕ} (FR : B → List Marked → Type 0) (v : X → B) (to : X → ℕ) (t : Tokens)
-    → Leaves W FW V FV g t.spots.items from at → (r : Result X SourceFault) → Answer V FR v to t at r → Answer W FW (λ x. g (v x)) to t from r
-answer_done FR v to t l (Ok x) a = done t.spots.items l a
-answer_done FR v to t l (Err e) a = tt
+pub answer_done : {A B X : Type 0} {W : List Marked → A → Type 0} {FW : A → List Marked → Type 0} {V : List Marked → B → Type 0} {FV : B → List Marked → Type 0} {g : B → A} {from at : ℕ} (v : X → B) (to : X → ℕ) (t : Tokens)
+    → Leaves W FW V FV g t.spots.items from at → (r : Result X SourceFault) → Answer V FV v to t at r → Answer W FW (λ x. g (v x)) to t from r
+answer_done v to t l (Ok x) a = done t.spots.items l a
+answer_done v to t l (Err e) a = fails t l e a
 
 -- a part with another parameter
 pub moved : {P A : Type 0} {F : A → List Marked → Type 0} {spots : List Spot} {from to : ℕ} {a : A} {p q : P} (R : P → List Marked → A → Type 0) → p ≡ q → Reads (R p) F spots from a to → Reads (R q) F spots from a to

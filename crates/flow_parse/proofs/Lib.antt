@@ -1,5 +1,10 @@
 pub mod Fronts
+pub mod Exact
+pub mod ExactParts
+pub mod Failing
+pub mod Inhabitants
 pub mod Leaves
+pub mod Shapes
 pub mod Variables
 pub mod Unended
 pub mod Lift
@@ -24,3 +29,8 @@ pub mod UniqueTypes
 pub mod UniqueParts
 pub mod UniqueStmts
 pub mod OneProgram
+pub mod Verdict
+pub mod Readers
+pub mod TypeReaders
+pub mod ReaderStops
+pub mod ProgramFails

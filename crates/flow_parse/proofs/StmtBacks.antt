@@ -18,8 +18,8 @@ use Rattle.flow_ast.specs.GrammarStmt.{Counts, one_statement, begin_statement, A
 use Rattle.flow_parse.specs.Reading.{Opening, Tok, Then, Any}
 use Rattle.flow_parse.specs.Follow.{NotBefore}
 use Rattle.flow_parse.specs.Parts.{Out, BlockOut, NoElse, Test, MaybeExpr, StartPart, NextPart, Placed, Begun, WaitingPart, Init, Assignment, Simple, Plain, One, BodyPart, Closing, Block, WhenOut, WhenPart, WhensPart, AllWhens, put_before}
-use Rattle.flow_parse.proofs.Variables.{closed}
-use Rattle.flow_parse.proofs.Stmts.{with}
+use Rattle.flow_parse.proofs.Shapes.{closed}
+use Rattle.flow_parse.proofs.Shapes.{with}
 use Rattle.flow_parse.proofs.Looking.{Looks, Back}
 use Rattle.flow_parse.proofs.Backs.{opener, Form, form, front, tok_front, block_of}
 use Rattle.flow_parse.proofs.Begins.{Starts, starts_weaken, starts_is, starts_looks, looks_first, looks_is, ExprToken, expr_starts}

@@ -14,7 +14,7 @@ use Rattle.flow_parse.specs.Reading.{Opening, Tok, Named, Then, Any, Reads}
 use Rattle.flow_parse.specs.Follow.{NotBefore}
 use Rattle.flow_parse.specs.Parts.{NoElse, Out, BlockOut, Test, MaybeExpr, Placed, Begun, Init, Assignment, StartPart, NextPart, Plain, One, BodyPart, Closing, Block, Catch, WaitingPart, WhenPart, WhensPart, AllWhens, put_before}
 use Rattle.flow_parse.proofs.Leaves.{Leaves, nothing, narrow, glue, behind}
-use Rattle.flow_parse.proofs.Variables.{closed}
+use Rattle.flow_parse.proofs.Shapes.{closed, with, ClosedBody}
 use Rattle.flow_parse.proofs.Lift.{lift}
 
 -- a part and what closes it
@@ -27,14 +27,8 @@ in_brackets {r} {y} of x e f g = e ∙ ap (λ z. z ++ r) f ∙ ap (λ z. y ∷ z
 block_rule : {actor : Bool} {d : ℕ} {c : Counts} {w : List Marked} {o : BlockOut} → Block actor d c w o → BlockRule actor d c o.counts w o.body
 block_rule {o} r = braces r.0 o.close r.1 r.2 r.3
 
-abbrev pub ClosedBody : Bool → ℕ → Counts → List Marked → Out → Type 0
-ClosedBody actor d c w o = BodyPart actor d c w o × (o.ends_if ≡ false)
-
 pub closed_body : {actor : Bool} {d : ℕ} {c : Counts} {F : Out → List Marked → Type 0} {o : Out} {from to : ℕ} (spots : List Spot) → o.ends_if ≡ false → Reads (BodyPart actor d c) F spots from o to → Reads (ClosedBody actor d c) F spots from o to
 closed_body spots e r = record { after = r.after; within = r.within; marked = r.marked; rule = (r.rule, e); is = r.is; keeps = r.keeps }
-
-abbrev pub with : Body → Out → Out
-with b o = record { body = b; counts = o.counts; ends_if = o.ends_if }
 
 module _ (t : Tokens) (at : ℕ) (actor : Bool) (d : ℕ) (c : Counts) (h : at ≤ length t.spots.items) where
   pub if_left : Leaves (Plain actor d c) NoElse (Then (Tok (token.Word word.If)) (λ p. Then (Test (suc d)) (λ e. BodyPart actor (suc d) c))) Any (λ x. record { body = IfStmt x.0 x.1.0 x.1.1.body End; counts = x.1.1.counts; ends_if = true }) t.spots.items at at

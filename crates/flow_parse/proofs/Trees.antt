@@ -5,7 +5,10 @@ use Rattle.std.proofs.lemmas.List.{take-append-drop}
 use Rattle.flow_ast.specs.declared.token.Sign.TheVariants as sign
 use Rattle.flow_ast.specs.declared.token.Spot.{Spot}
 use Rattle.flow_ast.specs.declared.token.Tokens.{Tokens}
+use Rattle.flow_base.specs.declared.place.Place.{Place}
+use Rattle.flow_ast.specs.declared.fault.Rule.TheVariants as rule
 use Rattle.flow_ast.specs.declared.fault.SourceFault.{SourceFault}
+use Rattle.flow_ast.specs.declared.fault.SourceFault.TheVariants.{Refused, AcrossWait, OutOfMemory}
 use Rattle.flow_ast.specs.declared.ty.Ty.{Ty}
 use Rattle.flow_ast.specs.declared.expr.Expr.{Expr}
 use Rattle.flow_ast.specs.View.{type_of, expr_of}
@@ -15,73 +18,12 @@ use Rattle.flow_ast.specs.Grammar.{sign_at, name_at, op_sign, TypeRule, int_type
 use Rattle.flow_ast.specs.GrammarAnswer.{IsRead, ReaderAnswer}
 use Rattle.flow_ast.proofs.GrammarLists.{length_spots}
 use Rattle.flow_parse.specs.Reading.{Any, Reads, Answer}
+use Rattle.flow_parse.specs.Failing.{Only, StopsAt, Fails}
+use Rattle.flow_parse.proofs.Leaves.{drop_drop}
+use Rattle.flow_parse.proofs.Readers.{expr_only}
+use Rattle.flow_parse.proofs.TypeReaders.{type_only}
+use Rattle.flow_parse.proofs.ReaderStops.{Nodes, expr_nodes, type_nodes, depth_keeps, expr_missing_stops, expr_deep_stops, type_missing_stops, type_deep_stops}
 use Rattle.flow_parse.specs.Follow.{ExprEnds}
-
--- only nodes begin in types and expressions
-abbrev NodeParts : List Part → Type 0
-NodeParts [] = Unit {0}
-NodeParts (Node d ∷ ps) = NodeParts ps
-NodeParts (_ ∷ ps) = ⊥
-
-abbrev Nodes : List Marked → Type 0
-Nodes [] = Unit {0}
-Nodes (x ∷ xs) = NodeParts x.parts × Nodes xs
-
-nodes_append : (xs ys : List Marked) → Nodes xs → Nodes ys → Nodes (xs ++ ys)
-nodes_append [] ys a b = b
-nodes_append (x ∷ xs) ys a b = (a.0, nodes_append xs ys a.1 b)
-
-nodes_begin : (d : ℕ) (xs : List Marked) → Nodes xs → Nodes (begin (Node d) xs)
-nodes_begin d [] a = tt
-nodes_begin d (x ∷ xs) a = a
-
-nodes_is : (xs ys : List Marked) → xs ≡ ys → Nodes ys → Nodes xs
-nodes_is xs ys e a = subst Nodes (sym e) a
-
-mutual
-  expr_nodes : {k d : ℕ} {xs : List Marked} {t : ExprTree} → ExprRule k d xs t → Nodes xs
-  expr_nodes (number n p) = (tt, tt)
-  expr_nodes (text t p) = (tt, tt)
-  expr_nodes (truth p) = (tt, tt)
-  expr_nodes (falsehood p) = (tt, tt)
-  expr_nodes (void p q r) = (tt, (tt, (tt, tt)))
-  expr_nodes (variable x) = (tt, tt)
-  expr_nodes (call f p q args r e) = nodes_is _ _ e (tt, (tt, nodes_append args _ (args_nodes r) (tt, tt)))
-  expr_nodes (paren p q of r e) = nodes_is _ _ e (tt, nodes_append of _ (expr_nodes r) (tt, tt))
-  expr_nodes {k} {d} (field p x of r e) = nodes_is _ _ e (nodes_append (begin (Node d) of) _ (nodes_begin d of (expr_nodes r)) (tt, (tt, tt)))
-  expr_nodes {k} {d} (method p q s f of args r a e) = nodes_is _ _ e (nodes_append (begin (Node d) of) _ (nodes_begin d of (expr_nodes r)) (tt, (tt, (tt, nodes_append args _ (args_nodes a) (tt, tt)))))
-  expr_nodes (negation p of le r e) = nodes_is _ _ e (tt, expr_nodes r)
-  expr_nodes (minus p of le r e) = nodes_is _ _ e (tt, expr_nodes r)
-  expr_nodes {k} {d} (binary op p left right le r s e) = nodes_is _ _ e (nodes_append (begin (Node d) left) _ (nodes_begin d left (expr_nodes r)) (tt, expr_nodes s))
-
-  args_nodes : {d : ℕ} {xs : List Marked} {ts : _} → ArgsRule d xs ts → Nodes xs
-  args_nodes no_args = tt
-  args_nodes (some_args first more r m e) = nodes_is _ _ e (nodes_append first more (expr_nodes r) (more_nodes m))
-
-  more_nodes : {d : ℕ} {xs : List Marked} {ts : _} → MoreArgsRule d xs ts → Nodes xs
-  more_nodes end_args = tt
-  more_nodes (more_args p next more r m e) = nodes_is _ _ e (tt, nodes_append next more (expr_nodes r) (more_nodes m))
-
-type_nodes : {d : ℕ} {xs : List Marked} {t : TypeTree} → TypeRule d xs t → Nodes xs
-type_nodes (int_type p) = (tt, tt)
-type_nodes (bool_type p) = (tt, tt)
-type_nodes (string_type p) = (tt, tt)
-type_nodes (void_type p) = (tt, tt)
-type_nodes (error_type p) = (tt, tt)
-type_nodes (named_type x) = (tt, tt)
-type_nodes (wrapped_type w p q r of t e) = nodes_is _ _ e (tt, (tt, nodes_append of _ (type_nodes t) (tt, tt)))
-
-parts_keep : (ps : List Part) → NodeParts ps → AllInLimits 5 ps → AllInLimits 7 ps
-parts_keep [] n k = tt
-parts_keep (Node d ∷ ps) n k = ((λ h. k.0 (omega arith)), parts_keep ps n k.1)
-parts_keep (Declaration d ∷ ps) n k = absurd n
-parts_keep (Statement d ∷ ps) n k = absurd n
-parts_keep (Variable d ∷ ps) n k = absurd n
-parts_keep (Branch d ∷ ps) n k = absurd n
-
-nodes_keep : (xs : List Marked) → Nodes xs → Keeps 5 xs → Keeps 7 xs
-nodes_keep [] n k = tt
-nodes_keep (x ∷ xs) n k = (parts_keep x.parts n.0 k.0, nodes_keep xs n.1 k.1)
 
 -- a type and an expression have a token at least
 length_begin : (p : Part) (xs : List Marked) → length (begin p xs) ≡ length xs
@@ -112,17 +54,8 @@ type_some (error_type p) = omega arith
 type_some (named_type x) = omega arith
 type_some (wrapped_type w p q r of t e) = omega (arith, ap length e)
 
-drop_nil : (n : ℕ) → drop {A = Spot} n [] ≡ []
-drop_nil zero = refl
-drop_nil (suc n) = refl
-
-drop_drop : (xs : List Spot) (a n : ℕ) → drop n (drop a xs) ≡ drop (a + n) xs
-drop_drop xs zero n = let e : n ≡ 0 + n = omega arith in ap (λ k. drop k xs) e
-drop_drop [] (suc a) n = drop_nil n ∙ sym (drop_nil (suc a + n))
-drop_drop (x ∷ xs) (suc a) n = drop_drop xs a n ∙ (let e : suc (a + n) ≡ suc a + n = omega arith in ap (λ k. drop k (x ∷ xs)) e)
-
-part_of : {A : Type 0} (R : List Marked → A → Type 0) (F : A → List Marked → Type 0) (t : Tokens) (from : ℕ) (tree : A) (to : ℕ) → from ≤ length t.spots.items → IsRead R t from tree to → ((xs : List Marked) → R xs tree → Nodes xs) → Reads R F t.spots.items from tree to
-part_of R F t from tree to w r n =
+part_of : {A : Type 0} (R : List Marked → A → Type 0) (F : A → List Marked → Type 0) (t : Tokens) (from : ℕ) (tree : A) (to : ℕ) → from ≤ length t.spots.items → IsRead R t from tree to → ((xs : List Marked) → R xs tree → Nodes xs) → Only R F tree (to - from) (drop from t.spots.items) → Reads R F t.spots.items from tree to
+part_of R F t from tree to w r n o =
     let spots = t.spots.items in
     let k = to - from in
     let d = r.derived in
@@ -132,30 +65,48 @@ part_of R F t from tree to w r n =
       within = omega (arith, r.reads.within, r.after, length-drop from spots);
       marked = d.marked;
       rule = d.rule;
-      is = sym (take-append-drop k (drop from spots)) ∙ ap (λ z. z ++ drop k (drop from spots)) (sym d.is) ∙ ap (λ z. spots_of d.marked ++ z) (drop_drop spots from k ∙ ap (λ i. drop i spots) e);
-      keeps = nodes_keep d.marked (n d.marked d.rule) d.keeps;
+      is = sym (take-append-drop k (drop from spots)) ∙ ap (λ z. z ++ drop k (drop from spots)) (sym d.is) ∙ ap (λ z. spots_of d.marked ++ z) (drop_drop k from spots ∙ ap (λ i. drop i spots) e);
+      keeps = depth_keeps 7 d.marked (n d.marked d.rule) (λ l. d.keeps);
+      only = o;
     }
 
 longer : {A : Type 0} {F : A → List Marked → Type 0} (R : List Marked → A → Type 0) (spots : List Spot) (a b : ℕ) (tree : A) → a ≤ length spots → ((xs : List Marked) → R xs tree → 0 < length xs) → Reads R F spots a tree b → a < b
 longer R spots a b tree w f r = omega (arith, f r.marked r.rule, ap length r.is, length-append (spots_of r.marked) (drop b spots), length-drop a spots, length-drop b spots, length_spots r.marked, r.within, r.after)
 
+fifth : {A : Type 0} {R : List Marked → A → Type 0} {F : A → List Marked → Type 0} {t : Tokens} {from : ℕ} {p : Place} (n : ℕ) → n ≡ 5 → StopsAt R F 5 t from p → Fails R F t from (Refused (rule.L n) p)
+fifth {R = R} {F = F} {t = t} {from = from} {p = p} n e s = (omega (arith, e), omega (arith, e), subst (λ k. StopsAt R F k t from p) (sym e) s)
+
 module _ (t : Tokens) (from d : ℕ) (h : from ≤ length t.spots.items) where
+  type_reads : (y : TypeTree) (to : ℕ) → IsRead (TypeRule d) t from y to → Reads (TypeRule d) Any t.spots.items from y to
+  type_reads y to a = part_of (TypeRule d) Any t from y to h a (λ xs q. type_nodes q) (type_only t from d y to a)
+
+  expr_reads : (e : ExprTree) (to : ℕ) → IsRead (ExprRule 0 d) t from e to → Reads (ExprRule 0 d) ExprEnds t.spots.items from e to
+  expr_reads e to a = part_of (ExprRule 0 d) ExprEnds t from e to h a (λ xs q. expr_nodes q) (expr_only t from d e to a)
+
   pub type_answer : (r : Result (Ty × ℕ) SourceFault) → ReaderAnswer (TypeRule d) type_of t from r → Answer (TypeRule d) Any (λ x. type_of x.0) (λ x. x.1) t from r
-  type_answer (Ok x) a = part_of (TypeRule d) Any t from (type_of x.0) x.1 h a (λ xs q. type_nodes q)
-  type_answer (Err e) a = tt
+  type_answer (Ok x) a = type_reads (type_of x.0) x.1 a
+  type_answer (Err (Refused (rule.S n) p)) a = (a.0, record { number = a.1.count; place = a.1.place; stops = type_missing_stops t from d p a.1 })
+  type_answer (Err (Refused (rule.L n) p)) a = fifth n a.0 (record { number = a.1.number; place = a.1.place; stops = type_deep_stops t from d p a.1 })
+  type_answer (Err (Refused (rule.K n) p)) a = a
+  type_answer (Err (AcrossWait p q r)) a = a
+  type_answer (Err OutOfMemory) a = tt
 
   pub type_moves : (r : Result (Ty × ℕ) SourceFault) → ReaderAnswer (TypeRule d) type_of t from r → IfOk r (λ x. (from < x.1) × (x.1 ≤ length t.spots.items))
   type_moves (Ok x) a =
-      let r = part_of (TypeRule d) Any t from (type_of x.0) x.1 h a (λ xs q. type_nodes q) in
+      let r = type_reads (type_of x.0) x.1 a in
       (longer (TypeRule d) t.spots.items from x.1 (type_of x.0) h (λ xs q. type_some q) r, r.within)
   type_moves (Err e) a = tt
 
   pub expr_answer : (r : Result (Expr × ℕ) SourceFault) → ReaderAnswer (ExprRule 0 d) expr_of t from r → Answer (ExprRule 0 d) ExprEnds (λ x. expr_of x.0) (λ x. x.1) t from r
-  expr_answer (Ok x) a = part_of (ExprRule 0 d) ExprEnds t from (expr_of x.0) x.1 h a (λ xs q. expr_nodes q)
-  expr_answer (Err e) a = tt
+  expr_answer (Ok x) a = expr_reads (expr_of x.0) x.1 a
+  expr_answer (Err (Refused (rule.S n) p)) a = (a.0, record { number = a.1.count; place = a.1.place; stops = expr_missing_stops t from d p a.1 })
+  expr_answer (Err (Refused (rule.L n) p)) a = fifth n a.0 (record { number = a.1.number; place = a.1.place; stops = expr_deep_stops t from d p a.1 })
+  expr_answer (Err (Refused (rule.K n) p)) a = a
+  expr_answer (Err (AcrossWait p q r)) a = a
+  expr_answer (Err OutOfMemory) a = tt
 
   pub expr_moves : (r : Result (Expr × ℕ) SourceFault) → ReaderAnswer (ExprRule 0 d) expr_of t from r → IfOk r (λ x. (from < x.1) × (x.1 ≤ length t.spots.items))
   expr_moves (Ok x) a =
-      let r = part_of (ExprRule 0 d) ExprEnds t from (expr_of x.0) x.1 h a (λ xs q. expr_nodes q) in
+      let r = expr_reads (expr_of x.0) x.1 a in
       (longer (ExprRule 0 d) t.spots.items from x.1 (expr_of x.0) h (λ xs q. expr_some q) r, r.within)
   expr_moves (Err e) a = tt

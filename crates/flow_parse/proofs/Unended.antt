@@ -16,7 +16,7 @@ use Rattle.flow_parse.specs.Reading.{Tok, Named, Then, Any}
 use Rattle.flow_parse.specs.Follow.{ExprEnds, Before}
 use Rattle.flow_parse.specs.Parts.{Out, MoreNames, NodeName, Placed, IntoPart, OperandPart, WaitingPart, ChangeRule, assigns, adds, takes, goes_up, goes_down, ChangedRule, changes, calls, DeclaredRule, no_value, value, ValuedRule, declares, waits, UnendedRule, declaring, changing, waiting, Unended, Simple, Plain, Init, Assignment}
 use Rattle.flow_parse.proofs.Leaves.{Leaves, nothing, narrow, glue, behind, starts_append}
-use Rattle.flow_parse.proofs.Variables.{closed}
+use Rattle.flow_parse.proofs.Shapes.{closed}
 
 starts_is : {w : List Marked} (a b : List Marked) (p : Place) → w ≡ a ++ b → StartsAt a p → StartsAt w p
 starts_is a b p e h = subst (λ z. StartsAt z p) (sym e) (starts_append a b p h)

@@ -19,7 +19,7 @@ use Rattle.flow_exprs.specs.Machine.{ident}
 use Rattle.flow_parse.specs.Reading.{Opening, Tok, Named, Then, Any}
 use Rattle.flow_parse.specs.Follow.{ExprEnds, Before, NotBefore}
 use Rattle.flow_parse.specs.Parts.{Out, Test, Args, MoreArgs, MoreNames, Placed, StatePart, IntoPart, OperandPart, WaitingPart, ChangeRule, ChangedRule, calls, changes, DeclaredRule, ValuedRule, Unended, Simple, Init, Assignment}
-use Rattle.flow_parse.proofs.Variables.{closed}
+use Rattle.flow_parse.proofs.Shapes.{closed}
 use Rattle.flow_parse.proofs.Begins.{AsFirst, starts_looks, TypeToken, WaitToken}
 use Rattle.flow_parse.proofs.Narrow.{starts_not, not_before_is, ends_is, before_is, ends_same, before_same}
 use Rattle.flow_parse.proofs.SimpleBacks.{test_back, state_back, no_state_back, into_back, type_name_starts, wait_back, wait_next_back, no_wait, plain_wait_back, into_wait_back, dot_back, no_dot_back, end_of_args, first_arg, next_arg, no_more_args, ChangeSign, change_starts, change_back, call_back, no_call_back, value_back, no_value_back, Given, given_back, not_given_back, given_wait_back, given_value_back}
@@ -74,7 +74,7 @@ uniq_names (suc k) x = uniq_by (MoreNames x) (NotBefore (token.Sign sign.Dot)) (
 ])
 
 -- arguments
-more_args_ends : {d : ℕ} {ts : ExprTrees} (a : ExprTree) (v z : List Marked) → MoreArgs d v ts → ExprEnds a (v ++ z)
+pub more_args_ends : {d : ℕ} {ts : ExprTrees} (a : ExprTree) (v z : List Marked) → MoreArgs d v ts → ExprEnds a (v ++ z)
 more_args_ends a v z r = by_rule a v z r.0 r.1 r.2 r.3
   where
     by_rule : {d : ℕ} {ts : ExprTrees} (a : ExprTree) (v z : List Marked) (q : Place) (of : List Marked) → MoreArgsRule d of ts → v ≡ of ++ sign_at sign.CloseRound q ∷ [] → ExprEnds a (v ++ z)

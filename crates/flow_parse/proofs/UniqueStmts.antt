@@ -15,8 +15,8 @@ use Rattle.flow_ast.specs.GrammarStmt.{Counts, one_statement}
 use Rattle.flow_parse.specs.Reading.{Tok, Named, Then, Any}
 use Rattle.flow_parse.specs.Follow.{ExprEnds, Before, NotBefore}
 use Rattle.flow_parse.specs.Parts.{Out, NoElse, Test, MaybeExpr, StartPart, NextPart, Placed, Begun, WaitingPart, Init, Assignment, Simple, Plain, One, BodyPart, Closing, Block, Catch, WhenPart, WhensPart, AllWhens, put_before}
-use Rattle.flow_parse.proofs.Variables.{closed}
-use Rattle.flow_parse.proofs.Stmts.{with}
+use Rattle.flow_parse.proofs.Shapes.{closed}
+use Rattle.flow_parse.proofs.Shapes.{with}
 use Rattle.flow_parse.proofs.Looking.{Back}
 use Rattle.flow_parse.proofs.Backs.{tok_front, front}
 use Rattle.flow_parse.proofs.Narrow.{ends_is, before_is, not_before_same}

@@ -1,6 +1,6 @@
 -- What a reader of a part of a program answers. A part is a relation between the tokens that it
 -- consists of, each with what begins at it, and what they mean.
-use Rattle.std.specs.Prelude.{◌≡◌, ℕ, ◌≤◌, List, [], ◌∷◌, ◌++◌, drop, length, slice_get, Result, Ok, Err}
+use Rattle.std.specs.Prelude.{◌≡◌, ℕ, ◌≤◌, List, [], ◌∷◌, ◌++◌, ◌-◌, drop, length, slice_get, Result, Ok, Err}
 use Rattle.std.specs.Option.{option_map}
 use Rattle.std.specs.declared.option.Option.{Option}
 use Rattle.flow_base.specs.declared.place.Place.{Place}
@@ -11,6 +11,7 @@ use Rattle.flow_ast.specs.declared.ty.Ident.{Ident}
 use Rattle.flow_ast.specs.declared.fault.SourceFault.{SourceFault}
 use Rattle.flow_ast.specs.GrammarToken.{Part, Marked, opens, spots_of, Keeps}
 use Rattle.flow_ast.specs.Grammar.{name_at}
+use Rattle.flow_parse.specs.Failing.{Only, Fails}
 
 abbrev pub token_at : List Spot → ℕ → Option Token
 token_at spots k = option_map (λ s. s.token) (slice_get spots k)
@@ -37,8 +38,8 @@ pub record Then {A B : Type 0} (R : List Marked → A → Type 0) (S : A → Lis
 abbrev pub Any : {A : Type 0} → A → List Marked → Type 0
 Any a z = Unit {0}
 
--- The tokens from one number to another are this part. What may stand behind it is named beside it,
--- and nothing rests on that here.
+-- The tokens from one number to another are this part, and it is the only one that can be read here:
+-- no other begins with these tokens and the next where what follows is what may follow.
 pub record Reads {A : Type 0} (R : List Marked → A → Type 0) (F : A → List Marked → Type 0) (spots : List Spot) (from : ℕ) (a : A) (to : ℕ) : Type 0 where
   pub after : from ≤ to
   pub within : to ≤ length spots
@@ -46,12 +47,9 @@ pub record Reads {A : Type 0} (R : List Marked → A → Type 0) (F : A → List
   pub rule : R marked a
   pub is : drop from spots ≡ spots_of marked ++ drop to spots
   pub keeps : Keeps 7 marked
+  pub only : Only R F a (to - from) (drop from spots)
 
--- of a refusal nothing is said
-abbrev pub Fails : {A : Type 0} → (List Marked → A → Type 0) → (A → List Marked → Type 0) → Tokens → ℕ → SourceFault → Type 0
-Fails R F t from e = Unit {0}
-
--- what is read is this part
+-- what is read is this part; or no part is, and the refusal says why
 abbrev pub Answer : {A X : Type 0} → (List Marked → A → Type 0) → (A → List Marked → Type 0) → (X → A) → (X → ℕ) → Tokens → ℕ → Result X SourceFault → Type 0
 Answer R F view to t from (Ok x) = Reads R F t.spots.items from (view x) (to x)
 Answer R F view to t from (Err e) = Fails R F t from e
