@@ -15,16 +15,13 @@ use Rattle.flow_ast.specs.GrammarStmt.{Counts, no_state, some_state, IntoRule, d
 use Rattle.flow_exprs.specs.declared.kind.Kind.{Kind}
 use Rattle.flow_exprs.specs.declared.kind.Kind.TheVariants as kind
 use Rattle.flow_exprs.specs.Kinds.{kind_of}
+use Rattle.flow_parse.specs.Openers.{AsFirst, ExprToken, TypeWord, TypeToken, IntoWord, IntoToken, WaitWord, WaitToken}
 use Rattle.flow_parse.proofs.Looking.{Looks}
 
 -- the first of these tokens is such
 abbrev pub Starts : (Token → Type 0) → List Marked → Type 0
 Starts P [] = ⊥
 Starts P (x ∷ xs) = P x.spot.token
-
-abbrev pub AsFirst : (Token → Type 0) → Option Token → Type 0
-AsFirst P None = ⊥
-AsFirst P (Some t) = P t
 
 pub starts_append : (P : Token → Type 0) (xs ys : List Marked) → Starts P xs → Starts P (xs ++ ys)
 starts_append P [] ys h = absurd h
@@ -50,19 +47,6 @@ looks_first (Some t) x m l = ap Some (sym l)
 pub looks_is : {w : List Marked} (o : Option Token) (x : Marked) (m z : List Marked) → w ≡ x ∷ m → Looks o (w ++ z) → o ≡ Some x.spot.token
 looks_is o x m z e l = looks_first o x (m ++ z) (subst (λ k. Looks o (k ++ z)) e l)
 
--- expressions
-abbrev pub OpensExpr : Kind → Type 0
-OpensExpr kind.Leaf = Unit {0}
-OpensExpr kind.Name = Unit {0}
-OpensExpr kind.Void = Unit {0}
-OpensExpr kind.Open = Unit {0}
-OpensExpr kind.Not = Unit {0}
-OpensExpr (kind.Op Sub) = Unit {0}
-OpensExpr _ = ⊥
-
-abbrev pub ExprToken : Token → Type 0
-ExprToken t = OpensExpr (kind_of t)
-
 pub expr_starts : {k d : ℕ} {w : List Marked} {e : ExprTree} → ExprRule k d w e → Starts ExprToken w
 expr_starts (number n p) = tt
 expr_starts (text t p) = tt
@@ -77,33 +61,6 @@ expr_starts {d = d} (method p q r f of args t a e) = starts_begin ExprToken (Nod
 expr_starts (negation p of h r e) = subst (Starts ExprToken) (sym e) tt
 expr_starts (minus p of h r e) = subst (Starts ExprToken) (sym e) tt
 expr_starts {d = d} (binary op p left right h a b e) = starts_begin ExprToken (Node d) left _ e (expr_starts a)
-
--- types, and what may begin with the word `state`
-abbrev pub TypeWord : Word → Type 0
-TypeWord word.Int = Unit {0}
-TypeWord word.Bool = Unit {0}
-TypeWord word.Str = Unit {0}
-TypeWord word.Void = Unit {0}
-TypeWord word.Error = Unit {0}
-TypeWord word.Future = Unit {0}
-TypeWord word.FutureStream = Unit {0}
-TypeWord word.Promise = Unit {0}
-TypeWord word.PromiseStream = Unit {0}
-TypeWord _ = ⊥
-
-abbrev pub TypeToken : Token → Type 0
-TypeToken (token.Name n) = Unit {0}
-TypeToken (token.Word k) = TypeWord k
-TypeToken _ = ⊥
-
-abbrev pub IntoWord : Word → Type 0
-IntoWord word.State = Unit {0}
-IntoWord k = TypeWord k
-
-abbrev pub IntoToken : Token → Type 0
-IntoToken (token.Name n) = Unit {0}
-IntoToken (token.Word k) = IntoWord k
-IntoToken _ = ⊥
 
 pub type_starts : {d : ℕ} {w : List Marked} {t : TypeTree} → TypeRule d w t → Starts TypeToken w
 type_starts (int_type p) = tt
@@ -144,16 +101,6 @@ starts_weaken P Q f (x ∷ xs) h = f x.spot.token h
 pub into_starts : {actor : Bool} {d : ℕ} {c c' : Counts} {w : List Marked} {i : IntoTree} → IntoRule actor d c c' w i → Starts IntoToken w
 into_starts (declared x kept of no_state t e) = starts_is IntoToken of _ e (starts_weaken TypeToken IntoToken type_into of (type_starts t))
 into_starts (declared x kept of (some_state p) t e) = subst (Starts IntoToken) (sym e) tt
-
--- waits
-abbrev pub WaitWord : Word → Type 0
-WaitWord word.Wait = Unit {0}
-WaitWord word.WaitNext = Unit {0}
-WaitWord _ = ⊥
-
-abbrev pub WaitToken : Token → Type 0
-WaitToken (token.Word k) = WaitWord k
-WaitToken _ = ⊥
 
 pub operand_starts : {d : ℕ} {w : List Marked} {b : Bool} {e : ExprTree} → OperandRule d w b e → Starts WaitToken w
 operand_starts (wait p q r of x e) = subst (Starts WaitToken) (sym e) tt

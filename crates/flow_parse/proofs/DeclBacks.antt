@@ -14,13 +14,14 @@ use Rattle.flow_ast.specs.GrammarToken.{Part, Declaration, Node, Variable, Marke
 use Rattle.flow_ast.specs.Grammar.{sign_at, word_at, name_at, TypeRule}
 use Rattle.flow_ast.specs.GrammarStmt.{StartsAt}
 use Rattle.flow_ast.specs.GrammarDecl.{ParamRule, param, FieldsRule, no_fields, more_fields, MoreParamsRule, end_params, more_params, ParamsRule, no_params, some_params, RecordRule, fields, RoutineRule, routine, DeclRule, record_decl, function_decl, actor_decl, DeclsRule, no_decls, more_decls}
+use Rattle.flow_parse.specs.Openers.{TypeToken, DeclToken}
 use Rattle.flow_parse.specs.Reading.{Tok, Named, Then, Any}
 use Rattle.flow_parse.specs.Follow.{AtEnd}
 use Rattle.flow_parse.specs.Parts.{BlockOut, Placed, Marks, Block, FieldsPart, AllFields, MoreParams, Params, RoutineOut, Routine}
 use Rattle.flow_parse.proofs.Shapes.{TypeName}
 use Rattle.flow_parse.proofs.Looking.{Looks, Back}
 use Rattle.flow_parse.proofs.Backs.{Formed, front, tok_front}
-use Rattle.flow_parse.proofs.Begins.{Starts, starts_is, starts_looks, looks_is, TypeToken, type_starts}
+use Rattle.flow_parse.proofs.Begins.{Starts, starts_is, starts_looks, looks_is, type_starts}
 
 pub param_back : {n : ℕ} {w : List Marked} {f : ParamTree} (z : List Marked) → ParamRule n w f → Back (ParamRule n) Any (Marks (Variable n) TypeName) Any (λ x. record { ty = x.0; name = x.1 }) w z f
 param_back z (param {t = t} x of r e) = record { tree = (t, x); rule = (of ++ name_at x ∷ [], front (TypeRule 1) t x of (name_at x ∷ []) refl r refl, e); is = refl; follows = tt }
@@ -187,12 +188,6 @@ function_back z o n m (function_decl {t = y} {f = f} at of xs t r e s) l = recor
   follows = tt;
 }
 function_back z o n m (actor_decl at p q r of xs t u e) l = absurd (m (looks_is o (word_at word.Actor at) _ z e l))
-
--- with these tokens declarations begin
-abbrev pub DeclToken : Token → Type 0
-DeclToken (token.Word word.Struct) = Unit {0}
-DeclToken (token.Word word.Actor) = Unit {0}
-DeclToken t = TypeToken t
 
 type_decl : (w : List Marked) → Starts TypeToken w → Starts DeclToken w
 type_decl [] h = absurd h

@@ -13,24 +13,9 @@ use Rattle.flow_ast.specs.Body.{IntoTree, WaitTree, Body}
 use Rattle.flow_ast.specs.GrammarToken.{Marked}
 use Rattle.flow_ast.specs.Grammar.{TypeRule, int_type, bool_type, string_type, void_type, error_type, named_type, wrapped_type, FutureOf, FutureStreamOf, PromiseOf, PromiseStreamOf}
 use Rattle.flow_ast.specs.GrammarStmt.{Counts, no_state, some_state, IntoRule, declared, OperandRule, wait, wait_next, WaitingRule, plain_wait, into_wait, PathRule, last_name, more_names, AssignRule, assign, plus, minus, up, down, InitRule, declare, declare_value, change, PlainRule, if_stmt, if_else_stmt, while_stmt, for_stmt, loop_stmt, break_stmt, continue_stmt, return_stmt, throw_stmt, try_stmt, choose_stmt, init_stmt, wait_stmt, call_stmt}
+use Rattle.flow_parse.specs.Openers.{StartsWord}
 use Rattle.flow_parse.proofs.Looking.{Looks}
 use Rattle.flow_parse.proofs.Backs.{opener}
-
--- a statement that holds no other, and no word before it, may begin with this token
-abbrev pub StartsWord : Word → Type 0
-StartsWord word.State = Unit {0}
-StartsWord word.Wait = Unit {0}
-StartsWord word.WaitNext = Unit {0}
-StartsWord word.Int = Unit {0}
-StartsWord word.Bool = Unit {0}
-StartsWord word.Str = Unit {0}
-StartsWord word.Void = Unit {0}
-StartsWord word.Error = Unit {0}
-StartsWord word.Future = Unit {0}
-StartsWord word.FutureStream = Unit {0}
-StartsWord word.Promise = Unit {0}
-StartsWord word.PromiseStream = Unit {0}
-StartsWord _ = ⊥
 
 abbrev pub StartsSimple : Token → Type 0
 StartsSimple (token.Name n) = Unit {0}

@@ -13,12 +13,12 @@ use Rattle.flow_ast.specs.Decls.{StructDecl, FunctionDecl, ActorDecl, ProgramTre
 use Rattle.flow_ast.specs.GrammarToken.{Declaration, Node, Variable, Marked, spots_of, Derives}
 use Rattle.flow_ast.specs.Grammar.{TypeRule}
 use Rattle.flow_ast.specs.GrammarDecl.{ParamRule, DeclRule, DeclsRule, ProgramRule, program}
+use Rattle.flow_parse.specs.Openers.{TypeToken, DeclToken}
 use Rattle.flow_parse.specs.Reading.{Tok, Named, Then, Any}
 use Rattle.flow_parse.specs.Follow.{AtEnd}
 use Rattle.flow_parse.specs.Parts.{Placed, Marks, Block, FieldsPart, AllFields, MoreParams, Params, Routine}
 use Rattle.flow_parse.proofs.Shapes.{TypeName}
-use Rattle.flow_parse.proofs.Begins.{TypeToken}
-use Rattle.flow_parse.proofs.DeclBacks.{param_back, param_starts, no_params_back, params_back, more_params_back, end_params_back, end_fields_back, more_fields_back, all_fields_back, RecordSeq, RoutineSeq, routine_back, FunctionSeq, function_tree, ActorSeq, actor_tree, record_back, actor_back, function_back, DeclToken, decl_marks_starts, DeclMarks, end_decls_back, decls_back}
+use Rattle.flow_parse.proofs.DeclBacks.{param_back, param_starts, no_params_back, params_back, more_params_back, end_params_back, end_fields_back, more_fields_back, all_fields_back, RecordSeq, RoutineSeq, routine_back, FunctionSeq, function_tree, ActorSeq, actor_tree, record_back, actor_back, function_back, decl_marks_starts, DeclMarks, end_decls_back, decls_back}
 use Rattle.flow_parse.proofs.Unique.{Uniq, UniqAt, uniq_by, at_nil, at_narrow, narrowed, uniq_opening, uniq_name, uniq_marks, uniq_placed, seq, seq_less, seq_tok, same_tok, at_close, at_comma, at_close_curly, at_struct, at_actor}
 use Rattle.flow_parse.proofs.UniqueTypes.{uniq_type}
 use Rattle.flow_parse.proofs.UniqueStmts.{uniq_block}

@@ -15,12 +15,13 @@ use Rattle.flow_ast.specs.GrammarToken.{Marked, opens}
 use Rattle.flow_ast.specs.Grammar.{sign_at, word_at, name_at, TypeRule, ExprRule, ArgsRule, no_args, some_args, MoreArgsRule, end_args, more_args}
 use Rattle.flow_ast.specs.GrammarStmt.{Counts, one_state, state_parts, StateRule, no_state, some_state, IntoRule, declared, OperandRule, wait, wait_next, WaitingRule, plain_wait, into_wait, PathRule, last_name, more_names}
 use Rattle.flow_exprs.specs.Machine.{ident}
+use Rattle.flow_parse.specs.Openers.{AsFirst, ExprToken, TypeToken, IntoToken, WaitToken}
 use Rattle.flow_parse.specs.Reading.{Opening, Tok, Named, Then, Any}
 use Rattle.flow_parse.specs.Follow.{ExprEnds, Before, NotBefore}
 use Rattle.flow_parse.specs.Parts.{Test, Args, MoreArgs, MoreNames, StatePart, IntoPart, OperandPart, WaitingPart, ChangeRule, assigns, adds, takes, goes_up, goes_down, ChangedRule, changes, calls, DeclaredRule, no_value, value, ValuedRule, declares, waits}
 use Rattle.flow_parse.proofs.Looking.{Looks, Back}
 use Rattle.flow_parse.proofs.Backs.{Formed, front, tok_front}
-use Rattle.flow_parse.proofs.Begins.{Starts, AsFirst, starts_is, starts_looks, looks_first, looks_is, ExprToken, expr_starts, TypeToken, type_starts, IntoToken, into_starts, WaitToken, operand_starts, wait_no_into, wait_no_expr}
+use Rattle.flow_parse.proofs.Begins.{Starts, starts_is, starts_looks, looks_first, looks_is, expr_starts, type_starts, into_starts, operand_starts, wait_no_into, wait_no_expr}
 use Rattle.flow_parse.proofs.Narrow.{then_tok_looks, semicolon_ends}
 
 -- "(" expr ")"

@@ -15,6 +15,7 @@ use Rattle.flow_ast.specs.Body.{WaitTree, Body, End, BlockStmt, IfStmt, IfElseSt
 use Rattle.flow_ast.specs.GrammarToken.{Node, Branch, Marked, opens}
 use Rattle.flow_ast.specs.Grammar.{sign_at, word_at, ExprRule}
 use Rattle.flow_ast.specs.GrammarStmt.{Counts, one_statement, begin_statement, AssignRule, assign, plus, minus, up, down, InitRule, declare, declare_value, change, InitPart, no_init, some_init, StepPart, no_step, some_step, MaybeExprRule, no_expr, some_expr, PlainRule, if_stmt, if_else_stmt, while_stmt, for_stmt, loop_stmt, break_stmt, continue_stmt, return_stmt, throw_stmt, try_stmt, choose_stmt, init_stmt, wait_stmt, call_stmt, StmtRule, block_stmt, plain_stmt, BodyRule, block_body, one_body, BlockRule, braces, StmtsRule, no_stmts, more_stmts, WhensRule, no_whens, more_whens, WhenRule, branch}
+use Rattle.flow_parse.specs.Openers.{ExprToken, StartsWord, StmtWord, PlainToken, StmtToken, WhenToken}
 use Rattle.flow_parse.specs.Reading.{Opening, Tok, Then, Any}
 use Rattle.flow_parse.specs.Follow.{NotBefore}
 use Rattle.flow_parse.specs.Parts.{Out, BlockOut, NoElse, Test, MaybeExpr, StartPart, NextPart, Placed, Begun, WaitingPart, Init, Assignment, Simple, Plain, One, BodyPart, Closing, Block, WhenOut, WhenPart, WhensPart, AllWhens, put_before}
@@ -22,33 +23,10 @@ use Rattle.flow_parse.proofs.Shapes.{closed}
 use Rattle.flow_parse.proofs.Shapes.{with}
 use Rattle.flow_parse.proofs.Looking.{Looks, Back}
 use Rattle.flow_parse.proofs.Backs.{opener, Form, form, front, tok_front, block_of}
-use Rattle.flow_parse.proofs.Begins.{Starts, starts_weaken, starts_is, starts_looks, looks_first, looks_is, ExprToken, expr_starts}
-use Rattle.flow_parse.proofs.Firsts.{Begins, StartsWord, StartsSimple, OpenerIs, opener_is, init_begins, waiting_begins, path_begins, assign_begins}
+use Rattle.flow_parse.proofs.Begins.{Starts, starts_weaken, starts_is, starts_looks, looks_first, looks_is, expr_starts}
+use Rattle.flow_parse.proofs.Firsts.{Begins, StartsSimple, OpenerIs, opener_is, init_begins, waiting_begins, path_begins, assign_begins}
 use Rattle.flow_parse.proofs.Narrow.{not_before_same, not_before_is, starts_not}
 use Rattle.flow_parse.proofs.UnendedBacks.{plain_simple}
-
--- with these tokens statements begin
-abbrev pub StmtWord : Word → Type 0
-StmtWord word.If = Unit {0}
-StmtWord word.While = Unit {0}
-StmtWord word.For = Unit {0}
-StmtWord word.Loop = Unit {0}
-StmtWord word.Break = Unit {0}
-StmtWord word.Continue = Unit {0}
-StmtWord word.Return = Unit {0}
-StmtWord word.Throw = Unit {0}
-StmtWord word.Try = Unit {0}
-StmtWord word.Choose = Unit {0}
-StmtWord k = StartsWord k
-
-abbrev pub PlainToken : Token → Type 0
-PlainToken (token.Name n) = Unit {0}
-PlainToken (token.Word k) = StmtWord k
-PlainToken _ = ⊥
-
-abbrev pub StmtToken : Token → Type 0
-StmtToken (token.Sign sign.OpenCurly) = Unit {0}
-StmtToken t = PlainToken t
 
 simple_word : (k : Word) → StartsWord k → StmtWord k
 simple_word word.State h = tt
@@ -507,10 +485,6 @@ whens_no_else {A = A} a z r = by_rule r.0 r.1 r.2 r.3
     by_rule : {actor : Bool} {d n : ℕ} {c c' : Counts} {w : List Marked} {b : Branches} (q : Place) (of : List Marked) → WhensRule actor d n c c' of b → w ≡ of ++ sign_at sign.CloseCurly q ∷ [] → NotBefore (token.Word word.Else) a (w ++ z)
     by_rule {w = w} q of no_whens e = not_before_is a (token.Word word.Else) (sign_at sign.CloseCurly q) w [] z e curly
     by_rule q of (more_whens first more v m f) e = by_when v (more ++ sign_at sign.CloseCurly q ∷ []) (e ∙ ap (λ k. k ++ sign_at sign.CloseCurly q ∷ []) f ∙ append_assoc first more (sign_at sign.CloseCurly q ∷ []))
-
-abbrev pub WhenToken : Token → Type 0
-WhenToken (token.Word word.When) = Unit {0}
-WhenToken _ = ⊥
 
 pub when_starts : {actor : Bool} {d n : ℕ} {c c' : Counts} {bs b : Branches} (w : List Marked) → WhenRule actor d n c c' w bs b → Starts WhenToken w
 when_starts w (branch at p q xs body r o e) = subst (Starts WhenToken) (sym e) tt

@@ -15,12 +15,13 @@ use Rattle.flow_ast.specs.Body.{IntoTree, WaitTree, Body, End, WaitStmt}
 use Rattle.flow_ast.specs.GrammarToken.{Marked}
 use Rattle.flow_ast.specs.Grammar.{sign_at, name_at, node_name, node_word, wrapper_word, TypeRule, int_type, bool_type, string_type, void_type, error_type, named_type, wrapped_type}
 use Rattle.flow_ast.specs.GrammarStmt.{Counts, StartsAt, no_state, some_state, IntoRule, declared, WaitingRule, plain_wait, into_wait, PathRule, last_name, more_names, AssignRule, assign, plus, minus, up, down, InitRule, declare, declare_value, change, PlainRule, if_stmt, if_else_stmt, while_stmt, for_stmt, loop_stmt, break_stmt, continue_stmt, return_stmt, throw_stmt, try_stmt, choose_stmt, init_stmt, wait_stmt, call_stmt}
+use Rattle.flow_parse.specs.Openers.{AsFirst, IntoToken, WaitToken}
 use Rattle.flow_parse.specs.Reading.{Tok, Named, Then, Any}
 use Rattle.flow_parse.specs.Follow.{ExprEnds, Before}
 use Rattle.flow_parse.specs.Parts.{Out, MoreNames, NodeName, Placed, IntoPart, OperandPart, ChangeRule, assigns, adds, takes, goes_up, goes_down, ChangedRule, changes, calls, DeclaredRule, no_value, value, ValuedRule, declares, waits, UnendedRule, declaring, changing, waiting, Unended, Simple, Assignment}
 use Rattle.flow_parse.proofs.Looking.{Looks, Back}
 use Rattle.flow_parse.proofs.Backs.{opener, Formed, front}
-use Rattle.flow_parse.proofs.Begins.{Starts, AsFirst, starts_is, starts_looks, looks_first, looks_is, IntoToken, into_starts, WaitToken, operand_starts, wait_no_into}
+use Rattle.flow_parse.proofs.Begins.{Starts, starts_is, starts_looks, looks_first, looks_is, into_starts, operand_starts, wait_no_into}
 use Rattle.flow_parse.proofs.Narrow.{semicolon_ends}
 use Rattle.flow_parse.proofs.SimpleBacks.{no_wait}
 

@@ -12,10 +12,11 @@ use Rattle.flow_ast.specs.GrammarToken.{Part, Marked, opens, begin, spots_of}
 use Rattle.flow_ast.specs.GrammarStmt.{Counts, begin_statement, StartsAt}
 use Rattle.flow_ast.specs.Grammar.{name_at}
 use Rattle.flow_exprs.specs.Machine.{ident}
+use Rattle.flow_parse.specs.Openers.{AsFirst, WaitToken}
 use Rattle.flow_parse.specs.Reading.{Opening, Named, Then, Any}
 use Rattle.flow_parse.specs.Parts.{Placed, Marks, Begun}
 use Rattle.flow_parse.proofs.Looking.{Looks, first_of, Back}
-use Rattle.flow_parse.proofs.Begins.{Starts, AsFirst, WaitToken}
+use Rattle.flow_parse.proofs.Begins.{Starts}
 
 -- of fewer than k tokens, what is read is one part, however it is read
 abbrev pub Uniq : {A : Type 0} → ℕ → (List Marked → A → Type 0) → (A → List Marked → Type 0) → Type 0

@@ -16,11 +16,12 @@ use Rattle.flow_ast.specs.GrammarToken.{Marked, spots_of}
 use Rattle.flow_ast.specs.Grammar.{sign_at, name_at, node_name, TypeRule, ExprRule, MoreArgsRule, end_args, more_args}
 use Rattle.flow_ast.specs.GrammarStmt.{Counts, one_state, state_parts}
 use Rattle.flow_exprs.specs.Machine.{ident}
+use Rattle.flow_parse.specs.Openers.{AsFirst, TypeToken, WaitToken}
 use Rattle.flow_parse.specs.Reading.{Opening, Tok, Named, Then, Any}
 use Rattle.flow_parse.specs.Follow.{ExprEnds, Before, NotBefore}
 use Rattle.flow_parse.specs.Parts.{Out, Test, Args, MoreArgs, MoreNames, Placed, StatePart, IntoPart, OperandPart, WaitingPart, ChangeRule, ChangedRule, calls, changes, DeclaredRule, ValuedRule, Unended, Simple, Init, Assignment}
 use Rattle.flow_parse.proofs.Shapes.{closed}
-use Rattle.flow_parse.proofs.Begins.{AsFirst, starts_looks, TypeToken, WaitToken}
+use Rattle.flow_parse.proofs.Begins.{starts_looks}
 use Rattle.flow_parse.proofs.Narrow.{starts_not, not_before_is, ends_is, before_is, ends_same, before_same}
 use Rattle.flow_parse.proofs.SimpleBacks.{test_back, state_back, no_state_back, into_back, type_name_starts, wait_back, wait_next_back, no_wait, plain_wait_back, into_wait_back, dot_back, no_dot_back, end_of_args, first_arg, next_arg, no_more_args, ChangeSign, change_starts, change_back, call_back, no_call_back, value_back, no_value_back, Given, given_back, not_given_back, given_wait_back, given_value_back}
 use Rattle.flow_parse.proofs.UnendedBacks.{AnyName, of_name, assignment_back, AfterName, AfterInit, named_value_back, changed_back, named_declared_back, change_init_back, unended_wait, unended_into, unended_name, init_into, init_name, simple_back}

@@ -12,6 +12,7 @@ use Rattle.flow_ast.specs.Body.{End, BlockStmt, WhileStmt, ForStmt, LoopStmt, Br
 use Rattle.flow_ast.specs.GrammarToken.{Node, Branch, Marked}
 use Rattle.flow_ast.specs.Grammar.{sign_at, word_at, name_at, ExprRule}
 use Rattle.flow_ast.specs.GrammarStmt.{Counts, one_statement}
+use Rattle.flow_parse.specs.Openers.{StmtToken, WhenToken}
 use Rattle.flow_parse.specs.Reading.{Tok, Named, Then, Any}
 use Rattle.flow_parse.specs.Follow.{ExprEnds, Before, NotBefore}
 use Rattle.flow_parse.specs.Parts.{Out, NoElse, Test, MaybeExpr, StartPart, NextPart, Placed, Begun, WaitingPart, Init, Assignment, Simple, Plain, One, BodyPart, Closing, Block, Catch, WhenPart, WhensPart, AllWhens, put_before}
@@ -20,7 +21,7 @@ use Rattle.flow_parse.proofs.Shapes.{with}
 use Rattle.flow_parse.proofs.Looking.{Back}
 use Rattle.flow_parse.proofs.Backs.{tok_front, front}
 use Rattle.flow_parse.proofs.Narrow.{ends_is, before_is, not_before_same}
-use Rattle.flow_parse.proofs.StmtBacks.{StmtToken, stmt_starts, IsKeyword, at_keyword, keyword_back, plain_back, ElsePart, ElseFollow, if_out, IfParts, if_back, else_back, no_else_back, no_expr_back, some_expr_back, no_start_back, start_back, no_next_back, next_back, one_block_back, one_plain_back, body_block_back, body_plain_back, block_back, end_back, more_back, closing_no_else, WhenSeq, when_of, when_back, all_whens_back, end_whens_back, more_whens_back, whens_no_else, WhenToken, when_starts}
+use Rattle.flow_parse.proofs.StmtBacks.{stmt_starts, IsKeyword, at_keyword, keyword_back, plain_back, ElsePart, ElseFollow, if_out, IfParts, if_back, else_back, no_else_back, no_expr_back, some_expr_back, no_start_back, start_back, no_next_back, next_back, one_block_back, one_plain_back, body_block_back, body_plain_back, block_back, end_back, more_back, closing_no_else, WhenSeq, when_of, when_back, all_whens_back, end_whens_back, more_whens_back, whens_no_else, when_starts}
 use Rattle.flow_parse.proofs.Unique.{Uniq, UniqAt, uniq_by, at_nil, at_narrow, narrowed, uniq_opening, uniq_name, uniq_begun, uniq_placed, seq, seq_less, seq_tok, same_tok, at_close, at_semicolon, at_open_curly, at_close_curly, at_else}
 use Rattle.flow_parse.proofs.UniqueExprs.{uniq_expr}
 use Rattle.flow_parse.proofs.UniqueParts.{uniq_test, uniq_waiting, uniq_assignment, uniq_init, uniq_simple}

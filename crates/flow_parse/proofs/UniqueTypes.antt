@@ -10,10 +10,11 @@ use Rattle.flow_ast.specs.declared.token.Sign.TheVariants as sign
 use Rattle.flow_ast.specs.Tree.{TypeTree, IntType, BoolType, StringType, VoidType, ErrorType, NamedType, FutureType, FutureStreamType, PromiseType, PromiseStreamType}
 use Rattle.flow_ast.specs.GrammarToken.{Node, Marked, opens}
 use Rattle.flow_ast.specs.Grammar.{sign_at, node_word, Wrapper, FutureOf, FutureStreamOf, PromiseOf, PromiseStreamOf, wrapper_word, TypeRule, int_type, bool_type, string_type, void_type, error_type, named_type, wrapped_type}
+use Rattle.flow_parse.specs.Openers.{TypeToken}
 use Rattle.flow_parse.specs.Reading.{Opening, Tok, Then, Any}
 use Rattle.flow_parse.proofs.Looking.{Looks}
 use Rattle.flow_parse.proofs.Backs.{Formed, front, tok_front}
-use Rattle.flow_parse.proofs.Begins.{looks_first, looks_is, starts_looks, TypeToken, type_starts}
+use Rattle.flow_parse.proofs.Begins.{looks_first, looks_is, starts_looks, type_starts}
 use Rattle.flow_parse.proofs.Unique.{Uniq, UniqAt, uniq_by, at_none, at_narrow, uniq_opening, seq, seq_tok, same_tok}
 
 -- the first token of a type

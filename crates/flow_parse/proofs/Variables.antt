@@ -15,11 +15,11 @@ use Rattle.flow_ast.specs.Body.{IntoTree, PlusChange, MinusChange, UpChange, Dow
 use Rattle.flow_ast.specs.GrammarToken.{Marked}
 use Rattle.flow_ast.specs.Grammar.{sign_at, name_at, TypeRule, ExprRule, no_args, some_args, end_args, more_args}
 use Rattle.flow_ast.specs.GrammarStmt.{Counts, one_state, state_parts, StateRule, no_state, some_state, declared, wait, wait_next, PathRule, last_name, more_names}
+use Rattle.flow_parse.specs.Openers.{TypeToken}
 use Rattle.flow_parse.specs.Reading.{token_at, Opening, Tok, Named, Then, Any, Reads}
 use Rattle.flow_parse.specs.Follow.{ExprEnds, Before, NotBefore}
 use Rattle.flow_parse.specs.Parts.{Out, Test, Args, MoreArgs, MoreNames, StatePart, IntoPart, OperandPart, ChangeRule, assigns, adds, takes, goes_up, goes_down, ChangedRule, changes, calls, DeclaredRule, no_value, value, ValuedRule, declares, waits}
 use Rattle.flow_parse.proofs.Looking.{Looks, Back}
-use Rattle.flow_parse.proofs.Begins.{AsFirst, TypeToken, WaitToken}
 use Rattle.flow_parse.proofs.Narrow.{starts_not, ends_is, ends_same, before_is}
 use Rattle.flow_parse.proofs.Failing.{Inhabited}
 use Rattle.flow_parse.proofs.Inhabitants.{some_then, some_opening, some_named, some_type, some_expr, some_test, some_args as args_inhabited, some_more_args, some_names, some_operand}

@@ -2,6 +2,7 @@ pub mod Failing
 pub mod Follow
 pub mod Form
 pub mod Laws
+pub mod Openers
 pub mod ParseAnswer
 pub mod Parts
 pub mod Reading

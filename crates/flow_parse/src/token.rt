@@ -6,6 +6,7 @@ ghost use Rattle.flow_ast.specs.GrammarAnswer.{place_at};
 ghost use Rattle.flow_ast.specs.View.{type_of, expr_of};
 ghost use Rattle.flow_ast.specs.Grammar.{TypeRule, ExprRule};
 ghost use Rattle.flow_parse.specs.Reading.{token_at, Tok, Named, Any, Answer};
+ghost use Rattle.flow_parse.specs.Openers.{AsFirst, NameToken, ExprToken, TypeToken, TypeWord};
 ghost use Rattle.flow_exprs.specs.Answer.{ident_of, ident_at};
 ghost use Rattle.flow_parse.specs.Follow.{ExprEnds};
 
@@ -85,6 +86,7 @@ pub fn is_sign(tokens: &Tokens, at: usize, wanted: Sign) -> bool
 
 /// Whether a name stands here.
 pub fn is_name(tokens: &Tokens, at: usize) -> bool
+    ensures name { IsTrue result ↔ AsFirst NameToken (token_at tokens.now.spots.items at) }
     ensures within { OnTrue result (at < length tokens.now.spots.items) }
 {
     match tokens.spots.get(at) {
@@ -184,7 +186,9 @@ pub fn expr(
 }
 
 /// Whether an expression may begin here.
-pub fn begins_expr(tokens: &Tokens, at: usize) -> bool {
+pub fn begins_expr(tokens: &Tokens, at: usize) -> bool
+    ensures { IsTrue result ↔ AsFirst ExprToken (token_at tokens.now.spots.items at) }
+{
     match kind::at(&tokens.spots, at) {
         Some(Kind::Leaf) | Some(Kind::Name) | Some(Kind::Void) | Some(Kind::Open) => true,
         Some(Kind::Not) => true,
@@ -195,6 +199,7 @@ pub fn begins_expr(tokens: &Tokens, at: usize) -> bool {
 
 /// Whether a type begins here.
 pub fn begins_type(tokens: &Tokens, at: usize) -> bool
+    ensures begins { IsTrue result ↔ AsFirst TypeToken (token_at tokens.now.spots.items at) }
     ensures within { OnTrue result (at < length tokens.now.spots.items) }
 {
     let Some(spot) = tokens.spots.get(at) else {
@@ -208,7 +213,9 @@ pub fn begins_type(tokens: &Tokens, at: usize) -> bool
 }
 
 /// Whether a type begins with this word.
-pub fn is_type_word(word: Word) -> bool {
+pub fn is_type_word(word: Word) -> bool
+    ensures { IsTrue result ↔ TypeWord word }
+{
     match word {
         Word::Int | Word::Bool | Word::Str | Word::Void | Word::Error => true,
         Word::Future | Word::FutureStream | Word::Promise | Word::PromiseStream => true,
