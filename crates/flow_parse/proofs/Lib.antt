@@ -13,6 +13,7 @@ pub mod Decls
 pub mod Lists
 pub mod Trees
 pub mod Loops
+pub mod StmtLoops
 pub mod OtherBody
 pub mod Looking
 pub mod Backs
