@@ -2,12 +2,18 @@ use Rattle.flow_ast.specs.declared.token.Token.TheVariants as token
 use Rattle.flow_ast.specs.declared.token.Word.TheVariants as word
 use Rattle.flow_ast.specs.Body.{End}
 use Rattle.flow_parse.specs.Views.{counts_of}
-use Rattle.flow_parse.proofs.Leaves.{then_reads, done, tok_reads}
-use Rattle.flow_parse.proofs.Stmts.{break_left}
+use Rattle.flow_parse.proofs.Leaves.{then_reads, done, fails, tok_reads}
+use Rattle.flow_parse.proofs.Stmts.{break_left, semicolon_link}
 use Rattle.flow_parse.proofs.stmt.break_stmt.Goals as goal
 
 pub returns-clause-reads : goal.returns-clause-reads
 returns-clause-reads c =
     let t = c.args.tokens.now in
     let k = tok_reads t c.args.at (token.Word word.Break) c.requires.here in
-    rw (c.ended.ensures.is, c.break_stmt.ensures.is End, c.place-here.ensures) (done t.spots.items (then_reads t.spots.items (break_left t c.args.at c.args.actor c.args.depth (counts_of c.args.counts) c.requires.within) k) c.in_ok-to.ensures.reads)
+    rw (c.ended.ensures.is, c.break_stmt.ensures.is End, c.place-here.ensures) (done t.spots.items (then_reads t.spots.items semicolon_link (break_left t c.args.at c.args.actor c.args.depth (counts_of c.args.counts) c.requires.within c.requires.here) k) c.in_ok-to.ensures.reads)
+
+pub returns-in_err-to-clause-reads : goal.returns-in_err-to-clause-reads
+returns-in_err-to-clause-reads c =
+    let t = c.args.tokens.now in
+    let k = tok_reads t c.args.at (token.Word word.Break) c.requires.here in
+    ?
