@@ -15,6 +15,7 @@ pub mod Lists
 pub mod Trees
 pub mod Loops
 pub mod StmtLoops
+pub mod Deeper
 pub mod OtherBody
 pub mod Looking
 pub mod Backs
