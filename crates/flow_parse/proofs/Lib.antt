@@ -16,6 +16,7 @@ pub mod Trees
 pub mod Loops
 pub mod StmtLoops
 pub mod Deeper
+pub mod StmtOpens
 pub mod OtherBody
 pub mod Looking
 pub mod Backs

@@ -50,7 +50,7 @@ simple_token (token.Number n) h = absurd h
 simple_token (token.Text n) h = absurd h
 simple_token (token.Sign n) h = absurd h
 
-stmt_token : (t : Token) → PlainToken t → StmtToken t
+pub stmt_token : (t : Token) → PlainToken t → StmtToken t
 stmt_token (token.Name n) h = tt
 stmt_token (token.Word k) h = h
 stmt_token (token.Number n) h = absurd h
@@ -78,7 +78,7 @@ plain_starts (wait_stmt at p xs o f s) = starts_is PlainToken xs _ f (begins_sta
 plain_starts (call_stmt at p q r path args x a f s) = starts_is PlainToken path _ f (begins_starts path (path_begins x))
 
 -- which parts begin with a token doesn't matter
-starts_begun : (P : Token → Type 0) (c : Counts) (d : ℕ) (w : List Marked) → Starts P w → Starts P (begin_statement c d w)
+pub starts_begun : (P : Token → Type 0) (c : Counts) (d : ℕ) (w : List Marked) → Starts P w → Starts P (begin_statement c d w)
 starts_begun P c d [] h = h
 starts_begun P c d (x ∷ w) h = h
 
