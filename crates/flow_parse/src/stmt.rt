@@ -455,7 +455,8 @@ fn loop_stmt(
 }
 
 fn boxed(alloc: Global, stmt: Stmt) -> Result<Box<Stmt>, SourceFault>
-    ensures { IfOk result (λ b. b.value ≡ stmt) }
+    ensures is { IfOk result (λ b. b.value ≡ stmt) }
+    ensures memory { IfErr result (λ e. e ≡ SourceFault.OutOfMemory) }
 {
     Ok(Box::new(alloc, stmt)?)
 }
