@@ -5,6 +5,7 @@ pub mod Failing
 pub mod Inhabitants
 pub mod Leaves
 pub mod Shapes
+pub mod Second
 pub mod Variables
 pub mod TreeOpens
 pub mod Unended
