@@ -294,24 +294,6 @@ fn plain(
     if is_word(tokens, at, Word::Choose) {
         return choose(alloc, tokens, at, actor, depth, counts);
     }
-    leap(alloc, tokens, at, actor, depth, counts)
-}
-
-// A statement that holds no other statement.
-fn leap(
-    alloc: Global,
-    tokens: &Tokens,
-    at: usize,
-    actor: bool,
-    depth: u32,
-    counts: Counts,
-) -> Result<ReadStmt, SourceFault>
-    requires within { at ≤ length tokens.now.spots.items }
-    requires shallow { depth ≤ 64 }
-    ensures reads { Answer (Plain actor depth (counts_of counts)) NoElse stmt_out (λ r. r.to) tokens.now at result }
-    ensures stands { IfOk result (λ r. Stands r.stmt) }
-    ensures moves { IfOk result (λ r. (at < r.to) × (r.to ≤ length tokens.now.spots.items)) }
-{
     if is_word(tokens, at, Word::Return) {
         return return_stmt(alloc, tokens, at, actor, depth, counts);
     }
