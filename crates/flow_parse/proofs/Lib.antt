@@ -7,6 +7,8 @@ pub mod Leaves
 pub mod Shapes
 pub mod Second
 pub mod Variables
+pub mod Openings
+pub mod SimpleLoops
 pub mod TreeOpens
 pub mod Unended
 pub mod Lift

@@ -32,26 +32,6 @@ use Rattle.flow_parse.proofs.Stmts.{stmt_left, end_left, whens_left, more_left, 
 use Rattle.flow_parse.proofs.Decls.{params_left, more_params_left, end_params_left, fields_left, more_fields_left, end_fields_left, decl_left}
 use Rattle.flow_parse.proofs.Lists.{exprs_before, exprs_push, exprs_end, stmts_before, stmts_push, stmts_end, branches_before, branches_push, branches_end, params_push, decls_push}
 
-pub args_init : {F : ExprTree → List Marked → Type 0} (t : Tokens) (at d to : ℕ) (es : List Expr) (e : Expr) → at ≤ length t.spots.items → es ≡ e ∷ [] → Reads (ExprRule 0 d) F t.spots.items at (expr_of e) to
-    → Leaves (Args d) Any (MoreArgs d) Any (exprs_before es) t.spots.items at to
-args_init t at d to es e h q r = means t.spots.items (exprs_before es) (λ ts. ap (λ z. exprs_before z ts) (sym q)) (then_reads t.spots.items (args_left t at d h) r)
-
-pub args_step : {F : ExprTree → List Marked → Type 0} (spots : List Spot) (from at d to : ℕ) (p : Place) (es fs : List Expr) (e : Expr) → fs ≡ es ++ e ∷ [] → Leaves (Args d) Any (MoreArgs d) Any (exprs_before es) spots from at
-    → Reads (Tok (token.Sign sign.Comma)) Any spots at p (at + 1) → Reads (ExprRule 0 d) F spots (at + 1) (expr_of e) to → Leaves (Args d) Any (MoreArgs d) Any (exprs_before fs) spots from to
-args_step spots from at d to p es fs e q l k r = means spots (exprs_before fs) (λ ts. exprs_push es e ts ∙ ap (λ z. exprs_before z ts) (sym q)) (then_reads spots (then_reads spots (more_args_left spots l) k) r)
-
-pub args_done : (spots : List Spot) (from at d to : ℕ) (p : Place) (es : List Expr) → Leaves (Args d) Any (MoreArgs d) Any (exprs_before es) spots from at → Reads (Tok (token.Sign sign.CloseRound)) Any spots at p to → Reads (Args d) Any spots from (exprs_of es) to
-args_done spots from at d to p es l r = subst (λ z. Reads (Args d) Any spots from z to) (exprs_end es) (done spots (end_args_left spots l) r)
-
-pub names_step : (spots : List Spot) (from at to : ℕ) (p : Place) (first last next : Ident) (before : List Ident) → Leaves (MoreNames first) (NotBefore (token.Sign sign.Dot)) (MoreNames last) (NotBefore (token.Sign sign.Dot)) (λ ys. before ++ ys) spots from at
-    → Reads (Tok (token.Sign sign.Dot)) Any spots at p (at + 1) → Reads Named Any spots (at + 1) next to
-    → Leaves (MoreNames first) (NotBefore (token.Sign sign.Dot)) (MoreNames next) (NotBefore (token.Sign sign.Dot)) (λ ys. (before ++ last ∷ []) ++ ys) spots from to
-names_step spots from at to p first last next before l k r = means spots (λ ys. (before ++ last ∷ []) ++ ys) (λ ys. sym (append_assoc before (last ∷ []) ys)) (then_reads spots (then_reads spots (dot_left spots l) k) r)
-
-pub names_done : (spots : List Spot) (from at : ℕ) (first last : Ident) (before xs : List Ident) → xs ≡ before ++ last ∷ [] → Leaves (MoreNames first) (NotBefore (token.Sign sign.Dot)) (MoreNames last) (NotBefore (token.Sign sign.Dot)) (λ ys. before ++ ys) spots from at
-    → Reads (MoreNames first) (NotBefore (token.Sign sign.Dot)) spots from xs at
-names_done spots from at first last before xs q l = subst (λ z. Reads (MoreNames first) (NotBefore (token.Sign sign.Dot)) spots from z at) (sym q) (ended spots (last ∷ []) (last_name last) l)
-
 -- statements put before those that are still to come
 abbrev pub closing_before : List Stmt → BlockOut → BlockOut
 closing_before ss o = record { body = stmts_before ss o.body; counts = o.counts; close = o.close }
