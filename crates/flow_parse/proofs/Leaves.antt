@@ -280,7 +280,7 @@ pub node_reads : (spots : List Spot) (d from to : ℕ) (x : Ident) → d ≤ 64 
 node_reads spots d from to x h r = become spots refl (node_turns d (token_at spots from)) (marks_reads spots (Node d) (λ l. h) r)
 
 -- a part that is a statement
-begun_turns : {A : Type 0} (R : List Marked → A → Type 0) (F : A → List Marked → Type 0) (c : Counts) (d : ℕ) (o : Option Token) → Turns (Begun c d R) F (Marks (Statement (suc c.statements)) (Marks (Node d) R)) F (λ x. x) o
+pub begun_turns : {A : Type 0} (R : List Marked → A → Type 0) (F : A → List Marked → Type 0) (c : Counts) (d : ℕ) (o : Option Token) → Turns (Begun c d R) F (Marks (Statement (suc c.statements)) (Marks (Node d) R)) F (λ x. x) o
 begun_turns R F c d o = record { back = λ w z b r f l. record { tree = b; rule = (begin (Node d) r.0, (r.0, r.1, refl), r.2); is = refl; follows = f }; forth = λ w x r. (r.1.0, r.1.1, r.2 ∙ ap (begin (Statement (suc c.statements))) r.1.2) }
 
 -- an answer for one part is one for another, which the next token says

@@ -16,7 +16,9 @@ pub mod Stmts
 pub mod Decls
 pub mod Lists
 pub mod Trees
-pub mod Loops
+pub mod StmtLoops
+pub mod Deeper
+pub mod StmtOpens
 pub mod OtherBody
 pub mod Looking
 pub mod Backs
