@@ -13,6 +13,8 @@ pub mod Decls
 pub mod Lists
 pub mod Trees
 pub mod Loops
+pub mod DeclLoops
+pub mod DeclFails
 pub mod OtherBody
 pub mod Looking
 pub mod Backs

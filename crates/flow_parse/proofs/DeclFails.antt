@@ -1,0 +1,99 @@
+-- Where parameters and declarations are refused.
+use Rattle.std.proofs.Common.{◌≡◌, ℕ, suc, ◌≤◌, ◌<◌, true, false, List, [], ◌∷◌, ◌++◌, length, take, drop, refl, sym, ap, ◌∙◌, subst, arith}
+use Rattle.std.specs.declared.option.Option.{Option}
+use Rattle.std.specs.declared.option.Option.TheVariants.{None, Some}
+use Rattle.flow_base.specs.declared.place.Place.{Place}
+use Rattle.flow_ast.specs.declared.token.Token.{Token}
+use Rattle.flow_ast.specs.declared.token.Token.TheVariants as token
+use Rattle.flow_ast.specs.declared.token.Word.{Word}
+use Rattle.flow_ast.specs.declared.token.Word.TheVariants as word
+use Rattle.flow_ast.specs.declared.token.Sign.TheVariants as sign
+use Rattle.flow_ast.specs.declared.token.Spot.{Spot}
+use Rattle.flow_ast.specs.declared.token.Tokens.{Tokens}
+use Rattle.flow_ast.specs.declared.fault.Rule.TheVariants as rule
+use Rattle.flow_ast.specs.declared.fault.SourceFault.{SourceFault}
+use Rattle.flow_ast.specs.declared.fault.SourceFault.TheVariants.{Refused, AcrossWait, OutOfMemory}
+use Rattle.flow_ast.specs.Decls.{ParamTree, DeclTree, StructDecl, FunctionDecl, ActorDecl}
+use Rattle.flow_ast.specs.Tree.{NamedType}
+use Rattle.flow_ast.specs.GrammarAnswer.{place_at}
+use Rattle.flow_ast.specs.GrammarToken.{Declaration, Node, Variable, Marked, opens, begin, spots_of, Good}
+use Rattle.flow_ast.specs.Grammar.{sign_at, word_at, name_at, node_name, node_word, TypeRule, int_type, bool_type, string_type, void_type, error_type, named_type, wrapped_type, Wrapper, FutureOf, FutureStreamOf, PromiseOf, PromiseStreamOf, wrapper_word, wrapped}
+use Rattle.flow_ast.specs.Tree.{IntType, BoolType, StringType, VoidType, ErrorType}
+use Rattle.flow_ast.specs.GrammarStmt.{StartsAt}
+use Rattle.flow_ast.specs.GrammarDecl.{ParamRule, DeclRule, record_decl, function_decl, actor_decl, fields, DeclsRule}
+use Rattle.flow_exprs.proofs.Goes.{nowhere}
+use Rattle.flow_parse.specs.Openers.{AsFirst, TypeToken, DeclToken}
+use Rattle.flow_parse.specs.Reading.{token_at, Named, Then, Any}
+use Rattle.flow_parse.specs.Follow.{AtEnd}
+use Rattle.flow_parse.specs.Failing.{Fails}
+use Rattle.flow_parse.specs.Parts.{Marks, Routine}
+use Rattle.flow_parse.specs.ParseAnswer.{ParseAnswer}
+use Rattle.flow_parse.proofs.Looking.{first_of}
+use Rattle.flow_parse.proofs.Begins.{Starts, starts_is, starts_looks, type_starts}
+use Rattle.flow_parse.proofs.Failing.{Inhabited, good_first, good_marks}
+use Rattle.flow_parse.proofs.Inhabitants.{some_then, some_type, some_named, some_param, some_all_fields, some_routine, some_marks, some_decls}
+use Rattle.flow_parse.proofs.Leaves.{next_is, fails, none_fails, beyond_fails, marks_fails, fails_at_first}
+use Rattle.flow_parse.proofs.DeclBacks.{param_starts, decl_starts, DeclMarks, decl_marks_starts}
+use Rattle.flow_parse.proofs.Shapes.{TypeName}
+use Rattle.flow_parse.proofs.Decls.{param_left, decl_left, decls_link}
+use Rattle.flow_parse.proofs.ProgramFails.{program_fails, program_limit}
+
+-- what begins with each such token begins here
+pub begins_here : {A : Type 0} (R : List Marked → A → Type 0) (P : Token → Type 0) (m : ℕ) (spots : List Spot) (at : ℕ) → ((x : Token) (p : Place) → P x → Good R m (record { token = x; at = p } ∷ [])) → AsFirst P (token_at spots at) → Good R m (take 1 (drop at spots))
+begins_here R P m spots at f h = by_list (drop at spots) (subst (AsFirst P) (sym (next_is spots at)) h)
+  where
+    by_list : (ts : List Spot) → AsFirst P (first_of ts) → Good R m (take 1 ts)
+    by_list [] h = absurd h
+    by_list (s ∷ ts) h = f s.token s.at h
+
+-- a type
+wrapped_good : (d m : ℕ) (k : Wrapper) (p : Place) → d ≤ 64 → Good (TypeRule d) m (record { token = token.Word (wrapper_word k); at = p } ∷ [])
+wrapped_good d m k p h = record { read = node_word d (wrapper_word k) p ∷ []; rest = sign_at sign.Less nowhere ∷ node_word (suc d) word.Int nowhere ∷ sign_at sign.Greater nowhere ∷ []; tree = wrapped k IntType; rule = wrapped_type k p nowhere nowhere (node_word (suc d) word.Int nowhere ∷ []) (int_type nowhere) refl; is = refl; keeps = (((λ l. h), tt), tt) }
+
+type_good : (d m : ℕ) → d ≤ 64 → (x : Token) (p : Place) → TypeToken x → Good (TypeRule d) m (record { token = x; at = p } ∷ [])
+type_good d m h (token.Name n) p b = let x = record { name = n; at = p } in record { read = node_name d x ∷ []; rest = []; tree = NamedType n; rule = named_type x; is = refl; keeps = (((λ l. h), tt), tt) }
+type_good d m h (token.Word k) p b = by_word k b
+  where
+    by_word : (k : Word) → TypeToken (token.Word k) → Good (TypeRule d) m (record { token = token.Word k; at = p } ∷ [])
+    by_word word.Int b = record { read = node_word d word.Int p ∷ []; rest = []; tree = IntType; rule = int_type p; is = refl; keeps = (((λ l. h), tt), tt) }
+    by_word word.Bool b = record { read = node_word d word.Bool p ∷ []; rest = []; tree = BoolType; rule = bool_type p; is = refl; keeps = (((λ l. h), tt), tt) }
+    by_word word.Str b = record { read = node_word d word.Str p ∷ []; rest = []; tree = StringType; rule = string_type p; is = refl; keeps = (((λ l. h), tt), tt) }
+    by_word word.Void b = record { read = node_word d word.Void p ∷ []; rest = []; tree = VoidType; rule = void_type p; is = refl; keeps = (((λ l. h), tt), tt) }
+    by_word word.Error b = record { read = node_word d word.Error p ∷ []; rest = []; tree = ErrorType; rule = error_type p; is = refl; keeps = (((λ l. h), tt), tt) }
+    by_word word.Future b = wrapped_good d m FutureOf p h
+    by_word word.FutureStream b = wrapped_good d m FutureStreamOf p h
+    by_word word.Promise b = wrapped_good d m PromiseOf p h
+    by_word word.PromiseStream b = wrapped_good d m PromiseStreamOf p h
+    by_word _ b = absurd b
+type_good d m h (token.Number n) p b = absurd b
+type_good d m h (token.Text n) p b = absurd b
+type_good d m h (token.Sign n) p b = absurd b
+
+-- a parameter or a field
+param_good : (m : ℕ) (x : Token) (p : Place) → TypeToken x → Good TypeName m (record { token = x; at = p } ∷ [])
+param_good m x p b = good_first (TypeRule 1) Any (λ y. Named) Any (λ a b v z s f. tt) m _ (λ y. some_named) (type_good 1 m (omega arith) x p b)
+
+type_name_begins : (w : List Marked) (x : _) → TypeName w x → Starts TypeToken w
+type_name_begins w x r = starts_is TypeToken r.first r.rest r.is (type_starts r.front)
+
+some_type_name : Inhabited TypeName
+some_type_name = some_then (TypeRule 1) (λ y. Named) (some_type 1) (λ y. some_named)
+
+module _ (t : Tokens) (at n : ℕ) (h : at ≤ length t.spots.items) where
+  -- with a number that is too great
+  pub param_beyond : 1000 < n → at < length t.spots.items → AsFirst TypeToken (token_at t.spots.items at) → Fails (ParamRule n) Any t at (Refused (rule.L 6) (place_at t at))
+  param_beyond g lt b = fails t (param_left t at h n) (Refused (rule.L 6) (place_at t at))
+      (beyond_fails TypeName Any (Variable n) 6 t at (omega arith) (omega arith) lt (λ k. let x = k (omega arith) in omega arith) (λ m l k. absurd (omega arith)) TypeToken type_name_begins some_type_name (λ m l. begins_here TypeName TypeToken m t.spots.items at (param_good m) b))
+
+  pub no_param : (AsFirst TypeToken (token_at t.spots.items at) → ⊥) → Fails (ParamRule n) Any t at (Refused (rule.S 5) (place_at t at))
+  no_param b = none_fails (ParamRule n) Any t at (some_param n) (λ w z x r f l. b (starts_looks TypeToken w z (token_at t.spots.items at) (param_starts r) l))
+
+  pub param_fails : n ≤ 1000 → (e : SourceFault) → Fails TypeName Any t at e → Fails (ParamRule n) Any t at e
+  param_fails l e a = fails t (param_left t at h n) e (marks_fails TypeName Any (Variable n) t at (λ m le k. l) e a)
+
+-- a declaration
+struct_good : (m : ℕ) (p : Place) → Good DeclRule m (record { token = token.Word word.Struct; at = p } ∷ [])
+struct_good m p =
+    let x = some_all_fields in
+    let y = x.rule.0 in
+    record { read = word_at word.Struct p ∷ []; rest = name_at _ ∷ sign_at sign.OpenCurly nowhere ∷ (y.1 ++ (sign_at sign.CloseCurly nowhere ∷ sign_at sign.Semicolon nowhere ∷ [])); tree = StructDecl (record { at = p; name = record { name = []; at = nowhere }; fields = x.tree }); rule = record_decl (fields p nowhere nowhere nowhere (record { name = []; at = nowhere }) y.1 y.2 refl); is = refl; keeps = (tt, tt) }
