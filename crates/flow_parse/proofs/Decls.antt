@@ -26,7 +26,7 @@ use Rattle.flow_parse.proofs.DeclBacks.{param_back, no_params_back, params_back,
 use Rattle.flow_parse.proofs.Stmts.{closed_by}
 use Rattle.flow_parse.proofs.Shapes.{TypeName}
 
-record_rule : (at p q r : Place) (x : Ident) (xs w : List Marked) (fs : List ParamTree) → FieldsRule 1 xs fs → 0 < length fs
+pub record_rule : (at p q r : Place) (x : Ident) (xs w : List Marked) (fs : List ParamTree) → FieldsRule 1 xs fs → 0 < length fs
     → w ≡ word_at word.Struct at ∷ name_at x ∷ sign_at sign.OpenCurly p ∷ (xs ++ (sign_at sign.CloseCurly q ∷ sign_at sign.Semicolon r ∷ [])) → RecordRule w (record { at = at; name = x; fields = fs })
 record_rule at p q r x xs w [] f l e = absurd (omega arith)
 record_rule at p q r x xs w (y ∷ ys) f l e = fields at p q r x xs f e
