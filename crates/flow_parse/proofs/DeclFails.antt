@@ -1,5 +1,5 @@
 -- Where parameters and declarations are refused.
-use Rattle.std.proofs.Common.{◌≡◌, ℕ, suc, ◌≤◌, ◌<◌, true, false, List, [], ◌∷◌, ◌++◌, length, take, drop, refl, sym, ap, ◌∙◌, subst, arith, inl, inr}
+use Rattle.std.proofs.Common.{◌≡◌, ℕ, suc, ◌+◌, ◌≤◌, ◌<◌, true, false, List, [], ◌∷◌, ◌++◌, length, take, drop, refl, sym, ap, ◌∙◌, subst, arith, inl, inr}
 use Rattle.std.specs.Prelude.{Err}
 use Rattle.std.specs.declared.option.Option.{Option}
 use Rattle.std.specs.declared.option.Option.TheVariants.{None, Some}
