@@ -34,12 +34,10 @@ fn param(
     ensures few { IfOk result (λ r. number ≤ 1000) }
 {
     if number > VARIABLES {
-        let rule = if begins_type(tokens, at) {
-            Rule::L(6)
-        } else {
-            Rule::S(5)
-        };
-        return Err(refused(tokens, rule, at));
+        if begins_type(tokens, at) {
+            return Err(refused(tokens, Rule::L(6), at));
+        }
+        return Err(refused(tokens, Rule::S(5), at));
     }
     let (ty, at) = ty(alloc, tokens, at, 1)?;
     let (name, to) = name(alloc, tokens, at)?;
