@@ -373,6 +373,21 @@ name_in t at (Some s) y g e = let r = names s.token s.at y e in name_of t at s y
 pub name_reads : (t : Tokens) (at : ℕ) (y : Ident) → ident_at t.spots.items at ≡ Some y → Reads Named Any t.spots.items at y (at + 1)
 name_reads t at y e = name_in t at (slice_get t.spots.items at) y refl e
 
+-- no name stands here
+no_name : (o : Option Spot) (y : Ident) → ident_in o ≡ None → option_map (λ s. s.token) o ≡ Some (token.Name y.name) → ⊥
+no_name None y g e = cc
+no_name (Some s) y g e = not_a_name s.token s.at y g (let f : s.token ≡ token.Name y.name = cc in f)
+  where
+    not_a_name : (x : Token) (p : Place) (y : Ident) → ident_of x p ≡ None → x ≡ token.Name y.name → ⊥
+    not_a_name (token.Name n) p y g e = cc
+    not_a_name (token.Number n) p y g e = cc
+    not_a_name (token.Text n) p y g e = cc
+    not_a_name (token.Word n) p y g e = cc
+    not_a_name (token.Sign n) p y g e = cc
+
+pub name_fails : (t : Tokens) (at : ℕ) → ident_at t.spots.items at ≡ None → Fails Named Any t at (Refused (rule.S 5) (place_at t at))
+name_fails t at e = none_fails Named Any t at (record { marked = name_at (record { name = []; at = place_at t at }) ∷ []; tree = record { name = []; at = place_at t at }; rule = refl }) (λ w z y r g l. no_name (slice_get t.spots.items at) y e (looks_is (token_at t.spots.items at) (name_at y) [] z r l))
+
 -- a depth, or a number, in the two ways in which it is written
 pub deeper : {A : Type 0} {F : A → List Marked → Type 0} {spots : List Spot} {from to : ℕ} {a : A} (R : ℕ → List Marked → A → Type 0) (d : ℕ) → Reads (R (d + 1)) F spots from a to → Reads (R (suc d)) F spots from a to
 deeper {F = F} {spots = spots} {from = from} {to = to} {a = a} R d r = let e : d + 1 ≡ suc d = omega arith in subst (λ k. Reads (R k) F spots from a to) e r

@@ -6,6 +6,7 @@ pub mod Inhabitants
 pub mod Leaves
 pub mod Shapes
 pub mod Variables
+pub mod TreeOpens
 pub mod Unended
 pub mod Lift
 pub mod Stmts

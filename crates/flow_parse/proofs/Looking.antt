@@ -1,5 +1,5 @@
 -- The next token, and what it says of a part.
-use Rattle.std.proofs.Common.{◌≡◌, List, [], ◌∷◌}
+use Rattle.std.proofs.Common.{◌≡◌, true, false, List, [], ◌∷◌}
 use Rattle.std.specs.declared.option.Option.{Option}
 use Rattle.std.specs.declared.option.Option.TheVariants.{None, Some}
 use Rattle.flow_ast.specs.declared.token.Token.{Token}
@@ -23,3 +23,7 @@ pub record Back {B C : Type 0} (V : List Marked → B → Type 0) (FV : B → Li
   pub rule : U w tree
   pub is : b ≡ h tree
   pub follows : FU tree z
+
+-- what a test says that came out false
+pub not_true : false ≡ true → ⊥
+not_true e = cc

@@ -174,20 +174,19 @@ pub fn expr(
     ensures reads { Answer (ExprRule 0 depth) ExprEnds (λ r. expr_of r.0) (λ r. r.1) tokens.now at result }
     ensures moves { IfOk result (λ r. (at < r.1) × (r.1 ≤ length tokens.now.spots.items)) }
 {
-    if depth > DEPTH {
-        let rule = if begins_expr(tokens, at) {
-            Rule::L(5)
-        } else {
-            Rule::S(5)
-        };
-        return Err(refused(tokens, rule, at));
+    if depth <= DEPTH {
+        return parse_expr(alloc, tokens, at, depth);
     }
-    parse_expr(alloc, tokens, at, depth)
+    if begins_expr(tokens, at) {
+        return Err(refused(tokens, Rule::L(5), at));
+    }
+    Err(refused(tokens, Rule::S(5), at))
 }
 
 /// Whether an expression may begin here.
 pub fn begins_expr(tokens: &Tokens, at: usize) -> bool
-    ensures { IsTrue result ↔ AsFirst ExprToken (token_at tokens.now.spots.items at) }
+    ensures within { OnTrue result (at < length tokens.now.spots.items) }
+    ensures begins { IsTrue result ↔ AsFirst ExprToken (token_at tokens.now.spots.items at) }
 {
     match kind::at(&tokens.spots, at) {
         Some(Kind::Leaf) | Some(Kind::Name) | Some(Kind::Void) | Some(Kind::Open) => true,
