@@ -1,12 +1,10 @@
 -- Where parameters and declarations are refused.
 use Rattle.std.proofs.Common.{◌≡◌, ℕ, suc, ◌+◌, ◌≤◌, ◌<◌, true, false, List, [], ◌∷◌, ◌++◌, length, take, drop, refl, sym, ap, ◌∙◌, subst, arith, inl, inr}
 use Rattle.std.specs.Prelude.{Err}
-use Rattle.std.specs.declared.option.Option.{Option}
-use Rattle.std.specs.declared.option.Option.TheVariants.{None, Some}
+use Rattle.std.specs.declared.option.Option.TheVariants.{Some}
 use Rattle.flow_base.specs.declared.place.Place.{Place}
 use Rattle.flow_ast.specs.declared.token.Token.{Token}
 use Rattle.flow_ast.specs.declared.token.Token.TheVariants as token
-use Rattle.flow_ast.specs.declared.token.Word.{Word}
 use Rattle.flow_ast.specs.declared.token.Word.TheVariants as word
 use Rattle.flow_ast.specs.declared.token.Sign.TheVariants as sign
 use Rattle.flow_ast.specs.declared.token.Spot.{Spot}
@@ -16,11 +14,10 @@ use Rattle.flow_ast.specs.declared.fault.Rule.TheVariants as rule
 use Rattle.flow_ast.specs.declared.fault.SourceFault.{SourceFault}
 use Rattle.flow_ast.specs.declared.fault.SourceFault.TheVariants.{Refused, AcrossWait, OutOfMemory}
 use Rattle.flow_ast.specs.Decls.{ParamTree, DeclTree, StructDecl, FunctionDecl, ActorDecl}
-use Rattle.flow_ast.specs.Tree.{NamedType}
+use Rattle.flow_ast.specs.Tree.{IntType}
 use Rattle.flow_ast.specs.GrammarAnswer.{place_at}
 use Rattle.flow_ast.specs.GrammarToken.{Declaration, Node, Variable, Marked, opens, begin, spots_of, Good}
-use Rattle.flow_ast.specs.Grammar.{sign_at, word_at, name_at, node_name, node_word, TypeRule, int_type, bool_type, string_type, void_type, error_type, named_type, wrapped_type, Wrapper, FutureOf, FutureStreamOf, PromiseOf, PromiseStreamOf, wrapper_word, wrapped}
-use Rattle.flow_ast.specs.Tree.{IntType, BoolType, StringType, VoidType, ErrorType}
+use Rattle.flow_ast.specs.Grammar.{sign_at, word_at, name_at, node_word, TypeRule, int_type}
 use Rattle.flow_ast.specs.GrammarStmt.{StartsAt}
 use Rattle.flow_ast.specs.GrammarDecl.{ParamRule, DeclRule, record_decl, function_decl, actor_decl, fields, DeclsRule}
 use Rattle.flow_exprs.proofs.Goes.{nowhere}
@@ -37,43 +34,17 @@ use Rattle.flow_parse.proofs.Inhabitants.{some_then, some_type, some_named, some
 use Rattle.flow_parse.proofs.Leaves.{Leaves, next_is, fails, none_fails, beyond_fails, marks_fails, first_fails}
 use Rattle.flow_parse.proofs.DeclBacks.{param_starts, decl_starts, DeclMarks, decl_marks_starts}
 use Rattle.flow_parse.proofs.Shapes.{TypeName}
+use Rattle.flow_parse.proofs.TreeOpens.{type_opens}
 use Rattle.flow_parse.proofs.Decls.{record_rule, param_left, decl_left, decls_link}
 use Rattle.flow_parse.proofs.ProgramFails.{program_fails, program_limit}
 
--- what begins with each such token begins here
-pub begins_here : {A : Type 0} (R : List Marked → A → Type 0) (P : Token → Type 0) (m : ℕ) (spots : List Spot) (at : ℕ) → ((x : Token) (p : Place) → P x → Good R m (record { token = x; at = p } ∷ [])) → AsFirst P (token_at spots at) → Good R m (take 1 (drop at spots))
-begins_here R P m spots at f h = by_list (drop at spots) (subst (AsFirst P) (sym (next_is spots at)) h)
-  where
-    by_list : (ts : List Spot) → AsFirst P (first_of ts) → Good R m (take 1 ts)
-    by_list [] h = absurd h
-    by_list (s ∷ ts) h = f s.token s.at h
-
--- a type
-wrapped_good : (d m : ℕ) (k : Wrapper) (p : Place) → d ≤ 64 → Good (TypeRule d) m (record { token = token.Word (wrapper_word k); at = p } ∷ [])
-wrapped_good d m k p h = record { read = node_word d (wrapper_word k) p ∷ []; rest = sign_at sign.Less nowhere ∷ node_word (suc d) word.Int nowhere ∷ sign_at sign.Greater nowhere ∷ []; tree = wrapped k IntType; rule = wrapped_type k p nowhere nowhere (node_word (suc d) word.Int nowhere ∷ []) (int_type nowhere) refl; is = refl; keeps = (((λ l. h), tt), tt) }
-
-type_good : (d m : ℕ) → d ≤ 64 → (x : Token) (p : Place) → TypeToken x → Good (TypeRule d) m (record { token = x; at = p } ∷ [])
-type_good d m h (token.Name n) p b = let x : Ident = record { name = n; at = p } in record { read = node_name d x ∷ []; rest = []; tree = NamedType n; rule = named_type x; is = refl; keeps = (((λ l. h), tt), tt) }
-type_good d m h (token.Word k) p b = by_word k b
-  where
-    by_word : (k : Word) → TypeToken (token.Word k) → Good (TypeRule d) m (record { token = token.Word k; at = p } ∷ [])
-    by_word word.Int b = record { read = node_word d word.Int p ∷ []; rest = []; tree = IntType; rule = int_type p; is = refl; keeps = (((λ l. h), tt), tt) }
-    by_word word.Bool b = record { read = node_word d word.Bool p ∷ []; rest = []; tree = BoolType; rule = bool_type p; is = refl; keeps = (((λ l. h), tt), tt) }
-    by_word word.Str b = record { read = node_word d word.Str p ∷ []; rest = []; tree = StringType; rule = string_type p; is = refl; keeps = (((λ l. h), tt), tt) }
-    by_word word.Void b = record { read = node_word d word.Void p ∷ []; rest = []; tree = VoidType; rule = void_type p; is = refl; keeps = (((λ l. h), tt), tt) }
-    by_word word.Error b = record { read = node_word d word.Error p ∷ []; rest = []; tree = ErrorType; rule = error_type p; is = refl; keeps = (((λ l. h), tt), tt) }
-    by_word word.Future b = wrapped_good d m FutureOf p h
-    by_word word.FutureStream b = wrapped_good d m FutureStreamOf p h
-    by_word word.Promise b = wrapped_good d m PromiseOf p h
-    by_word word.PromiseStream b = wrapped_good d m PromiseStreamOf p h
-    by_word _ b = absurd b
-type_good d m h (token.Number n) p b = absurd b
-type_good d m h (token.Text n) p b = absurd b
-type_good d m h (token.Sign n) p b = absurd b
+-- what begins with the next token
+next_first : (P : Token → Type 0) (spots : List Spot) (at : ℕ) → AsFirst P (token_at spots at) → AsFirst P (first_of (drop at spots))
+next_first P spots at h = subst (AsFirst P) (sym (next_is spots at)) h
 
 -- a parameter or a field
-param_good : (m : ℕ) (x : Token) (p : Place) → TypeToken x → Good TypeName m (record { token = x; at = p } ∷ [])
-param_good m x p b = good_first (TypeRule 1) Any (λ y. Named) Any (λ a b v z s f. tt) m _ (λ y. some_named) (type_good 1 m (omega arith) x p b)
+param_opens : (m : ℕ) (ts : List Spot) → AsFirst TypeToken (first_of ts) → Good TypeName m (take 1 ts)
+param_opens m ts b = good_first (TypeRule 1) Any (λ y. Named) Any (λ a b v z s f. tt) m (take 1 ts) (λ y. some_named) (type_opens m 1 (λ l. omega arith) ts b)
 
 type_name_begins : (w : List Marked) (x : _) → TypeName w x → Starts TypeToken w
 type_name_begins w x r = starts_is TypeToken r.first r.rest r.is (type_starts r.front)
@@ -85,7 +56,7 @@ module _ (t : Tokens) (at n : ℕ) (h : at ≤ length t.spots.items) where
   -- with a number that is too great
   pub param_beyond : 1000 < n → at < length t.spots.items → AsFirst TypeToken (token_at t.spots.items at) → Fails (ParamRule n) Any t at (Refused (rule.L 6) (place_at t at))
   param_beyond g lt b = fails t (param_left t at h n) (Refused (rule.L 6) (place_at t at))
-      (beyond_fails TypeName Any (Variable n) 6 t at (omega arith) (omega arith) lt (λ k. let x = k (omega arith) in omega arith) (λ m l k. absurd (omega arith)) TypeToken type_name_begins some_type_name (λ m l. begins_here TypeName TypeToken m t.spots.items at (param_good m) b))
+      (beyond_fails TypeName Any (Variable n) 6 t at (omega arith) (omega arith) lt (λ k. let x = k (omega arith) in omega arith) (λ m l k. absurd (omega arith)) TypeToken type_name_begins some_type_name (λ m l. param_opens m (drop at t.spots.items) (next_first TypeToken t.spots.items at b)))
 
   pub no_param : (AsFirst TypeToken (token_at t.spots.items at) → ⊥) → Fails (ParamRule n) Any t at (Refused (rule.S 5) (place_at t at))
   no_param b = none_fails (ParamRule n) Any t at (some_param n) (λ w z x r f l. b (starts_looks TypeToken w z (token_at t.spots.items at) (param_starts r) l))
@@ -143,16 +114,20 @@ function_good m ts t =
       keeps = g.keeps;
     }
 
-decl_good : (m : ℕ) (x : Token) (p : Place) → DeclToken x → Good DeclRule m (record { token = x; at = p } ∷ [])
-decl_good m (token.Word word.Struct) p b = struct_good m p
-decl_good m (token.Word word.Actor) p b = actor_good m p
-decl_good m x p b = function_good m _ (type_good 1 m (omega arith) x p b)
+decl_with : (m : ℕ) (x : Token) (p : Place) (ts : List Spot) → DeclToken x → Good DeclRule m (take 1 (record { token = x; at = p } ∷ ts))
+decl_with m (token.Word word.Struct) p ts b = struct_good m p
+decl_with m (token.Word word.Actor) p ts b = actor_good m p
+decl_with m x p ts b = function_good m _ (type_opens m 1 (λ l. omega arith) (record { token = x; at = p } ∷ ts) b)
+
+decl_opens : (m : ℕ) (ts : List Spot) → AsFirst DeclToken (first_of ts) → Good DeclRule m (take 1 ts)
+decl_opens m [] b = absurd b
+decl_opens m (x ∷ ts) b = decl_with m x.token x.at ts b
 
 some_decl : Inhabited DeclRule
-some_decl = let g = decl_good 2 (token.Word word.Actor) nowhere tt in record { marked = g.read ++ g.rest; tree = g.tree; rule = g.rule }
+some_decl = let g = actor_good 2 nowhere in record { marked = g.read ++ g.rest; tree = g.tree; rule = g.rule }
 
-node_good : (m : ℕ) (x : Token) (p : Place) → DeclToken x → Good (Marks (Node 1) DeclRule) m (record { token = x; at = p } ∷ [])
-node_good m x p b = good_marks DeclRule Any (Node 1) m _ (λ l. omega arith) (decl_good m x p b)
+node_opens : (m : ℕ) (ts : List Spot) → AsFirst DeclToken (first_of ts) → Good (Marks (Node 1) DeclRule) m (take 1 ts)
+node_opens m ts b = good_marks DeclRule Any (Node 1) m (take 1 ts) (λ l. omega arith) (decl_opens m ts b)
 
 node_begins : (w : List Marked) (x : DeclTree) → Marks (Node 1) DeclRule w x → Starts DeclToken w
 node_begins w x r = starts_marks r.0 (decl_starts r.1) r.2
@@ -165,7 +140,7 @@ module _ (t : Tokens) {at n : ℕ} {g : List DeclTree → List DeclTree} (l : Le
   -- one declaration more than there may be
   pub decl_beyond : 4096 < n → at < length t.spots.items → AsFirst DeclToken (token_at t.spots.items at) → Fails (DeclsRule 1) AtEnd t 0 (Refused (rule.L 3) (place_at t at))
   decl_beyond k lt b = first_fails t (decls_link n) (decl_left t.spots.items x e l) (Refused (rule.L 3) (place_at t at))
-      (beyond_fails (Marks (Node 1) DeclRule) Any (Declaration n) 3 t at (omega arith) (omega arith) lt (λ h. let y = h (omega arith) in omega arith) (λ m i h. absurd (omega arith)) DeclToken node_begins (some_marks DeclRule (Node 1) some_decl) (λ m i. begins_here (Marks (Node 1) DeclRule) DeclToken m t.spots.items at (node_good m) b))
+      (beyond_fails (Marks (Node 1) DeclRule) Any (Declaration n) 3 t at (omega arith) (omega arith) lt (λ h. let y = h (omega arith) in omega arith) (λ m i h. absurd (omega arith)) DeclToken node_begins (some_marks DeclRule (Node 1) some_decl) (λ m i. node_opens m (drop at t.spots.items) (next_first DeclToken t.spots.items at b)))
 
   -- no declaration begins here
   pub no_decl : (AsFirst DeclToken (token_at t.spots.items at) → ⊥) → Fails (DeclsRule 1) AtEnd t 0 (Refused (rule.S 5) (place_at t at))

@@ -1,5 +1,5 @@
 use Rattle.std.proofs.lemmas.Result.{err_from_is_err_and}
-use Rattle.flow_exprs.proofs.ExprSteps.{not_true}
+use Rattle.flow_parse.proofs.Looking.{not_true}
 use Rattle.std.proofs.Common.{arith, refl}
 use Rattle.flow_ast.specs.GrammarToken.{Variable}
 use Rattle.flow_parse.specs.Reading.{Any}

@@ -7,20 +7,21 @@ use Rattle.flow_parse.specs.Parts.{Params}
 use Rattle.flow_parse.proofs.Leaves.{done, tok_reads}
 use Rattle.std.proofs.Common.{◌≡◌, length, length-append}
 use Rattle.flow_parse.proofs.Decls.{no_params_left}
-use Rattle.flow_parse.proofs.Loops.{params_init, params_step, params_done}
+use Rattle.flow_parse.proofs.Looking.{not_true}
+use Rattle.flow_parse.proofs.DeclLoops.{params_init, params_step, params_done}
 use Rattle.flow_parse.proofs.decl.params.Goals as goal
 
 pub returns-then-is_sign-clause-reads : goal.returns-then-is_sign-clause-reads
 returns-then-is_sign-clause-reads c =
     let t = c.args.tokens.now in
     let k = tok_reads t c.args.at (token.Sign sign.CloseRound) (c.if-is_sign.ensures.sign.0 refl) in
-    subst (λ xs. Reads Params Any t.spots.items c.args.at (params_of xs) (c.args.at + 1)) (sym c.new-params.ensures.items) (done t.spots.items (no_params_left t c.args.at c.requires.within) k)
+    subst (λ xs. Reads Params Any t.spots.items c.args.at (params_of xs) (c.args.at + 1)) (sym c.new-params.ensures.items) (done t.spots.items (no_params_left t c.args.at c.requires.within (c.if-is_sign.ensures.sign.0 refl)) k)
 
 pub items-init : goal.items-init
 items-init c =
     let t = c.args.tokens.now in
     let q = c.in_ok-push.ensures.items ∙ ap (λ z. z ++ c.in_ok-first.first ∷ []) c.new-params.ensures.items in
-    let l = params_init t c.args.at c.in_ok-first.at c.push.new.self.items c.in_ok-first.first c.requires.within q c.in_ok-first.ensures.reads in
+    let l = params_init t c.args.at c.in_ok-first.at c.push.new.self.items c.in_ok-first.first c.requires.within (λ x. not_true (c.if-is_sign.ensures.sign.1 x)) q c.in_ok-first.ensures.reads in
     let n = ap length q in
     (c.in_ok-first.ensures.moves.0, c.in_ok-first.ensures.moves.1, omega (arith, n), omega (arith, n), l)
 
@@ -34,9 +35,9 @@ items-preserved c =
     let k = tok_reads t c.items.at (token.Sign sign.Comma) (c.items-test.ensures.sign.0 refl) in
     let q = c.in_ok-push-2.ensures.items in
     let m = ap length q ∙ length-append c.items.params.items (c.in_ok-next.next ∷ []) in
-    let l = params_step s c.args.at c.items.at c.in_ok-next.to n (n + 1) _ c.items.params.items c.push-in-items.new.self.items c.in_ok-next.next q e i.4 k c.in_ok-next.ensures.reads in
+    let l = params_step s c.args.at c.items.at c.in_ok-next.to n (n + 1) _ c.items.params.items c.push-in-items.new.self.items c.in_ok-next.next q e (c.items-test.ensures.sign.0 refl) i.4 k c.in_ok-next.ensures.reads in
     (omega (arith, i.0, c.in_ok-next.ensures.moves.0), c.in_ok-next.ensures.moves.1, omega (arith, m, i.2), omega (arith, m, i.2, c.in_ok-next.ensures.few), l)
 
 pub returns-clause-reads : goal.returns-clause-reads
 returns-clause-reads c =
-    params_done c.args.tokens.now.spots.items c.args.at c.items.at c.in_ok-to.to c.items.number _ c.items.params.items c.items.invariant.4 c.in_ok-to.ensures.reads
+    params_done c.args.tokens.now.spots.items c.args.at c.items.at c.in_ok-to.to c.items.number _ c.items.params.items (λ x. not_true (c.items-test.ensures.sign.1 x)) c.items.invariant.4 c.in_ok-to.ensures.reads
