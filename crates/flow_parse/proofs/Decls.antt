@@ -1,5 +1,5 @@
 -- How declarations are read.
-use Rattle.std.proofs.Common.{◌≡◌, ℕ, suc, ◌≤◌, ◌<◌, Bool, true, false, List, [], ◌∷◌, ◌++◌, length, refl, sym, ap, ◌∙◌, subst, arith, append_assoc}
+use Rattle.std.proofs.Common.{◌≡◌, ℕ, suc, ◌+◌, ◌≤◌, ◌<◌, Bool, true, false, List, [], ◌∷◌, ◌++◌, length, refl, sym, ap, ◌∙◌, subst, arith, append_assoc}
 use Rattle.flow_base.specs.declared.place.Place.{Place}
 use Rattle.std.specs.declared.option.Option.{Option}
 use Rattle.std.specs.declared.option.Option.TheVariants.{None, Some}
@@ -15,11 +15,12 @@ use Rattle.flow_ast.specs.Decls.{ParamTree, DeclTree, StructDecl, FunctionDecl, 
 use Rattle.flow_ast.specs.GrammarToken.{Declaration, Node, Variable, Marked, begin}
 use Rattle.flow_ast.specs.Grammar.{sign_at, word_at, name_at, TypeRule}
 use Rattle.flow_ast.specs.GrammarStmt.{StartsAt}
+use Rattle.flow_ast.specs.GrammarAnswer.{place_at}
 use Rattle.flow_ast.specs.GrammarDecl.{ParamRule, param, FieldsRule, no_fields, more_fields, end_params, more_params, no_params, some_params, RecordRule, fields, routine, DeclRule, record_decl, function_decl, actor_decl, DeclsRule, no_decls, more_decls}
 use Rattle.flow_parse.specs.Reading.{token_at, Tok, Named, Then, Any, Reads}
 use Rattle.flow_parse.specs.Follow.{AtEnd}
 use Rattle.flow_parse.specs.Parts.{Placed, Marks, Block, FieldsPart, AllFields, MoreParams, Params, Routine, Record, Function, Actor}
-use Rattle.flow_parse.proofs.Leaves.{Leaves, Link, free, Turns, nothing, narrow, empty, glue, behind, starts_append}
+use Rattle.flow_parse.proofs.Leaves.{Leaves, Link, free, Turns, nothing, narrow, then_reads, tok_reads, empty, glue, behind, starts_append}
 use Rattle.flow_parse.proofs.Failing.{Inhabited}
 use Rattle.flow_parse.proofs.Inhabitants.{some_then, some_opening, some_named, some_type, some_block, some_param, some_fields, some_all_fields, some_more_params, some_params as params_inhabited, some_routine, some_decls}
 use Rattle.flow_parse.proofs.DeclBacks.{param_back, no_params_back, params_back, more_params_back, end_params_back, end_fields_back, more_fields_back, all_fields_back, routine_back, record_tree, function_tree, actor_tree, record_part_back, function_part_back, actor_part_back, record_kind_back, function_kind_back, actor_kind_back, DeclMarks, end_decls_back, decls_back}
@@ -162,6 +163,13 @@ module _ (t : Tokens) (at : ℕ) (h : at ≤ length t.spots.items) where
           let k = r.back.back.back in
           actor_decl x.0 x.1.0 x.1.1.0 x.1.1.1.1.0 k.first k.back.rest k.front (k.back.back x.0 x.1.1.1.0) (behind r.is r.front (behind r.back.is r.back.front (behind r.back.back.is r.back.back.front (glue _ k.is (behind k.back.is k.back.front refl)))));
   }) (nothing t.spots.items Actor Any at h)
+
+  -- behind the word that begins it
+  pub struct_read : token_at t.spots.items at ≡ Some (token.Word word.Struct) → Leaves Record Any (Then Named (λ x. Then (Tok (token.Sign sign.OpenCurly)) (λ q. Then AllFields (λ fs. Tok (token.Sign sign.Semicolon))))) Any (λ x. record_tree (place_at t at, x)) t.spots.items at (at + 1)
+  struct_read e = then_reads t.spots.items struct_link record_left (tok_reads t at (token.Word word.Struct) e)
+
+  pub actor_read : token_at t.spots.items at ≡ Some (token.Word word.Actor) → Leaves Actor Any (Then (Tok (token.Word word.Future)) (λ q. Then (Tok (token.Sign sign.Less)) (λ s. Then (TypeRule 2) (λ y. Then (Tok (token.Sign sign.Greater)) (λ v. Routine true))))) Any (λ x. actor_tree (place_at t at, x)) t.spots.items at (at + 1)
+  actor_read e = then_reads t.spots.items actor_link actor_left (tok_reads t at (token.Word word.Actor) e)
 
 -- which kind of declaration it is
 pub record_turns : Turns DeclRule Any Record Any StructDecl (Some (token.Word word.Struct))

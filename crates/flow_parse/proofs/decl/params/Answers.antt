@@ -1,3 +1,6 @@
+use Rattle.std.proofs.lemmas.Result.{err_from_is_err_and}
+use Rattle.flow_parse.proofs.Leaves.{then_reads, fails, first_fails}
+use Rattle.flow_parse.proofs.Decls.{params_link, more_params_link, next_param_link, params_left, more_params_left, end_params_left}
 use Rattle.std.proofs.Common.{arith, refl, sym, ap, subst, ◌∙◌, ◌++◌, ◌∷◌, [], ◌+◌, suc}
 use Rattle.flow_ast.specs.declared.token.Token.TheVariants as token
 use Rattle.flow_ast.specs.declared.token.Sign.TheVariants as sign
@@ -41,3 +44,23 @@ items-preserved c =
 pub returns-clause-reads : goal.returns-clause-reads
 returns-clause-reads c =
     params_done c.args.tokens.now.spots.items c.args.at c.items.at c.in_ok-to.to c.items.number _ c.items.params.items (λ x. not_true (c.items-test.ensures.sign.1 x)) c.items.invariant.4 c.in_ok-to.ensures.reads
+
+pub returns-in_err-first-clause-reads : goal.returns-in_err-first-clause-reads
+returns-in_err-first-clause-reads c =
+    let t = c.args.tokens.now in
+    let p = err_from_is_err_and c.from_residual.result c.from_residual.ensures.1 in
+    rw (p.1, p.2) (first_fails t params_link (params_left t c.args.at c.requires.within (λ x. not_true (c.if-is_sign.ensures.sign.1 x))) _ c.in_err-first.ensures.reads)
+
+pub returns-in_err-next-clause-reads : goal.returns-in_err-next-clause-reads
+returns-in_err-next-clause-reads c =
+    let t = c.args.tokens.now in
+    let n = c.items.number in
+    let e = c.items-test.ensures.sign.0 refl in
+    let p = err_from_is_err_and c.from_residual-in_err-next.result c.from_residual-in_err-next.ensures.1 in
+    rw (p.1, p.2) (first_fails t (next_param_link n) (then_reads t.spots.items (more_params_link n) (more_params_left t.spots.items e c.items.invariant.4) (tok_reads t c.items.at (token.Sign sign.Comma) e)) _ c.in_err-next.ensures.reads)
+
+pub returns-in_err-to-clause-reads : goal.returns-in_err-to-clause-reads
+returns-in_err-to-clause-reads c =
+    let t = c.args.tokens.now in
+    let p = err_from_is_err_and c.from_residual-in_err-to.result c.from_residual-in_err-to.ensures.1 in
+    rw (p.1, p.2) (fails t (end_params_left t.spots.items (λ x. not_true (c.items-test.ensures.sign.1 x)) c.items.invariant.4) _ c.in_err-to.ensures.reads)
