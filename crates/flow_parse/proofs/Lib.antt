@@ -19,6 +19,8 @@ pub mod Trees
 pub mod StmtLoops
 pub mod Deeper
 pub mod StmtOpens
+pub mod DeclLoops
+pub mod DeclFails
 pub mod OtherBody
 pub mod Looking
 pub mod Backs
