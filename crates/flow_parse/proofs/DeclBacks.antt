@@ -17,7 +17,7 @@ use Rattle.flow_ast.specs.GrammarDecl.{ParamRule, param, FieldsRule, no_fields, 
 use Rattle.flow_parse.specs.Openers.{TypeToken, DeclToken}
 use Rattle.flow_parse.specs.Reading.{Tok, Named, Then, Any}
 use Rattle.flow_parse.specs.Follow.{AtEnd}
-use Rattle.flow_parse.specs.Parts.{BlockOut, Placed, Marks, Block, FieldsPart, AllFields, MoreParams, Params, RoutineOut, Routine}
+use Rattle.flow_parse.specs.Parts.{BlockOut, Placed, Marks, Block, FieldsPart, AllFields, MoreParams, Params, RoutineOut, Routine, Record, Function, Actor}
 use Rattle.flow_parse.proofs.Shapes.{TypeName}
 use Rattle.flow_parse.proofs.Looking.{Looks, Back}
 use Rattle.flow_parse.proofs.Backs.{Formed, front, tok_front}
@@ -188,6 +188,40 @@ function_back z o n m (function_decl {t = y} {f = f} at of xs t r e s) l = recor
   follows = tt;
 }
 function_back z o n m (actor_decl at p q r of xs t u e) l = absurd (m (looks_is o (word_at word.Actor at) _ z e l))
+
+-- one kind of declaration, whatever its next token is
+abbrev pub record_tree : Place × (Ident × (Place × (List ParamTree × Place))) → RecordTree
+record_tree x = record { at = x.0; name = x.1.0; fields = x.1.1.1.0 }
+
+pub record_part_back : {w : List Marked} {r : RecordTree} (z : List Marked) → Record w r → Back Record Any RecordSeq Any record_tree w z r
+record_part_back z (record_decl r) = let k = record_form r in record { tree = k.tree; rule = k.rule; is = k.is; follows = tt }
+
+pub function_part_back : {w : List Marked} {f : RoutineTree} (z : List Marked) → Function w f → Back Function Any FunctionSeq Any function_tree w z f
+function_part_back z (function_decl {t = y} {f = f} at of xs t r e s) = record {
+  tree = ((at, y), out_of f);
+  rule = front (Placed (TypeRule 1)) (at, y) (out_of f) of xs e (starts_placed TypeToken at of xs e (type_starts t) s, t) (routine_any r);
+  is = routine_same r;
+  follows = tt;
+}
+
+pub actor_part_back : {w : List Marked} {f : RoutineTree} (z : List Marked) → Actor w f → Back Actor Any ActorSeq Any actor_tree w z f
+actor_part_back z (actor_decl {t = y} {f = f} at p q r of xs t u e) = record {
+  tree = (at, (p, (q, (y, (r, out_of f)))));
+  rule = tok_front (token.Word word.Actor) at (p, (q, (y, (r, out_of f)))) (word_at word.Future p ∷ sign_at sign.Less q ∷ (of ++ (sign_at sign.Greater r ∷ xs))) e (tok_front (token.Word word.Future) p (q, (y, (r, out_of f))) (sign_at sign.Less q ∷ (of ++ (sign_at sign.Greater r ∷ xs))) refl
+      (tok_front (token.Sign sign.Less) q (y, (r, out_of f)) (of ++ (sign_at sign.Greater r ∷ xs)) refl (front (TypeRule 2) y (r, out_of f) of (sign_at sign.Greater r ∷ xs) refl t (tok_front (token.Sign sign.Greater) r (out_of f) xs refl (routine_any u)))));
+  is = routine_same u;
+  follows = tt;
+}
+
+-- a declaration is of one kind, as its next token says
+pub record_kind_back : {w : List Marked} {t : DeclTree} (z : List Marked) → DeclRule w t → Looks (Some (token.Word word.Struct)) (w ++ z) → Back DeclRule Any Record Any StructDecl w z t
+record_kind_back z r l = let k = record_back z r l in record { tree = record_tree k.tree; rule = subst (DeclRule _) k.is r; is = k.is; follows = tt }
+
+pub actor_kind_back : {w : List Marked} {t : DeclTree} (z : List Marked) → DeclRule w t → Looks (Some (token.Word word.Actor)) (w ++ z) → Back DeclRule Any Actor Any ActorDecl w z t
+actor_kind_back z r l = let k = actor_back z r l in record { tree = actor_tree k.tree; rule = subst (DeclRule _) k.is r; is = k.is; follows = tt }
+
+pub function_kind_back : {w : List Marked} {t : DeclTree} (z : List Marked) (o : Option Token) → (o ≡ Some (token.Word word.Struct) → ⊥) → (o ≡ Some (token.Word word.Actor) → ⊥) → DeclRule w t → Looks o (w ++ z) → Back DeclRule Any Function Any FunctionDecl w z t
+function_kind_back z o n m r l = let k = function_back z o n m r l in record { tree = function_tree k.tree; rule = subst (DeclRule _) k.is r; is = k.is; follows = tt }
 
 type_decl : (w : List Marked) → Starts TypeToken w → Starts DeclToken w
 type_decl [] h = absurd h

@@ -7,6 +7,8 @@ pub mod Leaves
 pub mod Shapes
 pub mod Second
 pub mod Variables
+pub mod Openings
+pub mod SimpleLoops
 pub mod TreeOpens
 pub mod Unended
 pub mod Lift
@@ -14,10 +16,11 @@ pub mod Stmts
 pub mod Decls
 pub mod Lists
 pub mod Trees
-pub mod Loops
 pub mod StmtLoops
 pub mod Deeper
 pub mod StmtOpens
+pub mod DeclLoops
+pub mod DeclFails
 pub mod OtherBody
 pub mod Looking
 pub mod Backs

@@ -44,7 +44,7 @@ pub uniq_into : (actor : Bool) (d : ℕ) (c : Counts) (k : ℕ) → Uniq k (Into
 uniq_into actor d c k = narrowed (IntoPart actor d c) Any (Then (StatePart actor c) (λ s. Then (TypeRule d) (λ y. Named))) Any (λ x. (record { state = x.0.0; ty = x.1.0; name = x.1.1 }, x.0.1)) k (λ w z b r f. into_back z r)
     (seq (StatePart actor c) (NotBefore (token.Word word.State)) (λ s. Then (TypeRule d) (λ y. Named)) Any k (λ a b v z r f. starts_not a TypeToken (token.Word word.State) (λ h. h) v z (type_name_starts r)) (uniq_state actor c k) (λ s. seq (TypeRule d) Any (λ y. Named) Any k (λ a b v z r f. tt) (uniq_type k d) (λ y. uniq_name k)))
 
-which_wait : (o : Option Token) → AsFirst WaitToken o → (o ≡ Some (token.Word word.Wait)) ⊎ (o ≡ Some (token.Word word.WaitNext))
+pub which_wait : (o : Option Token) → AsFirst WaitToken o → (o ≡ Some (token.Word word.Wait)) ⊎ (o ≡ Some (token.Word word.WaitNext))
 which_wait (Some (token.Word word.Wait)) h = inl refl
 which_wait (Some (token.Word word.WaitNext)) h = inr refl
 which_wait _ h = absurd h

@@ -1,11 +1,12 @@
 // Declarations.
 
-ghost use Rattle.std.specs.Prelude.{◌≡◌, ℕ, ◌+◌, ◌<◌, ◌≤◌, length, IfOk, Some};
+ghost use Rattle.std.specs.Prelude.{◌≡◌, ◌↔◌, ℕ, ◌+◌, ◌<◌, ◌≤◌, length, IfOk, IsTrue, Some};
 ghost use Rattle.flow_ast.specs.declared.token.Word.TheVariants as word;
 ghost use Rattle.flow_ast.specs.declared.token.Token.TheVariants as token;
 ghost use Rattle.flow_ast.specs.DeclView.{param_of, params_of, record_of, function_of, actor_of, decl_of};
 ghost use Rattle.flow_ast.specs.GrammarDecl.{ParamRule, DeclRule};
 ghost use Rattle.flow_parse.specs.Reading.{token_at, Any, Answer};
+ghost use Rattle.flow_parse.specs.Openers.{AsFirst, DeclToken};
 ghost use Rattle.flow_parse.specs.Parts.{AllFields, Params, Routine, Record, Function, Actor};
 ghost use Rattle.flow_parse.specs.Views.{routine_out};
 
@@ -33,12 +34,10 @@ fn param(
     ensures few { IfOk result (λ r. number ≤ 1000) }
 {
     if number > VARIABLES {
-        let rule = if begins_type(tokens, at) {
-            Rule::L(6)
-        } else {
-            Rule::S(5)
-        };
-        return Err(refused(tokens, rule, at));
+        if begins_type(tokens, at) {
+            return Err(refused(tokens, Rule::L(6), at));
+        }
+        return Err(refused(tokens, Rule::S(5), at));
     }
     let (ty, at) = ty(alloc, tokens, at, 1)?;
     let (name, to) = name(alloc, tokens, at)?;
@@ -196,7 +195,9 @@ fn actor(alloc: Global, tokens: &Tokens, at: usize) -> Result<(ActorDecl, usize)
 }
 
 /// Whether a declaration begins here.
-pub fn begins_decl(tokens: &Tokens, at: usize) -> bool {
+pub fn begins_decl(tokens: &Tokens, at: usize) -> bool
+    ensures { IsTrue result ↔ AsFirst DeclToken (token_at tokens.now.spots.items at) }
+{
     is_word(tokens, at, Word::Struct) || is_word(tokens, at, Word::Actor) || begins_type(tokens, at)
 }
 

@@ -1,9 +1,6 @@
 // Programs.
 
-ghost use Rattle.std.specs.Prelude.{◌≡◌, ℕ, ◌<◌, ◌≤◌, length, IfOk, Err};
-ghost use Rattle.flow_ast.specs.GrammarAnswer.{place_at};
-ghost use Rattle.flow_ast.specs.GrammarDecl.{IsProgram};
-ghost use Rattle.flow_ast.specs.DeclView.{program_of};
+ghost use Rattle.flow_parse.specs.ParseAnswer.{ParseAnswer};
 
 use crate::decl::{begins_decl, decl};
 use crate::token::refused;
@@ -21,11 +18,9 @@ const DECLARATIONS: u32 = 4096;
 /// The program that these tokens are, by the grammar and within its limits. More than 200,000 tokens
 /// are refused with L2 at token 200,001. Otherwise the first token with which no program begins whose
 /// parts that have begun keep the limits is refused: with S5 where no program at all begins so, and
-/// with the least of L3 to L7 that can't be kept elsewhere; the end counts as a token. That such a
-/// token is refused, and no other, is tested and not proved.
+/// with the least of L3 to L7 that can't be kept elsewhere; the end counts as a token.
 pub fn parse(alloc: Global, tokens: &Tokens) -> Result<Program, SourceFault>
-    ensures many { 200000 < length tokens.now.spots.items → result ≡ Err (SourceFault.Refused (Rule.L 2) (place_at tokens.now 200000)) }
-    ensures sound { IfOk result (λ p. IsProgram tokens.now (program_of p)) }
+    ensures { ParseAnswer tokens.now result }
 {
     if tokens.spots.len() > TOKENS {
         return Err(refused(tokens, Rule::L(2), TOKENS));

@@ -1,6 +1,6 @@
 // Single tokens, types and expressions, each with what follows it.
 
-ghost use Rattle.std.specs.Prelude.{◌≡◌, ◌↔◌, ℕ, ◌+◌, ◌<◌, ◌≤◌, length, IfOk, IsTrue, Some};
+ghost use Rattle.std.specs.Prelude.{◌≡◌, ◌↔◌, ℕ, ◌+◌, ◌<◌, ◌≤◌, length, IfOk, IsTrue, OnSome, Some};
 ghost use Rattle.std.specs.Bool.{OnTrue};
 ghost use Rattle.flow_ast.specs.GrammarAnswer.{place_at};
 ghost use Rattle.flow_ast.specs.View.{type_of, expr_of};
@@ -144,7 +144,8 @@ fn token_name(alloc: Global, token: &Token, at: Place) -> Result<Option<Ident>, 
 
 /// The name that stands here, if one does.
 pub fn read_name(alloc: Global, tokens: &Tokens, at: usize) -> Result<Option<Ident>, NoMemory>
-    ensures { IfOk result (λ o. o ≡ ident_at tokens.now.spots.items at) }
+    ensures is { IfOk result (λ o. o ≡ ident_at tokens.now.spots.items at) }
+    ensures within { IfOk result (λ o. OnSome o (at < length tokens.now.spots.items)) }
 {
     match tokens.spots.get(at) {
         Some(spot) => token_name(alloc, &spot.token, spot.at),

@@ -1,9 +1,13 @@
+use Rattle.std.proofs.lemmas.Result.{err_from_is_err_and}
+use Rattle.flow_parse.proofs.Leaves.{then_reads, first_fails}
+use Rattle.flow_parse.proofs.Decls.{field_link, semicolon_link, fields_left, more_fields_left}
 use Rattle.std.proofs.Common.{arith, refl, ap, ◌∙◌, ◌++◌, ◌∷◌, [], ◌+◌, suc}
 use Rattle.flow_ast.specs.declared.token.Token.TheVariants as token
 use Rattle.flow_ast.specs.declared.token.Sign.TheVariants as sign
 use Rattle.flow_parse.proofs.Leaves.{tok_reads}
 use Rattle.std.proofs.Common.{◌≡◌}
-use Rattle.flow_parse.proofs.Loops.{fields_init, fields_step, fields_done}
+use Rattle.flow_parse.proofs.Looking.{not_true}
+use Rattle.flow_parse.proofs.DeclLoops.{fields_init, fields_step, fields_done}
 use Rattle.flow_parse.proofs.decl.fields.Goals as goal
 
 pub items-init : goal.items-init
@@ -19,11 +23,37 @@ items-preserved c =
     let i = c.items.invariant in
     let n = c.items.number in
     let e : n + 1 ≡ suc n = omega arith in
-    let l = fields_step s c.args.at c.items.at c.in_ok-field.to c.in_ok-at-2.at n (n + 1) _ c.items.fields.items c.push-in-items.new.self.items c.in_ok-field.field c.in_ok-push-2.ensures.items e i.3 c.in_ok-field.ensures.reads c.in_ok-at-2.ensures.reads in
+    let l = fields_step s c.args.at c.items.at c.in_ok-field.to c.in_ok-at-2.at n (n + 1) _ c.items.fields.items c.push-in-items.new.self.items c.in_ok-field.field c.in_ok-push-2.ensures.items e (λ x. not_true (c.items-test.ensures.sign.1 x)) i.3 c.in_ok-field.ensures.reads c.in_ok-at-2.ensures.reads in
     (omega (arith, i.0, c.in_ok-field.ensures.moves.0, c.in_ok-at-2.ensures.moves.0), c.in_ok-at-2.ensures.moves.1, omega (arith, c.in_ok-field.ensures.few), l)
 
 pub returns-clause-reads : goal.returns-clause-reads
 returns-clause-reads c =
     let t = c.args.tokens.now in
     let k = tok_reads t c.items.at (token.Sign sign.CloseCurly) (c.items-test.ensures.sign.0 refl) in
-    fields_done t.spots.items c.args.at c.items.at (c.items.at + 1) c.items.number _ c.items.fields.items c.items.invariant.3 k
+    fields_done t.spots.items c.args.at c.items.at (c.items.at + 1) c.items.number _ c.items.fields.items (c.items-test.ensures.sign.0 refl) c.items.invariant.3 k
+
+pub returns-in_err-first-clause-reads : goal.returns-in_err-first-clause-reads
+returns-in_err-first-clause-reads c =
+    let t = c.args.tokens.now in
+    let p = err_from_is_err_and c.from_residual.result c.from_residual.ensures.1 in
+    rw (p.1, p.2) (first_fails t (field_link 1) (fields_left t c.args.at c.requires.within) _ c.in_err-first.ensures.reads)
+
+pub returns-in_err-at-clause-reads : goal.returns-in_err-at-clause-reads
+returns-in_err-at-clause-reads c =
+    let t = c.args.tokens.now in
+    let p = err_from_is_err_and c.from_residual-in_err-at.result c.from_residual-in_err-at.ensures.1 in
+    rw (p.1, p.2) (first_fails t (semicolon_link 2) (then_reads t.spots.items (field_link 1) (fields_left t c.args.at c.requires.within) c.in_ok-first.ensures.reads) _ c.in_err-at.ensures.reads)
+
+pub returns-in_err-field-clause-reads : goal.returns-in_err-field-clause-reads
+returns-in_err-field-clause-reads c =
+    let t = c.args.tokens.now in
+    let l = (more_fields_left t.spots.items (λ x. not_true (c.items-test.ensures.sign.1 x)) c.items.invariant.3) in
+    let p = err_from_is_err_and c.from_residual-in_err-field.result c.from_residual-in_err-field.ensures.1 in
+    rw (p.1, p.2) (first_fails t (field_link c.items.number) l _ c.in_err-field.ensures.reads)
+
+pub returns-in_err-at-2-clause-reads : goal.returns-in_err-at-2-clause-reads
+returns-in_err-at-2-clause-reads c =
+    let t = c.args.tokens.now in
+    let l = (more_fields_left t.spots.items (λ x. not_true (c.items-test.ensures.sign.1 x)) c.items.invariant.3) in
+    let p = err_from_is_err_and c.from_residual-in_err-at-2.result c.from_residual-in_err-at-2.ensures.1 in
+    rw (p.1, p.2) (first_fails t (semicolon_link (suc c.items.number)) (then_reads t.spots.items (field_link c.items.number) l c.in_ok-field.ensures.reads) _ c.in_err-at-2.ensures.reads)

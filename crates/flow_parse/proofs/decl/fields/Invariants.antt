@@ -2,7 +2,7 @@ use Rattle.std.proofs.Common.{◌-◌, ◌≤◌, ◌<◌, length}
 use Rattle.flow_parse.specs.Reading.{Any}
 use Rattle.flow_parse.specs.Parts.{AllFields, FieldsPart}
 use Rattle.flow_parse.proofs.Leaves.{Leaves}
-use Rattle.flow_parse.proofs.Loops.{params_before}
+use Rattle.flow_parse.proofs.DeclLoops.{params_before}
 use Rattle.flow_parse.proofs.decl.fields.Given as goal
 
 abbrev pub invariant-items : goal.invariant-items

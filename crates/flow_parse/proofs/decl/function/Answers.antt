@@ -1,11 +1,27 @@
+use Rattle.std.proofs.lemmas.Result.{err_from_is_err_and}
+use Rattle.flow_ast.specs.Grammar.{TypeRule}
+use Rattle.flow_parse.specs.Openers.{TypeToken}
 use Rattle.flow_parse.specs.Reading.{Any}
-use Rattle.flow_parse.proofs.Leaves.{then_reads, done, placed_reads}
-use Rattle.flow_parse.proofs.Decls.{function_left}
+use Rattle.flow_parse.proofs.Begins.{type_starts}
+use Rattle.flow_parse.proofs.Leaves.{then_reads, done, fails, first_fails, placed_reads, placed_fails}
+use Rattle.flow_parse.proofs.Decls.{function_link, function_left}
 use Rattle.flow_parse.proofs.decl.function.Goals as goal
+
+pub returns-in_err-returns-clause-reads : goal.returns-in_err-returns-clause-reads
+returns-in_err-returns-clause-reads c =
+    let t = c.args.tokens.now in
+    let p = err_from_is_err_and c.from_residual.result c.from_residual.ensures.1 in
+    rw (p.1, p.2) (first_fails t function_link (function_left t c.args.at c.requires.within) _ (placed_fails (TypeRule 1) Any TypeToken (λ w a r. type_starts r) t c.args.at _ c.in_err-returns.ensures.reads))
+
+pub returns-in_err-read-clause-reads : goal.returns-in_err-read-clause-reads
+returns-in_err-read-clause-reads c =
+    let t = c.args.tokens.now in
+    let r = placed_reads t c.args.at c.in_ok-returns.at c.in_ok-returns.ensures.moves.0 c.in_ok-returns.ensures.reads in
+    let p = err_from_is_err_and c.from_residual-in_err-read.result c.from_residual-in_err-read.ensures.1 in
+    rw (p.1, p.2) (fails t (then_reads t.spots.items function_link (function_left t c.args.at c.requires.within) r) _ c.in_err-read.ensures.reads)
 
 pub returns-clause-reads : goal.returns-clause-reads
 returns-clause-reads c =
     let t = c.args.tokens.now in
-    let s = t.spots.items in
-    let p = placed_reads t Any c.args.at c.in_ok-returns.at c.in_ok-returns.ensures.moves.0 c.in_ok-returns.ensures.reads in
-    rw c.place-here.ensures (done s (then_reads s (function_left t c.args.at c.requires.within) p) c.in_ok-read.ensures.reads)
+    let r = placed_reads t c.args.at c.in_ok-returns.at c.in_ok-returns.ensures.moves.0 c.in_ok-returns.ensures.reads in
+    rw c.place-here.ensures (done t.spots.items (then_reads t.spots.items function_link (function_left t c.args.at c.requires.within) r) c.in_ok-read.ensures.reads)

@@ -2,7 +2,7 @@ use Rattle.std.proofs.Common.{◌≡◌, ◌+◌, ◌-◌, ◌≤◌, ◌<◌, l
 use Rattle.flow_parse.specs.Reading.{Any}
 use Rattle.flow_parse.specs.Parts.{Params, MoreParams}
 use Rattle.flow_parse.proofs.Leaves.{Leaves}
-use Rattle.flow_parse.proofs.Loops.{params_before}
+use Rattle.flow_parse.proofs.DeclLoops.{params_before}
 use Rattle.flow_parse.proofs.decl.params.Given as goal
 
 abbrev pub invariant-items : goal.invariant-items

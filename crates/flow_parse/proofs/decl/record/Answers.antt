@@ -1,13 +1,37 @@
-use Rattle.flow_ast.specs.declared.token.Token.TheVariants as token
-use Rattle.flow_ast.specs.declared.token.Word.TheVariants as word
-use Rattle.flow_parse.proofs.Leaves.{then_reads, done, tok_reads}
-use Rattle.flow_parse.proofs.Decls.{record_left}
+use Rattle.std.proofs.lemmas.Result.{err_from_is_err_and}
+use Rattle.flow_parse.proofs.Leaves.{then_reads, done, fails, first_fails}
+use Rattle.flow_parse.proofs.Decls.{record_name_link, record_open_link, record_fields_link, struct_read}
 use Rattle.flow_parse.proofs.decl.record.Goals as goal
+
+pub returns-in_err-name-clause-reads : goal.returns-in_err-name-clause-reads
+returns-in_err-name-clause-reads c =
+    let t = c.args.tokens.now in
+    let p = err_from_is_err_and c.from_residual.result c.from_residual.ensures.1 in
+    rw (p.1, p.2) (first_fails t record_name_link (struct_read t c.args.at c.requires.within c.requires.here) _ c.in_err-name.ensures.reads)
+
+pub returns-in_err-at-clause-reads : goal.returns-in_err-at-clause-reads
+returns-in_err-at-clause-reads c =
+    let t = c.args.tokens.now in
+    let l = then_reads t.spots.items record_name_link (struct_read t c.args.at c.requires.within c.requires.here) c.in_ok-name.ensures.reads in
+    let p = err_from_is_err_and c.from_residual-in_err-at.result c.from_residual-in_err-at.ensures.1 in
+    rw (p.1, p.2) (first_fails t record_open_link l _ c.in_err-at.ensures.reads)
+
+pub returns-in_err-fields-clause-reads : goal.returns-in_err-fields-clause-reads
+returns-in_err-fields-clause-reads c =
+    let t = c.args.tokens.now in
+    let l = then_reads t.spots.items record_open_link (then_reads t.spots.items record_name_link (struct_read t c.args.at c.requires.within c.requires.here) c.in_ok-name.ensures.reads) c.in_ok-at.ensures.reads in
+    let p = err_from_is_err_and c.from_residual-in_err-fields.result c.from_residual-in_err-fields.ensures.1 in
+    rw (p.1, p.2) (first_fails t record_fields_link l _ c.in_err-fields.ensures.reads)
+
+pub returns-in_err-to-clause-reads : goal.returns-in_err-to-clause-reads
+returns-in_err-to-clause-reads c =
+    let t = c.args.tokens.now in
+    let l = then_reads t.spots.items record_fields_link (then_reads t.spots.items record_open_link (then_reads t.spots.items record_name_link (struct_read t c.args.at c.requires.within c.requires.here) c.in_ok-name.ensures.reads) c.in_ok-at.ensures.reads) c.in_ok-fields.ensures.reads in
+    let p = err_from_is_err_and c.from_residual-in_err-to.result c.from_residual-in_err-to.ensures.1 in
+    rw (p.1, p.2) (fails t l _ c.in_err-to.ensures.reads)
 
 pub returns-clause-reads : goal.returns-clause-reads
 returns-clause-reads c =
     let t = c.args.tokens.now in
-    let s = t.spots.items in
-    let k = tok_reads t c.args.at (token.Word word.Struct) c.requires.here in
-    let l = then_reads s (then_reads s (record_left t c.args.at c.requires.within) k) c.in_ok-name.ensures.reads in
-    rw c.place-here.ensures (done s (then_reads s (then_reads s l c.in_ok-at.ensures.reads) c.in_ok-fields.ensures.reads) c.in_ok-to.ensures.reads)
+    let l = then_reads t.spots.items record_fields_link (then_reads t.spots.items record_open_link (then_reads t.spots.items record_name_link (struct_read t c.args.at c.requires.within c.requires.here) c.in_ok-name.ensures.reads) c.in_ok-at.ensures.reads) c.in_ok-fields.ensures.reads in
+    rw c.place-here.ensures (done t.spots.items l c.in_ok-to.ensures.reads)

@@ -2,7 +2,7 @@ use Rattle.std.proofs.Common.{◌-◌, ◌≤◌, length}
 use Rattle.flow_ast.specs.GrammarDecl.{DeclsRule}
 use Rattle.flow_parse.specs.Follow.{AtEnd}
 use Rattle.flow_parse.proofs.Leaves.{Leaves}
-use Rattle.flow_parse.proofs.Loops.{decls_before}
+use Rattle.flow_parse.proofs.DeclLoops.{decls_before}
 use Rattle.flow_parse.proofs.parse.parse.Given as goal
 
 abbrev pub invariant-items : goal.invariant-items
