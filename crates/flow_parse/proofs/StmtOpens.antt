@@ -296,14 +296,21 @@ pub opening_beyond : (ps : List Part) (x : Token) (n : ℕ) (t : Tokens) (at : �
 opening_beyond ps x n t at l u e out keep =
     let h = here t at x e in
     let z : at ≡ at + 0 = omega arith in
-    let p = place_at t at in
-    (l, u, record { number = 0; place = ap (place_at t) z; stops = record {
-      within = omega arith;
-      token = λ i. omega (arith, h.within, length-drop at t.spots.items);
-      bad = λ w y b r g s. first_bad w y b r (drop at t.spots.items) s;
-      good = record { read = []; rest = opens ps x nowhere ∷ []; tree = nowhere; rule = refl; is = refl; keeps = tt };
-      below = λ m i k. subst (λ ts. Good (Opening ps x) m (take 1 ts)) (sym h.is) (with_token m ps x p (drop (at + 1) t.spots.items) [] p (keep m i) refl);
-    } })
+    let p = place_at t at in (
+      l,
+      u,
+      record {
+        number = 0;
+        place = ap (place_at t) z;
+        stops = record {
+          within = omega arith;
+          token = λ i. omega (arith, h.within, length-drop at t.spots.items);
+          bad = λ w y b r g s. first_bad w y b r (drop at t.spots.items) s;
+          good = record { read = []; rest = opens ps x nowhere ∷ []; tree = nowhere; rule = refl; is = refl; keeps = tt };
+          below = λ m i k. subst (λ ts. Good (Opening ps x) m (take 1 ts)) (sym h.is) (with_token m ps x p (drop (at + 1) t.spots.items) [] p (keep m i) refl);
+        };
+      },
+    )
   where
     first_bad : (w y : List Marked) (b : Place) → Opening ps x w b → (ts : List Spot) → Sees n 1 ts (w ++ y) → ⊥
     first_bad w y b r [] s = subst (λ k. Sees n 1 [] (k ++ y)) r s

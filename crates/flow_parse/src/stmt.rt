@@ -21,7 +21,8 @@ ghost use Rattle.flow_parse.specs.Views.{counts_of, stmt_out, body_out, block_ou
 use crate::build;
 use crate::simple::{Counts, ReadStmt, change, ended, init, more_names, simple, test, waiting};
 use crate::token::{
-    DEPTH, begins_type, expr, is_name, is_sign, is_type_word, is_word, name, place, refused, sign, word,
+    DEPTH, begins_type, expr, is_name, is_sign, is_type_word, is_word, name, place, refused, sign,
+    word,
 };
 use flow_ast::expr::Expr;
 use flow_ast::fault::{Rule, SourceFault};

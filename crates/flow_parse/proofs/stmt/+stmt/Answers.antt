@@ -435,7 +435,7 @@ stmt-returns-in_err-read-clause-reads h c =
     let e = c.in_err-read.field-0.0 in
     let p = err_from_is_err_and c.from_residual-in_err-read.result c.from_residual-in_err-read.ensures.1 in
     rw (p.1, p.2) (fails t l e (begun_fails (Placed (Block a (suc d) (one_statement k))) Any t c.args.at k d c.requires.within c.in_ok-counts.ensures.within.1 c.in_ok-counts.ensures.within.0 e
-        (placed_fails (Block a (suc d) (one_statement k)) Any StmtToken block_starts t c.args.at e (moved_fails (Block a (suc d)) Any t c.args.at e c.in_ok-counts.ensures.one (deeper_fails (λ i. Block a i (counts_of c.in_ok-counts.counts)) Any t c.args.at d e c.in_err-read.ensures.reads)))))
+    (placed_fails (Block a (suc d) (one_statement k)) Any StmtToken block_starts t c.args.at e (moved_fails (Block a (suc d)) Any t c.args.at e c.in_ok-counts.ensures.one (deeper_fails (λ i. Block a i (counts_of c.in_ok-counts.counts)) Any t c.args.at d e c.in_err-read.ensures.reads)))))
 
 pub stmt-returns-clause-reads : goal.stmt-returns-clause-reads
 stmt-returns-clause-reads h c =
