@@ -89,16 +89,17 @@ opening_only ps x p ts n (suc j) w z q r g lt s =
     (ap (λ y. y.at) s2.0, ap length r)
 opening_only ps x p ts n zero w z q r g lt s = absurd (omega arith)
 
+-- a name is known by its token and its place
+pub spot_name : (y x : Ident) → (name_at y).spot ≡ record { token = token.Name x.name; at = x.at } → y ≡ x
+spot_name y x e =
+    let h : token.Name y.name ≡ token.Name x.name = ap (λ q. q.token) e in
+    let f : y.name ≡ x.name = cc in
+    let g : y.at ≡ x.at = ap (λ q. q.at) e in
+    ap (λ k. record { name = k; at = y.at }) f ∙ ap (λ q. record { name = x.name; at = q }) g
+
 -- a name
 pub named_only : (x : Ident) (ts : List Spot) → Only Named Any x 1 (record { token = token.Name x.name; at = x.at } ∷ ts)
 named_only x ts n (suc j) w z y r g lt s =
     let s2 = subst (λ k. Sees n (suc j) (record { token = token.Name x.name; at = x.at } ∷ ts) (k ++ z)) r s in
     (spot_name y x s2.0, ap length r)
-  where
-    spot_name : (y x : Ident) → (name_at y).spot ≡ record { token = token.Name x.name; at = x.at } → y ≡ x
-    spot_name y x e =
-        let h : token.Name y.name ≡ token.Name x.name = ap (λ q. q.token) e in
-        let f : y.name ≡ x.name = cc in
-        let g : y.at ≡ x.at = ap (λ q. q.at) e in
-        ap (λ k. record { name = k; at = y.at }) f ∙ ap (λ q. record { name = x.name; at = q }) g
 named_only x ts n zero w z y r g lt s = absurd (omega arith)

@@ -280,7 +280,7 @@ pub node_reads : (spots : List Spot) (d from to : ℕ) (x : Ident) → d ≤ 64 
 node_reads spots d from to x h r = become spots refl (node_turns d (token_at spots from)) (marks_reads spots (Node d) (λ l. h) r)
 
 -- a part that is a statement
-begun_turns : {A : Type 0} (R : List Marked → A → Type 0) (F : A → List Marked → Type 0) (c : Counts) (d : ℕ) (o : Option Token) → Turns (Begun c d R) F (Marks (Statement (suc c.statements)) (Marks (Node d) R)) F (λ x. x) o
+pub begun_turns : {A : Type 0} (R : List Marked → A → Type 0) (F : A → List Marked → Type 0) (c : Counts) (d : ℕ) (o : Option Token) → Turns (Begun c d R) F (Marks (Statement (suc c.statements)) (Marks (Node d) R)) F (λ x. x) o
 begun_turns R F c d o = record { back = λ w z b r f l. record { tree = b; rule = (begin (Node d) r.0, (r.0, r.1, refl), r.2); is = refl; follows = f }; forth = λ w x r. (r.1.0, r.1.1, r.2 ∙ ap (begin (Statement (suc c.statements))) r.1.2) }
 
 -- an answer for one part is one for another, which the next token says
@@ -385,6 +385,17 @@ no_name (Some s) y g e = not_a_name s.token s.at y g (let f : s.token ≡ token.
     not_a_name (token.Word n) p y g e = cc
     not_a_name (token.Sign n) p y g e = cc
 
+-- where a name stands, and where none does
+pub nameless : (t : Tokens) (at : ℕ) → ident_at t.spots.items at ≡ None → (m : List ℕ) → token_at t.spots.items at ≡ Some (token.Name m) → ⊥
+nameless t at e m f = no_name (slice_get t.spots.items at) (record { name = m; at = place_at t at }) e f
+
+named_token : (o : Option Spot) (y : Ident) → ident_in o ≡ Some y → option_map (λ s. s.token) o ≡ Some (token.Name y.name)
+named_token None y e = absurd (cc)
+named_token (Some s) y e = ap (λ x. Some x) (names s.token s.at y e).0
+
+pub name_token : (t : Tokens) (at : ℕ) (y : Ident) → ident_at t.spots.items at ≡ Some y → token_at t.spots.items at ≡ Some (token.Name y.name)
+name_token t at y e = named_token (slice_get t.spots.items at) y e
+
 pub name_fails : (t : Tokens) (at : ℕ) → ident_at t.spots.items at ≡ None → Fails Named Any t at (Refused (rule.S 5) (place_at t at))
 name_fails t at e = none_fails Named Any t at (record { marked = name_at (record { name = []; at = place_at t at }) ∷ []; tree = record { name = []; at = place_at t at }; rule = refl }) (λ w z y r g l. no_name (slice_get t.spots.items at) y e (looks_is (token_at t.spots.items at) (name_at y) [] z r l))
 
@@ -401,3 +412,9 @@ answer_done v to t l (Err e) a = fails t l e a
 -- a part with another parameter
 pub moved : {P A : Type 0} {F : A → List Marked → Type 0} {spots : List Spot} {from to : ℕ} {a : A} {p q : P} (R : P → List Marked → A → Type 0) → p ≡ q → Reads (R p) F spots from a to → Reads (R q) F spots from a to
 moved {F = F} {spots = spots} {from = from} {to = to} {a = a} R e r = subst (λ k. Reads (R k) F spots from a to) e r
+
+pub moved_fails : {P A : Type 0} (R : P → List Marked → A → Type 0) (F : A → List Marked → Type 0) {p q : P} (t : Tokens) (from : ℕ) (e : SourceFault) → p ≡ q → Fails (R p) F t from e → Fails (R q) F t from e
+moved_fails R F t from e i a = subst (λ k. Fails (R k) F t from e) i a
+
+pub deeper_fails : {A : Type 0} (R : ℕ → List Marked → A → Type 0) (F : A → List Marked → Type 0) (d : ℕ) (t : Tokens) (from : ℕ) (e : SourceFault) → Fails (R (d + 1)) F t from e → Fails (R (suc d)) F t from e
+deeper_fails R F d t from e a = let i : d + 1 ≡ suc d = omega arith in subst (λ k. Fails (R k) F t from e) i a

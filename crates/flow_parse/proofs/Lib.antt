@@ -5,7 +5,10 @@ pub mod Failing
 pub mod Inhabitants
 pub mod Leaves
 pub mod Shapes
+pub mod Second
 pub mod Variables
+pub mod Openings
+pub mod SimpleLoops
 pub mod TreeOpens
 pub mod Unended
 pub mod Lift
@@ -13,7 +16,9 @@ pub mod Stmts
 pub mod Decls
 pub mod Lists
 pub mod Trees
-pub mod Loops
+pub mod StmtLoops
+pub mod Deeper
+pub mod StmtOpens
 pub mod DeclLoops
 pub mod DeclFails
 pub mod OtherBody

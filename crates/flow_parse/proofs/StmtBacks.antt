@@ -50,7 +50,7 @@ simple_token (token.Number n) h = absurd h
 simple_token (token.Text n) h = absurd h
 simple_token (token.Sign n) h = absurd h
 
-stmt_token : (t : Token) → PlainToken t → StmtToken t
+pub stmt_token : (t : Token) → PlainToken t → StmtToken t
 stmt_token (token.Name n) h = tt
 stmt_token (token.Word k) h = h
 stmt_token (token.Number n) h = absurd h
@@ -78,7 +78,7 @@ plain_starts (wait_stmt at p xs o f s) = starts_is PlainToken xs _ f (begins_sta
 plain_starts (call_stmt at p q r path args x a f s) = starts_is PlainToken path _ f (begins_starts path (path_begins x))
 
 -- which parts begin with a token doesn't matter
-starts_begun : (P : Token → Type 0) (c : Counts) (d : ℕ) (w : List Marked) → Starts P w → Starts P (begin_statement c d w)
+pub starts_begun : (P : Token → Type 0) (c : Counts) (d : ℕ) (w : List Marked) → Starts P w → Starts P (begin_statement c d w)
 starts_begun P c d [] h = h
 starts_begun P c d (x ∷ w) h = h
 
@@ -429,7 +429,7 @@ when_back {u = u} z r f =
 when_looks : {actor : Bool} {d n : ℕ} {c c' : Counts} {w : List Marked} {bs b : Branches} (z : List Marked) (o : Option Token) → WhenRule actor d n c c' w bs b → Looks o (w ++ z) → o ≡ Some (token.Word word.When)
 when_looks {d = d} {n = n} z o (branch at p q xs body r u e) l = looks_is o (opens (Branch n ∷ Node d ∷ []) (token.Word word.When) at) _ z e l
 
-word_no_sign : (o : Option Token) → o ≡ Some (token.Word word.When) → o ≡ Some (token.Sign sign.CloseCurly) → ⊥
+pub word_no_sign : (o : Option Token) → o ≡ Some (token.Word word.When) → o ≡ Some (token.Sign sign.CloseCurly) → ⊥
 word_no_sign o e f = cc
 
 pub all_whens_back : {actor : Bool} {d : ℕ} {c : Counts} {w : List Marked} {u : Branches × Counts} (z : List Marked) → AllWhens actor d c w u → Back (AllWhens actor d c) Any (Then (WhenPart actor d 1 c) (λ o. WhensPart actor d 2 o.counts)) Any (λ x. (MoreBranches x.0.at x.0.waiting x.0.body x.1.0, x.1.1)) w z u
@@ -442,16 +442,18 @@ all_whens_back {actor = actor} {d = d} {c = c} {u = u} z r =
       follows = tt;
     }
 
-pub end_whens_back : {actor : Bool} {d n : ℕ} {c : Counts} {w : List Marked} {u : Branches × Counts} (z : List Marked) → WhensPart actor d n c w u → Looks (Some (token.Sign sign.CloseCurly)) (w ++ z) → Back (WhensPart actor d n c) Any (Tok (token.Sign sign.CloseCurly)) Any (λ p. (NoBranches, c)) w z u
-end_whens_back z r l = by_rule z r.0 r.1 r.2 r.3 l
+pub no_when_back : {actor : Bool} {d n : ℕ} {c : Counts} {w : List Marked} {u : Branches × Counts} (z : List Marked) (o : Option Token) → (o ≡ Some (token.Word word.When) → ⊥) → WhensPart actor d n c w u → Looks o (w ++ z) → Back (WhensPart actor d n c) Any (Tok (token.Sign sign.CloseCurly)) Any (λ p. (NoBranches, c)) w z u
+no_when_back z o m r l = by_rule z o m r.0 r.1 r.2 r.3 l
   where
-    by_rule : {actor : Bool} {d n : ℕ} {c c' : Counts} {w : List Marked} {b : Branches} (z : List Marked) (q : Place) (of : List Marked) → WhensRule actor d n c c' of b → w ≡ of ++ sign_at sign.CloseCurly q ∷ [] → Looks (Some (token.Sign sign.CloseCurly)) (w ++ z)
+    by_rule : {actor : Bool} {d n : ℕ} {c c' : Counts} {w : List Marked} {b : Branches} (z : List Marked) (o : Option Token) → (o ≡ Some (token.Word word.When) → ⊥) → (q : Place) (of : List Marked) → WhensRule actor d n c c' of b → w ≡ of ++ sign_at sign.CloseCurly q ∷ [] → Looks o (w ++ z)
         → Back (WhensPart actor d n c) Any (Tok (token.Sign sign.CloseCurly)) Any (λ p. (NoBranches, c)) w z (b, c')
-    by_rule z q of no_whens e l = record { tree = q; rule = e; is = refl; follows = tt }
-    by_rule z q of (more_whens first more w m f) e l =
+    by_rule z o m q of no_whens e l = record { tree = q; rule = e; is = refl; follows = tt }
+    by_rule z o m q of (more_whens first more w v f) e l =
         let g = e ∙ ap (λ k. k ++ sign_at sign.CloseCurly q ∷ []) f ∙ append_assoc first more (sign_at sign.CloseCurly q ∷ []) in
-        let o = Some (token.Sign sign.CloseCurly) in
-        absurd (word_no_sign o (when_looks ((more ++ sign_at sign.CloseCurly q ∷ []) ++ z) o w (subst (Looks o) (ap (λ k. k ++ z) g ∙ append_assoc first (more ++ sign_at sign.CloseCurly q ∷ []) z) l)) refl)
+        absurd (m (when_looks ((more ++ sign_at sign.CloseCurly q ∷ []) ++ z) o w (subst (Looks o) (ap (λ k. k ++ z) g ∙ append_assoc first (more ++ sign_at sign.CloseCurly q ∷ []) z) l)))
+
+pub end_whens_back : {actor : Bool} {d n : ℕ} {c : Counts} {w : List Marked} {u : Branches × Counts} (z : List Marked) → WhensPart actor d n c w u → Looks (Some (token.Sign sign.CloseCurly)) (w ++ z) → Back (WhensPart actor d n c) Any (Tok (token.Sign sign.CloseCurly)) Any (λ p. (NoBranches, c)) w z u
+end_whens_back z r l = no_when_back z (Some (token.Sign sign.CloseCurly)) (λ e. word_no_sign (Some (token.Sign sign.CloseCurly)) e refl) r l
 
 pub more_whens_back : {actor : Bool} {d n : ℕ} {c : Counts} {w : List Marked} {u : Branches × Counts} (z : List Marked) (o : Option Token) → (o ≡ Some (token.Sign sign.CloseCurly) → ⊥) → WhensPart actor d n c w u → Looks o (w ++ z)
     → Back (WhensPart actor d n c) Any (Then (WhenPart actor d n c) (λ o. WhensPart actor d (suc n) o.counts)) Any (λ x. (MoreBranches x.0.at x.0.waiting x.0.body x.1.0, x.1.1)) w z u

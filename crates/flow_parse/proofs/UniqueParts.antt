@@ -44,7 +44,7 @@ pub uniq_into : (actor : Bool) (d : ℕ) (c : Counts) (k : ℕ) → Uniq k (Into
 uniq_into actor d c k = narrowed (IntoPart actor d c) Any (Then (StatePart actor c) (λ s. Then (TypeRule d) (λ y. Named))) Any (λ x. (record { state = x.0.0; ty = x.1.0; name = x.1.1 }, x.0.1)) k (λ w z b r f. into_back z r)
     (seq (StatePart actor c) (NotBefore (token.Word word.State)) (λ s. Then (TypeRule d) (λ y. Named)) Any k (λ a b v z r f. starts_not a TypeToken (token.Word word.State) (λ h. h) v z (type_name_starts r)) (uniq_state actor c k) (λ s. seq (TypeRule d) Any (λ y. Named) Any k (λ a b v z r f. tt) (uniq_type k d) (λ y. uniq_name k)))
 
-which_wait : (o : Option Token) → AsFirst WaitToken o → (o ≡ Some (token.Word word.Wait)) ⊎ (o ≡ Some (token.Word word.WaitNext))
+pub which_wait : (o : Option Token) → AsFirst WaitToken o → (o ≡ Some (token.Word word.Wait)) ⊎ (o ≡ Some (token.Word word.WaitNext))
 which_wait (Some (token.Word word.Wait)) h = inl refl
 which_wait (Some (token.Word word.WaitNext)) h = inr refl
 which_wait _ h = absurd h
@@ -148,7 +148,7 @@ module _ (d : ℕ) (at : Place) (i : IntoTree) (k : ℕ) where
   ])
 
 -- behind a path
-changed_no_dot : {d : ℕ} {at : Place} {xs : List Ident} {b : Body} (a : List Ident) (v z : List Marked) → ChangedRule d at xs v b → NotBefore (token.Sign sign.Dot) a (v ++ z)
+pub changed_no_dot : {d : ℕ} {at : Place} {xs : List Ident} {b : Body} (a : List Ident) (v z : List Marked) → ChangedRule d at xs v b → NotBefore (token.Sign sign.Dot) a (v ++ z)
 changed_no_dot a v z (changes r) = starts_not a ChangeSign (token.Sign sign.Dot) (λ h. h) v z (change_starts r)
 changed_no_dot a v z (calls p args x e) = not_before_is a (token.Sign sign.Dot) (sign_at sign.OpenRound p) v args z e open_dot
   where
@@ -197,7 +197,7 @@ uniq_any_name d k w z v u a b lt r g s h e =
     one_spot m n i j = ap (first_or m) (sym (ap (λ y. spots_of (y ++ z)) i) ∙ e ∙ ap (λ y. spots_of (y ++ u)) j)
 
 -- a statement without its semicolon, and the init of a `for`
-out_is : (o : Out) (x : Body × Counts) → ◌≡◌ {A = Body × Counts} (o.body, o.counts) x → o.ends_if ≡ false → o ≡ closed x.0 x.1
+pub out_is : (o : Out) (x : Body × Counts) → ◌≡◌ {A = Body × Counts} (o.body, o.counts) x → o.ends_if ≡ false → o ≡ closed x.0 x.1
 out_is o x e f = ap (λ y. record { body = y.0; counts = y.1; ends_if = o.ends_if }) e ∙ ap (λ h. record { body = x.0; counts = x.1; ends_if = h }) f
 
 module _ (actor : Bool) (d : ℕ) (c : Counts) (k : ℕ) where

@@ -48,10 +48,10 @@ uniq_next d c k = uniq_by (NextPart d c) Any k (λ o. elim (at_close o) [
       (seq (Begun c d (Assignment d)) ExprEnds (λ o. Tok (token.Sign sign.CloseRound)) Any k (λ a b v z r f. ends_is a (sign_at sign.CloseRound b) v [] z r tt) (uniq_begun (Assignment d) ExprEnds c d k (uniq_assignment d k)) (λ o. uniq_opening [] (token.Sign sign.CloseRound) k))
 ])
 
-abbrev CatchSeq : List Marked → Place × (Place × (Place × (Place × (Ident × Place)))) → Type 0
+abbrev pub CatchSeq : List Marked → Place × (Place × (Place × (Place × (Ident × Place)))) → Type 0
 CatchSeq w x = Then (Tok (token.Word word.Catch)) (λ p. Then (Tok (token.Sign sign.OpenRound)) (λ q. Then (Tok (token.Word word.Error)) (λ r. Then (Tok (token.Sign sign.Amp)) (λ s. Then Named (λ x. Tok (token.Sign sign.CloseRound)))))) w x
 
-catch_back : {w : List Marked} {x : Ident} (z : List Marked) → Catch w x → Back Catch Any CatchSeq Any (λ y. y.1.1.1.1.0) w z x
+pub catch_back : {w : List Marked} {x : Ident} (z : List Marked) → Catch w x → Back Catch Any CatchSeq Any (λ y. y.1.1.1.1.0) w z x
 catch_back {x = x} z r = record {
   tree = (r.0, (r.1, (r.2, (r.3, (x, r.4)))));
   rule = tok_front (token.Word word.Catch) r.0 (r.1, (r.2, (r.3, (x, r.4)))) (sign_at sign.OpenRound r.1 ∷ word_at word.Error r.2 ∷ sign_at sign.Amp r.3 ∷ name_at x ∷ sign_at sign.CloseRound r.4 ∷ []) r.5
@@ -78,10 +78,10 @@ record AllUniq (k : ℕ) : Type 0 where
   whens : (actor : Bool) (d n : ℕ) (c : Counts) → Uniq k (WhensPart actor d n c) Any
   all_whens : (actor : Bool) (d : ℕ) (c : Counts) → Uniq k (AllWhens actor d c) Any
 
-else_as : (u v : Out) (z : List Marked) → u.ends_if ≡ v.ends_if → NoElse u z → NoElse v z
+pub else_as : (u v : Out) (z : List Marked) → u.ends_if ≡ v.ends_if → NoElse u z → NoElse v z
 else_as u v z e f = λ h. not_before_same (token.Word word.Else) u v z (f (e ∙ h))
 
-else_follows : (actor : Bool) (d : ℕ) (a : Out) (b : Option Out) (v z : List Marked) → ElsePart actor d a v b → ElseFollow b z → NoElse a (v ++ z)
+pub else_follows : (actor : Bool) (d : ℕ) (a : Out) (b : Option Out) (v z : List Marked) → ElsePart actor d a v b → ElseFollow b z → NoElse a (v ++ z)
 else_follows actor d a None v z r f = λ h. subst (λ y. NotBefore (token.Word word.Else) a (y ++ z)) (sym r) (not_before_same {A = Option Out} {B = Out} (token.Word word.Else) None a z f)
 else_follows actor d a (Some b) v z r f = λ h. let e : true ≡ false = sym h ∙ r.0 in absurd (cc)
 

@@ -20,6 +20,8 @@ use Rattle.flow_parse.specs.Reading.{token_at, Opening, Tok, Named, Then, Any, R
 use Rattle.flow_parse.specs.Follow.{ExprEnds, Before, NotBefore}
 use Rattle.flow_parse.specs.Parts.{Out, Test, Args, MoreArgs, MoreNames, StatePart, IntoPart, OperandPart, ChangeRule, assigns, adds, takes, goes_up, goes_down, ChangedRule, changes, calls, DeclaredRule, no_value, value, ValuedRule, declares, waits}
 use Rattle.flow_parse.proofs.Looking.{Looks, Back}
+use Rattle.flow_parse.proofs.Backs.{tok_front}
+use Rattle.flow_parse.proofs.Begins.{looks_is, looks_first}
 use Rattle.flow_parse.proofs.Narrow.{starts_not, ends_is, ends_same, before_is}
 use Rattle.flow_parse.proofs.Failing.{Inhabited}
 use Rattle.flow_parse.proofs.Inhabitants.{some_then, some_opening, some_named, some_type, some_expr, some_test, some_args as args_inhabited, some_more_args, some_names, some_operand}
@@ -71,7 +73,7 @@ module _ (t : Tokens) (at : ℕ) where
   pub no_state_reads : (actor : Bool) (c : Counts) → at ≤ length t.spots.items → (token_at t.spots.items at ≡ Some (token.Word word.State) → ⊥) → Reads (StatePart actor c) (NotBefore (token.Word word.State)) t.spots.items at (false, c) at
   no_state_reads actor c h n = empty t.spots.items (StatePart actor c) _ at (false, c) (token_at t.spots.items at) h refl no_state (λ w z b r f l. no_state_back z (token_at t.spots.items at) n r l)
 
-  state_turns : (actor : Bool) (c : Counts) → Turns (StatePart actor c) (NotBefore (token.Word word.State)) (Opening (state_parts actor c) (token.Word word.State)) Any (λ p. (true, one_state actor c)) (Some (token.Word word.State))
+  pub state_turns : (actor : Bool) (c : Counts) → Turns (StatePart actor c) (NotBefore (token.Word word.State)) (Opening (state_parts actor c) (token.Word word.State)) Any (λ p. (true, one_state actor c)) (Some (token.Word word.State))
   state_turns actor c = record { back = λ w z b r f l. state_back z r f l; forth = λ w p e. subst (λ z. StateRule actor c (one_state actor c) z true) (sym e) (some_state p) }
 
   pub free_state_reads : (c : Counts) → token_at t.spots.items at ≡ Some (token.Word word.State) → Reads (StatePart false c) (NotBefore (token.Word word.State)) t.spots.items at (true, c) (at + 1)
@@ -122,8 +124,18 @@ module _ (spots : List Spot) where
 
 module _ (t : Tokens) (at d : ℕ) (p : Place) (xs : List Ident) (h : at ≤ length t.spots.items) where
   -- a change of a variable
-  pub assign_left : token_at t.spots.items at ≡ Some (token.Sign sign.Assign) → Leaves (ChangeRule d p xs) ExprEnds (Then (Tok (token.Sign sign.Assign)) (λ q. ExprRule 0 (suc d))) (λ x. ExprEnds x.1) (λ x. AssignStmt p xs x.1 End) t.spots.items at at
-  assign_left e = narrow t.spots.items e (record { back = λ w z b r f l. let q = change_back z sign.Assign r l in record { tree = q.tree; rule = q.rule; is = q.is; follows = ends_same b q.tree.1 z f }; forth = λ u x r. assigns x.0 r.rest r.back (behind r.is r.front refl) }) (nothing t.spots.items (ChangeRule d p xs) ExprEnds at h)
+  plain_back : {w : List Marked} {b : Body} (z : List Marked) (o : Option Token) → (o ≡ Some (token.Sign sign.PlusPlus) → ⊥) → (o ≡ Some (token.Sign sign.MinusMinus) → ⊥) → (o ≡ Some (token.Sign sign.PlusAssign) → ⊥) → (o ≡ Some (token.Sign sign.MinusAssign) → ⊥) → ChangeRule d p xs w b → ExprEnds b z → Looks o (w ++ z)
+      → Back (ChangeRule d p xs) ExprEnds (Then (Tok (token.Sign sign.Assign)) (λ q. ExprRule 0 (suc d))) (λ x. ExprEnds x.1) (λ x. AssignStmt p xs x.1 End) w z b
+  plain_back z o u v m n (assigns {e = e} q of x g) f l = record { tree = (q, e); rule = tok_front (token.Sign sign.Assign) q e of g x; is = refl; follows = ends_same (AssignStmt p xs e End) e z f }
+  plain_back z o u v m n (adds q of x g) f l = absurd (m (looks_is o (sign_at sign.PlusAssign q) of z g l))
+  plain_back z o u v m n (takes q of x g) f l = absurd (n (looks_is o (sign_at sign.MinusAssign q) of z g l))
+  plain_back z o u v m n (goes_up q) f l = absurd (u (looks_first o (sign_at sign.PlusPlus q) z l))
+  plain_back z o u v m n (goes_down q) f l = absurd (v (looks_first o (sign_at sign.MinusMinus q) z l))
+
+  -- with no other sign of a change
+  pub assign_left : (token_at t.spots.items at ≡ Some (token.Sign sign.PlusPlus) → ⊥) → (token_at t.spots.items at ≡ Some (token.Sign sign.MinusMinus) → ⊥) → (token_at t.spots.items at ≡ Some (token.Sign sign.PlusAssign) → ⊥) → (token_at t.spots.items at ≡ Some (token.Sign sign.MinusAssign) → ⊥)
+      → Leaves (ChangeRule d p xs) ExprEnds (Then (Tok (token.Sign sign.Assign)) (λ q. ExprRule 0 (suc d))) (λ x. ExprEnds x.1) (λ x. AssignStmt p xs x.1 End) t.spots.items at at
+  assign_left u v m n = narrow t.spots.items refl (record { back = λ w z b r f l. plain_back z (token_at t.spots.items at) u v m n r f l; forth = λ u x r. assigns x.0 r.rest r.back (behind r.is r.front refl) }) (nothing t.spots.items (ChangeRule d p xs) ExprEnds at h)
 
   pub plus_left : token_at t.spots.items at ≡ Some (token.Sign sign.PlusAssign) → Leaves (ChangeRule d p xs) ExprEnds (Then (Tok (token.Sign sign.PlusAssign)) (λ q. ExprRule 0 (suc d))) (λ x. ExprEnds x.1) (λ x. ModifyStmt p xs (PlusChange x.1) End) t.spots.items at at
   plus_left e = narrow t.spots.items e (record { back = λ w z b r f l. let q = change_back z sign.PlusAssign r l in record { tree = q.tree; rule = q.rule; is = q.is; follows = ends_same b q.tree.1 z f }; forth = λ u x r. adds x.0 r.rest r.back (behind r.is r.front refl) }) (nothing t.spots.items (ChangeRule d p xs) ExprEnds at h)

@@ -1,3 +1,4 @@
+pub mod Beyond
 pub mod Failing
 pub mod Follow
 pub mod Form

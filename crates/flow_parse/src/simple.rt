@@ -15,7 +15,9 @@ ghost use Rattle.flow_parse.specs.Parts.{Test, StatePart, IntoPart, OperandPart,
 ghost use Rattle.flow_parse.specs.Views.{counts_of, into_out, stmt_out, waiting_out, Stands};
 
 use crate::build;
-use crate::token::{expr, is_name, is_sign, is_word, name, place, refused, sign, ty};
+use crate::token::{
+    begins_wait, expr, is_sign, is_word, name, place, read_name, refused, sign, ty,
+};
 use flow_ast::expr::Expr;
 use flow_ast::fault::{Rule, SourceFault};
 use flow_ast::stmt::{Change, Into, Stmt, Waiting};
@@ -299,7 +301,7 @@ fn valued(
         return Ok((build::declare(place, into, None), at));
     }
     let at = at + 1;
-    if is_word(tokens, at, Word::Wait) || is_word(tokens, at, Word::WaitNext) {
+    if begins_wait(tokens, at) {
         let (next, operand, to) = operand(alloc, tokens, at, depth)?;
         return Ok((build::wait(place, Some(into), next, operand), to));
     }
@@ -334,21 +336,19 @@ pub fn init(
     ensures closed { IfOk result (λ r. r.ends_if ≡ false) }
     ensures moves { IfOk result (λ r. (at < r.to) × (r.to ≤ length tokens.now.spots.items)) }
 {
-    if !is_name(tokens, at) {
+    let Some(first) = read_name(alloc, tokens, at)? else {
         let here = place(tokens, at);
         let read = into(alloc, tokens, at, actor, depth, counts)?;
         let (stmt, to) = declared(alloc, tokens, here, read.into, read.to, depth)?;
         return Ok(ended(stmt, to, read.counts));
-    }
-    let (first, at) = name(alloc, tokens, at)?;
+    };
     let here = first.at;
-    if !is_name(tokens, at) {
-        let (path, at) = more_names(alloc, tokens, first, at)?;
+    let Some(second) = read_name(alloc, tokens, at + 1)? else {
+        let (path, at) = more_names(alloc, tokens, first, at + 1)?;
         let (stmt, to) = change(alloc, tokens, here, path, at, depth)?;
         return Ok(ended(stmt, to, counts));
-    }
-    let (second, at) = name(alloc, tokens, at)?;
-    let (stmt, to) = declared(alloc, tokens, here, named_into(first, second), at, depth)?;
+    };
+    let (stmt, to) = declared(alloc, tokens, here, named_into(first, second), at + 2, depth)?;
     Ok(ended(stmt, to, counts))
 }
 
@@ -368,26 +368,24 @@ fn unended(
     ensures closed { IfOk result (λ r. r.ends_if ≡ false) }
     ensures moves { IfOk result (λ r. (at < r.to) × (r.to ≤ length tokens.now.spots.items)) }
 {
-    if is_word(tokens, at, Word::Wait) || is_word(tokens, at, Word::WaitNext) {
+    if begins_wait(tokens, at) {
         let here = place(tokens, at);
         let (next, operand, to) = operand(alloc, tokens, at, depth)?;
         return Ok(ended(build::wait(here, None, next, operand), to, counts));
     }
-    if !is_name(tokens, at) {
+    let Some(first) = read_name(alloc, tokens, at)? else {
         let here = place(tokens, at);
         let read = into(alloc, tokens, at, actor, depth, counts)?;
         let (stmt, to) = valued(alloc, tokens, here, read.into, read.to, depth)?;
         return Ok(ended(stmt, to, read.counts));
-    }
-    let (first, at) = name(alloc, tokens, at)?;
+    };
     let here = first.at;
-    if !is_name(tokens, at) {
-        let (path, at) = more_names(alloc, tokens, first, at)?;
+    let Some(second) = read_name(alloc, tokens, at + 1)? else {
+        let (path, at) = more_names(alloc, tokens, first, at + 1)?;
         let (stmt, to) = changed(alloc, tokens, here, path, at, depth)?;
         return Ok(ended(stmt, to, counts));
-    }
-    let (second, at) = name(alloc, tokens, at)?;
-    let (stmt, to) = valued(alloc, tokens, here, named_into(first, second), at, depth)?;
+    };
+    let (stmt, to) = valued(alloc, tokens, here, named_into(first, second), at + 2, depth)?;
     Ok(ended(stmt, to, counts))
 }
 
@@ -441,7 +439,7 @@ pub fn waiting(
     ensures reads { Answer (WaitingPart actor depth (counts_of counts)) Any waiting_out (λ r. r.to) tokens.now at result }
     ensures moves { IfOk result (λ r. (at < r.to) × (r.to ≤ length tokens.now.spots.items)) }
 {
-    if is_word(tokens, at, Word::Wait) || is_word(tokens, at, Word::WaitNext) {
+    if begins_wait(tokens, at) {
         let (next, operand, to) = operand(alloc, tokens, at, depth)?;
         return Ok(ReadWaiting {
             waiting: Waiting {

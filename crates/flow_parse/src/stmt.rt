@@ -1,6 +1,7 @@
 // Statements.
 
-ghost use Rattle.std.specs.Prelude.{◌≡◌, ℕ, ◌+◌, ◌<◌, ◌≤◌, length, IfOk, Some, None, true};
+ghost use Rattle.std.specs.Prelude.{◌≡◌, ◌↔◌, ℕ, ◌+◌, ◌<◌, ◌≤◌, length, IfOk, IfErr, IsTrue, Some, None, true};
+ghost use Rattle.std.specs.Bool.{OnTrue};
 ghost use Rattle.std.specs.Option.{option_map};
 ghost use Rattle.flow_ast.specs.declared.token.Word.TheVariants as word;
 ghost use Rattle.flow_ast.specs.declared.token.Sign.TheVariants as sign;
@@ -9,15 +10,18 @@ ghost use Rattle.flow_ast.specs.View.{expr_of};
 ghost use Rattle.flow_ast.specs.StmtView.{stmt_of};
 ghost use Rattle.flow_ast.specs.Body.{End};
 ghost use Rattle.flow_ast.specs.GrammarStmt.{one_statement};
+ghost use Rattle.flow_ast.specs.GrammarAnswer.{place_at};
 ghost use Rattle.flow_parse.specs.Reading.{token_at, Any, Answer};
 ghost use Rattle.flow_parse.specs.Follow.{ExprEnds, NotBefore};
+ghost use Rattle.flow_parse.specs.Openers.{AsFirst, IntoToken, StmtWord, StmtToken};
+ghost use Rattle.flow_parse.specs.Beyond.{Beyond};
 ghost use Rattle.flow_parse.specs.Parts.{NoElse, Assignment, Catch, AllWhens, MaybeExpr, StartPart, NextPart, Plain, One, BodyPart, Closing, Block, WhenPart, WhensPart};
 ghost use Rattle.flow_parse.specs.Views.{counts_of, stmt_out, body_out, block_out, when_out, whens_out, part_out, Stands};
 
 use crate::build;
 use crate::simple::{Counts, ReadStmt, change, ended, init, more_names, simple, test, waiting};
 use crate::token::{
-    DEPTH, begins_type, expr, is_name, is_sign, is_word, name, place, refused, sign, word,
+    DEPTH, begins_type, expr, is_name, is_sign, is_type_word, is_word, name, place, refused, sign, word,
 };
 use flow_ast::expr::Expr;
 use flow_ast::fault::{Rule, SourceFault};
@@ -78,31 +82,44 @@ pub struct ReadPart {
 }
 
 // Whether a statement begins with this word.
-fn is_stmt_word(word: Word) -> bool {
+fn is_stmt_word(word: Word) -> bool
+    ensures { IsTrue result ↔ StmtWord word }
+{
     match word {
         Word::If | Word::While | Word::For | Word::Loop | Word::Break | Word::Continue => true,
         Word::Return | Word::Throw | Word::Try | Word::Choose => true,
-        Word::Wait | Word::WaitNext => true,
-        _ => false,
+        Word::State | Word::Wait | Word::WaitNext => true,
+        _ => is_type_word(word),
     }
 }
 
 // Whether a declaration or a change of a variable begins here.
-fn begins_init(tokens: &Tokens, at: usize) -> bool {
+fn begins_init(tokens: &Tokens, at: usize) -> bool
+    ensures begins { IsTrue result ↔ AsFirst IntoToken (token_at tokens.now.spots.items at) }
+    ensures within { OnTrue result (at < length tokens.now.spots.items) }
+{
     is_word(tokens, at, Word::State) || begins_type(tokens, at)
 }
 
-// Whether a statement begins here.
-fn begins_stmt(tokens: &Tokens, at: usize) -> bool {
-    if begins_init(tokens, at) {
-        return true;
+// Whether a statement begins with this token.
+fn is_stmt_token(token: &Token) -> bool
+    ensures { IsTrue result ↔ StmtToken token.now }
+{
+    match token {
+        Token::Name(_) => true,
+        Token::Word(word) => is_stmt_word(*word),
+        Token::Sign(sign) => *sign == Sign::OpenCurly,
+        Token::Number(_) | Token::Text(_) => false,
     }
+}
+
+// Whether a statement begins here.
+fn begins_stmt(tokens: &Tokens, at: usize) -> bool
+    ensures begins { IsTrue result ↔ AsFirst StmtToken (token_at tokens.now.spots.items at) }
+    ensures within { OnTrue result (at < length tokens.now.spots.items) }
+{
     match tokens.spots.get(at) {
-        Some(spot) => match &spot.token {
-            Token::Word(word) => is_stmt_word(*word),
-            Token::Sign(sign) => *sign == Sign::OpenCurly,
-            _ => false,
-        },
+        Some(spot) => is_stmt_token(&spot.token),
         None => false,
     }
 }
@@ -111,6 +128,7 @@ fn begins_stmt(tokens: &Tokens, at: usize) -> bool {
 fn begin(tokens: &Tokens, at: usize, depth: u32, counts: Counts) -> Result<Counts, SourceFault>
     ensures within { IfOk result (λ c. (depth ≤ 64) × (counts.statements < 10000)) }
     ensures one { IfOk result (λ c. counts_of c ≡ one_statement (counts_of counts)) }
+    ensures beyond { IfErr result (λ e. Beyond (counts_of counts) depth (place_at tokens.now at) e) }
 {
     if counts.statements >= STATEMENTS {
         return Err(refused(tokens, Rule::L(4), at));
@@ -437,7 +455,8 @@ fn loop_stmt(
 }
 
 fn boxed(alloc: Global, stmt: Stmt) -> Result<Box<Stmt>, SourceFault>
-    ensures { IfOk result (λ b. b.value ≡ stmt) }
+    ensures is { IfOk result (λ b. b.value ≡ stmt) }
+    ensures memory { IfErr result (λ e. e ≡ SourceFault.OutOfMemory) }
 {
     Ok(Box::new(alloc, stmt)?)
 }

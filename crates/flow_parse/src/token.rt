@@ -1,12 +1,12 @@
 // Single tokens, types and expressions, each with what follows it.
 
-ghost use Rattle.std.specs.Prelude.{◌≡◌, ◌↔◌, ℕ, ◌+◌, ◌<◌, ◌≤◌, length, IfOk, IsTrue, Some};
+ghost use Rattle.std.specs.Prelude.{◌≡◌, ◌↔◌, ℕ, ◌+◌, ◌<◌, ◌≤◌, length, IfOk, IsTrue, OnSome, Some};
 ghost use Rattle.std.specs.Bool.{OnTrue};
 ghost use Rattle.flow_ast.specs.GrammarAnswer.{place_at};
 ghost use Rattle.flow_ast.specs.View.{type_of, expr_of};
 ghost use Rattle.flow_ast.specs.Grammar.{TypeRule, ExprRule};
 ghost use Rattle.flow_parse.specs.Reading.{token_at, Tok, Named, Any, Answer};
-ghost use Rattle.flow_parse.specs.Openers.{AsFirst, NameToken, ExprToken, TypeToken, TypeWord};
+ghost use Rattle.flow_parse.specs.Openers.{AsFirst, NameToken, ExprToken, TypeToken, TypeWord, WaitToken};
 ghost use Rattle.flow_exprs.specs.Answer.{ident_of, ident_at};
 ghost use Rattle.flow_parse.specs.Follow.{ExprEnds};
 
@@ -95,6 +95,18 @@ pub fn is_name(tokens: &Tokens, at: usize) -> bool
     }
 }
 
+/// Whether a wait begins here.
+pub fn begins_wait(tokens: &Tokens, at: usize) -> bool
+    ensures { IsTrue result ↔ AsFirst WaitToken (token_at tokens.now.spots.items at) }
+{
+    match tokens.spots.get(at) {
+        Some(spot) => {
+            token_is_word(&spot.token, Word::Wait) || token_is_word(&spot.token, Word::WaitNext)
+        }
+        None => false,
+    }
+}
+
 /// The number of the token after this sign; S5 where it doesn't stand here.
 pub fn sign(tokens: &Tokens, at: usize, wanted: Sign) -> Result<usize, SourceFault>
     ensures reads { Answer (Tok (Token.Sign wanted)) Any (λ to. place_at tokens.now at) (λ to. to) tokens.now at result }
@@ -130,9 +142,10 @@ fn token_name(alloc: Global, token: &Token, at: Place) -> Result<Option<Ident>, 
     }
 }
 
-// The name that stands here.
-fn read_name(alloc: Global, tokens: &Tokens, at: usize) -> Result<Option<Ident>, NoMemory>
-    ensures { IfOk result (λ o. o ≡ ident_at tokens.now.spots.items at) }
+/// The name that stands here, if one does.
+pub fn read_name(alloc: Global, tokens: &Tokens, at: usize) -> Result<Option<Ident>, NoMemory>
+    ensures is { IfOk result (λ o. o ≡ ident_at tokens.now.spots.items at) }
+    ensures within { IfOk result (λ o. OnSome o (at < length tokens.now.spots.items)) }
 {
     match tokens.spots.get(at) {
         Some(spot) => token_name(alloc, &spot.token, spot.at),

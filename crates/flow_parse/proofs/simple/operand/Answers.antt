@@ -1,19 +1,49 @@
-use Rattle.std.proofs.Common.{refl}
+use Rattle.std.proofs.Common.{refl, suc, ◌+◌, inl, inr}
+use Rattle.std.proofs.lemmas.Result.{err_from_is_err_and}
 use Rattle.flow_ast.specs.declared.token.Token.TheVariants as token
 use Rattle.flow_ast.specs.declared.token.Word.TheVariants as word
-use Rattle.flow_parse.specs.Parts.{Test}
-use Rattle.flow_parse.proofs.Leaves.{then_reads, done, tok_reads, deeper}
-use Rattle.flow_parse.proofs.Variables.{wait_left, wait_next_left}
+use Rattle.flow_parse.specs.Reading.{token_at, Any}
+use Rattle.flow_parse.specs.Parts.{Test, OperandPart}
+use Rattle.flow_parse.proofs.Looking.{not_true}
+use Rattle.flow_parse.proofs.Leaves.{then_reads, done, tok_reads, deeper, fails, deeper_fails, none_fails}
+use Rattle.flow_parse.proofs.Inhabitants.{some_operand}
+use Rattle.flow_parse.proofs.SimpleBacks.{no_wait}
+use Rattle.flow_parse.proofs.UniqueParts.{which_wait}
+use Rattle.flow_parse.proofs.Variables.{wait_left, wait_next_left, wait_link}
 use Rattle.flow_parse.proofs.simple.operand.Goals as goal
 
 pub returns-then-is_word-clause-reads : goal.returns-then-is_word-clause-reads
 returns-then-is_word-clause-reads c =
-    let spots = c.args.tokens.now.spots.items in
-    let w = tok_reads c.args.tokens.now c.args.at (token.Word word.WaitNext) (c.if-is_word.ensures.word.0 refl) in
-    done spots (then_reads spots (wait_next_left c.args.tokens.now c.args.at c.args.depth c.requires.within) w) (deeper Test c.args.depth c.in_ok-of.ensures.reads)
+    let t = c.args.tokens.now in
+    let e = c.if-is_word.ensures.word.0 refl in
+    let l = then_reads t.spots.items (wait_link (token.Word word.WaitNext) (suc c.args.depth)) (wait_next_left t c.args.at c.args.depth c.requires.within e) (tok_reads t c.args.at (token.Word word.WaitNext) e) in
+    done t.spots.items l (deeper Test c.args.depth c.in_ok-of.ensures.reads)
+
+pub returns-in_err-of-clause-reads : goal.returns-in_err-of-clause-reads
+returns-in_err-of-clause-reads c =
+    let t = c.args.tokens.now in
+    let e = c.if-is_word.ensures.word.0 refl in
+    let l = then_reads t.spots.items (wait_link (token.Word word.WaitNext) (suc c.args.depth)) (wait_next_left t c.args.at c.args.depth c.requires.within e) (tok_reads t c.args.at (token.Word word.WaitNext) e) in
+    let p = err_from_is_err_and c.from_residual.result c.from_residual.ensures.1 in
+    rw (p.1, p.2) (fails t l c.in_err-of.field-0.0 (deeper_fails Test Any c.args.depth t (c.args.at + 1) c.in_err-of.field-0.0 c.in_err-of.ensures.reads))
 
 pub returns-then-is_word-2-clause-reads : goal.returns-then-is_word-2-clause-reads
 returns-then-is_word-2-clause-reads c =
-    let spots = c.args.tokens.now.spots.items in
-    let w = tok_reads c.args.tokens.now c.args.at (token.Word word.Wait) (c.if-is_word-2.ensures.word.0 refl) in
-    done spots (then_reads spots (wait_left c.args.tokens.now c.args.at c.args.depth c.requires.within) w) (deeper Test c.args.depth c.in_ok-of-2.ensures.reads)
+    let t = c.args.tokens.now in
+    let e = c.if-is_word-2.ensures.word.0 refl in
+    let l = then_reads t.spots.items (wait_link (token.Word word.Wait) (suc c.args.depth)) (wait_left t c.args.at c.args.depth c.requires.within e) (tok_reads t c.args.at (token.Word word.Wait) e) in
+    done t.spots.items l (deeper Test c.args.depth c.in_ok-of-2.ensures.reads)
+
+pub returns-in_err-of-2-clause-reads : goal.returns-in_err-of-2-clause-reads
+returns-in_err-of-2-clause-reads c =
+    let t = c.args.tokens.now in
+    let e = c.if-is_word-2.ensures.word.0 refl in
+    let l = then_reads t.spots.items (wait_link (token.Word word.Wait) (suc c.args.depth)) (wait_left t c.args.at c.args.depth c.requires.within e) (tok_reads t c.args.at (token.Word word.Wait) e) in
+    let p = err_from_is_err_and c.from_residual-in_err-of-2.result c.from_residual-in_err-of-2.ensures.1 in
+    rw (p.1, p.2) (fails t l c.in_err-of-2.field-0.0 (deeper_fails Test Any c.args.depth t (c.args.at + 1) c.in_err-of-2.field-0.0 c.in_err-of-2.ensures.reads))
+
+pub returns-clause-reads : goal.returns-clause-reads
+returns-clause-reads c =
+    let t = c.args.tokens.now in
+    let o = token_at t.spots.items c.args.at in
+    rw c.refused.ensures (none_fails (OperandPart c.args.depth) Any t c.args.at (some_operand c.args.depth) (λ w z b r f l. no_wait z o (λ h. elim (which_wait o h) [ | inl e ↦ not_true (c.if-is_word-2.ensures.word.1 e) | inr e ↦ not_true (c.if-is_word.ensures.word.1 e) ]) r l))

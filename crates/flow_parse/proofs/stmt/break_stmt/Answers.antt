@@ -1,13 +1,23 @@
+use Rattle.std.proofs.lemmas.Result.{err_from_is_err_and}
 use Rattle.flow_ast.specs.declared.token.Token.TheVariants as token
 use Rattle.flow_ast.specs.declared.token.Word.TheVariants as word
 use Rattle.flow_ast.specs.Body.{End}
 use Rattle.flow_parse.specs.Views.{counts_of}
-use Rattle.flow_parse.proofs.Leaves.{then_reads, done, tok_reads}
-use Rattle.flow_parse.proofs.Stmts.{break_left}
+use Rattle.flow_parse.proofs.Leaves.{then_reads, done, fails, tok_reads}
+use Rattle.flow_parse.proofs.Stmts.{break_left, semicolon_link}
 use Rattle.flow_parse.proofs.stmt.break_stmt.Goals as goal
 
 pub returns-clause-reads : goal.returns-clause-reads
 returns-clause-reads c =
     let t = c.args.tokens.now in
     let k = tok_reads t c.args.at (token.Word word.Break) c.requires.here in
-    rw (c.ended.ensures.is, c.break_stmt.ensures.is End, c.place-here.ensures) (done t.spots.items (then_reads t.spots.items (break_left t c.args.at c.args.actor c.args.depth (counts_of c.args.counts) c.requires.within) k) c.in_ok-to.ensures.reads)
+    let l = then_reads t.spots.items semicolon_link (break_left t c.args.at c.args.actor c.args.depth (counts_of c.args.counts) c.requires.within c.requires.here) k in
+    rw (c.ended.ensures.is, c.break_stmt.ensures.is End, c.place-here.ensures) (done t.spots.items l c.in_ok-to.ensures.reads)
+
+pub returns-in_err-to-clause-reads : goal.returns-in_err-to-clause-reads
+returns-in_err-to-clause-reads c =
+    let t = c.args.tokens.now in
+    let k = tok_reads t c.args.at (token.Word word.Break) c.requires.here in
+    let l = then_reads t.spots.items semicolon_link (break_left t c.args.at c.args.actor c.args.depth (counts_of c.args.counts) c.requires.within c.requires.here) k in
+    let p = err_from_is_err_and c.from_residual.result c.from_residual.ensures.1 in
+    rw (p.1, p.2) (fails t l c.in_err-to.field-0.0 c.in_err-to.ensures.reads)

@@ -1,26 +1,70 @@
 use Rattle.std.proofs.Common.{refl, sym, subst}
+use Rattle.std.proofs.lemmas.Result.{err_from_is_err_and}
 use Rattle.flow_ast.specs.declared.token.Token.TheVariants as token
 use Rattle.flow_ast.specs.declared.token.Sign.TheVariants as sign
 use Rattle.flow_ast.specs.Body.{End}
 use Rattle.flow_ast.specs.StmtView.{stmt_of}
 use Rattle.flow_ast.specs.GrammarStmt.{one_statement}
-use Rattle.std.proofs.Common.{true}
+use Rattle.flow_parse.specs.Follow.{ExprEnds}
 use Rattle.flow_parse.specs.Reading.{Any, Reads}
-use Rattle.flow_parse.specs.Parts.{NextPart}
+use Rattle.flow_parse.specs.Parts.{Assignment, NextPart}
 use Rattle.flow_parse.specs.Views.{counts_of}
-use Rattle.flow_parse.proofs.Leaves.{then_reads, done, tok_reads, begun_reads}
-use Rattle.flow_parse.proofs.Stmts.{no_next, next_left}
+use Rattle.flow_parse.proofs.Looking.{not_true}
+use Rattle.flow_parse.proofs.Leaves.{then_reads, done, fails, first_fails, tok_reads}
+use Rattle.flow_parse.proofs.Deeper.{begun_reads, begun_fails}
+use Rattle.flow_parse.proofs.Stmts.{no_next, next_left, step_close}
+use Rattle.flow_parse.proofs.StmtOpens.{step_none, step_beyond}
 use Rattle.flow_parse.proofs.stmt.next_part.Goals as goal
 
 pub returns-then-is_sign-clause-reads : goal.returns-then-is_sign-clause-reads
 returns-then-is_sign-clause-reads c =
     let t = c.args.tokens.now in
-    done t.spots.items (no_next t c.args.at true c.args.depth (counts_of c.args.counts) c.requires.within) (tok_reads t c.args.at (token.Sign sign.CloseRound) (c.if-is_sign.ensures.sign.0 refl))
+    let e = c.if-is_sign.ensures.sign.0 refl in
+    done t.spots.items (no_next t c.args.at c.args.depth (counts_of c.args.counts) c.requires.within e) (tok_reads t c.args.at (token.Sign sign.CloseRound) e)
+
+pub returns-then-not-is_name-clause-reads : goal.returns-then-not-is_name-clause-reads
+returns-then-not-is_name-clause-reads c =
+    let t = c.args.tokens.now in
+    let k = counts_of c.args.counts in
+    let l = next_left t c.args.at c.args.depth k c.requires.within (λ e. not_true (c.if-is_sign.ensures.sign.1 e)) in
+    rw c.refused.ensures (first_fails t step_close l _ (step_none t c.args.at c.args.depth k (λ e. not_true (c.if-not-is_name.ensures.name.1 e))))
+
+pub returns-in_err-counts-clause-reads : goal.returns-in_err-counts-clause-reads
+returns-in_err-counts-clause-reads c =
+    let t = c.args.tokens.now in
+    let k = counts_of c.args.counts in
+    let l = next_left t c.args.at c.args.depth k c.requires.within (λ e. not_true (c.if-is_sign.ensures.sign.1 e)) in
+    let b = step_beyond t c.args.at c.args.depth k c.if-not-is_name.ensures.within (c.if-not-is_name.ensures.name.0 refl) c.in_err-counts.field-0.0 c.in_err-counts.ensures.beyond in
+    let p = err_from_is_err_and c.from_residual.result c.from_residual.ensures.1 in
+    rw (p.1, p.2) (first_fails t step_close l c.in_err-counts.field-0.0 b)
+
+pub returns-in_err-stmt-clause-reads : goal.returns-in_err-stmt-clause-reads
+returns-in_err-stmt-clause-reads c =
+    let t = c.args.tokens.now in
+    let k = counts_of c.args.counts in
+    let d = c.args.depth in
+    let l = next_left t c.args.at d k c.requires.within (λ e. not_true (c.if-is_sign.ensures.sign.1 e)) in
+    let b = begun_fails (Assignment d) ExprEnds t c.args.at k d c.requires.within c.in_ok-counts.ensures.within.1 c.in_ok-counts.ensures.within.0 c.in_err-stmt.field-0.0 c.in_err-stmt.ensures.reads in
+    let p = err_from_is_err_and c.from_residual-in_err-stmt.result c.from_residual-in_err-stmt.ensures.1 in
+    rw (p.1, p.2) (first_fails t step_close l c.in_err-stmt.field-0.0 b)
+
+pub returns-in_err-to-clause-reads : goal.returns-in_err-to-clause-reads
+returns-in_err-to-clause-reads c =
+    let t = c.args.tokens.now in
+    let k = counts_of c.args.counts in
+    let d = c.args.depth in
+    let b = begun_reads (Assignment d) ExprEnds t c.args.at k d c.requires.within c.in_ok-counts.ensures.within.1 c.in_ok-counts.ensures.within.0 (stmt_of c.in_ok-stmt.stmt End) c.in_ok-stmt.at c.in_ok-stmt.ensures.reads in
+    let l = then_reads t.spots.items step_close (next_left t c.args.at d k c.requires.within (λ e. not_true (c.if-is_sign.ensures.sign.1 e))) b in
+    let p = err_from_is_err_and c.from_residual-in_err-to.result c.from_residual-in_err-to.ensures.1 in
+    rw (p.1, p.2) (fails t l c.in_err-to.field-0.0 c.in_err-to.ensures.reads)
 
 pub returns-clause-reads : goal.returns-clause-reads
 returns-clause-reads c =
     let t = c.args.tokens.now in
-    let b = begun_reads t.spots.items (counts_of c.args.counts) c.args.depth c.in_ok-counts.ensures.within.1 c.in_ok-counts.ensures.within.0 c.in_ok-stmt.ensures.reads in
-    let x = done t.spots.items (then_reads t.spots.items (next_left t c.args.at true c.args.depth (counts_of c.args.counts) c.requires.within) b) c.in_ok-to.ensures.reads in
-    let y = subst (λ s. Reads (NextPart c.args.depth (counts_of c.args.counts)) Any t.spots.items c.args.at (stmt_of s End, one_statement (counts_of c.args.counts)) c.in_ok-to.to) (sym c.in_ok-part.ensures) x in
-    subst (λ k. Reads (NextPart c.args.depth (counts_of c.args.counts)) Any t.spots.items c.args.at (stmt_of c.in_ok-part.part.value End, k) c.in_ok-to.to) (sym c.in_ok-counts.ensures.one) y
+    let k = counts_of c.args.counts in
+    let d = c.args.depth in
+    let b = begun_reads (Assignment d) ExprEnds t c.args.at k d c.requires.within c.in_ok-counts.ensures.within.1 c.in_ok-counts.ensures.within.0 (stmt_of c.in_ok-stmt.stmt End) c.in_ok-stmt.at c.in_ok-stmt.ensures.reads in
+    let l = then_reads t.spots.items step_close (next_left t c.args.at d k c.requires.within (λ e. not_true (c.if-is_sign.ensures.sign.1 e))) b in
+    let x = done t.spots.items l c.in_ok-to.ensures.reads in
+    let y = subst (λ s. Reads (NextPart d k) Any t.spots.items c.args.at (stmt_of s End, one_statement k) c.in_ok-to.to) (sym c.in_ok-part.ensures.is) x in
+    subst (λ j. Reads (NextPart d k) Any t.spots.items c.args.at (stmt_of c.in_ok-part.part.value End, j) c.in_ok-to.to) (sym c.in_ok-counts.ensures.one) y
