@@ -136,26 +136,26 @@ node_begins w x r = starts_marks r.0 (decl_starts r.1) r.2
     starts_marks [] h e = absurd h
     starts_marks (x ∷ xs) h e = subst (Starts DeclToken) (sym e) h
 
-module _ (t : Tokens) {at n : ℕ} {g : List DeclTree → List DeclTree} (l : Leaves (DeclsRule 1) AtEnd (DeclsRule n) AtEnd g t.spots.items 0 at) (x : Token) (e : token_at t.spots.items at ≡ Some x) where
-  -- one declaration more than there may be
-  pub decl_beyond : 4096 < n → at < length t.spots.items → AsFirst DeclToken (token_at t.spots.items at) → Fails (DeclsRule 1) AtEnd t 0 (Refused (rule.L 3) (place_at t at))
-  decl_beyond k lt b = first_fails t (decls_link n) (decl_left t.spots.items x e l) (Refused (rule.L 3) (place_at t at))
-      (beyond_fails (Marks (Node 1) DeclRule) Any (Declaration n) 3 t at (omega arith) (omega arith) lt (λ h. let y = h (omega arith) in omega arith) (λ m i h. absurd (omega arith)) DeclToken node_begins (some_marks DeclRule (Node 1) some_decl) (λ m i. node_opens m (drop at t.spots.items) (next_first DeclToken t.spots.items at b)))
-
-  -- no declaration begins here
-  pub no_decl : (AsFirst DeclToken (token_at t.spots.items at) → ⊥) → Fails (DeclsRule 1) AtEnd t 0 (Refused (rule.S 5) (place_at t at))
-  no_decl b = first_fails t (decls_link n) (decl_left t.spots.items x e l) (Refused (rule.S 5) (place_at t at))
-      (none_fails (DeclMarks n) Any t at (some_marks (Marks (Node 1) DeclRule) (Declaration n) (some_marks DeclRule (Node 1) some_decl)) (λ w z y r f k. b (starts_looks DeclToken w z (token_at t.spots.items at) (decl_marks_starts r) k)))
-
-  -- the declaration that begins here is refused
-  pub decl_fails : n ≤ 4096 → (f : SourceFault) → Fails DeclRule Any t at f → Fails (DeclsRule 1) AtEnd t 0 f
-  decl_fails k f a = first_fails t (decls_link n) (decl_left t.spots.items x e l) f
-      (marks_fails (Marks (Node 1) DeclRule) Any (Declaration n) t at (λ m le h. k) f (marks_fails DeclRule Any (Node 1) t at (λ m le h. omega arith) f a))
-
--- what `parse` answers then
-pub program_refused : (t : Tokens) → length t.spots.items ≤ 200000 → (f : SourceFault) → Fails (DeclsRule 1) AtEnd t 0 f → ParseAnswer t (Err f)
+-- what `parse` answers where declarations are refused
+program_refused : (t : Tokens) → length t.spots.items ≤ 200000 → (f : SourceFault) → Fails (DeclsRule 1) AtEnd t 0 f → ParseAnswer t (Err f)
 program_refused t few (Refused (rule.S n) p) a = let s = a.1 in let e : 0 + s.number ≡ s.number = omega arith in (a.0, program_fails t 2 s.number p (omega arith) few (s.place ∙ ap (place_at t) e) s.stops)
 program_refused t few (Refused (rule.L n) p) a = let s = a.2 in let e : 0 + s.number ≡ s.number = omega arith in inr (program_limit t n s.number p a.0 a.1 few (s.place ∙ ap (place_at t) e) s.stops)
 program_refused t few (Refused (rule.K n) p) a = a
 program_refused t few (AcrossWait p q r) a = a
 program_refused t few OutOfMemory a = tt
+
+module _ (t : Tokens) (few : length t.spots.items ≤ 200000) {at n : ℕ} {g : List DeclTree → List DeclTree} (l : Leaves (DeclsRule 1) AtEnd (DeclsRule n) AtEnd g t.spots.items 0 at) (x : Token) (e : token_at t.spots.items at ≡ Some x) where
+  -- one declaration more than there may be
+  pub decl_beyond : 4096 < n → at < length t.spots.items → AsFirst DeclToken (token_at t.spots.items at) → ParseAnswer t (Err (Refused (rule.L 3) (place_at t at)))
+  decl_beyond k lt b = program_refused t few (Refused (rule.L 3) (place_at t at)) (first_fails t (decls_link n) (decl_left t.spots.items x e l) (Refused (rule.L 3) (place_at t at))
+      (beyond_fails (Marks (Node 1) DeclRule) Any (Declaration n) 3 t at (omega arith) (omega arith) lt (λ h. let y = h (omega arith) in omega arith) (λ m i h. absurd (omega arith)) DeclToken node_begins (some_marks DeclRule (Node 1) some_decl) (λ m i. node_opens m (drop at t.spots.items) (next_first DeclToken t.spots.items at b))))
+
+  -- no declaration begins here
+  pub no_decl : (AsFirst DeclToken (token_at t.spots.items at) → ⊥) → ParseAnswer t (Err (Refused (rule.S 5) (place_at t at)))
+  no_decl b = program_refused t few (Refused (rule.S 5) (place_at t at)) (first_fails t (decls_link n) (decl_left t.spots.items x e l) (Refused (rule.S 5) (place_at t at))
+      (none_fails (DeclMarks n) Any t at (some_marks (Marks (Node 1) DeclRule) (Declaration n) (some_marks DeclRule (Node 1) some_decl)) (λ w z y r f k. b (starts_looks DeclToken w z (token_at t.spots.items at) (decl_marks_starts r) k))))
+
+  -- the declaration that begins here is refused
+  pub decl_fails : n ≤ 4096 → (f : SourceFault) → Fails DeclRule Any t at f → ParseAnswer t (Err f)
+  decl_fails k f a = program_refused t few f (first_fails t (decls_link n) (decl_left t.spots.items x e l) f
+      (marks_fails (Marks (Node 1) DeclRule) Any (Declaration n) t at (λ m le h. k) f (marks_fails DeclRule Any (Node 1) t at (λ m le h. omega arith) f a)))
