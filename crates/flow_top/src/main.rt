@@ -3,10 +3,12 @@
 
 mod command;
 mod decide;
+mod form;
 mod outcome;
-mod program;
 mod real;
+mod refusal;
 mod report;
+mod source;
 #[cfg(test)]
 mod tests;
 mod top;

@@ -1,6 +1,6 @@
 // Command lines over files and a sink in memory. Expected texts are those of the trace's own page.
 
-use crate::program::PROGRAM_LIMIT;
+use crate::source::PROGRAM_LIMIT;
 use crate::top::flow_main;
 use flow_base::mem_files::MemFiles;
 use flow_base::mem_sink::MemSink;
