@@ -1,6 +1,6 @@
 -- What was decided, from what was read.
-use Rattle.std.proofs.Common.{◌≡◌, ℕ, ◌≤◌, ◌<◌, List, [], ◌∷◌, ◌++◌, map, length, get_or, refl, sym, ap, ap₂, ◌∙◌, subst, arith, rules, true, append_assoc, inl, inr, Ok, Err, Option, Vec, Global}
-use Rattle.std.specs.Prelude.{bytes_eq}
+use Rattle.std.proofs.Common.{◌≡◌, ℕ, ◌≤◌, ◌<◌, List, [], ◌∷◌, ◌++◌, map, length, get_or, refl, sym, ap, ap₂, ◌∙◌, subst, arith, rules, true, append_assoc, inl, inr, Ok, Err, Option, None, Some, Vec, Global}
+use Rattle.std.specs.Prelude.{MatchOption, bytes_eq}
 use Rattle.std.proofs.lemmas.Slice.Eq.{bytes_eq-Decides}
 use Rattle.std.proofs.lemmas.List.{append-nil}
 use Rattle.flow_base.specs.Bytes.{AreFirst}
@@ -14,11 +14,11 @@ use Rattle.flow_ast.specs.declared.fault.SourceFault.{SourceFault}
 use Rattle.flow_ast.specs.declared.fault.SourceFault.TheVariants as source
 use Rattle.flow_ast.specs.DeclView.{program_of}
 use Rattle.flow_top.specs.declared.outcome.Outcome.{Outcome}
-use Rattle.flow_top.specs.declared.outcome.Outcome.TheVariants.{Unbuilt, Formatted, Ran, OutOfMemory}
+use Rattle.flow_top.specs.declared.outcome.Outcome.TheVariants.{Formatted}
 use Rattle.flow_top.specs.Words.{AreFormat, AreRun, NameProgram, of_run}
 use Rattle.flow_top.specs.Source.{Verdict}
 use Rattle.flow_top.specs.Form.{PrintsOnly}
-use Rattle.flow_top.specs.Run.{IsText, HasProgram, HasPrints, Due, refused, formatted, no_form, no_world, ran, none, program, both, Loaded, is_accepted, is_refused, is_unread, is_starved, Decided, due, read_fault, no_memory, outcome_of, refusal_outcome_of}
+use Rattle.flow_top.specs.Run.{IsText, HasProgram, HasPrints, refused, formatted, none, program, both, Loaded, is_accepted, is_refused, is_unread, is_starved, Decided, due, read_fault, no_memory, outcome_of, refusal_outcome_of}
 
 pub two_names : (asked asked' asked'' : List (List ℕ)) (p w : List ℕ) → asked' ≡ asked ++ p ∷ [] → asked'' ≡ asked' ++ w ∷ [] → asked'' ≡ asked ++ p ∷ (w ∷ [])
 two_names asked asked' asked'' p w e f = f ∙ ap (λ l. l ++ w ∷ []) e ∙ append_assoc asked (p ∷ []) (w ∷ [])
@@ -27,16 +27,16 @@ pub rose_later : (a b c : ℕ) → a ≤ b → Rose b c → Rose a c
 rose_later a b c le r = omega arith
 
 -- the program couldn't be read, or it isn't accepted
-pub unread : (T : Type 0) (content : List ℕ → Option (List ℕ)) (asked asked' : List (List ℕ)) (f f' : ℕ) (name : List ℕ) (fault : OutFault)
-    → AsksOnce {T = T} asked asked' name (Err fault) → (fault ≡ Failed → Rose f f') → Loaded content asked asked' f f' name (Err (outcome_of fault))
-unread T content asked asked' f f' name Failed e r = is_unread e (r refl)
-unread T content asked asked' f f' name fault.OutOfMemory e r = is_starved e
+pub unread : (T : Type 0) {content : List ℕ → Option (List ℕ)} {asked asked' : List (List ℕ)} {f f' : ℕ} {name : List ℕ} {outcome : Outcome} (fault : OutFault)
+    → outcome ≡ outcome_of fault → AsksOnce {T = T} asked asked' name (Err fault) → (fault ≡ Failed → Rose f f') → Loaded content asked asked' f f' name (Err outcome)
+unread T {content = k} {asked = a} {asked' = a'} {f = f} {f' = f'} {name = n} Failed o e r = subst (λ x. Loaded k a a' f f' n (Err x)) (sym o) (is_unread e (r refl))
+unread T {content = k} {asked = a} {asked' = a'} {f = f} {f' = f'} {name = n} fault.OutOfMemory o e r = subst (λ x. Loaded k a a' f f' n (Err x)) (sym o) (is_starved e)
 
-pub judged : (content : List ℕ → Option (List ℕ)) (asked asked' : List (List ℕ)) (f f' : ℕ) (name text : List ℕ) (fault : SourceFault)
-    → IsText content name text → Verdict text (Err fault) → asked' ≡ asked ++ name ∷ [] → Loaded content asked asked' f f' name (Err (refusal_outcome_of fault))
-judged content asked asked' f f' name text (source.Refused rule at) is v e = is_refused text rule at is v e
-judged content asked asked' f f' name text (source.AcrossWait at declared wait) is v e = absurd v
-judged content asked asked' f f' name text source.OutOfMemory is v e = is_starved (inr e)
+pub judged : {content : List ℕ → Option (List ℕ)} {asked asked' : List (List ℕ)} {f f' : ℕ} {name : List ℕ} {outcome : Outcome} (text : List ℕ) (fault : SourceFault)
+    → outcome ≡ refusal_outcome_of fault → IsText content name text → Verdict text (Err fault) → asked' ≡ asked ++ name ∷ [] → Loaded content asked asked' f f' name (Err outcome)
+judged {content = k} {asked = a} {asked' = a'} {f = f} {f' = f'} {name = n} text (source.Refused rule at) o is v e = subst (λ x. Loaded k a a' f f' n (Err x)) (sym o) (is_refused text rule at is v e)
+judged text (source.AcrossWait at declared wait) o is v e = absurd v
+judged {content = k} {asked = a} {asked' = a'} {f = f} {f' = f'} {name = n} text source.OutOfMemory o is v e = subst (λ x. Loaded k a a' f f' n (Err x)) (sym o) (is_starved (inr e))
 
 -- then the command goes no further
 pub without_program : {outcome : Outcome} {words : List (List ℕ)} {content : List ℕ → Option (List ℕ)} {asked asked' : List (List ℕ)} {f f' : ℕ} {name : List ℕ}
@@ -57,14 +57,26 @@ has_program (is_accepted q has e) = has
 pub was_asked : {content : List ℕ → Option (List ℕ)} {asked asked' : List (List ℕ)} {f f' : ℕ} {name : List ℕ} {p : Program} → Loaded content asked asked' f f' name (Ok p) → asked' ≡ asked ++ name ∷ []
 was_asked (is_accepted q has e) = e
 
+-- what the form of a program says
+abbrev FormIs : Program → Option (Vec (List ℕ) Global) → Type 0
+FormIs p o = MatchOption o ((ts : List (List ℕ)) → PrintsOnly (program_of p) ts → ⊥) (λ v. PrintsOnly (program_of p) v.items)
+
+pub form_none : (p : Program) (o : Option (Vec (List ℕ) Global)) → o ≡ None → FormIs p o → (ts : List (List ℕ)) → PrintsOnly (program_of p) ts → ⊥
+form_none p o e h = subst (FormIs p) e h
+
+pub form_some : {content : List ℕ → Option (List ℕ)} {name : List ℕ} (p : Program) (o : Option (Vec (List ℕ) Global)) (v : Vec (List ℕ) Global) → HasProgram content name p → o ≡ Some v → FormIs p o → HasPrints content name v.items
+form_some p o v has e h = record { program = p; has = has; form = subst (FormIs p) e h }
+
 -- a fault at the world
-pub world_fault : (T : Type 0) (words : List (List ℕ)) (content : List ℕ → Option (List ℕ)) (asked asked' asked'' : List (List ℕ)) (f f' f'' : ℕ) (name world : List ℕ) (texts : List (List ℕ)) (fault : OutFault) → AreRun words name world
-    → HasPrints content name texts → asked' ≡ asked ++ name ∷ [] → f ≤ f' → AsksOnce {T = T} asked' asked'' world (Err fault) → (fault ≡ Failed → Rose f' f'') → Decided words content asked asked'' f f'' (outcome_of fault)
-world_fault T words content asked asked' asked'' f f' f'' name world texts Failed are has e le q r =
-    read_fault (name ∷ (world ∷ [])) (both name world texts are has) (two_names asked asked' asked'' name world e q) (rose_later f f' f'' le (r refl))
-world_fault T words content asked asked' asked'' f f' f'' name world texts fault.OutOfMemory are has e le (inl q) r = no_memory (name ∷ []) (program name (of_run world are)) (q ∙ e)
-world_fault T words content asked asked' asked'' f f' f'' name world texts fault.OutOfMemory are has e le (inr q) r =
-    no_memory (name ∷ (world ∷ [])) (both name world texts are has) (two_names asked asked' asked'' name world e q)
+pub world_fault : (T : Type 0) {words : List (List ℕ)} {content : List ℕ → Option (List ℕ)} {asked asked' asked'' : List (List ℕ)} {f f' f'' : ℕ} {name world : List ℕ} {outcome : Outcome} (texts : List (List ℕ)) (fault : OutFault)
+    → outcome ≡ outcome_of fault → AreRun words name world → HasPrints content name texts → asked' ≡ asked ++ name ∷ [] → f ≤ f' → AsksOnce {T = T} asked' asked'' world (Err fault) → (fault ≡ Failed → Rose f' f'')
+    → Decided words content asked asked'' f f'' outcome
+world_fault T {words = ws} {content = k} {asked = a} {asked' = a'} {asked'' = a''} {f = f} {f' = f'} {f'' = f''} {name = n} {world = w} texts Failed o are has e le q r =
+    subst (λ x. Decided ws k a a'' f f'' x) (sym o) (read_fault (n ∷ (w ∷ [])) (both n w texts are has) (two_names a a' a'' n w e q) (rose_later f f' f'' le (r refl)))
+world_fault T {words = ws} {content = k} {asked = a} {asked'' = a''} {f = f} {f'' = f''} {name = n} {world = w} texts fault.OutOfMemory o are has e le (inl q) r =
+    subst (λ x. Decided ws k a a'' f f'' x) (sym o) (no_memory (n ∷ []) (program n (of_run w are)) (q ∙ e))
+world_fault T {words = ws} {content = k} {asked = a} {asked' = a'} {asked'' = a''} {f = f} {f'' = f''} {name = n} {world = w} texts fault.OutOfMemory o are has e le (inr q) r =
+    subst (λ x. Decided ws k a a'' f f'' x) (sym o) (no_memory (n ∷ (w ∷ [])) (both n w texts are has) (two_names a a' a'' n w e q))
 
 -- two words, and three
 pub two : {X : Type 0} (f : X → List ℕ) (xs : List X) (x y : X) (a b : List ℕ) → length xs ≡ 2 → x ≡ get_or xs 0 x → y ≡ get_or xs 1 y → a ≡ f x → b ≡ f y → map f xs ≡ a ∷ (b ∷ [])

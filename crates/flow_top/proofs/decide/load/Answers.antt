@@ -1,15 +1,14 @@
-use Rattle.std.proofs.Common.{ℕ, Ok, Err, ap, subst, sym, ◌∙◌}
+use Rattle.std.proofs.Common.{ℕ, Err, ap, subst, ◌∙◌}
 use Rattle.std.specs.declared.vec.Vec.{Vec}
 use Rattle.std.specs.declared.alloc.Global.{Global}
 use Rattle.flow_top.specs.Source.{IsAccepted, Verdict}
-use Rattle.flow_top.specs.Run.{Loaded, is_accepted}
+use Rattle.flow_top.specs.Run.{is_accepted}
 use Rattle.flow_top.proofs.Deciding.{unread, judged}
 use Rattle.flow_top.proofs.decide.load.Goals as goal
 
 pub returns-in-Err-clause-loaded : goal.returns-in-Err-clause-loaded
 returns-in-Err-clause-loaded g c =
-    subst (λ o. Loaded _ _ _ _ _ c.args.name.now (Err o)) (sym c.fault_outcome.ensures)
-    (unread (Vec ℕ Global) _ _ _ _ _ c.args.name.now c.in-Err.fault c.in-Err.ensures.asked (λ e. c.read_file.ensures.cause.failed (c.in-Err.is ∙ ap Err e)))
+    unread (Vec ℕ Global) c.in-Err.fault c.fault_outcome.ensures c.in-Err.ensures.asked (λ e. c.read_file.ensures.cause.failed (c.in-Err.is ∙ ap Err e))
 
 pub returns-in-Ok-read_program-clause-loaded : goal.returns-in-Ok-read_program-clause-loaded
 returns-in-Ok-read_program-clause-loaded g c =
@@ -18,6 +17,5 @@ returns-in-Ok-read_program-clause-loaded g c =
 
 pub returns-clause-loaded : goal.returns-clause-loaded
 returns-clause-loaded g c =
-    subst (λ o. Loaded _ _ _ _ _ c.args.name.now (Err o)) (sym c.refusal_outcome.ensures)
-    (judged _ _ _ _ _ c.args.name.now c.in-Ok.bytes.items c.in-Err-read_program.fault c.in-Ok.ensures.bytes
-    (subst (λ b. Verdict b (Err c.in-Err-read_program.fault)) c.deref.ensures.value c.in-Err-read_program.ensures) c.in-Ok.ensures.asked)
+    let verdict = subst (λ b. Verdict b (Err c.in-Err-read_program.fault)) c.deref.ensures.value c.in-Err-read_program.ensures in
+    judged c.in-Ok.bytes.items c.in-Err-read_program.fault c.refusal_outcome.ensures c.in-Ok.ensures.bytes verdict c.in-Ok.ensures.asked
