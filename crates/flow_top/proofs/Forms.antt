@@ -21,9 +21,11 @@ abbrev Layer : Type 0
 Layer = StmtKind-F Puts (Body → Body) (Branches → Branches)
 
 layer_of : (s : Stmt) (rest : Body) → (l : Layer) × (stmt_of s rest ≡ kind_step l s.at rest)
-layer_of s rest =
-    (_, ap (λ f. f rest) (fold_out-Stmt Puts (Body → Body) (Branches → Branches) kind_step stmt_step branch_step s
-        ∙ ap (λ f. f s.at) (fold_out-StmtKind Puts (Body → Body) (Branches → Branches) kind_step stmt_step branch_step s.kind)))
+layer_of s rest = (
+  _,
+  ap (λ f. f rest) (fold_out-Stmt Puts (Body → Body) (Branches → Branches) kind_step stmt_step branch_step s
+      ∙ ap (λ f. f s.at) (fold_out-StmtKind Puts (Body → Body) (Branches → Branches) kind_step stmt_step branch_step s.kind)),
+)
 
 -- a statement isn't the end of a body
 no_end : (l : Layer) (at : Place) (rest : Body) → bare_body (kind_step l at rest) ≡ End → ⊥

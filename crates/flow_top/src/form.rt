@@ -61,9 +61,7 @@ fn is_one_parameter(params: &[Param]) -> bool
 fn is_main(actor: &ActorDecl) -> bool
     ensures { IsTrue result ↔ bare_routine (actor_of actor.now) ≡ main_of (bare_body (body_of actor.now.body.items)) }
 {
-    is_void(&actor.returns)
-        && is_named(&actor.name, b"main")
-        && is_one_parameter(&actor.params)
+    is_void(&actor.returns) && is_named(&actor.name, b"main") && is_one_parameter(&actor.params)
 }
 
 // The actor, where that is the whole program.

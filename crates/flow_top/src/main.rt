@@ -2,12 +2,16 @@
 #![tactic(auto)]
 
 mod command;
+#[cfg(test)]
+mod copies;
 mod decide;
 mod form;
 mod outcome;
 mod real;
 mod refusal;
 mod report;
+#[cfg(test)]
+mod samples;
 mod source;
 #[cfg(test)]
 mod tests;
