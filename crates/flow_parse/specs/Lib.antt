@@ -1,5 +1,4 @@
 pub mod Follow
-pub mod Form
 pub mod Laws
 pub mod ParseAnswer
 pub mod Parts
