@@ -8,7 +8,7 @@ trap 'rm -r "$work"' EXIT
 
 # texts are filled up to 1 MiB with a comment
 awk 'BEGIN {
-    for (i = 0; i < 900; i++) {
+    for (i = 0; i < 1200; i++) {
         printf "ACTOR Future<int> a%d(int n, Promise<string> to) {\n  state int sum = 0; // so far\n", i
         print "  for (int i = 0; i < n; i++) { if (i % 2 == 0) sum += i * (i + 1); else { wait(delay(1)); continue; } }"
         print "  choose { when (int x = wait(other(n))) { to.send(\"got \" + to_string(x)); } when (wait(Never())) throw; }"
