@@ -1,6 +1,7 @@
 // Copies of trees, seen by the text that they are written as.
 
 use crate::samples::{CALLS_A_FUNCTION, HELLO, REQUEST_SERVER};
+use crate::source::PROGRAM_LIMIT;
 use flow_ast::decl::{ActorDecl, Decl, FunctionDecl, Param, Program, RecordDecl, Slot};
 use flow_ast::fault::SourceFault;
 use flow_ast::stmt::Stmt;
@@ -94,8 +95,9 @@ fn is_written_so(alloc: Global, program: &Program, text: &[u8]) -> Result<bool, 
     Ok(whole.as_slice() == text && parts.as_slice() == text)
 }
 
+// The tokens of a text within the limit of its bytes, copied.
 fn copied_tokens(alloc: Global, text: &[u8]) -> Result<Tokens, SourceFault> {
-    let tokens = lex(alloc, text)?;
+    let tokens = lex(alloc, &text[..text.len().min(PROGRAM_LIMIT)])?;
     Ok(tokens.copy(alloc)?)
 }
 

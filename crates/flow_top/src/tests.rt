@@ -302,27 +302,27 @@ fn limit_of_prints(rt: HostRuntime) -> Result<(), AllocError> {
     Ok(())
 }
 
+// Whether these words are answered by `usage`.
+fn says_usage(alloc: Global, texts: &[&str]) -> Result<bool, AllocError> {
+    answers(alloc, texts, HELLO, 2, b"usage\n")
+}
+
 #[test]
 fn other_words_are_usage(rt: HostRuntime) -> Result<(), AllocError> {
     let alloc = rt.alloc();
-    let lines = [
-        [].as_slice(),
-        ["run"].as_slice(),
-        ["run", "p"].as_slice(),
-        ["run", "p", "w", "w"].as_slice(),
-        ["run", "-p", "w"].as_slice(),
-        ["run", "p", "-"].as_slice(),
-        ["run", "p", "--frames"].as_slice(),
-        ["format"].as_slice(),
-        ["format", "-p"].as_slice(),
-        ["format", "p", "w"].as_slice(),
-        ["walk", "p"].as_slice(),
-        ["walk", "p", "w"].as_slice(),
-        ["--help"].as_slice(),
-    ];
-    for texts in lines {
-        assert!(rt; answers(alloc, texts, HELLO, 2, b"usage\n")?);
-    }
+    assert!(rt; says_usage(alloc, &[])?);
+    assert!(rt; says_usage(alloc, &["run"])?);
+    assert!(rt; says_usage(alloc, &["run", "p"])?);
+    assert!(rt; says_usage(alloc, &["run", "p", "w", "w"])?);
+    assert!(rt; says_usage(alloc, &["run", "-p", "w"])?);
+    assert!(rt; says_usage(alloc, &["run", "p", "-"])?);
+    assert!(rt; says_usage(alloc, &["run", "p", "--frames"])?);
+    assert!(rt; says_usage(alloc, &["format"])?);
+    assert!(rt; says_usage(alloc, &["format", "-p"])?);
+    assert!(rt; says_usage(alloc, &["format", "p", "w"])?);
+    assert!(rt; says_usage(alloc, &["walk", "p"])?);
+    assert!(rt; says_usage(alloc, &["walk", "p", "w"])?);
+    assert!(rt; says_usage(alloc, &["--help"])?);
     Ok(())
 }
 
