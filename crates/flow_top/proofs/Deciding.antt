@@ -1,9 +1,8 @@
 -- What was decided, from what was read.
-use Rattle.std.proofs.Common.{◌≡◌, ℕ, ◌≤◌, ◌<◌, List, [], ◌∷◌, ◌++◌, map, length, get_or, refl, sym, ap, ap₂, ◌∙◌, subst, arith, rules, true, append_assoc, inl, inr, Ok, Err, Option, None, Some, Vec, Global}
+use Rattle.std.proofs.Common.{◌≡◌, ℕ, ◌≤◌, List, [], ◌∷◌, ◌++◌, map, length, get_or, refl, sym, ap, ap₂, ◌∙◌, subst, arith, rules, true, append_assoc, inl, inr, Ok, Err, Option, None, Some, Vec, Global}
 use Rattle.std.specs.Prelude.{MatchOption, bytes_eq}
 use Rattle.std.proofs.lemmas.Slice.Eq.{bytes_eq-Decides}
 use Rattle.std.proofs.lemmas.List.{append-nil}
-use Rattle.flow_base.specs.Bytes.{AreFirst}
 use Rattle.flow_base.specs.Faults.{Rose}
 use Rattle.flow_base.specs.Asked.{AsksOnce}
 use Rattle.flow_base.specs.declared.fault.OutFault.{OutFault}

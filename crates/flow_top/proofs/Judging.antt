@@ -2,12 +2,11 @@
 use Rattle.std.proofs.Common.{ℕ, ◌≤◌, List, length, Result, Ok, Err}
 use Rattle.flow_ast.specs.declared.token.Tokens.{Tokens}
 use Rattle.flow_ast.specs.declared.decl.Program.{Program}
-use Rattle.flow_ast.specs.declared.fault.Rule.TheVariants.{S, L, K}
 use Rattle.flow_ast.specs.declared.fault.SourceFault.{SourceFault}
 use Rattle.flow_ast.specs.declared.fault.SourceFault.TheVariants.{Refused, AcrossWait, OutOfMemory}
 use Rattle.flow_ast.specs.Lexing.{Lexes, Lexed}
 use Rattle.flow_parse.specs.ParseAnswer.{ParseAnswer}
-use Rattle.flow_top.specs.Source.{HasTokens, no_tokens, no_program, Verdict}
+use Rattle.flow_top.specs.Source.{no_tokens, no_program, Verdict}
 
 pub without_tokens : (text : List ℕ) (fault : SourceFault) → length text ≤ 1048576 → Lexed text (Err fault) → Verdict text (Err fault)
 without_tokens text (Refused rule at) short l = no_tokens short l

@@ -1,4 +1,4 @@
-use Rattle.std.proofs.Common.{ℕ, [], Err, ap, subst, sym, ◌∙◌, length, arith}
+use Rattle.std.proofs.Common.{ℕ, Err, ap, subst, sym, ◌∙◌, length, arith}
 use Rattle.std.specs.declared.vec.Vec.{Vec}
 use Rattle.std.specs.declared.alloc.Global.{Global}
 use Rattle.flow_base.specs.Bytes.{AreFirst}
