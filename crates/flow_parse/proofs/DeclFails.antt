@@ -19,7 +19,7 @@ use Rattle.flow_ast.specs.GrammarAnswer.{place_at}
 use Rattle.flow_ast.specs.GrammarToken.{Declaration, Node, Variable, Marked, begin, Good}
 use Rattle.flow_ast.specs.Grammar.{sign_at, word_at, name_at, node_word, TypeRule, int_type}
 use Rattle.flow_ast.specs.GrammarStmt.{StartsAt}
-use Rattle.flow_ast.specs.GrammarDecl.{ParamRule, DeclRule, record_decl, function_decl, actor_decl, fields, DeclsRule}
+use Rattle.flow_ast.specs.GrammarDecl.{ParamRule, DeclRule, record_decl, function_decl, actor_decl, DeclsRule}
 use Rattle.flow_exprs.proofs.Goes.{nowhere}
 use Rattle.flow_parse.specs.Openers.{AsFirst, TypeToken, DeclToken}
 use Rattle.flow_parse.specs.Reading.{token_at, Named, Any}
