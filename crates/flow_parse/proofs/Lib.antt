@@ -1,4 +1,3 @@
-pub mod Fronts
 pub mod Exact
 pub mod ExactParts
 pub mod Failing

@@ -25,17 +25,18 @@ use Rattle.flow_exprs.proofs.Goes.{nowhere}
 use Rattle.flow_parse.specs.Beyond.{TooMany, TooDeep, Beyond}
 use Rattle.flow_parse.specs.Failing.{Sees, Stops, StopsAt, Fails}
 use Rattle.flow_parse.specs.Openers.{AsFirst, NameToken, TypeToken, IntoWord, IntoToken, StmtWord, PlainToken, StmtToken}
-use Rattle.flow_parse.specs.Parts.{Out, NoElse, Placed, Begun, Marks, Init, Assignment, Plain, One, BodyPart, Block}
+use Rattle.flow_parse.specs.Parts.{Out, BlockOut, NoElse, Placed, Begun, Marks, Init, Assignment, Simple, Plain, One, BodyPart, Block}
 use Rattle.flow_parse.specs.Follow.{ExprEnds, Before}
 use Rattle.flow_parse.specs.Reading.{token_at, Opening, Any}
-use Rattle.flow_parse.proofs.Begins.{Starts, starts_is, starts_looks, starts_weaken, type_starts, into_starts}
+use Rattle.flow_parse.proofs.Begins.{Starts, looks_is, starts_is, starts_looks, starts_weaken, type_starts, into_starts}
 use Rattle.flow_parse.proofs.Failing.{Inhabited, good_marks}
 use Rattle.flow_parse.proofs.Inhabitants.{some_begun, some_opening, some_expr, some_body, some_when, some_init, some_assignment, some_plain, some_one}
-use Rattle.flow_parse.proofs.Leaves.{narrow, nothing, fails, next_is, here, none_fails, beyond_fails, marks_fails, begun_turns}
+use Rattle.flow_parse.proofs.Leaves.{Turns, narrow, nothing, fails, next_is, here, none_fails, beyond_fails, marks_fails, begun_turns}
 use Rattle.flow_parse.proofs.Looking.{Looks, first_of}
-use Rattle.flow_parse.proofs.StmtBacks.{plain_starts, stmt_starts, stmt_token, starts_begun}
+use Rattle.flow_parse.proofs.StmtBacks.{plain_starts, stmt_starts, stmt_token, starts_begun, Keyword, IsKeyword, plain_back}
 use Rattle.flow_parse.proofs.Stmts.{one_plain, one_block, body_plain}
 use Rattle.flow_parse.proofs.TreeOpens.{type_opens}
+use Rattle.flow_parse.proofs.Unended.{simple_plain}
 use Rattle.flow_parse.proofs.Unique.{at_open_curly}
 
 -- with which tokens a declaration or a change of a variable begins
@@ -295,15 +296,50 @@ pub opening_beyond : (ps : List Part) (x : Token) (n : ℕ) (t : Tokens) (at : �
 opening_beyond ps x n t at l u e out keep =
     let h = here t at x e in
     let z : at ≡ at + 0 = omega arith in
-    let p = place_at t at in
-    (l, u, record { number = 0; place = ap (place_at t) z; stops = record {
-      within = omega arith;
-      token = λ i. omega (arith, h.within, length-drop at t.spots.items);
-      bad = λ w y b r g s. first_bad w y b r (drop at t.spots.items) s;
-      good = record { read = []; rest = opens ps x nowhere ∷ []; tree = nowhere; rule = refl; is = refl; keeps = tt };
-      below = λ m i k. subst (λ ts. Good (Opening ps x) m (take 1 ts)) (sym h.is) (with_token m ps x p (drop (at + 1) t.spots.items) [] p (keep m i) refl);
-    } })
+    let p = place_at t at in (
+      l,
+      u,
+      record {
+        number = 0;
+        place = ap (place_at t) z;
+        stops = record {
+          within = omega arith;
+          token = λ i. omega (arith, h.within, length-drop at t.spots.items);
+          bad = λ w y b r g s. first_bad w y b r (drop at t.spots.items) s;
+          good = record { read = []; rest = opens ps x nowhere ∷ []; tree = nowhere; rule = refl; is = refl; keeps = tt };
+          below = λ m i k. subst (λ ts. Good (Opening ps x) m (take 1 ts)) (sym h.is) (with_token m ps x p (drop (at + 1) t.spots.items) [] p (keep m i) refl);
+        };
+      },
+    )
   where
     first_bad : (w y : List Marked) (b : Place) → Opening ps x w b → (ts : List Spot) → Sees n 1 ts (w ++ y) → ⊥
     first_bad w y b r [] s = subst (λ k. Sees n 1 [] (k ++ y)) r s
     first_bad w y b r (q ∷ ts) s = let k = subst (λ k. Sees n 1 (q ∷ ts) (k ++ y)) r s in out k.1
+
+-- another token stands here
+pub opening_none : (ps : List Part) (x : Token) (t : Tokens) (at : ℕ) → (token_at t.spots.items at ≡ Some x → ⊥) → Fails (Opening ps x) Any t at (Refused (rule.S 5) (place_at t at))
+opening_none ps x t at n = none_fails (Opening ps x) Any t at (some_opening ps x) (λ w z b r f l. n (looks_is (token_at t.spots.items at) (opens ps x b) [] z r l))
+
+-- no statement with a word of its own stands here
+pub no_keyword : (o : Option Token) → (o ≡ Some (token.Word word.If) → ⊥) → (o ≡ Some (token.Word word.While) → ⊥) → (o ≡ Some (token.Word word.For) → ⊥) → (o ≡ Some (token.Word word.Loop) → ⊥) → (o ≡ Some (token.Word word.Try) → ⊥) → (o ≡ Some (token.Word word.Choose) → ⊥)
+    → (o ≡ Some (token.Word word.Return) → ⊥) → (o ≡ Some (token.Word word.Throw) → ⊥) → (o ≡ Some (token.Word word.Break) → ⊥) → (o ≡ Some (token.Word word.Continue) → ⊥) → Keyword o → ⊥
+no_keyword o i w f l t c r h b n k = by_word k.0 k.1 k.2
+  where
+    by_word : (j : Word) → o ≡ Some (token.Word j) → IsKeyword j → ⊥
+    by_word word.If e x = i e
+    by_word word.While e x = w e
+    by_word word.For e x = f e
+    by_word word.Loop e x = l e
+    by_word word.Try e x = t e
+    by_word word.Choose e x = c e
+    by_word word.Return e x = r e
+    by_word word.Throw e x = h e
+    by_word word.Break e x = b e
+    by_word word.Continue e x = n e
+    by_word _ e x = x
+
+pub simple_turns : (actor : Bool) (d : ℕ) (c : Counts) (o : Option Token) → (Keyword o → ⊥) → Turns (Plain actor d c) NoElse (Simple actor d c) Any (λ x. x) o
+simple_turns actor d c o n = record { back = λ w z b r f l. plain_back z o n r l; forth = λ w x r. simple_plain actor d c w x r }
+
+pub block_starts : {actor : Bool} {d : ℕ} {c : Counts} (w : List Marked) (o : BlockOut) → Block actor d c w o → Starts StmtToken w
+block_starts w o r = subst (Starts StmtToken) (sym r.3) tt

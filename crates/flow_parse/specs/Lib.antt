@@ -1,7 +1,6 @@
 pub mod Beyond
 pub mod Failing
 pub mod Follow
-pub mod Form
 pub mod Laws
 pub mod Openers
 pub mod ParseAnswer

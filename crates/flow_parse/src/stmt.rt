@@ -21,7 +21,8 @@ ghost use Rattle.flow_parse.specs.Views.{counts_of, stmt_out, body_out, block_ou
 use crate::build;
 use crate::simple::{Counts, ReadStmt, change, ended, init, more_names, simple, test, waiting};
 use crate::token::{
-    DEPTH, begins_type, expr, is_name, is_sign, is_type_word, is_word, name, place, refused, sign, word,
+    DEPTH, begins_type, expr, is_name, is_sign, is_type_word, is_word, name, place, refused, sign,
+    word,
 };
 use flow_ast::expr::Expr;
 use flow_ast::fault::{Rule, SourceFault};
@@ -294,24 +295,6 @@ fn plain(
     if is_word(tokens, at, Word::Choose) {
         return choose(alloc, tokens, at, actor, depth, counts);
     }
-    leap(alloc, tokens, at, actor, depth, counts)
-}
-
-// A statement that holds no other statement.
-fn leap(
-    alloc: Global,
-    tokens: &Tokens,
-    at: usize,
-    actor: bool,
-    depth: u32,
-    counts: Counts,
-) -> Result<ReadStmt, SourceFault>
-    requires within { at ≤ length tokens.now.spots.items }
-    requires shallow { depth ≤ 64 }
-    ensures reads { Answer (Plain actor depth (counts_of counts)) NoElse stmt_out (λ r. r.to) tokens.now at result }
-    ensures stands { IfOk result (λ r. Stands r.stmt) }
-    ensures moves { IfOk result (λ r. (at < r.to) × (r.to ≤ length tokens.now.spots.items)) }
-{
     if is_word(tokens, at, Word::Return) {
         return return_stmt(alloc, tokens, at, actor, depth, counts);
     }

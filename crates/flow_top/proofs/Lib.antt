@@ -1,2 +1,4 @@
+pub mod Forms
+pub mod Judging
 pub mod Deciding
 pub mod Reporting

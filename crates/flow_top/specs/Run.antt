@@ -1,5 +1,5 @@
 -- What a command line comes to, and what is written and answered then.
-use Rattle.std.specs.Prelude.{◌≡◌, ℕ, ◌≤◌, ◌<◌, List, [], ◌∷◌, ◌++◌, map, length, codes}
+use Rattle.std.specs.Prelude.{◌≡◌, ℕ, ◌<◌, List, [], ◌∷◌, ◌++◌, map, length, codes, ◌⊎◌, Result, Ok, Err}
 use Rattle.std.specs.Io.KnownBytes.{Appends}
 use Rattle.std.specs.declared.option.Option.{Option}
 use Rattle.std.specs.declared.vec.Vec.{Vec}
@@ -8,26 +8,23 @@ use Rattle.flow_base.specs.Bytes.{AreFirst, AppendsPart}
 use Rattle.flow_base.specs.Faults.{Rose}
 use Rattle.flow_base.specs.declared.fault.OutFault.{OutFault}
 use Rattle.flow_base.specs.declared.fault.OutFault.TheVariants as fault
-use Rattle.flow_base.specs.declared.place.Place.{Place}
 use Rattle.flow_base.specs.declared.ids.ActorId.{ActorId}
-use Rattle.flow_ast.specs.declared.token.Spot.{Spot}
-use Rattle.flow_ast.specs.Lexing.{Lexes}
-use Rattle.flow_parse.specs.Form.{HasForm}
+use Rattle.flow_ast.specs.declared.decl.Program.{Program}
+use Rattle.flow_ast.specs.declared.fault.SourceFault.{SourceFault}
+use Rattle.flow_ast.specs.declared.fault.SourceFault.TheVariants as source
+use Rattle.flow_ast.specs.declared.fault.Rule.{Rule}
+use Rattle.flow_base.specs.declared.place.Place.{Place}
+use Rattle.flow_ast.specs.DeclView.{program_of}
+use Rattle.flow_ast.specs.Canon.{Canon}
 use Rattle.flow_trace.specs.Bytes.{Bytes}
 use Rattle.flow_trace.specs.declared.line.Line.{Line}
 use Rattle.flow_trace.specs.declared.line.Line.TheVariants.{Head, Boot, Start, PrintText, Finish, EndIdle}
 use Rattle.flow_top.specs.declared.outcome.Outcome.{Outcome}
-use Rattle.flow_top.specs.declared.outcome.Outcome.TheVariants.{Usage, ReadFault, OutOfMemory, Unbuilt, Ran}
-use Rattle.flow_top.specs.Words.{AreRun}
-
--- A program text that is run so far: at most 1,048,576 bytes, whose tokens have the form; and the
--- texts that it prints.
-pub record Prints (bytes : List ℕ) (texts : List (List ℕ)) : Type 0 where
-  pub few : length bytes ≤ 1048576
-  pub spots : List Spot
-  pub end : Place
-  pub lexes : Lexes bytes spots end
-  pub form : HasForm spots texts
+use Rattle.flow_top.specs.declared.outcome.Outcome.TheVariants.{Usage, ReadFault, OutOfMemory, Refused, Unbuilt, Formatted, Ran}
+use Rattle.flow_top.specs.Words.{AreFormat, AreRun, NameProgram}
+use Rattle.flow_top.specs.Source.{IsRefused, IsAccepted}
+use Rattle.flow_top.specs.Form.{PrintsOnly}
+use Rattle.flow_top.specs.Refusal.{refusal_text, refusal_status}
 
 -- the one actor
 abbrev pub main_actor : ActorId
@@ -48,12 +45,16 @@ abbrev pub text_of : Outcome → List ℕ
 text_of Usage = codes "usage" ++ 10 ∷ []
 text_of ReadFault = codes "read fault" ++ 10 ∷ []
 text_of OutOfMemory = []
+text_of (Refused fault) = refusal_text fault
 text_of Unbuilt = codes "unbuilt" ++ 10 ∷ []
+text_of (Formatted program) = Canon (program_of program)
 text_of (Ran texts) = bytes_of (trace_of texts.items)
 
 -- the status of an outcome whose text went out whole
 abbrev pub status_of : Outcome → ℕ
+status_of (Formatted program) = 0
 status_of (Ran texts) = 0
+status_of (Refused fault) = refusal_status fault
 status_of Usage = 2
 status_of ReadFault = 5
 status_of OutOfMemory = 7
@@ -64,33 +65,68 @@ abbrev pub outcome_of : OutFault → Outcome
 outcome_of fault.Failed = ReadFault
 outcome_of fault.OutOfMemory = OutOfMemory
 
+-- what the verdict on a program that isn't accepted comes to
+abbrev pub refusal_outcome_of : SourceFault → Outcome
+refusal_outcome_of (source.Refused rule at) = Refused (source.Refused rule at)
+refusal_outcome_of (source.AcrossWait at declared wait) = Refused (source.AcrossWait at declared wait)
+refusal_outcome_of source.OutOfMemory = OutOfMemory
+
 -- the status where the text didn't go out whole
 abbrev pub fault_status_of : OutFault → ℕ
 fault_status_of fault.Failed = 6
 fault_status_of fault.OutOfMemory = 7
 
+-- The text of a program by its file's content: as much of it as tells a text within the limit from a
+-- longer one; where the content isn't told, bytes that were read.
+abbrev pub IsText : (List ℕ → Option (List ℕ)) → List ℕ → List ℕ → Type 0
+IsText content name text = AreFirst 1048577 (content name) text
+
+-- the file of this name has this program
+pub record HasProgram (content : List ℕ → Option (List ℕ)) (name : List ℕ) (p : Program) : Type 0 where
+  pub text : List ℕ
+  pub is : IsText content name text
+  pub accepted : IsAccepted text p
+
+-- the file of this name has a program that is run so far, and it prints these texts
+pub record HasPrints (content : List ℕ → Option (List ℕ)) (name : List ℕ) (texts : List (List ℕ)) : Type 0 where
+  pub program : Program
+  pub has : HasProgram content name program
+  pub form : PrintsOnly (program_of program) texts
+
 -- What the words come to, by the content of the files (where it isn't told, by bytes that were read),
 -- and the names that are asked for.
 pub data Due (words : List (List ℕ)) (content : List ℕ → Option (List ℕ)) : Outcome → List (List ℕ) → Type 0 where
   -- the words are no command
-  usage : ((program world : List ℕ) → AreRun words program world → ⊥) → Due words content Usage []
-  -- the program isn't one that is run so far; the world isn't asked for
-  no_program : (program world text : List ℕ) → AreRun words program world → AreFirst 1048577 (content program) text
-      → ((texts : List (List ℕ)) → Prints text texts → ⊥) → Due words content Unbuilt (program ∷ [])
+  usage : ((name : List ℕ) → NameProgram words name → ⊥) → Due words content Usage []
+  -- the program is refused
+  refused : (name text : List ℕ) (rule : Rule) (at : Place) → NameProgram words name → IsText content name text → IsRefused text rule at
+      → Due words content (Refused (source.Refused rule at)) (name ∷ [])
+  -- the program is formatted
+  formatted : (name : List ℕ) (p : Program) → AreFormat words name → HasProgram content name p → Due words content (Formatted p) (name ∷ [])
+  -- the program is accepted, but it isn't one that is run so far; the world isn't asked for
+  no_form : (name world : List ℕ) (p : Program) → AreRun words name world → HasProgram content name p
+      → ((texts : List (List ℕ)) → PrintsOnly (program_of p) texts → ⊥) → Due words content Unbuilt (name ∷ [])
   -- the program is run, but the world file has a byte
-  no_world : (program world text rest : List ℕ) (texts : List (List ℕ)) → AreRun words program world → AreFirst 1048577 (content program) text
-      → Prints text texts → AreFirst 1 (content world) rest → 0 < length rest → Due words content Unbuilt (program ∷ (world ∷ []))
+  no_world : (name world rest : List ℕ) (texts : List (List ℕ)) → AreRun words name world → HasPrints content name texts
+      → AreFirst 1 (content world) rest → 0 < length rest → Due words content Unbuilt (name ∷ (world ∷ []))
   -- the program ran
-  ran : (program world text : List ℕ) (texts : Vec (List ℕ) Global) → AreRun words program world → AreFirst 1048577 (content program) text
-      → Prints text texts.items → AreFirst 1 (content world) [] → Due words content (Ran texts) (program ∷ (world ∷ []))
+  ran : (name world : List ℕ) (texts : Vec (List ℕ) Global) → AreRun words name world → HasPrints content name texts.items
+      → AreFirst 1 (content world) [] → Due words content (Ran texts) (name ∷ (world ∷ []))
 
 -- The names asked for where a call failed or there was no memory: the program's, and then the world's
 -- only where the program is one that is run.
 pub data AskedSome (words : List (List ℕ)) (content : List ℕ → Option (List ℕ)) : List (List ℕ) → Type 0 where
   none : AskedSome words content []
-  program : (program world : List ℕ) → AreRun words program world → AskedSome words content (program ∷ [])
-  both : (program world text : List ℕ) (texts : List (List ℕ)) → AreRun words program world → AreFirst 1048577 (content program) text
-      → Prints text texts → AskedSome words content (program ∷ (world ∷ []))
+  program : (name : List ℕ) → NameProgram words name → AskedSome words content (name ∷ [])
+  both : (name world : List ℕ) (texts : List (List ℕ)) → AreRun words name world → HasPrints content name texts → AskedSome words content (name ∷ (world ∷ []))
+
+-- What reading and judging the program of this name came to, with the name asked for.
+pub data Loaded (content : List ℕ → Option (List ℕ)) (asked asked' : List (List ℕ)) (faults faults' : ℕ) (name : List ℕ) : Result Program Outcome → Type 0 where
+  is_accepted : (p : Program) → HasProgram content name p → asked' ≡ asked ++ name ∷ [] → Loaded content asked asked' faults faults' name (Ok p)
+  is_refused : (text : List ℕ) (rule : Rule) (at : Place) → IsText content name text → IsRefused text rule at → asked' ≡ asked ++ name ∷ []
+      → Loaded content asked asked' faults faults' name (Err (Refused (source.Refused rule at)))
+  is_unread : asked' ≡ asked ++ name ∷ [] → Rose faults faults' → Loaded content asked asked' faults faults' name (Err ReadFault)
+  is_starved : (asked' ≡ asked) ⊎ (asked' ≡ asked ++ name ∷ []) → Loaded content asked asked' faults faults' name (Err OutOfMemory)
 
 -- What was decided: what is due; or a fault of the files, which their count then shows; or want of memory.
 pub data Decided (words : List (List ℕ)) (content : List ℕ → Option (List ℕ)) (asked asked' : List (List ℕ)) (faults faults' : ℕ) : Outcome → Type 0 where

@@ -1,11 +1,15 @@
 // What the words and the files come to.
 
-ghost use Rattle.std.specs.Prelude.{◌≡◌, map, string_bytes};
-ghost use Rattle.flow_top.specs.Run.{Decided, outcome_of};
+ghost use Rattle.std.specs.Prelude.{◌≡◌, ℕ, ◌≤◌, List, map, string_bytes};
+ghost use Rattle.flow_top.specs.Words.{AreFormat, AreRun};
+ghost use Rattle.flow_top.specs.Run.{Decided, Loaded, outcome_of, refusal_outcome_of};
 
-use crate::command::run_words;
+use crate::command::{Command, command_of};
+use crate::form::printed_texts;
 use crate::outcome::Outcome;
-use crate::program::{PROGRAM_LIMIT, texts_of};
+use crate::source::{PROGRAM_LIMIT, read_program};
+use flow_ast::decl::Program;
+use flow_ast::fault::SourceFault;
 use flow_base::fault::OutFault;
 use flow_base::files::Files;
 use flow_base::input::read_file;
@@ -22,19 +26,52 @@ fn fault_outcome(fault: OutFault) -> Outcome
     }
 }
 
-/// What the command line comes to. The program is read first, and the world only where the program is
-/// one that is run.
-pub fn decide<F: Files>(alloc: Global, words: &[String], files: &mut F) -> Outcome
-    ensures { Decided (map string_bytes words.now) (F.content files.old) (F.asked files.old) (F.asked files.new) (F.faults files.old) (F.faults files.new) result }
+// What a refusal of the program comes to.
+fn refusal_outcome(fault: SourceFault) -> Outcome
+    ensures { result ≡ refusal_outcome_of fault }
 {
-    let Some((program, world)) = run_words(words) else {
-        return Outcome::Usage;
-    };
-    let bytes = match read_file(alloc, files, program, PROGRAM_LIMIT) {
+    match fault {
+        SourceFault::OutOfMemory => Outcome::OutOfMemory,
+        SourceFault::Refused { .. } | SourceFault::AcrossWait { .. } => Outcome::Refused(fault),
+    }
+}
+
+// The program of the file of this name, or what the command comes to without it.
+fn load<F: Files>(alloc: Global, name: &str, files: &mut F) -> Result<Program, Outcome>
+    ensures content { F.content files.new ≡ F.content files.old }
+    ensures kept { F.faults files.old ≤ F.faults files.new }
+    ensures loaded { Loaded (F.content files.old) (F.asked files.old) (F.asked files.new) (F.faults files.old) (F.faults files.new) name.now result }
+{
+    let bytes = match read_file(alloc, files, name, PROGRAM_LIMIT) {
         Ok(bytes) => bytes,
-        Err(fault) => return fault_outcome(fault),
+        Err(fault) => return Err(fault_outcome(fault)),
     };
-    let Ok(judged) = texts_of(alloc, &bytes) else {
+    match read_program(alloc, &bytes) {
+        Ok(program) => Ok(program),
+        Err(fault) => Err(refusal_outcome(fault)),
+    }
+}
+
+// What `format` on this program comes to.
+fn format<F: Files>(alloc: Global, name: &str, files: &mut F) -> Outcome
+    ensures { (words : List (List ℕ)) → AreFormat words name.now → Decided words (F.content files.old) (F.asked files.old) (F.asked files.new) (F.faults files.old) (F.faults files.new) result }
+{
+    match load(alloc, name, files) {
+        Ok(program) => Outcome::Formatted(program),
+        Err(outcome) => outcome,
+    }
+}
+
+// What `run` on this program and this world comes to. The world is read only where the program is one
+// that is run.
+fn run<F: Files>(alloc: Global, name: &str, world: &str, files: &mut F) -> Outcome
+    ensures { (words : List (List ℕ)) → AreRun words name.now world.now → Decided words (F.content files.old) (F.asked files.old) (F.asked files.new) (F.faults files.old) (F.faults files.new) result }
+{
+    let program = match load(alloc, name, files) {
+        Ok(program) => program,
+        Err(outcome) => return outcome,
+    };
+    let Ok(judged) = printed_texts(alloc, &program) else {
         return Outcome::OutOfMemory;
     };
     let Some(texts) = judged else {
@@ -48,4 +85,15 @@ pub fn decide<F: Files>(alloc: Global, words: &[String], files: &mut F) -> Outco
         return Outcome::Unbuilt;
     }
     Outcome::Ran(texts)
+}
+
+/// What the command line comes to.
+pub fn decide<F: Files>(alloc: Global, words: &[String], files: &mut F) -> Outcome
+    ensures { Decided (map string_bytes words.now) (F.content files.old) (F.asked files.old) (F.asked files.new) (F.faults files.old) (F.faults files.new) result }
+{
+    match command_of(words) {
+        None => Outcome::Usage,
+        Some(Command::Format(program)) => format(alloc, program, files),
+        Some(Command::Run(program, world)) => run(alloc, program, world, files),
+    }
 }

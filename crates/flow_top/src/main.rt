@@ -2,11 +2,17 @@
 #![tactic(auto)]
 
 mod command;
+#[cfg(test)]
+mod copies;
 mod decide;
+mod form;
 mod outcome;
-mod program;
 mod real;
+mod refusal;
 mod report;
+#[cfg(test)]
+mod samples;
+mod source;
 #[cfg(test)]
 mod tests;
 mod top;

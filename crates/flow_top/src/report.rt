@@ -5,9 +5,12 @@ ghost use Rattle.std.specs.Io.KnownBytes.{Appends};
 ghost use Rattle.flow_base.specs.Bytes.{AppendsPart};
 ghost use Rattle.flow_base.specs.Faults.{HasCause};
 ghost use Rattle.flow_trace.specs.Bytes.{Bytes};
+ghost use Rattle.flow_top.specs.Refusal.{refusal_text};
 ghost use Rattle.flow_top.specs.Run.{trace_of, bytes_of, text_of, status_of, fault_status_of, Reported};
 
 use crate::outcome::Outcome;
+use crate::refusal::{refusal_line, refusal_status};
+use flow_ast::fault::SourceFault;
 use flow_base::fault::OutFault;
 use flow_base::ids::{ActorId, ProcId};
 use flow_base::memory::NoMemory;
@@ -15,6 +18,7 @@ use flow_base::name::Name;
 use flow_base::output::write_whole;
 use flow_base::sink::Sink;
 use flow_base::text::Text;
+use flow_show::show::show_lines;
 use flow_trace::buffer::{LineBuf, print_line};
 use flow_trace::line::Line;
 use std::alloc::Global;
@@ -65,6 +69,18 @@ fn put_trace<S: Sink>(alloc: Global, texts: Vec<Text>, out: &mut S) -> Result<()
     put_lines(alloc, &lines, out)
 }
 
+// Writes the line of a refusal.
+fn put_refusal<S: Sink>(alloc: Global, fault: &SourceFault, out: &mut S) -> Result<(), OutFault>
+    ensures whole { OnOk result (Appends (S.written out.old) (S.written out.new) (refusal_text fault.now)) }
+    ensures part { AppendsPart (S.written out.old) (S.written out.new) (refusal_text fault.now) }
+    ensures cause { HasCause (S.faults out.old) (S.faults out.new) result }
+{
+    let Ok(line) = refusal_line(alloc, fault) else {
+        return Err(OutFault::OutOfMemory);
+    };
+    write_whole(out, &line)
+}
+
 // Writes the text of an outcome.
 fn put<S: Sink>(alloc: Global, outcome: Outcome, out: &mut S) -> Result<(), OutFault>
     ensures whole { OnOk result (Appends (S.written out.old) (S.written out.new) (text_of outcome)) }
@@ -75,7 +91,9 @@ fn put<S: Sink>(alloc: Global, outcome: Outcome, out: &mut S) -> Result<(), OutF
         Outcome::Usage => write_whole(out, b"usage\n"),
         Outcome::ReadFault => write_whole(out, b"read fault\n"),
         Outcome::OutOfMemory => Ok(()),
+        Outcome::Refused(fault) => put_refusal(alloc, &fault, out),
         Outcome::Unbuilt => write_whole(out, b"unbuilt\n"),
+        Outcome::Formatted(program) => show_lines(alloc, &program, out),
         Outcome::Ran(texts) => put_trace(alloc, texts, out),
     }
 }
@@ -85,10 +103,12 @@ fn status(outcome: &Outcome) -> u8
     ensures { result ≡ status_of outcome.now }
 {
     match outcome {
+        Outcome::Formatted(_) => 0,
         Outcome::Ran(_) => 0,
         Outcome::Usage => 2,
         Outcome::ReadFault => 5,
         Outcome::OutOfMemory => 7,
+        Outcome::Refused(fault) => refusal_status(fault),
         Outcome::Unbuilt => 11,
     }
 }

@@ -1,6 +1,8 @@
-// Command lines over files and a sink in memory. Expected texts are those of the trace's own page.
+// Command lines over files and a sink in memory. Expected texts are those of the language's and the
+// formats' own pages.
 
-use crate::program::PROGRAM_LIMIT;
+use crate::samples::{EXAMPLES, INSIDES};
+use crate::source::PROGRAM_LIMIT;
 use crate::top::flow_main;
 use flow_base::mem_files::MemFiles;
 use flow_base::mem_sink::MemSink;
@@ -29,19 +31,34 @@ fn words(alloc: Global, texts: &[&str]) -> Result<Vec<String>, AllocError> {
     Ok(words)
 }
 
-// Whether `run p w` on these files ends with this status and writes this text.
-fn runs(
+// Whether these words, on a program and a world without a byte, end with this status and write this text.
+fn answers(
     alloc: Global,
+    texts: &[&str],
     program: &[u8],
-    world: &[u8],
     status: u8,
     text: &[u8],
 ) -> Result<bool, AllocError> {
-    let mut files = two_files(alloc, program, world, Vec::new(alloc))?;
+    let mut files = two_files(alloc, program, b"", Vec::new(alloc))?;
     let mut out = MemSink::new(alloc, Vec::new(alloc));
-    let words = words(alloc, &["run", "p", "w"])?;
+    let words = words(alloc, texts)?;
     let told = flow_main(alloc, &words, &mut files, &mut out);
     Ok(told == status && out.bytes() == text)
+}
+
+// Whether `run p w` ends so.
+fn runs(alloc: Global, program: &[u8], status: u8, text: &[u8]) -> Result<bool, AllocError> {
+    answers(alloc, &["run", "p", "w"], program, status, text)
+}
+
+// Whether `format p` ends so.
+fn formats(alloc: Global, program: &[u8], status: u8, text: &[u8]) -> Result<bool, AllocError> {
+    answers(alloc, &["format", "p"], program, status, text)
+}
+
+// Whether `format p` and `run p w` both end so.
+fn both(alloc: Global, program: &[u8], status: u8, text: &[u8]) -> Result<bool, AllocError> {
+    Ok(formats(alloc, program, status, text)? && runs(alloc, program, status, text)?)
 }
 
 const HELLO: &[u8] = b"ACTOR Future<Void> main(int p) { trace(\"hello\"); return Void(); }";
@@ -51,7 +68,7 @@ const HELLO_TRACE: &[u8] =
 
 #[test]
 fn hello(rt: HostRuntime) -> Result<(), AllocError> {
-    assert!(rt; runs(rt.alloc(), HELLO, b"", 0, HELLO_TRACE)?);
+    assert!(rt; runs(rt.alloc(), HELLO, 0, HELLO_TRACE)?);
     Ok(())
 }
 
@@ -62,40 +79,232 @@ fn several_texts_and_blanks_of_all_kinds(rt: HostRuntime) -> Result<(), AllocErr
         b"\t ACTOR\r\nFuture < Void >main( int\tp){trace ( \"a b\" )\n;trace(\"\");return\nVoid ( ) ;}\r\n ";
     let text =
         b"trace 1\nevent 1 0 boot 0\nstart 1 main\nprint 1 \"a b\"\nprint 1 \"\"\ndone 1\nend idle\n";
-    assert!(rt; runs(alloc, program, b"", 0, text)?);
+    assert!(rt; runs(alloc, program, 0, text)?);
     let none = b"ACTOR Future<Void> main(int p) { return Void(); }";
     let short = b"trace 1\nevent 1 0 boot 0\nstart 1 main\ndone 1\nend idle\n";
-    assert!(rt; runs(alloc, none, b"", 0, short)?);
+    assert!(rt; runs(alloc, none, 0, short)?);
     Ok(())
 }
 
 #[test]
-fn a_program_without_the_form_is_unbuilt(rt: HostRuntime) -> Result<(), AllocError> {
+fn an_accepted_program_of_another_form_is_unbuilt(rt: HostRuntime) -> Result<(), AllocError> {
     let alloc = rt.alloc();
     let others = [
         b"".as_slice(),
-        b"ACTOR Future<Void> main(int p) { trace(\"hello\"); return Void(); } x".as_slice(),
-        b"ACTOR Future<Void> main(int p) { trace(\"hello\") return Void(); }".as_slice(),
+        b"struct A { int n; };".as_slice(),
+        b"int f() { }".as_slice(),
+        b"ACTOR Future<int> main(int p) { return Void(); }".as_slice(),
+        b"ACTOR Future<Void> name(int p) { return Void(); }".as_slice(),
         b"ACTOR Future<Void> main(int q) { return Void(); }".as_slice(),
-        b"ACTORFuture<Void> main(int p) { return Void(); }".as_slice(),
+        b"ACTOR Future<Void> main(bool p) { return Void(); }".as_slice(),
+        b"ACTOR Future<Void> main() { return Void(); }".as_slice(),
+        b"ACTOR Future<Void> main(int p, int p) { return Void(); }".as_slice(),
+        b"ACTOR Future<Void> main(int p) { }".as_slice(),
+        b"ACTOR Future<Void> main(int p) { return p; }".as_slice(),
+        b"ACTOR Future<Void> main(int p) { return (Void()); }".as_slice(),
+        b"ACTOR Future<Void> main(int p) { return Void(); return Void(); }".as_slice(),
+        b"ACTOR Future<Void> main(int p) { trace(\"a\"); }".as_slice(),
         b"ACTOR Future<Void> main(int p) { trace(1); return Void(); }".as_slice(),
-        b"ACTOR Future<Void> main(int p) { return Void();".as_slice(),
-        b"#include".as_slice(),
+        b"ACTOR Future<Void> main(int p) { trace(); return Void(); }".as_slice(),
+        b"ACTOR Future<Void> main(int p) { trace(\"a\", \"b\"); return Void(); }".as_slice(),
+        b"ACTOR Future<Void> main(int p) { trace(\"a\" + \"b\"); return Void(); }".as_slice(),
+        b"ACTOR Future<Void> main(int p) { trade(\"a\"); return Void(); }".as_slice(),
+        b"ACTOR Future<Void> main(int p) { p.trace(\"a\"); return Void(); }".as_slice(),
+        b"ACTOR Future<Void> main(int p) { { trace(\"a\"); } return Void(); }".as_slice(),
+        b"ACTOR Future<Void> main(int p) { return Void(); } int f() { }".as_slice(),
     ];
     for program in others {
-        assert!(rt; runs(alloc, program, b"", 11, b"unbuilt\n")?);
+        assert!(rt; runs(alloc, program, 11, b"unbuilt\n")?);
     }
-    assert!(rt; runs(alloc, HELLO, b"\n", 11, b"unbuilt\n")?);
+    Ok(())
+}
+
+#[test]
+fn a_world_with_a_byte_is_unbuilt(rt: HostRuntime) -> Result<(), AllocError> {
+    let alloc = rt.alloc();
+    let mut files = two_files(alloc, HELLO, b"\n", Vec::new(alloc))?;
+    let mut out = MemSink::new(alloc, Vec::new(alloc));
+    let words = words(alloc, &["run", "p", "w"])?;
+    assert_eq!(rt; flow_main(alloc, &words, &mut files, &mut out), 11);
+    assert!(rt; out.bytes() == b"unbuilt\n".as_slice());
+    Ok(())
+}
+
+#[test]
+fn formats_a_line_of_program(rt: HostRuntime) -> Result<(), AllocError> {
+    let alloc = rt.alloc();
+    let program = b"ACTOR Future<Void> main(int p){if(p==0)trace(\"a\\x0a\");return Void();}";
+    let text = b"\
+ACTOR Future<Void> main(int p) {
+    if (p == 0) {
+        trace(\"a\\n\");
+    }
+    return Void();
+}
+";
+    assert!(rt; formats(alloc, program, 0, text)?);
+    assert!(rt; formats(alloc, b" // nothing", 0, b"")?);
+    Ok(())
+}
+
+// A text with each line feed a space.
+fn on_one_line(alloc: Global, text: &[u8]) -> Result<Vec<u8>, AllocError> {
+    let mut line = Vec::new(alloc);
+    for byte in text {
+        line.push(if *byte == b'\n' { b' ' } else { *byte })?;
+    }
+    Ok(line)
+}
+
+#[test]
+fn formats_the_examples(rt: HostRuntime) -> Result<(), AllocError> {
+    let alloc = rt.alloc();
+    for text in EXAMPLES {
+        assert!(rt; formats(alloc, text, 0, text)?);
+        let line = on_one_line(alloc, text)?;
+        assert!(rt; formats(alloc, &line, 0, text)?);
+    }
+    Ok(())
+}
+
+// A front, an inside and a back, one after another.
+fn joined(alloc: Global, front: &[u8], inside: &[u8], back: &[u8]) -> Result<Vec<u8>, AllocError> {
+    let mut text = Vec::new(alloc);
+    text.extend_from_slice(front)?;
+    text.extend_from_slice(inside)?;
+    text.extend_from_slice(back)?;
+    Ok(text)
+}
+
+#[test]
+fn formats_small_programs(rt: HostRuntime) -> Result<(), AllocError> {
+    let alloc = rt.alloc();
+    for (inside, lines) in INSIDES {
+        let program = joined(alloc, b"int f() { ", inside, b"\n}")?;
+        let text = joined(alloc, b"int f() {\n", lines, b"}\n")?;
+        assert!(rt; formats(alloc, &program, 0, &text)?);
+    }
+    Ok(())
+}
+
+#[test]
+fn both_commands_tell_a_refusal(rt: HostRuntime) -> Result<(), AllocError> {
+    let alloc = rt.alloc();
+    let refusals = [
+        (b"#include".as_slice(), b"refused S1 at 1:1\n".as_slice()),
+        (b"\"abc".as_slice(), b"refused S2 at 1:1\n".as_slice()),
+        (b"/* x".as_slice(), b"refused S3 at 1:1\n".as_slice()),
+        (
+            b"9223372036854775808".as_slice(),
+            b"refused S4 at 1:1\n".as_slice(),
+        ),
+        (b"ACTOR main".as_slice(), b"refused S5 at 1:7\n".as_slice()),
+        (
+            b"int f() {\n}\n x".as_slice(),
+            b"refused S5 at 3:3\n".as_slice(),
+        ),
+        (
+            b"int f() {\n  x y z; @".as_slice(),
+            b"refused S1 at 2:10\n".as_slice(),
+        ),
+        (
+            b"int f() {\n  x y z;".as_slice(),
+            b"refused S5 at 2:7\n".as_slice(),
+        ),
+    ];
+    for (program, line) in refusals {
+        assert!(rt; both(alloc, program, 1, line)?);
+    }
+    Ok(())
+}
+
+// So many pieces, one after another.
+fn repeated(alloc: Global, piece: &[u8], count: usize) -> Result<Vec<u8>, AllocError> {
+    let mut text = Vec::new(alloc);
+    for _ in 0..count {
+        text.extend_from_slice(piece)?;
+    }
+    Ok(text)
+}
+
+// `Void()` in so many pairs of parentheses.
+fn nested(alloc: Global, pairs: usize) -> Result<Vec<u8>, AllocError> {
+    let front = repeated(alloc, b"(", pairs)?;
+    let back = repeated(alloc, b")", pairs)?;
+    joined(alloc, &front, b"Void()", &back)
+}
+
+#[test]
+fn limit_of_depth(rt: HostRuntime) -> Result<(), AllocError> {
+    let alloc = rt.alloc();
+    let head = b"ACTOR Future<Void> main(int p) { return ";
+    let most = nested(alloc, 61)?;
+    let accepted = joined(alloc, head, &most, b"; }")?;
+    let text = joined(
+        alloc,
+        b"ACTOR Future<Void> main(int p) {\n    return ",
+        &most,
+        b";\n}\n",
+    )?;
+    assert!(rt; formats(alloc, &accepted, 0, &text)?);
+    let more = nested(alloc, 62)?;
+    let refused = joined(alloc, head, &more, b"; }")?;
+    assert!(rt; both(alloc, &refused, 10, b"refused L5 at 1:103\n")?);
+    Ok(())
+}
+
+#[test]
+fn limit_of_bytes(rt: HostRuntime) -> Result<(), AllocError> {
+    let alloc = rt.alloc();
+    let most = repeated(alloc, b" ", PROGRAM_LIMIT)?;
+    assert_eq!(rt; most.len(), 1048576);
+    assert!(rt; formats(alloc, &most, 0, b"")?);
+    let longer = joined(alloc, &most, b"#", b"")?;
+    assert!(rt; both(alloc, &longer, 10, b"refused L1\n")?);
+    Ok(())
+}
+
+#[test]
+fn limit_of_tokens(rt: HostRuntime) -> Result<(), AllocError> {
+    let alloc = rt.alloc();
+    let most = repeated(alloc, b";", 200000)?;
+    assert!(rt; formats(alloc, &most, 1, b"refused S5 at 1:1\n")?);
+    let more = joined(alloc, &most, b" ;", b"")?;
+    assert!(rt; formats(alloc, &more, 10, b"refused L2 at 1:200002\n")?);
+    Ok(())
+}
+
+// A program of the form that prints `a` so many times.
+fn printing(alloc: Global, prints: usize) -> Result<Vec<u8>, AllocError> {
+    let inside = repeated(alloc, b"trace(\"a\");", prints)?;
+    joined(
+        alloc,
+        b"ACTOR Future<Void> main(int p) {",
+        &inside,
+        b"return Void();}",
+    )
+}
+
+#[test]
+fn limit_of_prints(rt: HostRuntime) -> Result<(), AllocError> {
+    let alloc = rt.alloc();
+    let most = printing(alloc, 9999)?;
+    let lines = repeated(alloc, b"print 1 \"a\"\n", 9999)?;
+    let text = joined(
+        alloc,
+        b"trace 1\nevent 1 0 boot 0\nstart 1 main\n",
+        &lines,
+        b"done 1\nend idle\n",
+    )?;
+    assert!(rt; runs(alloc, &most, 0, &text)?);
+    let more = printing(alloc, 10000)?;
+    assert!(rt; runs(alloc, &more, 10, b"refused L4 at 1:110033\n")?);
     Ok(())
 }
 
 // Whether these words are answered by `usage`.
 fn says_usage(alloc: Global, texts: &[&str]) -> Result<bool, AllocError> {
-    let mut files = two_files(alloc, HELLO, b"", Vec::new(alloc))?;
-    let mut out = MemSink::new(alloc, Vec::new(alloc));
-    let words = words(alloc, texts)?;
-    let status = flow_main(alloc, &words, &mut files, &mut out);
-    Ok(status == 2 && out.bytes() == b"usage\n".as_slice())
+    answers(alloc, texts, HELLO, 2, b"usage\n")
 }
 
 #[test]
@@ -105,59 +314,59 @@ fn other_words_are_usage(rt: HostRuntime) -> Result<(), AllocError> {
     assert!(rt; says_usage(alloc, &["run"])?);
     assert!(rt; says_usage(alloc, &["run", "p"])?);
     assert!(rt; says_usage(alloc, &["run", "p", "w", "w"])?);
-    assert!(rt; says_usage(alloc, &["walk", "p", "w"])?);
     assert!(rt; says_usage(alloc, &["run", "-p", "w"])?);
     assert!(rt; says_usage(alloc, &["run", "p", "-"])?);
     assert!(rt; says_usage(alloc, &["run", "p", "--frames"])?);
+    assert!(rt; says_usage(alloc, &["format"])?);
+    assert!(rt; says_usage(alloc, &["format", "-p"])?);
+    assert!(rt; says_usage(alloc, &["format", "p", "w"])?);
+    assert!(rt; says_usage(alloc, &["walk", "p"])?);
+    assert!(rt; says_usage(alloc, &["walk", "p", "w"])?);
     assert!(rt; says_usage(alloc, &["--help"])?);
     Ok(())
 }
 
+// Whether these words, with the listed calls of the sink failing, end with status 6 and this text.
+fn breaks_off(
+    alloc: Global,
+    texts: &[&str],
+    program: &[u8],
+    failing: u64,
+    text: &[u8],
+) -> Result<bool, AllocError> {
+    let mut files = two_files(alloc, program, b"", Vec::new(alloc))?;
+    let mut out = MemSink::new(alloc, vec![in alloc; failing]?);
+    let words = words(alloc, texts)?;
+    let told = flow_main(alloc, &words, &mut files, &mut out);
+    Ok(told == 6 && out.bytes() == text)
+}
+
+// Each line goes out in one call, and after them comes one more, which flushes.
 #[test]
-fn failing_sink_and_files(rt: HostRuntime) -> Result<(), AllocError> {
+fn failing_sink(rt: HostRuntime) -> Result<(), AllocError> {
     let alloc = rt.alloc();
-    let words = words(alloc, &["run", "p", "w"])?;
-    let mut files = two_files(alloc, HELLO, b"", Vec::new(alloc))?;
-    let mut out = MemSink::new(alloc, vec![in alloc; 4]?);
-    assert_eq!(rt; flow_main(alloc, &words, &mut files, &mut out), 6);
-    assert!(rt; out.bytes() == b"trace 1\nevent 1 0 boot 0\nstart 1 main\n".as_slice());
-    let mut silent = two_files(alloc, HELLO, b"", vec![in alloc; 1]?)?;
-    let mut all = MemSink::new(alloc, Vec::new(alloc));
-    assert_eq!(rt; flow_main(alloc, &words, &mut silent, &mut all), 5);
-    assert!(rt; all.bytes() == b"read fault\n".as_slice());
+    let head = b"trace 1\nevent 1 0 boot 0\nstart 1 main\n";
+    assert!(rt; breaks_off(alloc, &["run", "p", "w"], HELLO, 4, head)?);
+    let lines = b"ACTOR Future<Void> main(int p) {\n    trace(\"hello\");\n";
+    assert!(rt; breaks_off(alloc, &["format", "p"], HELLO, 3, lines)?);
+    assert!(rt; breaks_off(alloc, &["format", "p"], b"#", 1, b"")?);
+    assert!(rt; breaks_off(alloc, &["format", "p"], b"#", 2, b"refused S1 at 1:1\n")?);
     Ok(())
 }
 
-// A program of the form that prints `a` so many times, and then blanks up to so many bytes.
-fn printing(alloc: Global, prints: usize, bytes: usize) -> Result<Vec<u8>, AllocError> {
-    let mut program = Vec::new(alloc);
-    program.extend_from_slice(b"ACTOR Future<Void> main(int p) {")?;
-    for _ in 0..prints {
-        program.extend_from_slice(b"trace(\"a\");")?;
-    }
-    program.extend_from_slice(b"return Void();}")?;
-    while program.len() < bytes {
-        program.push(b' ')?;
-    }
-    Ok(program)
-}
-
-fn status_of(alloc: Global, program: &[u8]) -> Result<u8, AllocError> {
-    let mut files = two_files(alloc, program, b"", Vec::new(alloc))?;
+// Whether these words, with the first call of the files failing, tell it.
+fn tells_a_read_fault(alloc: Global, texts: &[&str]) -> Result<bool, AllocError> {
+    let mut files = two_files(alloc, HELLO, b"", vec![in alloc; 1]?)?;
     let mut out = MemSink::new(alloc, Vec::new(alloc));
-    let words = words(alloc, &["run", "p", "w"])?;
-    Ok(flow_main(alloc, &words, &mut files, &mut out))
+    let words = words(alloc, texts)?;
+    let told = flow_main(alloc, &words, &mut files, &mut out);
+    Ok(told == 5 && out.bytes() == b"read fault\n".as_slice())
 }
 
 #[test]
-fn limits_of_prints_and_of_bytes(rt: HostRuntime) -> Result<(), AllocError> {
+fn failing_files(rt: HostRuntime) -> Result<(), AllocError> {
     let alloc = rt.alloc();
-    let most = printing(alloc, 9999, PROGRAM_LIMIT)?;
-    assert_eq!(rt; most.len(), PROGRAM_LIMIT);
-    assert_eq!(rt; status_of(alloc, &most)?, 0);
-    let longer = printing(alloc, 9999, PROGRAM_LIMIT + 1)?;
-    assert_eq!(rt; status_of(alloc, &longer)?, 11);
-    let more = printing(alloc, 10000, 0)?;
-    assert_eq!(rt; status_of(alloc, &more)?, 11);
+    assert!(rt; tells_a_read_fault(alloc, &["run", "p", "w"])?);
+    assert!(rt; tells_a_read_fault(alloc, &["format", "p"])?);
     Ok(())
 }

@@ -10,8 +10,9 @@ use flow_base::sink::Sink;
 use std::alloc::Global;
 
 /// Does what the words of the command line say, without the program's name: reads files by their
-/// names, writes the output, and gives the status. `run P W` runs the program of the file P in the
-/// world of the file W and writes the trace.
+/// names, writes the output, and gives the status. `format P` writes the canonical text of the program
+/// of the file P; `run P W` runs the program of the file P in the world of the file W and writes the
+/// trace.
 pub fn flow_main<F: Files, S: Sink>(
     alloc: Global,
     words: &[String],

@@ -3,7 +3,7 @@ use Rattle.flow_parse.specs.Reading.{Any}
 use Rattle.flow_parse.specs.Parts.{Closing, AllWhens, WhensPart}
 use Rattle.flow_parse.specs.Views.{counts_of}
 use Rattle.flow_parse.proofs.Leaves.{Leaves}
-use Rattle.flow_parse.proofs.Loops.{closing_before, whens_before}
+use Rattle.flow_parse.proofs.StmtLoops.{closing_before, whens_before}
 use Rattle.flow_parse.proofs.stmt.+stmt.Given as goal
 
 abbrev pub decreases-body : goal.decreases-body

@@ -3,6 +3,9 @@ use Rattle.std.proofs.lemmas.Result.{err_from_is_err_and}
 use Rattle.flow_ast.specs.declared.token.Token.TheVariants as token
 use Rattle.flow_ast.specs.declared.token.Sign.TheVariants as sign
 use Rattle.flow_ast.specs.Body.{End}
+use Rattle.flow_ast.specs.declared.fault.Rule.TheVariants as rule
+use Rattle.flow_ast.specs.declared.fault.SourceFault.TheVariants.{Refused}
+use Rattle.flow_ast.specs.GrammarAnswer.{place_at}
 use Rattle.flow_ast.specs.StmtView.{stmt_of}
 use Rattle.flow_ast.specs.GrammarStmt.{one_statement}
 use Rattle.flow_parse.specs.Follow.{ExprEnds}
@@ -27,7 +30,7 @@ returns-then-not-is_name-clause-reads c =
     let t = c.args.tokens.now in
     let k = counts_of c.args.counts in
     let l = next_left t c.args.at c.args.depth k c.requires.within (λ e. not_true (c.if-is_sign.ensures.sign.1 e)) in
-    rw c.refused.ensures (first_fails t step_close l _ (step_none t c.args.at c.args.depth k (λ e. not_true (c.if-not-is_name.ensures.name.1 e))))
+    rw c.refused.ensures (first_fails t step_close l (Refused (rule.S 5) (place_at t c.args.at)) (step_none t c.args.at c.args.depth k (λ e. not_true (c.if-not-is_name.ensures.name.1 e))))
 
 pub returns-in_err-counts-clause-reads : goal.returns-in_err-counts-clause-reads
 returns-in_err-counts-clause-reads c =

@@ -3,6 +3,9 @@ use Rattle.std.proofs.lemmas.Result.{err_from_is_err_and}
 use Rattle.flow_ast.specs.declared.token.Token.TheVariants as token
 use Rattle.flow_ast.specs.declared.token.Sign.TheVariants as sign
 use Rattle.flow_ast.specs.Body.{End}
+use Rattle.flow_ast.specs.declared.fault.Rule.TheVariants as rule
+use Rattle.flow_ast.specs.declared.fault.SourceFault.TheVariants.{Refused}
+use Rattle.flow_ast.specs.GrammarAnswer.{place_at}
 use Rattle.flow_ast.specs.StmtView.{stmt_of}
 use Rattle.flow_ast.specs.GrammarStmt.{one_statement}
 use Rattle.flow_parse.specs.Follow.{Before}
@@ -29,7 +32,7 @@ returns-then-not-begins_init-clause-reads c =
     let a = c.args.actor in
     let d = c.args.depth in
     let l = start_left t c.args.at a d k c.requires.within (λ e. not_true (c.if-is_sign.ensures.sign.1 e)) in
-    rw c.refused.ensures (first_fails t init_semicolon l _ (init_none t c.args.at a d k (λ e. not_true (c.if-not-begins_init.ensures.begins.1 e))))
+    rw c.refused.ensures (first_fails t init_semicolon l (Refused (rule.S 5) (place_at t c.args.at)) (init_none t c.args.at a d k (λ e. not_true (c.if-not-begins_init.ensures.begins.1 e))))
 
 pub returns-in_err-counts-clause-reads : goal.returns-in_err-counts-clause-reads
 returns-in_err-counts-clause-reads c =

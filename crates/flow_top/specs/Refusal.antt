@@ -1,0 +1,38 @@
+-- The line that tells why a program text is refused, and its status.
+use Rattle.std.specs.Prelude.{ℕ, List, [], ◌++◌, ◌==◌, codes, decimal, if◌then◌else◌}
+use Rattle.flow_base.specs.declared.place.Place.{Place}
+use Rattle.flow_ast.specs.declared.fault.Rule.{Rule}
+use Rattle.flow_ast.specs.declared.fault.Rule.TheVariants.{S, L, K}
+use Rattle.flow_ast.specs.declared.fault.SourceFault.{SourceFault}
+use Rattle.flow_ast.specs.declared.fault.SourceFault.TheVariants.{Refused, AcrossWait, OutOfMemory}
+
+-- a place by its line and its column
+abbrev pub place_text : Place → List ℕ
+place_text p = decimal p.line ++ codes ":" ++ decimal p.column
+
+-- a rule by its letter and its number
+abbrev pub rule_text : Rule → List ℕ
+rule_text (S n) = codes "S" ++ decimal n
+rule_text (L n) = codes "L" ++ decimal n
+rule_text (K n) = codes "K" ++ decimal n
+
+-- where a rule fails; L1, the limit on the bytes of the text, names no place
+abbrev pub where_text : Rule → Place → List ℕ
+where_text (S n) at = codes " at " ++ place_text at
+where_text (L n) at = if n == 1 then [] else codes " at " ++ place_text at
+where_text (K n) at = codes " at " ++ place_text at
+
+-- what is told of a fault; want of memory tells nothing
+abbrev pub refusal_text : SourceFault → List ℕ
+refusal_text (Refused rule at) = codes "refused " ++ rule_text rule ++ where_text rule at ++ codes "\n"
+refusal_text (AcrossWait at declared wait) =
+    codes "refused U1 at " ++ place_text at ++ codes " declared " ++ place_text declared ++ codes " wait " ++ place_text wait ++ codes "\n"
+refusal_text OutOfMemory = []
+
+-- the status: 10 where a limit is passed, 1 for another rule, 7 for want of memory
+abbrev pub refusal_status : SourceFault → ℕ
+refusal_status (Refused (S n) at) = 1
+refusal_status (Refused (L n) at) = 10
+refusal_status (Refused (K n) at) = 1
+refusal_status (AcrossWait at declared wait) = 1
+refusal_status OutOfMemory = 7
