@@ -1,5 +1,5 @@
 -- Where parameters and declarations are refused.
-use Rattle.std.proofs.Common.{◌≡◌, ℕ, suc, ◌+◌, ◌≤◌, ◌<◌, true, false, List, [], ◌∷◌, ◌++◌, length, take, drop, refl, sym, ap, ◌∙◌, subst, arith, inl, inr}
+use Rattle.std.proofs.Common.{◌≡◌, ℕ, ◌+◌, ◌≤◌, ◌<◌, true, false, List, [], ◌∷◌, ◌++◌, length, take, drop, refl, sym, ap, ◌∙◌, subst, arith, inr}
 use Rattle.std.specs.Prelude.{Err}
 use Rattle.std.specs.declared.option.Option.TheVariants.{Some}
 use Rattle.flow_base.specs.declared.place.Place.{Place}
@@ -13,16 +13,16 @@ use Rattle.flow_ast.specs.declared.ty.Ident.{Ident}
 use Rattle.flow_ast.specs.declared.fault.Rule.TheVariants as rule
 use Rattle.flow_ast.specs.declared.fault.SourceFault.{SourceFault}
 use Rattle.flow_ast.specs.declared.fault.SourceFault.TheVariants.{Refused, AcrossWait, OutOfMemory}
-use Rattle.flow_ast.specs.Decls.{ParamTree, DeclTree, StructDecl, FunctionDecl, ActorDecl}
+use Rattle.flow_ast.specs.Decls.{DeclTree, StructDecl, FunctionDecl, ActorDecl}
 use Rattle.flow_ast.specs.Tree.{IntType}
 use Rattle.flow_ast.specs.GrammarAnswer.{place_at}
-use Rattle.flow_ast.specs.GrammarToken.{Declaration, Node, Variable, Marked, opens, begin, spots_of, Good}
+use Rattle.flow_ast.specs.GrammarToken.{Declaration, Node, Variable, Marked, begin, Good}
 use Rattle.flow_ast.specs.Grammar.{sign_at, word_at, name_at, node_word, TypeRule, int_type}
 use Rattle.flow_ast.specs.GrammarStmt.{StartsAt}
-use Rattle.flow_ast.specs.GrammarDecl.{ParamRule, DeclRule, record_decl, function_decl, actor_decl, fields, DeclsRule}
+use Rattle.flow_ast.specs.GrammarDecl.{ParamRule, DeclRule, record_decl, function_decl, actor_decl, DeclsRule}
 use Rattle.flow_exprs.proofs.Goes.{nowhere}
 use Rattle.flow_parse.specs.Openers.{AsFirst, TypeToken, DeclToken}
-use Rattle.flow_parse.specs.Reading.{token_at, Named, Then, Any}
+use Rattle.flow_parse.specs.Reading.{token_at, Named, Any}
 use Rattle.flow_parse.specs.Follow.{AtEnd}
 use Rattle.flow_parse.specs.Failing.{Fails}
 use Rattle.flow_parse.specs.Parts.{Marks, Routine}
@@ -30,7 +30,7 @@ use Rattle.flow_parse.specs.ParseAnswer.{ParseAnswer}
 use Rattle.flow_parse.proofs.Looking.{first_of}
 use Rattle.flow_parse.proofs.Begins.{Starts, starts_is, starts_looks, type_starts}
 use Rattle.flow_parse.proofs.Failing.{Inhabited, good_first, good_marks}
-use Rattle.flow_parse.proofs.Inhabitants.{some_then, some_type, some_named, some_param, some_all_fields, some_routine, some_marks, some_decls}
+use Rattle.flow_parse.proofs.Inhabitants.{some_then, some_type, some_named, some_param, some_all_fields, some_routine, some_marks}
 use Rattle.flow_parse.proofs.Leaves.{Leaves, next_is, fails, none_fails, beyond_fails, marks_fails, first_fails}
 use Rattle.flow_parse.proofs.DeclBacks.{param_starts, decl_starts, DeclMarks, decl_marks_starts}
 use Rattle.flow_parse.proofs.Shapes.{TypeName}

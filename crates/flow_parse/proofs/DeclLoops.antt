@@ -12,7 +12,7 @@ use Rattle.flow_ast.specs.declared.decl.Param.{Param}
 use Rattle.flow_ast.specs.declared.decl.Decl.{Decl}
 use Rattle.flow_ast.specs.Decls.{ParamTree, DeclTree}
 use Rattle.flow_ast.specs.DeclView.{param_of, params_of, decl_of}
-use Rattle.flow_ast.specs.GrammarToken.{Declaration, Node, Marked, spots_of}
+use Rattle.flow_ast.specs.GrammarToken.{Declaration, Node, spots_of}
 use Rattle.flow_ast.specs.GrammarDecl.{ParamRule, DeclRule, DeclsRule, program, IsProgram}
 use Rattle.flow_parse.specs.Reading.{token_at, Tok, Any, Reads}
 use Rattle.flow_parse.specs.Follow.{AtEnd}

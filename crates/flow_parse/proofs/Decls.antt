@@ -1,8 +1,8 @@
 -- How declarations are read.
 use Rattle.std.proofs.Common.{◌≡◌, ℕ, suc, ◌+◌, ◌≤◌, ◌<◌, Bool, true, false, List, [], ◌∷◌, ◌++◌, length, refl, sym, ap, ◌∙◌, subst, arith, append_assoc}
-use Rattle.flow_base.specs.declared.place.Place.{Place}
 use Rattle.std.specs.declared.option.Option.{Option}
 use Rattle.std.specs.declared.option.Option.TheVariants.{None, Some}
+use Rattle.flow_base.specs.declared.place.Place.{Place}
 use Rattle.flow_ast.specs.declared.token.Token.{Token}
 use Rattle.flow_ast.specs.declared.token.Token.TheVariants as token
 use Rattle.flow_ast.specs.declared.token.Word.TheVariants as word
@@ -10,9 +10,8 @@ use Rattle.flow_ast.specs.declared.token.Sign.TheVariants as sign
 use Rattle.flow_ast.specs.declared.token.Spot.{Spot}
 use Rattle.flow_ast.specs.declared.token.Tokens.{Tokens}
 use Rattle.flow_ast.specs.declared.ty.Ident.{Ident}
-use Rattle.flow_ast.specs.Tree.{TypeTree}
 use Rattle.flow_ast.specs.Decls.{ParamTree, DeclTree, StructDecl, FunctionDecl, ActorDecl}
-use Rattle.flow_ast.specs.GrammarToken.{Declaration, Node, Variable, Marked, begin}
+use Rattle.flow_ast.specs.GrammarToken.{Declaration, Variable, Marked, begin}
 use Rattle.flow_ast.specs.Grammar.{sign_at, word_at, name_at, TypeRule}
 use Rattle.flow_ast.specs.GrammarStmt.{StartsAt}
 use Rattle.flow_ast.specs.GrammarAnswer.{place_at}
@@ -128,40 +127,40 @@ module _ (t : Tokens) (at : ℕ) (h : at ≤ length t.spots.items) where
 
   pub fields_left : Leaves AllFields Any (Then (ParamRule 1) (λ f. Then (Tok (token.Sign sign.Semicolon)) (λ p. FieldsPart 2))) Any (λ x. x.0 ∷ x.1.1) t.spots.items at at
   fields_left = narrow t.spots.items refl (record {
-      back = λ w z b r f l. all_fields_back z r;
-      forth = λ u x r.
-          let k = r.back.back in
-          ((k.0, r.first ++ (sign_at sign.Semicolon x.1.0 ∷ k.1), more_fields x.1.0 r.first k.1 r.front k.2 refl, glue _ r.is (behind r.back.is r.back.front k.3) ∙ sym (append_assoc r.first (sign_at sign.Semicolon x.1.0 ∷ k.1) _)), some_more x.0 x.1.1);
+    back = λ w z b r f l. all_fields_back z r;
+    forth = λ u x r.
+        let k = r.back.back in
+        ((k.0, r.first ++ (sign_at sign.Semicolon x.1.0 ∷ k.1), more_fields x.1.0 r.first k.1 r.front k.2 refl, glue _ r.is (behind r.back.is r.back.front k.3) ∙ sym (append_assoc r.first (sign_at sign.Semicolon x.1.0 ∷ k.1) _)), some_more x.0 x.1.1);
   }) (nothing t.spots.items AllFields Any at h)
 
   pub record_left : Leaves Record Any (Then (Tok (token.Word word.Struct)) (λ p. Then Named (λ x. Then (Tok (token.Sign sign.OpenCurly)) (λ q. Then AllFields (λ fs. Tok (token.Sign sign.Semicolon)))))) Any record_tree t.spots.items at at
   record_left = narrow t.spots.items refl (record {
-      back = λ w z b r f l. record_part_back z r;
-      forth = λ u x r.
-          let k = r.back.back.back in
-          record_decl (record_rule x.0 x.1.1.0 k.front.0.0 x.1.1.1.1 x.1.0 k.front.0.1 u x.1.1.1.0 k.front.0.2 k.front.1 (behind r.is r.front (behind r.back.is r.back.front (behind r.back.back.is r.back.back.front (closed_by _ _ k.is k.front.0.3 k.back)))));
+    back = λ w z b r f l. record_part_back z r;
+    forth = λ u x r.
+        let k = r.back.back.back in
+        record_decl (record_rule x.0 x.1.1.0 k.front.0.0 x.1.1.1.1 x.1.0 k.front.0.1 u x.1.1.1.0 k.front.0.2 k.front.1 (behind r.is r.front (behind r.back.is r.back.front (behind r.back.back.is r.back.back.front (closed_by _ _ k.is k.front.0.3 k.back)))));
   }) (nothing t.spots.items Record Any at h)
 
   pub routine_left : (actor : Bool) → Leaves (Routine actor) Any (Then Named (λ x. Then (Tok (token.Sign sign.OpenRound)) (λ p. Then Params (λ ps. Block actor 2 (record { statements = 0; variables = length ps }))))) Any (λ x. record { name = x.0; params = x.1.1.0; body = x.1.1.1.body; close = x.1.1.1.close }) t.spots.items at at
   routine_left actor = narrow t.spots.items refl (record {
-      back = λ w z b r f l. routine_back z r;
-      forth = λ u x r p y.
-          let k = r.back.back in
-          routine x.1.0 k.front.0 k.back.0 x.1.1.1.close x.0 k.front.1 k.back.1 k.front.2 k.back.2 (behind r.is r.front (behind r.back.is r.back.front (closed_by _ _ k.is k.front.3 k.back.3)));
+    back = λ w z b r f l. routine_back z r;
+    forth = λ u x r p y.
+        let k = r.back.back in
+        routine x.1.0 k.front.0 k.back.0 x.1.1.1.close x.0 k.front.1 k.back.1 k.front.2 k.back.2 (behind r.is r.front (behind r.back.is r.back.front (closed_by _ _ k.is k.front.3 k.back.3)));
   }) (nothing t.spots.items (Routine actor) Any at h)
 
   pub function_left : Leaves Function Any (Then (Placed (TypeRule 1)) (λ y. Routine false)) Any function_tree t.spots.items at at
   function_left = narrow t.spots.items refl (record {
-      back = λ w z b r f l. function_part_back z r;
-      forth = λ u x r. function_decl x.0.0 r.first r.rest r.front.1 (r.back x.0.0 x.0.1) r.is (subst (λ z. StartsAt z x.0.0) (sym r.is) (starts_append r.first r.rest x.0.0 r.front.0));
+    back = λ w z b r f l. function_part_back z r;
+    forth = λ u x r. function_decl x.0.0 r.first r.rest r.front.1 (r.back x.0.0 x.0.1) r.is (subst (λ z. StartsAt z x.0.0) (sym r.is) (starts_append r.first r.rest x.0.0 r.front.0));
   }) (nothing t.spots.items Function Any at h)
 
   pub actor_left : Leaves Actor Any (Then (Tok (token.Word word.Actor)) (λ p. Then (Tok (token.Word word.Future)) (λ q. Then (Tok (token.Sign sign.Less)) (λ s. Then (TypeRule 2) (λ y. Then (Tok (token.Sign sign.Greater)) (λ v. Routine true)))))) Any actor_tree t.spots.items at at
   actor_left = narrow t.spots.items refl (record {
-      back = λ w z b r f l. actor_part_back z r;
-      forth = λ u x r.
-          let k = r.back.back.back in
-          actor_decl x.0 x.1.0 x.1.1.0 x.1.1.1.1.0 k.first k.back.rest k.front (k.back.back x.0 x.1.1.1.0) (behind r.is r.front (behind r.back.is r.back.front (behind r.back.back.is r.back.back.front (glue _ k.is (behind k.back.is k.back.front refl)))));
+    back = λ w z b r f l. actor_part_back z r;
+    forth = λ u x r.
+        let k = r.back.back.back in
+        actor_decl x.0 x.1.0 x.1.1.0 x.1.1.1.1.0 k.first k.back.rest k.front (k.back.back x.0 x.1.1.1.0) (behind r.is r.front (behind r.back.is r.back.front (behind r.back.back.is r.back.back.front (glue _ k.is (behind k.back.is k.back.front refl)))));
   }) (nothing t.spots.items Actor Any at h)
 
   -- behind the word that begins it
@@ -193,10 +192,10 @@ module _ (spots : List Spot) where
   pub more_fields_left : {A : Type 0} {W : List Marked → A → Type 0} {FW : A → List Marked → Type 0} {g : List ParamTree → A} {from at n : ℕ} → (token_at spots at ≡ Some (token.Sign sign.CloseCurly) → ⊥) → Leaves W FW (FieldsPart n) Any g spots from at
       → Leaves W FW (Then (ParamRule n) (λ f. Then (Tok (token.Sign sign.Semicolon)) (λ p. FieldsPart (suc n)))) Any (λ x. g (x.0 ∷ x.1.1)) spots from at
   more_fields_left {at = at} n l = narrow spots refl (record {
-      back = λ w z b r f k. more_fields_back z (token_at spots at) n r k;
-      forth = λ u x r.
-          let k = r.back.back in
-          (k.0, r.first ++ (sign_at sign.Semicolon x.1.0 ∷ k.1), more_fields x.1.0 r.first k.1 r.front k.2 refl, glue _ r.is (behind r.back.is r.back.front k.3) ∙ sym (append_assoc r.first (sign_at sign.Semicolon x.1.0 ∷ k.1) _));
+    back = λ w z b r f k. more_fields_back z (token_at spots at) n r k;
+    forth = λ u x r.
+        let k = r.back.back in
+        (k.0, r.first ++ (sign_at sign.Semicolon x.1.0 ∷ k.1), more_fields x.1.0 r.first k.1 r.front k.2 refl, glue _ r.is (behind r.back.is r.back.front k.3) ∙ sym (append_assoc r.first (sign_at sign.Semicolon x.1.0 ∷ k.1) _));
   }) l
 
   pub end_fields_left : {A : Type 0} {W : List Marked → A → Type 0} {FW : A → List Marked → Type 0} {g : List ParamTree → A} {from at n : ℕ} → token_at spots at ≡ Some (token.Sign sign.CloseCurly) → Leaves W FW (FieldsPart n) Any g spots from at

@@ -1,11 +1,9 @@
 use Rattle.std.proofs.lemmas.Result.{err_from_is_err_and}
-use Rattle.flow_parse.proofs.Leaves.{then_reads, first_fails}
-use Rattle.flow_parse.proofs.Decls.{field_link, semicolon_link, fields_left, more_fields_left}
-use Rattle.std.proofs.Common.{arith, refl, ap, ◌∙◌, ◌++◌, ◌∷◌, [], ◌+◌, suc}
+use Rattle.std.proofs.Common.{arith, refl, ap, ◌∙◌, ◌++◌, ◌∷◌, [], ◌+◌, suc, ◌≡◌}
 use Rattle.flow_ast.specs.declared.token.Token.TheVariants as token
 use Rattle.flow_ast.specs.declared.token.Sign.TheVariants as sign
-use Rattle.flow_parse.proofs.Leaves.{tok_reads}
-use Rattle.std.proofs.Common.{◌≡◌}
+use Rattle.flow_parse.proofs.Leaves.{then_reads, first_fails, tok_reads}
+use Rattle.flow_parse.proofs.Decls.{field_link, semicolon_link, fields_left, more_fields_left}
 use Rattle.flow_parse.proofs.Looking.{not_true}
 use Rattle.flow_parse.proofs.DeclLoops.{fields_init, fields_step, fields_done}
 use Rattle.flow_parse.proofs.decl.fields.Goals as goal

@@ -1,15 +1,12 @@
 use Rattle.std.proofs.lemmas.Result.{err_from_is_err_and}
-use Rattle.flow_parse.proofs.Leaves.{then_reads, fails, first_fails}
-use Rattle.flow_parse.proofs.Decls.{params_link, more_params_link, next_param_link, params_left, more_params_left, end_params_left}
-use Rattle.std.proofs.Common.{arith, refl, sym, ap, subst, ◌∙◌, ◌++◌, ◌∷◌, [], ◌+◌, suc}
+use Rattle.std.proofs.Common.{arith, refl, sym, ap, subst, ◌∙◌, ◌++◌, ◌∷◌, [], ◌+◌, suc, ◌≡◌, length, length-append}
 use Rattle.flow_ast.specs.declared.token.Token.TheVariants as token
 use Rattle.flow_ast.specs.declared.token.Sign.TheVariants as sign
 use Rattle.flow_ast.specs.DeclView.{params_of}
 use Rattle.flow_parse.specs.Reading.{Any, Reads}
 use Rattle.flow_parse.specs.Parts.{Params}
-use Rattle.flow_parse.proofs.Leaves.{done, tok_reads}
-use Rattle.std.proofs.Common.{◌≡◌, length, length-append}
-use Rattle.flow_parse.proofs.Decls.{no_params_left}
+use Rattle.flow_parse.proofs.Leaves.{then_reads, fails, first_fails, done, tok_reads}
+use Rattle.flow_parse.proofs.Decls.{params_link, more_params_link, next_param_link, params_left, more_params_left, end_params_left, no_params_left}
 use Rattle.flow_parse.proofs.Looking.{not_true}
 use Rattle.flow_parse.proofs.DeclLoops.{params_init, params_step, params_done}
 use Rattle.flow_parse.proofs.decl.params.Goals as goal
