@@ -11,11 +11,10 @@ use Rattle.flow_ast.specs.declared.stmt.Stmt.{Stmt}
 use Rattle.flow_ast.specs.declared.stmt.When.{When}
 use Rattle.flow_ast.specs.Body.{End, Branches, MoreBranches}
 use Rattle.flow_ast.specs.StmtView.{stmt_of, body_of, branch_of, branches_of}
-use Rattle.flow_ast.specs.GrammarToken.{Marked}
 use Rattle.flow_ast.specs.GrammarStmt.{Counts}
 use Rattle.flow_parse.specs.Reading.{token_at, Tok, Any, Reads}
 use Rattle.flow_parse.specs.Follow.{NotBefore}
-use Rattle.flow_parse.specs.Parts.{NoElse, Out, BlockOut, WhenOut, One, Closing, WhenPart, WhensPart, AllWhens}
+use Rattle.flow_parse.specs.Parts.{NoElse, BlockOut, WhenOut, One, Closing, WhenPart, WhensPart, AllWhens}
 use Rattle.flow_parse.specs.Views.{Stands}
 use Rattle.flow_parse.proofs.Leaves.{Leaves, means, then_reads, done}
 use Rattle.flow_parse.proofs.Lists.{stmts_before, stmts_push, stmts_end, branches_before, branches_push, branches_end}
@@ -56,3 +55,7 @@ whens_step spots actor d c0 from at to n m c o w ws vs q b e f l r =
 pub whens_done : (spots : List Spot) (actor : Bool) (d : ℕ) (c0 : Counts) (from at to n : ℕ) (p : Place) (c : Counts) (ws : List When) → (token_at spots at ≡ Some (token.Word word.When) → ⊥) → Leaves (AllWhens actor d c0) Any (WhensPart actor d n c) Any (whens_before ws) spots from at
     → Reads (Tok (token.Sign sign.CloseCurly)) Any spots at p to → Reads (AllWhens actor d c0) Any spots from (branches_of ws, c) to
 whens_done spots actor d c0 from at to n p c ws f l r = subst (λ z. Reads (AllWhens actor d c0) Any spots from (z, c) to) (branches_end ws) (done spots (end_whens spots f l) r)
+
+-- a first one, pushed
+pub one_pushed : {A : Type 0} (xs ys : List A) (x : A) → ys ≡ xs ++ x ∷ [] → xs ≡ [] → ys ≡ x ∷ []
+one_pushed xs ys x e f = e ∙ ap (λ z. z ++ x ∷ []) f

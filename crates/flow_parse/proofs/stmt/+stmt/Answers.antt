@@ -1,4 +1,4 @@
-use Rattle.std.proofs.Common.{arith, refl, sym, ap, subst, ◌∙◌, ◌++◌, ◌∷◌, [], ◌+◌, suc, ◌≡◌}
+use Rattle.std.proofs.Common.{arith, refl, sym, ap, subst, ◌∷◌, [], ◌+◌, suc, ◌≡◌}
 use Rattle.std.proofs.lemmas.Result.{err_from_is_err_and}
 use Rattle.flow_ast.specs.declared.fault.Rule.TheVariants as rule
 use Rattle.flow_ast.specs.declared.fault.SourceFault.TheVariants.{Refused}
@@ -12,15 +12,15 @@ use Rattle.flow_ast.specs.GrammarAnswer.{place_at}
 use Rattle.flow_ast.specs.GrammarStmt.{one_statement}
 use Rattle.flow_parse.specs.Openers.{StmtToken}
 use Rattle.flow_parse.specs.Reading.{token_at, Tok, Any, Reads, Answer}
-use Rattle.flow_parse.specs.Follow.{ExprEnds}
-use Rattle.flow_parse.specs.Parts.{NoElse, Test, MaybeExpr, StartPart, NextPart, Placed, Plain, One, BodyPart, Closing, Block, Begun, AllWhens}
+use Rattle.flow_parse.specs.Parts.{NoElse, Test, MaybeExpr, StartPart, NextPart, Placed, Plain, One, BodyPart, Closing, Block, AllWhens}
 use Rattle.flow_parse.specs.Views.{counts_of, stmt_out, body_out, block_out, when_out}
 use Rattle.flow_parse.proofs.Deeper.{moved_fails, deeper_fails, begun_reads, begun_fails}
 use Rattle.flow_parse.proofs.Leaves.{nothing, narrow, means, then_reads, done, fails, first_fails, tok_reads, opening_reads, deeper, moved, placed_reads, placed_fails, answer_become, answer_begun, answer_done, become}
 use Rattle.flow_parse.proofs.Looking.{not_true}
-use Rattle.flow_parse.proofs.StmtLoops.{closing_before, stmts_step, stmts_done, whens_init, whens_step, whens_done}
-use Rattle.flow_parse.proofs.Stmts.{semicolon_link, body_link, test_body, while_word, then_else, if_test, if_word, next_body, test_next, block_open, stmt_more, caught_link, choose_open, choose_word, when_more, start_test, for_open, for_word, try_inner, try_word, when_close, when_waiting, when_open, when_word, if_left, while_left, loop_left, for_left, try_left, choose_left, whens_left, when_left, one_plain, one_block, body_plain, body_block, block_turns, else_none, no_else, else_left, stmt_left, more_left, end_whens}
-use Rattle.flow_parse.proofs.StmtOpens.{one_none, one_beyond, body_none, body_beyond, block_starts, opening_none, opening_beyond, no_keyword, simple_turns}
+use Rattle.flow_parse.proofs.Openings.{opening_beyond}
+use Rattle.flow_parse.proofs.StmtLoops.{one_pushed, closing_before, stmts_step, stmts_done, whens_init, whens_step, whens_done}
+use Rattle.flow_parse.proofs.Stmts.{body_link, test_body, while_word, then_else, if_test, if_word, next_body, test_next, block_open, stmt_more, caught_link, choose_open, choose_word, when_more, start_test, for_open, for_word, try_inner, try_word, when_close, when_waiting, when_open, when_word, if_left, while_left, loop_left, for_left, try_left, choose_left, whens_left, when_left, one_plain, one_block, body_plain, body_block, block_turns, else_none, no_else, else_left, stmt_left, more_left, end_whens}
+use Rattle.flow_parse.proofs.StmtOpens.{one_none, one_beyond, body_none, body_beyond, block_starts, opening_none, no_keyword, simple_turns}
 use Rattle.flow_parse.proofs.StmtBacks.{ElsePart, ElseFollow}
 use Rattle.flow_parse.proofs.stmt.+stmt.Goals as goal
 use Rattle.flow_parse.proofs.stmt.+stmt.Goals.{if_stmt-then-then-via-then-then, if_stmt-then-then-via-else-then+then-not-is_word}
@@ -110,7 +110,7 @@ body-returns-clause-reads h c =
     let l = narrow s refl (body_plain a d k (token_at s c.args.at) (λ e. not_true (c.if-is_sign.ensures.sign.1 e))) (nothing s (BodyPart a d k) NoElse c.args.at c.requires.within) in
     let r = moved (Plain a d) c.in_ok-counts.ensures.one c.in_ok-read-2.ensures.reads in
     let b = begun_reads (Plain a d (one_statement k)) NoElse t c.args.at k d c.requires.within c.in_ok-counts.ensures.within.1 c.in_ok-counts.ensures.within.0 (stmt_out c.in_ok-read-2.read) c.in_ok-read-2.read.to r in
-    let q = c.in_ok-push.ensures.items ∙ ap (λ z. z ++ c.in_ok-read-2.read.stmt ∷ []) c.new-body.ensures.items in
+    let q = one_pushed c.new-body.result.items c.push.new.self.items c.in_ok-read-2.read.stmt c.in_ok-push.ensures.items c.new-body.ensures.items in
     subst (λ xs. Reads (BodyPart a d k) NoElse s c.args.at (record { body = body_of xs; counts = counts_of c.in_ok-read-2.read.counts; ends_if = c.in_ok-read-2.read.ends_if }) c.in_ok-read-2.read.to) (sym q) (done s l b)
 
 pub choose-returns-in_err-at-clause-reads : goal.choose-returns-in_err-at-clause-reads
@@ -682,7 +682,7 @@ whens-branches-init h c =
     let a = c.args.actor in
     let d = c.args.depth in
     let k = counts_of c.args.counts in
-    let q = c.in_ok-push.ensures.items ∙ ap (λ z. z ++ c.when_branch.result ∷ []) c.new-branches.ensures.items in
+    let q = one_pushed c.new-branches.result.items c.push.new.self.items c.when_branch.result c.in_ok-push.ensures.items c.new-branches.ensures.items in
     let l = whens_init t c.args.at a d k c.in_ok-first.first.to (when_out c.in_ok-first.first) c.when_branch.result c.push.new.self.items c.requires.within q c.when_branch.ensures c.in_ok-first.ensures.reads in
     (c.in_ok-first.ensures.moves.0, c.in_ok-first.ensures.moves.1, omega arith, l)
 
