@@ -41,3 +41,4 @@ pub mod Readers
 pub mod TypeReaders
 pub mod ReaderStops
 pub mod ProgramFails
+pub mod OneAnswer
