@@ -1,6 +1,6 @@
 -- Refusals of a part whose parameter is written in another way, and of a part that is a statement.
 use Rattle.std.proofs.Common.{◌≡◌, ℕ, suc, ◌+◌, ◌≤◌, ◌<◌, List, length, arith, subst}
-use Rattle.std.specs.Prelude.{Result, Ok, Err}
+use Rattle.std.specs.Prelude.{Ok, Err}
 use Rattle.flow_ast.specs.declared.token.Tokens.{Tokens}
 use Rattle.flow_ast.specs.declared.fault.SourceFault.{SourceFault}
 use Rattle.flow_ast.specs.GrammarToken.{Marked}

@@ -11,11 +11,10 @@ use Rattle.flow_ast.specs.declared.stmt.Stmt.{Stmt}
 use Rattle.flow_ast.specs.declared.stmt.When.{When}
 use Rattle.flow_ast.specs.Body.{End, Branches, MoreBranches}
 use Rattle.flow_ast.specs.StmtView.{stmt_of, body_of, branch_of, branches_of}
-use Rattle.flow_ast.specs.GrammarToken.{Marked}
 use Rattle.flow_ast.specs.GrammarStmt.{Counts}
 use Rattle.flow_parse.specs.Reading.{token_at, Tok, Any, Reads}
 use Rattle.flow_parse.specs.Follow.{NotBefore}
-use Rattle.flow_parse.specs.Parts.{NoElse, Out, BlockOut, WhenOut, One, Closing, WhenPart, WhensPart, AllWhens}
+use Rattle.flow_parse.specs.Parts.{NoElse, BlockOut, WhenOut, One, Closing, WhenPart, WhensPart, AllWhens}
 use Rattle.flow_parse.specs.Views.{Stands}
 use Rattle.flow_parse.proofs.Leaves.{Leaves, means, then_reads, done}
 use Rattle.flow_parse.proofs.Lists.{stmts_before, stmts_push, stmts_end, branches_before, branches_push, branches_end}

@@ -1,6 +1,6 @@
 -- With each token that a statement may begin with, one begins; where no statement begins; and where
 -- there can be none more.
-use Rattle.std.proofs.Common.{◌≡◌, ℕ, suc, ◌+◌, ◌≤◌, ◌<◌, Bool, true, false, List, [], ◌∷◌, ◌++◌, length, take, drop, refl, sym, ap, ◌∙◌, subst, arith, append_assoc, ◌⊎◌, inl, inr, length-drop}
+use Rattle.std.proofs.Common.{◌≡◌, ℕ, suc, ◌≤◌, ◌<◌, Bool, true, false, List, [], ◌∷◌, ◌++◌, length, take, drop, refl, sym, ◌∙◌, subst, arith, append_assoc, inl, inr}
 use Rattle.std.specs.declared.option.Option.{Option}
 use Rattle.std.specs.declared.option.Option.TheVariants.{None, Some}
 use Rattle.flow_base.specs.declared.place.Place.{Place}
@@ -16,14 +16,14 @@ use Rattle.flow_ast.specs.declared.token.Spot.{Spot}
 use Rattle.flow_ast.specs.declared.token.Tokens.{Tokens}
 use Rattle.flow_ast.specs.declared.ty.Ident.{Ident}
 use Rattle.flow_ast.specs.Tree.{IntType}
-use Rattle.flow_ast.specs.Body.{IntoTree, Body, End, Branches, NoBranches, BlockStmt, IfStmt, WhileStmt, ForStmt, LoopStmt, BreakStmt, ContinueStmt, ReturnStmt, ThrowStmt, TryStmt, ChooseStmt, DeclareStmt, ModifyStmt, WaitStmt, UpChange}
+use Rattle.flow_ast.specs.Body.{IntoTree, Body, End, NoBranches, IfStmt, WhileStmt, ForStmt, LoopStmt, BreakStmt, ContinueStmt, ReturnStmt, ThrowStmt, TryStmt, DeclareStmt, ModifyStmt, WaitStmt, UpChange}
 use Rattle.flow_ast.specs.GrammarAnswer.{place_at}
-use Rattle.flow_ast.specs.GrammarToken.{Part, Statement, Node, Variable, Branch, Marked, opens, begin, spots_of, InLimits, AllInLimits, Keeps, Good}
+use Rattle.flow_ast.specs.GrammarToken.{Part, Statement, Node, Marked, opens, begin, AllInLimits, Good}
 use Rattle.flow_ast.specs.Grammar.{sign_at, word_at, name_at, node_word, int_type}
-use Rattle.flow_ast.specs.GrammarStmt.{Counts, StartsAt, one_statement, one_state, state_parts, begin_statement, no_state, some_state, IntoRule, declared, wait, wait_next, plain_wait, PathRule, last_name, more_names, AssignRule, assign, plus, minus, up, down, InitRule, declare, declare_value, change, no_init, no_step, no_expr, PlainRule, if_stmt, while_stmt, for_stmt, loop_stmt, break_stmt, continue_stmt, return_stmt, throw_stmt, try_stmt, choose_stmt, init_stmt, wait_stmt, BodyRule, block_body, one_body, BlockRule, braces, no_stmts, no_whens}
+use Rattle.flow_ast.specs.GrammarStmt.{Counts, StartsAt, one_statement, one_state, state_parts, no_state, some_state, declared, wait, wait_next, plain_wait, PathRule, last_name, more_names, AssignRule, assign, plus, minus, up, down, InitRule, declare, declare_value, change, no_init, no_step, no_expr, if_stmt, while_stmt, for_stmt, loop_stmt, break_stmt, continue_stmt, return_stmt, throw_stmt, try_stmt, choose_stmt, init_stmt, wait_stmt, BodyRule, block_body, one_body, braces, no_stmts, no_whens}
 use Rattle.flow_exprs.proofs.Goes.{nowhere}
-use Rattle.flow_parse.specs.Beyond.{TooMany, TooDeep, Beyond}
-use Rattle.flow_parse.specs.Failing.{Sees, Stops, StopsAt, Fails}
+use Rattle.flow_parse.specs.Beyond.{Beyond}
+use Rattle.flow_parse.specs.Failing.{Fails}
 use Rattle.flow_parse.specs.Openers.{AsFirst, NameToken, TypeToken, IntoWord, IntoToken, StmtWord, PlainToken, StmtToken}
 use Rattle.flow_parse.specs.Parts.{Out, BlockOut, NoElse, Placed, Begun, Marks, Init, Assignment, Simple, Plain, One, BodyPart, Block}
 use Rattle.flow_parse.specs.Follow.{ExprEnds, Before}
@@ -31,8 +31,8 @@ use Rattle.flow_parse.specs.Reading.{token_at, Opening, Any}
 use Rattle.flow_parse.proofs.Begins.{Starts, looks_is, starts_is, starts_looks, starts_weaken, type_starts, into_starts}
 use Rattle.flow_parse.proofs.Failing.{Inhabited, good_marks}
 use Rattle.flow_parse.proofs.Inhabitants.{some_begun, some_opening, some_expr, some_body, some_when, some_init, some_assignment, some_plain, some_one}
-use Rattle.flow_parse.proofs.Leaves.{Turns, narrow, nothing, fails, next_is, here, none_fails, beyond_fails, marks_fails, begun_turns}
-use Rattle.flow_parse.proofs.Looking.{Looks, first_of}
+use Rattle.flow_parse.proofs.Leaves.{Turns, narrow, nothing, fails, next_is, none_fails, beyond_fails, marks_fails, begun_turns}
+use Rattle.flow_parse.proofs.Looking.{first_of}
 use Rattle.flow_parse.proofs.StmtBacks.{plain_starts, stmt_starts, stmt_token, starts_begun, Keyword, IsKeyword, plain_back}
 use Rattle.flow_parse.proofs.Stmts.{one_plain, one_block, body_plain}
 use Rattle.flow_parse.proofs.TreeOpens.{type_opens}
@@ -290,31 +290,6 @@ module _ (t : Tokens) (at d : ℕ) (c : Counts) where
 
   pub step_none : (AsFirst NameToken (token_at t.spots.items at) → ⊥) → Fails (Begun c d (Assignment d)) ExprEnds t at (Refused (rule.S 5) (place_at t at))
   step_none n = none_fails (Begun c d (Assignment d)) ExprEnds t at (some_begun (Assignment d) c d (some_assignment d)) (λ w z b r f l. n (starts_looks NameToken w z (token_at t.spots.items at) (subst (Starts NameToken) (sym r.2) (starts_begun NameToken c d r.0 (assign_names r.1.1))) l))
-
--- a token with parts, one of which breaks a limit
-pub opening_beyond : (ps : List Part) (x : Token) (n : ℕ) (t : Tokens) (at : ℕ) → 3 ≤ n → n ≤ 7 → token_at t.spots.items at ≡ Some x → (AllInLimits n ps → ⊥) → ((m : ℕ) → m < n → AllInLimits m ps) → Fails (Opening ps x) Any t at (Refused (rule.L n) (place_at t at))
-opening_beyond ps x n t at l u e out keep =
-    let h = here t at x e in
-    let z : at ≡ at + 0 = omega arith in
-    let p = place_at t at in (
-      l,
-      u,
-      record {
-        number = 0;
-        place = ap (place_at t) z;
-        stops = record {
-          within = omega arith;
-          token = λ i. omega (arith, h.within, length-drop at t.spots.items);
-          bad = λ w y b r g s. first_bad w y b r (drop at t.spots.items) s;
-          good = record { read = []; rest = opens ps x nowhere ∷ []; tree = nowhere; rule = refl; is = refl; keeps = tt };
-          below = λ m i k. subst (λ ts. Good (Opening ps x) m (take 1 ts)) (sym h.is) (with_token m ps x p (drop (at + 1) t.spots.items) [] p (keep m i) refl);
-        };
-      },
-    )
-  where
-    first_bad : (w y : List Marked) (b : Place) → Opening ps x w b → (ts : List Spot) → Sees n 1 ts (w ++ y) → ⊥
-    first_bad w y b r [] s = subst (λ k. Sees n 1 [] (k ++ y)) r s
-    first_bad w y b r (q ∷ ts) s = let k = subst (λ k. Sees n 1 (q ∷ ts) (k ++ y)) r s in out k.1
 
 -- another token stands here
 pub opening_none : (ps : List Part) (x : Token) (t : Tokens) (at : ℕ) → (token_at t.spots.items at ≡ Some x → ⊥) → Fails (Opening ps x) Any t at (Refused (rule.S 5) (place_at t at))

@@ -1,5 +1,5 @@
 -- How statements, bodies and branches are read.
-use Rattle.std.proofs.Common.{◌≡◌, ℕ, suc, ◌≤◌, ◌<◌, Bool, true, false, List, [], ◌∷◌, ◌++◌, length, refl, sym, ap, ◌∙◌, subst, append_assoc}
+use Rattle.std.proofs.Common.{◌≡◌, ℕ, suc, ◌≤◌, Bool, true, false, List, [], ◌∷◌, ◌++◌, length, refl, sym, ap, ◌∙◌, subst, append_assoc}
 use Rattle.std.proofs.lemmas.List.{append-nil}
 use Rattle.std.specs.declared.option.Option.{Option}
 use Rattle.std.specs.declared.option.Option.TheVariants.{None, Some}
@@ -10,9 +10,8 @@ use Rattle.flow_ast.specs.declared.token.Word.TheVariants as word
 use Rattle.flow_ast.specs.declared.token.Sign.TheVariants as sign
 use Rattle.flow_ast.specs.declared.token.Spot.{Spot}
 use Rattle.flow_ast.specs.declared.token.Tokens.{Tokens}
-use Rattle.flow_ast.specs.declared.ty.Ident.{Ident}
 use Rattle.flow_ast.specs.Tree.{ExprTree}
-use Rattle.flow_ast.specs.Body.{Body, End, BlockStmt, IfStmt, IfElseStmt, WhileStmt, ForStmt, LoopStmt, BreakStmt, ContinueStmt, ReturnStmt, ThrowStmt, TryStmt, ChooseStmt, WaitTree, Branches, NoBranches, MoreBranches}
+use Rattle.flow_ast.specs.Body.{Body, End, BlockStmt, WhileStmt, ForStmt, LoopStmt, BreakStmt, ContinueStmt, ReturnStmt, ThrowStmt, TryStmt, ChooseStmt, Branches, NoBranches, MoreBranches}
 use Rattle.flow_ast.specs.GrammarToken.{Node, Branch, Marked}
 use Rattle.flow_ast.specs.Grammar.{sign_at, ExprRule}
 use Rattle.flow_ast.specs.GrammarStmt.{Counts, one_statement, no_expr, some_expr, no_init, some_init, no_step, some_step, if_stmt, if_else_stmt, while_stmt, for_stmt, loop_stmt, break_stmt, continue_stmt, return_stmt, throw_stmt, try_stmt, choose_stmt, PlainRule, block_stmt, plain_stmt, BlockRule, braces, BodyRule, block_body, one_body, no_stmts, more_stmts, no_whens, more_whens, branch}
@@ -20,7 +19,7 @@ use Rattle.flow_parse.specs.Reading.{token_at, Opening, Tok, Named, Then, Any, R
 use Rattle.flow_parse.specs.Follow.{ExprEnds, Before, NotBefore}
 use Rattle.flow_parse.specs.Parts.{NoElse, Out, BlockOut, Test, MaybeExpr, Placed, Begun, Init, Assignment, StartPart, NextPart, Plain, One, BodyPart, Closing, Block, Catch, WaitingPart, WhenPart, WhensPart, AllWhens, put_before}
 use Rattle.flow_parse.proofs.Leaves.{Leaves, Link, free, Turns, nothing, narrow, empty, glue, behind}
-use Rattle.flow_parse.proofs.Inhabitants.{some_then, some_opening, some_named, some_expr as expr_inhabited, some_test, some_waiting, some_maybe, some_start, some_next, some_else, some_body, some_block, some_catch, some_closing, some_when, some_whens, some_all_whens}
+use Rattle.flow_parse.proofs.Inhabitants.{some_then, some_opening, some_named, some_expr as expr_inhabited, some_test, some_waiting, some_maybe, some_start, some_next, some_else, some_body, some_block, some_catch, some_closing, some_whens, some_all_whens}
 use Rattle.flow_parse.proofs.Narrow.{ends_is, before_is}
 use Rattle.flow_parse.proofs.Shapes.{closed, with}
 use Rattle.flow_parse.proofs.Lift.{lift}

@@ -12,15 +12,15 @@ use Rattle.flow_ast.specs.GrammarAnswer.{place_at}
 use Rattle.flow_ast.specs.GrammarStmt.{one_statement}
 use Rattle.flow_parse.specs.Openers.{StmtToken}
 use Rattle.flow_parse.specs.Reading.{token_at, Tok, Any, Reads, Answer}
-use Rattle.flow_parse.specs.Follow.{ExprEnds}
-use Rattle.flow_parse.specs.Parts.{NoElse, Test, MaybeExpr, StartPart, NextPart, Placed, Plain, One, BodyPart, Closing, Block, Begun, AllWhens}
+use Rattle.flow_parse.specs.Parts.{NoElse, Test, MaybeExpr, StartPart, NextPart, Placed, Plain, One, BodyPart, Closing, Block, AllWhens}
 use Rattle.flow_parse.specs.Views.{counts_of, stmt_out, body_out, block_out, when_out}
 use Rattle.flow_parse.proofs.Deeper.{moved_fails, deeper_fails, begun_reads, begun_fails}
 use Rattle.flow_parse.proofs.Leaves.{nothing, narrow, means, then_reads, done, fails, first_fails, tok_reads, opening_reads, deeper, moved, placed_reads, placed_fails, answer_become, answer_begun, answer_done, become}
 use Rattle.flow_parse.proofs.Looking.{not_true}
+use Rattle.flow_parse.proofs.Openings.{opening_beyond}
 use Rattle.flow_parse.proofs.StmtLoops.{closing_before, stmts_step, stmts_done, whens_init, whens_step, whens_done}
-use Rattle.flow_parse.proofs.Stmts.{semicolon_link, body_link, test_body, while_word, then_else, if_test, if_word, next_body, test_next, block_open, stmt_more, caught_link, choose_open, choose_word, when_more, start_test, for_open, for_word, try_inner, try_word, when_close, when_waiting, when_open, when_word, if_left, while_left, loop_left, for_left, try_left, choose_left, whens_left, when_left, one_plain, one_block, body_plain, body_block, block_turns, else_none, no_else, else_left, stmt_left, more_left, end_whens}
-use Rattle.flow_parse.proofs.StmtOpens.{one_none, one_beyond, body_none, body_beyond, block_starts, opening_none, opening_beyond, no_keyword, simple_turns}
+use Rattle.flow_parse.proofs.Stmts.{body_link, test_body, while_word, then_else, if_test, if_word, next_body, test_next, block_open, stmt_more, caught_link, choose_open, choose_word, when_more, start_test, for_open, for_word, try_inner, try_word, when_close, when_waiting, when_open, when_word, if_left, while_left, loop_left, for_left, try_left, choose_left, whens_left, when_left, one_plain, one_block, body_plain, body_block, block_turns, else_none, no_else, else_left, stmt_left, more_left, end_whens}
+use Rattle.flow_parse.proofs.StmtOpens.{one_none, one_beyond, body_none, body_beyond, block_starts, opening_none, no_keyword, simple_turns}
 use Rattle.flow_parse.proofs.StmtBacks.{ElsePart, ElseFollow}
 use Rattle.flow_parse.proofs.stmt.+stmt.Goals as goal
 use Rattle.flow_parse.proofs.stmt.+stmt.Goals.{if_stmt-then-then-via-then-then, if_stmt-then-then-via-else-then+then-not-is_word}
