@@ -5,7 +5,6 @@ use Rattle.std.specs.Option.{option_map}
 use Rattle.std.specs.declared.option.Option.{Option}
 use Rattle.std.specs.declared.option.Option.TheVariants.{None, Some}
 use Rattle.std.proofs.lemmas.Option.{slice_get_within}
-use Rattle.std.proofs.lemmas.List.{append-nil}
 use Rattle.flow_base.specs.declared.place.Place.{Place}
 use Rattle.flow_ast.specs.declared.token.Token.{Token}
 use Rattle.flow_ast.specs.declared.token.Token.TheVariants as token
@@ -15,15 +14,15 @@ use Rattle.flow_ast.specs.declared.ty.Ident.{Ident}
 use Rattle.flow_ast.specs.declared.fault.Rule.TheVariants as rule
 use Rattle.flow_ast.specs.declared.fault.SourceFault.{SourceFault}
 use Rattle.flow_ast.specs.declared.fault.SourceFault.TheVariants.{Refused, AcrossWait, OutOfMemory}
-use Rattle.flow_ast.specs.Grammar.{name_at, node_name}
-use Rattle.flow_ast.specs.GrammarStmt.{Counts, StartsAt, begin_statement}
+use Rattle.flow_ast.specs.Grammar.{name_at}
+use Rattle.flow_ast.specs.GrammarStmt.{Counts, StartsAt}
 use Rattle.flow_ast.specs.GrammarToken.{Part, Statement, Node, Marked, opens, begin, spots_of, InLimits, AllInLimits, Keeps, Good}
 use Rattle.flow_ast.specs.GrammarAnswer.{place_at}
 use Rattle.flow_ast.proofs.GrammarLists.{spots_append, spots_begin, keeps_append, keeps_begin, length_spots}
 use Rattle.flow_exprs.specs.Answer.{ident_of, ident_in, ident_at}
 use Rattle.flow_parse.specs.Reading.{token_at, Opening, Tok, Named, Then, Any, Reads, Answer}
 use Rattle.flow_parse.specs.Parts.{NodeName, Placed, Begun, Marks}
-use Rattle.flow_parse.specs.Failing.{Sees, Only, Stops, StopsAt, Fails}
+use Rattle.flow_parse.specs.Failing.{Only, Stops, StopsAt, Fails}
 use Rattle.flow_parse.proofs.Looking.{Looks, first_of, Back}
 use Rattle.flow_parse.proofs.Begins.{Starts, looks_is}
 use Rattle.flow_parse.proofs.Exact.{only_then, only_narrow, opening_only, named_only}
@@ -108,7 +107,12 @@ free more = record { follows = λ a b v z s f. tt; more = more }
 module _ (spots : List Spot) where
   pub nothing : {A : Type 0} (W : List Marked → A → Type 0) (FW : A → List Marked → Type 0) (at : ℕ) → at ≤ length spots → Leaves W FW W FW (λ b. b) spots at at
   nothing W FW at h = record {
-    after = omega arith; within = h; marked = []; is = refl; keeps = tt; sound = λ v b r. r;
+    after = omega arith;
+    within = h;
+    marked = [];
+    is = refl;
+    keeps = tt;
+    sound = λ v b r. r;
     only = λ b i o. let e : i ≡ at - at + i = omega arith in subst (λ j. Only W FW b j (drop at spots)) e o;
     stops = λ n k le s. let e : k ≡ at - at + k = omega arith in subst (Stops W FW n (drop at spots)) e s;
   }
@@ -119,7 +123,12 @@ module _ (spots : List Spot) where
   narrow {V = V} {FV = FV} {U = U} {FU = FU} {h = h} {o = o} {at = at} e u l =
       let f : first_of (drop at spots) ≡ o = next_is spots at ∙ e in
       record {
-        after = l.after; within = l.within; marked = l.marked; is = l.is; keeps = l.keeps; sound = λ v c r. l.sound v (h c) (u.forth v c r);
+        after = l.after;
+        within = l.within;
+        marked = l.marked;
+        is = l.is;
+        keeps = l.keeps;
+        sound = λ v c r. l.sound v (h c) (u.forth v c r);
         only = λ c i p. l.only (h c) i (only_narrow V FV U FU h o u.back i (drop at spots) c f p);
         stops = λ n k le s. l.stops n k le (stops_narrow V FV U FU h o n k (drop at spots) f u.back u.forth s);
       }
@@ -173,7 +182,12 @@ module _ (spots : List Spot) where
   pub means : {A B : Type 0} {W : List Marked → A → Type 0} {FW : A → List Marked → Type 0} {V : List Marked → B → Type 0} {FV : B → List Marked → Type 0} {g : B → A} {from at : ℕ} (h : B → A) → ((b : B) → g b ≡ h b)
       → Leaves W FW V FV g spots from at → Leaves W FW V FV h spots from at
   means {W = W} {FW = FW} {g = g} {from = from} {at = at} h e l = record {
-    after = l.after; within = l.within; marked = l.marked; is = l.is; keeps = l.keeps; sound = λ v b r. subst (λ a. W (l.marked ++ v) a) (e b) (l.sound v b r);
+    after = l.after;
+    within = l.within;
+    marked = l.marked;
+    is = l.is;
+    keeps = l.keeps;
+    sound = λ v b r. subst (λ a. W (l.marked ++ v) a) (e b) (l.sound v b r);
     only = λ b i o. subst (λ a. Only W FW a ((at - from) + i) (drop from spots)) (e b) (l.only b i o);
     stops = l.stops;
   }

@@ -1,5 +1,5 @@
 -- What `parse` may answer is one answer, want of memory aside.
-use Rattle.std.proofs.Common.{◌≡◌, ℕ, zero, suc, ◌≤◌, ◌<◌, length, refl, sym, ap, ◌∙◌, arith, ◌⊎◌, inl, inr}
+use Rattle.std.proofs.Common.{◌≡◌, ℕ, zero, suc, ◌<◌, refl, sym, ap, ◌∙◌, arith, ◌⊎◌, inl, inr}
 use Rattle.std.specs.Prelude.{Result, Ok, Err}
 use Rattle.flow_base.specs.declared.place.Place.{Place}
 use Rattle.flow_ast.specs.declared.token.Tokens.{Tokens}
@@ -10,8 +10,8 @@ use Rattle.flow_ast.specs.declared.fault.SourceFault.{SourceFault}
 use Rattle.flow_ast.specs.declared.fault.SourceFault.TheVariants.{Refused, AcrossWait, OutOfMemory}
 use Rattle.flow_ast.specs.Decls.{ProgramTree}
 use Rattle.flow_ast.specs.DeclView.{program_of}
-use Rattle.flow_parse.specs.ParseAnswer.{FailsBy, FailsAtAll, FailsLimit, TooMany, LimitAnswer, ParseAnswer}
-use Rattle.flow_parse.specs.Laws.{told, OneAnswer}
+use Rattle.flow_parse.specs.ParseAnswer.{FailsAtAll, LimitAnswer, ParseAnswer}
+use Rattle.flow_parse.specs.Laws.{OneAnswer}
 use Rattle.flow_parse.proofs.OneProgram.{one_program}
 use Rattle.flow_parse.proofs.Verdict.{program_never_fails, limit_above, one_place}
 

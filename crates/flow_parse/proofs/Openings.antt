@@ -1,5 +1,5 @@
 -- A token with which parts begin that are past a limit.
-use Rattle.std.proofs.Common.{◌≡◌, ℕ, suc, ◌+◌, ◌≤◌, ◌<◌, Bool, true, List, [], ◌∷◌, ◌++◌, length, take, drop, refl, sym, ap, ◌∙◌, subst, arith}
+use Rattle.std.proofs.Common.{◌≡◌, ℕ, suc, ◌+◌, ◌≤◌, ◌<◌, true, List, [], ◌∷◌, ◌++◌, length, take, drop, refl, sym, ap, subst, arith}
 use Rattle.std.specs.declared.option.Option.TheVariants.{Some}
 use Rattle.flow_base.specs.declared.place.Place.{Place}
 use Rattle.flow_ast.specs.declared.fault.Rule.TheVariants as rule
@@ -9,11 +9,11 @@ use Rattle.flow_ast.specs.declared.token.Token.TheVariants as token
 use Rattle.flow_ast.specs.declared.token.Word.TheVariants as word
 use Rattle.flow_ast.specs.declared.token.Spot.{Spot}
 use Rattle.flow_ast.specs.declared.token.Tokens.{Tokens}
-use Rattle.flow_ast.specs.GrammarToken.{Part, Variable, Marked, opens, AllInLimits, Good}
+use Rattle.flow_ast.specs.GrammarToken.{Part, Variable, opens, AllInLimits, Good}
 use Rattle.flow_ast.specs.GrammarAnswer.{place_at}
 use Rattle.flow_ast.specs.GrammarStmt.{Counts}
 use Rattle.flow_exprs.proofs.Goes.{nowhere}
-use Rattle.flow_parse.specs.Failing.{Sees, Never, Stops, Fails}
+use Rattle.flow_parse.specs.Failing.{Sees, Never, Fails}
 use Rattle.flow_parse.specs.Reading.{token_at, Opening, Any}
 use Rattle.flow_parse.specs.Follow.{NotBefore}
 use Rattle.flow_parse.specs.Parts.{StatePart}
@@ -30,14 +30,21 @@ opening_good ps x p m ts k = record { read = opens ps x p ∷ []; rest = []; tre
 pub opening_beyond : (ps : List Part) (x : Token) (n : ℕ) (t : Tokens) (at : ℕ) → 3 ≤ n → n ≤ 7 → token_at t.spots.items at ≡ Some x → (AllInLimits n ps → ⊥) → ((m : ℕ) → m < n → AllInLimits m ps) → Fails (Opening ps x) Any t at (Refused (rule.L n) (place_at t at))
 opening_beyond ps x n t at l h e out keep =
     let k = here t at x e in
-    let i : at ≡ at + 0 = omega arith in
-    (l, h, record { number = 0; place = ap (place_at t) i; stops = record {
-      within = omega arith;
-      token = λ u. omega (arith, ap length k.is);
-      bad = opening_never ps x n (drop at t.spots.items) out;
-      good = record { read = []; rest = opens ps x nowhere ∷ []; tree = nowhere; rule = refl; is = refl; keeps = tt };
-      below = λ m lt u. subst (λ ts. Good (Opening ps x) m (take 1 ts)) (sym k.is) (opening_good ps x (place_at t at) m (drop (at + 1) t.spots.items) (keep m lt));
-    } })
+    let i : at ≡ at + 0 = omega arith in (
+      l,
+      h,
+      record {
+        number = 0;
+        place = ap (place_at t) i;
+        stops = record {
+          within = omega arith;
+          token = λ u. omega (arith, ap length k.is);
+          bad = opening_never ps x n (drop at t.spots.items) out;
+          good = record { read = []; rest = opens ps x nowhere ∷ []; tree = nowhere; rule = refl; is = refl; keeps = tt };
+          below = λ m lt u. subst (λ ts. Good (Opening ps x) m (take 1 ts)) (sym k.is) (opening_good ps x (place_at t at) m (drop (at + 1) t.spots.items) (keep m lt));
+        };
+      },
+    )
 
 -- one state variable too many
 pub state_fails : (t : Tokens) (at : ℕ) (c : Counts) → at ≤ length t.spots.items → token_at t.spots.items at ≡ Some (token.Word word.State) → 1000 ≤ c.variables → Fails (StatePart true c) (NotBefore (token.Word word.State)) t at (Refused (rule.L 6) (place_at t at))

@@ -1,8 +1,6 @@
 -- With each token that a type or an expression may begin with, one begins; and below the greatest
 -- depth none does.
-use Rattle.std.proofs.Common.{◌≡◌, ℕ, zero, suc, ◌+◌, ◌≤◌, ◌<◌, List, [], ◌∷◌, ◌++◌, length, take, drop, refl, sym, ap, ◌∙◌, subst, arith, true, false}
-use Rattle.std.specs.declared.option.Option.{Option}
-use Rattle.std.specs.declared.option.Option.TheVariants.{None, Some}
+use Rattle.std.proofs.Common.{◌≡◌, ℕ, zero, suc, ◌+◌, ◌≤◌, ◌<◌, List, [], ◌∷◌, ◌++◌, length, take, drop, refl, sym, ap, subst, arith, true, false}
 use Rattle.flow_base.specs.declared.place.Place.{Place}
 use Rattle.flow_ast.specs.declared.fault.Rule.TheVariants as rule
 use Rattle.flow_ast.specs.declared.fault.SourceFault.TheVariants.{Refused}
@@ -13,11 +11,11 @@ use Rattle.flow_ast.specs.declared.token.Sign.TheVariants as sign
 use Rattle.flow_ast.specs.declared.token.Spot.{Spot}
 use Rattle.flow_ast.specs.declared.token.Tokens.{Tokens}
 use Rattle.flow_ast.specs.Tree.{IntType, BoolType, StringType, VoidType, ErrorType, NamedType, FutureType, FutureStreamType, PromiseType, PromiseStreamType, ExprTree, IntExpr, TextExpr, BoolExpr, VoidExpr, VarExpr, NotExpr, NegExpr, ParenExpr}
-use Rattle.flow_ast.specs.GrammarToken.{Node, Marked, opens, begin, spots_of, AllInLimits, Keeps, Good}
+use Rattle.flow_ast.specs.GrammarToken.{Node, Marked, opens, begin, AllInLimits, Good}
 use Rattle.flow_ast.specs.GrammarAnswer.{place_at}
-use Rattle.flow_ast.specs.Grammar.{sign_at, TypeRule, int_type, bool_type, string_type, void_type, error_type, named_type, wrapped_type, FutureOf, FutureStreamOf, PromiseOf, PromiseStreamOf, ExprRule, number, text, truth, falsehood, void, variable, call, paren, field, method, negation, minus, binary}
+use Rattle.flow_ast.specs.Grammar.{TypeRule, int_type, bool_type, string_type, void_type, error_type, named_type, wrapped_type, FutureOf, FutureStreamOf, PromiseOf, PromiseStreamOf, ExprRule, number, text, truth, falsehood, void, variable, call, paren, field, method, negation, minus, binary}
 use Rattle.flow_exprs.proofs.Goes.{nowhere}
-use Rattle.flow_parse.specs.Failing.{Sees, Never, Stops, Fails}
+use Rattle.flow_parse.specs.Failing.{Sees, Fails}
 use Rattle.flow_parse.specs.Reading.{token_at}
 use Rattle.flow_parse.specs.Follow.{ExprEnds}
 use Rattle.flow_parse.specs.Openers.{AsFirst, ExprToken, TypeToken}
@@ -101,14 +99,21 @@ expr_beyond t at d h lt f =
     let ts = drop at t.spots.items in
     let o = subst (AsFirst ExprToken) (sym (next_is t.spots.items at)) f in
     let any = some_expr d in
-    let e : at ≡ at + 0 = omega arith in
-    (omega arith, omega arith, record { number = 0; place = ap (place_at t) e; stops = record {
-      within = omega arith;
-      token = λ l. omega (arith, length_drop_some t.spots.items at lt);
-      bad = λ w z b r g s. deep_never d ts w z h (expr_deep r) s;
-      good = record { read = []; rest = any.marked; tree = any.tree; rule = any.rule; is = refl; keeps = tt };
-      below = λ m l k. expr_opens m d (λ i. absurd (omega arith)) ts o;
-    } })
+    let e : at ≡ at + 0 = omega arith in (
+      omega arith,
+      omega arith,
+      record {
+        number = 0;
+        place = ap (place_at t) e;
+        stops = record {
+          within = omega arith;
+          token = λ l. omega (arith, length_drop_some t.spots.items at lt);
+          bad = λ w z b r g s. deep_never d ts w z h (expr_deep r) s;
+          good = record { read = []; rest = any.marked; tree = any.tree; rule = any.rule; is = refl; keeps = tt };
+          below = λ m l k. expr_opens m d (λ i. absurd (omega arith)) ts o;
+        };
+      },
+    )
   where
     length_drop_some : (xs : List Spot) (i : ℕ) → i < length xs → 0 < length (drop i xs)
     length_drop_some [] i l = absurd (omega arith)

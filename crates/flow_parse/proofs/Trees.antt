@@ -1,5 +1,5 @@
 -- Types and expressions that were read.
-use Rattle.std.proofs.Common.{◌≡◌, ℕ, zero, suc, ◌+◌, ◌-◌, ◌≤◌, ◌<◌, List, [], ◌∷◌, ◌++◌, length, drop, refl, sym, ap, ◌∙◌, subst, arith, length-append, length-drop}
+use Rattle.std.proofs.Common.{◌≡◌, ℕ, ◌+◌, ◌-◌, ◌≤◌, ◌<◌, List, [], ◌∷◌, ◌++◌, length, drop, refl, sym, ap, ◌∙◌, subst, arith, length-append, length-drop}
 use Rattle.std.specs.Prelude.{IfOk, Result, Ok, Err}
 use Rattle.std.proofs.lemmas.List.{take-append-drop}
 use Rattle.flow_ast.specs.declared.token.Sign.TheVariants as sign
@@ -13,8 +13,8 @@ use Rattle.flow_ast.specs.declared.ty.Ty.{Ty}
 use Rattle.flow_ast.specs.declared.expr.Expr.{Expr}
 use Rattle.flow_ast.specs.View.{type_of, expr_of}
 use Rattle.flow_ast.specs.Tree.{TypeTree, ExprTree}
-use Rattle.flow_ast.specs.GrammarToken.{Part, Declaration, Statement, Node, Variable, Branch, Marked, begin, spots_of, AllInLimits, Keeps}
-use Rattle.flow_ast.specs.Grammar.{sign_at, name_at, op_sign, TypeRule, int_type, bool_type, string_type, void_type, error_type, named_type, wrapped_type, ExprRule, number, text, truth, falsehood, void, variable, call, paren, field, method, negation, minus, binary, ArgsRule, no_args, some_args, MoreArgsRule, end_args, more_args}
+use Rattle.flow_ast.specs.GrammarToken.{Part, Node, Marked, begin, spots_of}
+use Rattle.flow_ast.specs.Grammar.{sign_at, name_at, op_sign, TypeRule, int_type, bool_type, string_type, void_type, error_type, named_type, wrapped_type, ExprRule, number, text, truth, falsehood, void, variable, call, paren, field, method, negation, minus, binary}
 use Rattle.flow_ast.specs.GrammarAnswer.{IsRead, ReaderAnswer}
 use Rattle.flow_ast.proofs.GrammarLists.{length_spots}
 use Rattle.flow_parse.specs.Reading.{Any, Reads, Answer}

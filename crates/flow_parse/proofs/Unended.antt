@@ -1,5 +1,5 @@
 -- How a statement that holds no other is read, and the init of a `for`.
-use Rattle.std.proofs.Common.{◌≡◌, ℕ, suc, ◌+◌, ◌≤◌, ◌<◌, drop, Bool, false, List, [], ◌∷◌, ◌++◌, length, refl, sym, ap, ◌∙◌, subst, arith, append_assoc, ◌⊎◌, inl, inr}
+use Rattle.std.proofs.Common.{◌≡◌, ℕ, suc, ◌+◌, ◌≤◌, ◌<◌, drop, Bool, false, List, [], ◌∷◌, ◌++◌, length, refl, sym, ap, ◌∙◌, subst, arith, append_assoc, inl, inr}
 use Rattle.std.proofs.lemmas.List.{append-nil}
 use Rattle.std.specs.declared.option.Option.{Option}
 use Rattle.std.specs.declared.option.Option.TheVariants.{None, Some}
@@ -12,18 +12,17 @@ use Rattle.flow_ast.specs.declared.token.Tokens.{Tokens}
 use Rattle.flow_ast.specs.declared.ty.Ident.{Ident}
 use Rattle.flow_ast.specs.Tree.{NamedType}
 use Rattle.flow_ast.specs.Body.{IntoTree, Body, End, DeclareStmt, WaitStmt}
-use Rattle.flow_ast.specs.GrammarToken.{Node, Marked, AllInLimits, spots_of, opens}
+use Rattle.flow_ast.specs.GrammarToken.{Marked, spots_of}
 use Rattle.flow_ast.specs.Grammar.{sign_at, name_at, node_name, named_type, ExprRule}
 use Rattle.flow_ast.specs.GrammarStmt.{Counts, StartsAt, no_state, IntoRule, declared, plain_wait, into_wait, PathRule, AssignRule, assign, plus, minus, up, down, InitRule, declare, declare_value, change, PlainRule, init_stmt, wait_stmt, call_stmt}
 use Rattle.flow_parse.specs.Reading.{token_at, Reads, Tok, Named, Then, Any}
 use Rattle.flow_parse.specs.Follow.{ExprEnds, Before, NotBefore}
-use Rattle.flow_parse.specs.Parts.{Out, MoreNames, NodeName, Placed, IntoPart, OperandPart, WaitingPart, ChangeRule, assigns, adds, takes, goes_up, goes_down, ChangedRule, changes, calls, DeclaredRule, no_value, value, ValuedRule, declares, waits, UnendedRule, declaring, changing, waiting, Unended, Simple, Plain, Init, Assignment}
+use Rattle.flow_parse.specs.Parts.{Out, MoreNames, Placed, IntoPart, OperandPart, WaitingPart, ChangeRule, assigns, adds, takes, goes_up, goes_down, ChangedRule, changes, calls, DeclaredRule, no_value, value, ValuedRule, declares, waits, UnendedRule, declaring, changing, waiting, Unended, Simple, Plain, Init, Assignment}
 use Rattle.flow_parse.specs.Openers.{AsFirst, WaitToken}
 use Rattle.flow_parse.proofs.Looking.{Looks, Back}
 use Rattle.flow_parse.proofs.Backs.{Formed}
-use Rattle.flow_parse.proofs.Begins.{looks_is}
 use Rattle.flow_parse.proofs.Narrow.{before_is, before_same}
-use Rattle.flow_parse.proofs.Inhabitants.{some_then, some_opening, some_named, some_names, some_change, some_changed, some_declared, some_valued, some_operand, some_given}
+use Rattle.flow_parse.proofs.Inhabitants.{some_then, some_opening, some_names, some_change, some_changed, some_declared, some_valued, some_operand, some_given}
 use Rattle.flow_parse.proofs.SimpleBacks.{Given, given_back, not_given_back, given_wait_back, given_value_back, plain_wait_back, into_wait_back}
 use Rattle.flow_parse.proofs.UnendedBacks.{AnyName, AfterName, AfterInit, of_name, named_value_back, changed_back, named_declared_back, change_init_back, unended_wait, unended_into, unended_name, init_into, init_name, simple_back, assignment_back}
 use Rattle.flow_parse.proofs.UniqueParts.{changed_no_dot, out_is}
@@ -204,9 +203,12 @@ module _ (t : Tokens) (at : ℕ) (actor : Bool) (d : ℕ) (c : Counts) (h : at �
 
 module _ (t : Tokens) (at d : ℕ) (h : at ≤ length t.spots.items) where
   pub assignment_left : Leaves (Assignment d) ExprEnds (Then Named (λ x. Then (MoreNames x) (λ xs. ChangeRule d x.at xs))) (λ v. ExprEnds v.1.1) (λ x. x.1.1) t.spots.items at at
-  assignment_left = narrow t.spots.items refl (record { back = λ w z b r f l. assignment_back z r f; forth = λ u x r.
-      let e = behind r.is r.front r.back.is in
-      (x.0.at, assign_of r.back.front r.back.back e (subst (λ z. StartsAt z x.0.at) (sym e) refl)) }) (nothing t.spots.items (Assignment d) ExprEnds at h)
+  assignment_left = narrow t.spots.items refl (record {
+    back = λ w z b r f l. assignment_back z r f;
+    forth = λ u x r.
+        let e = behind r.is r.front r.back.is in
+        (x.0.at, assign_of r.back.front r.back.back e (subst (λ z. StartsAt z x.0.at) (sym e) refl));
+  }) (nothing t.spots.items (Assignment d) ExprEnds at h)
 
 pub assigned_link : (d : ℕ) → Link Named Any (λ x. Then (MoreNames x) (λ xs. ChangeRule d x.at xs)) (λ v. ExprEnds v.1.1)
 assigned_link d = free (λ x. some_then (MoreNames x) (λ xs. ChangeRule d x.at xs) (some_names x) (λ xs. some_change d x.at xs))

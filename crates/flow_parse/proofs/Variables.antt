@@ -10,21 +10,20 @@ use Rattle.flow_ast.specs.declared.token.Sign.TheVariants as sign
 use Rattle.flow_ast.specs.declared.token.Spot.{Spot}
 use Rattle.flow_ast.specs.declared.token.Tokens.{Tokens}
 use Rattle.flow_ast.specs.declared.ty.Ident.{Ident}
-use Rattle.flow_ast.specs.Tree.{TypeTree, ExprTree, ExprTrees, NoExprs, MoreExprs}
-use Rattle.flow_ast.specs.Body.{IntoTree, PlusChange, MinusChange, UpChange, DownChange, Body, End, DeclareStmt, AssignStmt, ModifyStmt, CallStmt, WaitStmt}
+use Rattle.flow_ast.specs.Tree.{ExprTrees, NoExprs, MoreExprs}
+use Rattle.flow_ast.specs.Body.{IntoTree, PlusChange, MinusChange, UpChange, DownChange, Body, End, DeclareStmt, AssignStmt, ModifyStmt, CallStmt}
 use Rattle.flow_ast.specs.GrammarToken.{Marked}
 use Rattle.flow_ast.specs.Grammar.{sign_at, name_at, TypeRule, ExprRule, no_args, some_args, end_args, more_args}
 use Rattle.flow_ast.specs.GrammarStmt.{Counts, one_state, state_parts, StateRule, no_state, some_state, declared, wait, wait_next, PathRule, last_name, more_names}
 use Rattle.flow_parse.specs.Openers.{TypeToken}
 use Rattle.flow_parse.specs.Reading.{token_at, Opening, Tok, Named, Then, Any, Reads}
 use Rattle.flow_parse.specs.Follow.{ExprEnds, Before, NotBefore}
-use Rattle.flow_parse.specs.Parts.{Out, Test, Args, MoreArgs, MoreNames, StatePart, IntoPart, OperandPart, ChangeRule, assigns, adds, takes, goes_up, goes_down, ChangedRule, changes, calls, DeclaredRule, no_value, value, ValuedRule, declares, waits}
+use Rattle.flow_parse.specs.Parts.{Test, Args, MoreArgs, MoreNames, StatePart, IntoPart, OperandPart, ChangeRule, assigns, adds, takes, goes_up, goes_down, ChangedRule, changes, calls, DeclaredRule, no_value, value}
 use Rattle.flow_parse.proofs.Looking.{Looks, Back}
 use Rattle.flow_parse.proofs.Backs.{tok_front}
 use Rattle.flow_parse.proofs.Begins.{looks_is, looks_first}
-use Rattle.flow_parse.proofs.Narrow.{starts_not, ends_is, ends_same, before_is}
-use Rattle.flow_parse.proofs.Failing.{Inhabited}
-use Rattle.flow_parse.proofs.Inhabitants.{some_then, some_opening, some_named, some_type, some_expr, some_test, some_args as args_inhabited, some_more_args, some_names, some_operand}
+use Rattle.flow_parse.proofs.Narrow.{starts_not, ends_is, ends_same}
+use Rattle.flow_parse.proofs.Inhabitants.{some_then, some_opening, some_named, some_type, some_expr, some_test, some_args as args_inhabited, some_more_args, some_names}
 use Rattle.flow_parse.proofs.SimpleBacks.{test_back, state_back, no_state_back, into_back, type_name_starts, wait_back, wait_next_back, dot_back, no_dot_back, end_of_args, first_arg, next_arg, no_more_args, change_back, call_back, no_call_back, value_back, no_value_back}
 use Rattle.flow_parse.proofs.UniqueParts.{more_args_ends}
 use Rattle.flow_parse.proofs.Leaves.{Leaves, Link, free, Turns, nothing, narrow, opening_reads, tok_reads, become, empty, glue, behind}

@@ -1,5 +1,4 @@
 -- With which tokens the parts of a program begin.
-use Rattle.std.specs.Prelude.{List}
 use Rattle.std.specs.declared.option.Option.{Option}
 use Rattle.std.specs.declared.option.Option.TheVariants.{None, Some}
 use Rattle.flow_ast.specs.declared.token.Token.{Token}

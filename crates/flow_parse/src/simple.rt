@@ -348,7 +348,14 @@ pub fn init(
         let (stmt, to) = change(alloc, tokens, here, path, at, depth)?;
         return Ok(ended(stmt, to, counts));
     };
-    let (stmt, to) = declared(alloc, tokens, here, named_into(first, second), at + 2, depth)?;
+    let (stmt, to) = declared(
+        alloc,
+        tokens,
+        here,
+        named_into(first, second),
+        at + 2,
+        depth,
+    )?;
     Ok(ended(stmt, to, counts))
 }
 
@@ -385,7 +392,14 @@ fn unended(
         let (stmt, to) = changed(alloc, tokens, here, path, at, depth)?;
         return Ok(ended(stmt, to, counts));
     };
-    let (stmt, to) = valued(alloc, tokens, here, named_into(first, second), at + 2, depth)?;
+    let (stmt, to) = valued(
+        alloc,
+        tokens,
+        here,
+        named_into(first, second),
+        at + 2,
+        depth,
+    )?;
     Ok(ended(stmt, to, counts))
 }
 

@@ -1,4 +1,4 @@
-use Rattle.std.proofs.Common.{arith, refl, ap, ◌∙◌, ◌++◌, ◌∷◌, [], ◌+◌}
+use Rattle.std.proofs.Common.{arith, refl, ap, ◌∙◌, ◌++◌, ◌∷◌, []}
 use Rattle.std.proofs.lemmas.Result.{err_from_is_err_and}
 use Rattle.flow_ast.specs.declared.token.Token.TheVariants as token
 use Rattle.flow_ast.specs.declared.token.Sign.TheVariants as sign
@@ -15,8 +15,7 @@ names-init c =
 
 pub names-preserved : goal.names-preserved
 names-preserved c =
-    let i = c.names.invariant in
-    (
+    let i = c.names.invariant in (
       omega (arith, i.0, c.in_ok-next.ensures.moves.0),
       c.in_ok-next.ensures.moves.1,
       i.2 ++ i.3 ∷ [],

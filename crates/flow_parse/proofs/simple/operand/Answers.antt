@@ -47,4 +47,4 @@ pub returns-clause-reads : goal.returns-clause-reads
 returns-clause-reads c =
     let t = c.args.tokens.now in
     let o = token_at t.spots.items c.args.at in
-    rw c.refused.ensures (none_fails (OperandPart c.args.depth) Any t c.args.at (some_operand c.args.depth) (λ w z b r f l. no_wait z o (λ h. elim (which_wait o h) [ | inl e ↦ not_true (c.if-is_word-2.ensures.word.1 e) | inr e ↦ not_true (c.if-is_word.ensures.word.1 e) ]) r l))
+    rw c.refused.ensures (none_fails (OperandPart c.args.depth) Any t c.args.at (some_operand c.args.depth) (λ w z b r f l. no_wait z o (λ h. elim (which_wait o h) [ inl e ↦ not_true (c.if-is_word-2.ensures.word.1 e) | inr e ↦ not_true (c.if-is_word.ensures.word.1 e) ]) r l))

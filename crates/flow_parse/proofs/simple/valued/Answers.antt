@@ -1,4 +1,4 @@
-use Rattle.std.proofs.Common.{refl, suc, ◌+◌}
+use Rattle.std.proofs.Common.{refl, ◌+◌}
 use Rattle.std.proofs.lemmas.Result.{err_from_is_err_and}
 use Rattle.flow_ast.specs.declared.token.Token.TheVariants as token
 use Rattle.flow_ast.specs.declared.token.Sign.TheVariants as sign
