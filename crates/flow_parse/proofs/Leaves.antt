@@ -412,9 +412,3 @@ answer_done v to t l (Err e) a = fails t l e a
 -- a part with another parameter
 pub moved : {P A : Type 0} {F : A → List Marked → Type 0} {spots : List Spot} {from to : ℕ} {a : A} {p q : P} (R : P → List Marked → A → Type 0) → p ≡ q → Reads (R p) F spots from a to → Reads (R q) F spots from a to
 moved {F = F} {spots = spots} {from = from} {to = to} {a = a} R e r = subst (λ k. Reads (R k) F spots from a to) e r
-
-pub moved_fails : {P A : Type 0} (R : P → List Marked → A → Type 0) (F : A → List Marked → Type 0) {p q : P} (t : Tokens) (from : ℕ) (e : SourceFault) → p ≡ q → Fails (R p) F t from e → Fails (R q) F t from e
-moved_fails R F t from e i a = subst (λ k. Fails (R k) F t from e) i a
-
-pub deeper_fails : {A : Type 0} (R : ℕ → List Marked → A → Type 0) (F : A → List Marked → Type 0) (d : ℕ) (t : Tokens) (from : ℕ) (e : SourceFault) → Fails (R (d + 1)) F t from e → Fails (R (suc d)) F t from e
-deeper_fails R F d t from e a = let i : d + 1 ≡ suc d = omega arith in subst (λ k. Fails (R k) F t from e) i a

@@ -6,7 +6,8 @@ use Rattle.flow_ast.specs.Body.{End}
 use Rattle.flow_ast.specs.Grammar.{ExprRule}
 use Rattle.flow_parse.specs.Follow.{ExprEnds}
 use Rattle.flow_parse.proofs.Looking.{not_true}
-use Rattle.flow_parse.proofs.Leaves.{then_reads, done, tok_reads, deeper, first_fails, fails, deeper_fails}
+use Rattle.flow_parse.proofs.Leaves.{then_reads, done, tok_reads, deeper, first_fails, fails}
+use Rattle.flow_parse.proofs.Deeper.{deeper_fails}
 use Rattle.flow_parse.proofs.Variables.{assign_left, plus_left, minus_left, up_reads, down_reads, value_link}
 use Rattle.flow_parse.proofs.simple.change.Goals as goal
 
@@ -29,7 +30,7 @@ returns-in_err-value-clause-reads c =
     let e = c.if-is_sign-3.ensures.sign.0 refl in
     let l = then_reads t.spots.items (value_link (token.Sign sign.PlusAssign) (suc c.args.depth)) (plus_left t c.args.at c.args.depth c.args.place c.args.path.items c.requires.within e) (tok_reads t c.args.at (token.Sign sign.PlusAssign) e) in
     let p = err_from_is_err_and c.from_residual.result c.from_residual.ensures.1 in
-    rw (p.1, p.2) (fails t l c.in_err-value.field-0.0 (deeper_fails (ExprRule 0) ExprEnds c.args.depth t (c.args.at + 1) c.in_err-value.field-0.0 c.in_err-value.ensures.reads))
+    rw (p.1, p.2) (fails t l c.in_err-value.field-0.0 (deeper_fails (ExprRule 0) ExprEnds t (c.args.at + 1) c.args.depth c.in_err-value.field-0.0 c.in_err-value.ensures.reads))
 
 pub returns-then-is_sign-4-clause-reads : goal.returns-then-is_sign-4-clause-reads
 returns-then-is_sign-4-clause-reads c =
@@ -44,7 +45,7 @@ returns-in_err-value-2-clause-reads c =
     let e = c.if-is_sign-4.ensures.sign.0 refl in
     let l = then_reads t.spots.items (value_link (token.Sign sign.MinusAssign) (suc c.args.depth)) (minus_left t c.args.at c.args.depth c.args.place c.args.path.items c.requires.within e) (tok_reads t c.args.at (token.Sign sign.MinusAssign) e) in
     let p = err_from_is_err_and c.from_residual-in_err-value-2.result c.from_residual-in_err-value-2.ensures.1 in
-    rw (p.1, p.2) (fails t l c.in_err-value-2.field-0.0 (deeper_fails (ExprRule 0) ExprEnds c.args.depth t (c.args.at + 1) c.in_err-value-2.field-0.0 c.in_err-value-2.ensures.reads))
+    rw (p.1, p.2) (fails t l c.in_err-value-2.field-0.0 (deeper_fails (ExprRule 0) ExprEnds t (c.args.at + 1) c.args.depth c.in_err-value-2.field-0.0 c.in_err-value-2.ensures.reads))
 
 pub returns-in_err-at-clause-reads : goal.returns-in_err-at-clause-reads
 returns-in_err-at-clause-reads c =
@@ -58,7 +59,7 @@ returns-in_err-value-3-clause-reads c =
     let t = c.args.tokens.now in
     let l = assign_left t c.args.at c.args.depth c.args.place c.args.path.items c.requires.within (λ e. not_true (c.if-is_sign.ensures.sign.1 e)) (λ e. not_true (c.if-is_sign-2.ensures.sign.1 e)) (λ e. not_true (c.if-is_sign-3.ensures.sign.1 e)) (λ e. not_true (c.if-is_sign-4.ensures.sign.1 e)) in
     let p = err_from_is_err_and c.from_residual-in_err-value-3.result c.from_residual-in_err-value-3.ensures.1 in
-    rw (p.1, p.2) (fails t (then_reads t.spots.items (value_link (token.Sign sign.Assign) (suc c.args.depth)) l c.in_ok-at.ensures.reads) c.in_err-value-3.field-0.0 (deeper_fails (ExprRule 0) ExprEnds c.args.depth t c.in_ok-at.at c.in_err-value-3.field-0.0 c.in_err-value-3.ensures.reads))
+    rw (p.1, p.2) (fails t (then_reads t.spots.items (value_link (token.Sign sign.Assign) (suc c.args.depth)) l c.in_ok-at.ensures.reads) c.in_err-value-3.field-0.0 (deeper_fails (ExprRule 0) ExprEnds t c.in_ok-at.at c.args.depth c.in_err-value-3.field-0.0 c.in_err-value-3.ensures.reads))
 
 pub returns-clause-reads : goal.returns-clause-reads
 returns-clause-reads c =

@@ -7,7 +7,8 @@ use Rattle.flow_ast.specs.StmtView.{stmt_of}
 use Rattle.flow_parse.specs.Reading.{Any}
 use Rattle.flow_parse.specs.Parts.{Args}
 use Rattle.flow_parse.proofs.Looking.{not_true}
-use Rattle.flow_parse.proofs.Leaves.{then_reads, done, tok_reads, deeper, answer_become, fails, deeper_fails}
+use Rattle.flow_parse.proofs.Leaves.{then_reads, done, tok_reads, deeper, answer_become, fails}
+use Rattle.flow_parse.proofs.Deeper.{deeper_fails}
 use Rattle.flow_parse.proofs.Variables.{call_left, call_link, change_turns}
 use Rattle.flow_parse.proofs.simple.changed.Goals as goal
 
@@ -22,7 +23,7 @@ returns-in_err-args-clause-reads c =
     let e = c.if-not-is_sign.ensures.sign.0 refl in
     let l = then_reads t.spots.items (call_link (suc c.args.depth)) (call_left t c.args.at c.args.depth c.args.place c.args.path.items c.requires.within e) (tok_reads t c.args.at (token.Sign sign.OpenRound) e) in
     let p = err_from_is_err_and c.from_residual.result c.from_residual.ensures.1 in
-    rw (p.1, p.2) (fails t l c.in_err-args.field-0.0 (deeper_fails Args Any c.args.depth t (c.args.at + 1) c.in_err-args.field-0.0 c.in_err-args.ensures.reads))
+    rw (p.1, p.2) (fails t l c.in_err-args.field-0.0 (deeper_fails Args Any t (c.args.at + 1) c.args.depth c.in_err-args.field-0.0 c.in_err-args.ensures.reads))
 
 pub returns-clause-reads : goal.returns-clause-reads
 returns-clause-reads c =

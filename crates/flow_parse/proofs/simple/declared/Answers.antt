@@ -7,7 +7,8 @@ use Rattle.flow_ast.specs.Grammar.{ExprRule}
 use Rattle.flow_ast.specs.StmtView.{into_of}
 use Rattle.flow_parse.specs.Follow.{ExprEnds}
 use Rattle.flow_parse.proofs.Looking.{not_true}
-use Rattle.flow_parse.proofs.Leaves.{then_reads, done, tok_reads, deeper, fails, deeper_fails}
+use Rattle.flow_parse.proofs.Leaves.{then_reads, done, tok_reads, deeper, fails}
+use Rattle.flow_parse.proofs.Deeper.{deeper_fails}
 use Rattle.flow_parse.proofs.Variables.{no_value_reads, value_left, value_link}
 use Rattle.flow_parse.proofs.simple.declared.Goals as goal
 
@@ -22,7 +23,7 @@ returns-in_err-value-clause-reads c =
     let e = c.if-not-is_sign.ensures.sign.0 refl in
     let l = then_reads t.spots.items (value_link (token.Sign sign.Assign) (suc c.args.depth)) (value_left t c.args.at c.args.depth c.args.place (into_of c.args.into) c.requires.within e) (tok_reads t c.args.at (token.Sign sign.Assign) e) in
     let p = err_from_is_err_and c.from_residual.result c.from_residual.ensures.1 in
-    rw (p.1, p.2) (fails t l c.in_err-value.field-0.0 (deeper_fails (ExprRule 0) ExprEnds c.args.depth t (c.args.at + 1) c.in_err-value.field-0.0 c.in_err-value.ensures.reads))
+    rw (p.1, p.2) (fails t l c.in_err-value.field-0.0 (deeper_fails (ExprRule 0) ExprEnds t (c.args.at + 1) c.args.depth c.in_err-value.field-0.0 c.in_err-value.ensures.reads))
 
 pub returns-clause-reads : goal.returns-clause-reads
 returns-clause-reads c =

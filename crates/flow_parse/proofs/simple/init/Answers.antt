@@ -10,7 +10,8 @@ use Rattle.flow_parse.specs.Follow.{Before}
 use Rattle.flow_parse.specs.Parts.{IntoPart, DeclaredRule}
 use Rattle.flow_parse.specs.Views.{counts_of}
 use Rattle.flow_parse.proofs.Begins.{into_starts}
-use Rattle.flow_parse.proofs.Leaves.{then_reads, done, moved, placed_reads, placed_fails, moved_fails, first_fails, fails, name_reads, nameless, name_token}
+use Rattle.flow_parse.proofs.Leaves.{then_reads, done, moved, placed_reads, placed_fails, first_fails, fails, name_reads, nameless, name_token}
+use Rattle.flow_parse.proofs.Deeper.{moved_fails}
 use Rattle.flow_parse.proofs.Unended.{init_left, init_named, init_change, declared_link, named_declared_link, path_change_link}
 use Rattle.flow_parse.proofs.simple.init.Goals as goal
 

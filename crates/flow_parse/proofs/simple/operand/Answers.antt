@@ -5,7 +5,8 @@ use Rattle.flow_ast.specs.declared.token.Word.TheVariants as word
 use Rattle.flow_parse.specs.Reading.{token_at, Any}
 use Rattle.flow_parse.specs.Parts.{Test, OperandPart}
 use Rattle.flow_parse.proofs.Looking.{not_true}
-use Rattle.flow_parse.proofs.Leaves.{then_reads, done, tok_reads, deeper, fails, deeper_fails, none_fails}
+use Rattle.flow_parse.proofs.Leaves.{then_reads, done, tok_reads, deeper, fails, none_fails}
+use Rattle.flow_parse.proofs.Deeper.{deeper_fails}
 use Rattle.flow_parse.proofs.Inhabitants.{some_operand}
 use Rattle.flow_parse.proofs.SimpleBacks.{no_wait}
 use Rattle.flow_parse.proofs.UniqueParts.{which_wait}
@@ -25,7 +26,7 @@ returns-in_err-of-clause-reads c =
     let e = c.if-is_word.ensures.word.0 refl in
     let l = then_reads t.spots.items (wait_link (token.Word word.WaitNext) (suc c.args.depth)) (wait_next_left t c.args.at c.args.depth c.requires.within e) (tok_reads t c.args.at (token.Word word.WaitNext) e) in
     let p = err_from_is_err_and c.from_residual.result c.from_residual.ensures.1 in
-    rw (p.1, p.2) (fails t l c.in_err-of.field-0.0 (deeper_fails Test Any c.args.depth t (c.args.at + 1) c.in_err-of.field-0.0 c.in_err-of.ensures.reads))
+    rw (p.1, p.2) (fails t l c.in_err-of.field-0.0 (deeper_fails Test Any t (c.args.at + 1) c.args.depth c.in_err-of.field-0.0 c.in_err-of.ensures.reads))
 
 pub returns-then-is_word-2-clause-reads : goal.returns-then-is_word-2-clause-reads
 returns-then-is_word-2-clause-reads c =
@@ -40,7 +41,7 @@ returns-in_err-of-2-clause-reads c =
     let e = c.if-is_word-2.ensures.word.0 refl in
     let l = then_reads t.spots.items (wait_link (token.Word word.Wait) (suc c.args.depth)) (wait_left t c.args.at c.args.depth c.requires.within e) (tok_reads t c.args.at (token.Word word.Wait) e) in
     let p = err_from_is_err_and c.from_residual-in_err-of-2.result c.from_residual-in_err-of-2.ensures.1 in
-    rw (p.1, p.2) (fails t l c.in_err-of-2.field-0.0 (deeper_fails Test Any c.args.depth t (c.args.at + 1) c.in_err-of-2.field-0.0 c.in_err-of-2.ensures.reads))
+    rw (p.1, p.2) (fails t l c.in_err-of-2.field-0.0 (deeper_fails Test Any t (c.args.at + 1) c.args.depth c.in_err-of-2.field-0.0 c.in_err-of-2.ensures.reads))
 
 pub returns-clause-reads : goal.returns-clause-reads
 returns-clause-reads c =

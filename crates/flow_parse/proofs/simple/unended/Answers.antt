@@ -11,7 +11,8 @@ use Rattle.flow_parse.specs.Parts.{IntoPart, OperandPart, ValuedRule}
 use Rattle.flow_parse.specs.Views.{counts_of}
 use Rattle.flow_parse.proofs.Looking.{not_true}
 use Rattle.flow_parse.proofs.Begins.{into_starts, operand_starts}
-use Rattle.flow_parse.proofs.Leaves.{then_reads, done, moved, placed_reads, placed_fails, moved_fails, first_fails, fails, name_reads, nameless, name_token}
+use Rattle.flow_parse.proofs.Leaves.{then_reads, done, moved, placed_reads, placed_fails, first_fails, fails, name_reads, nameless, name_token}
+use Rattle.flow_parse.proofs.Deeper.{moved_fails}
 use Rattle.flow_parse.proofs.Unended.{unended_wait_left, unended_left, unended_named, unended_change, valued_link, named_valued_link, path_changed_link}
 use Rattle.flow_parse.proofs.simple.unended.Goals as goal
 

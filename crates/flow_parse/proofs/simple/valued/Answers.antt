@@ -7,7 +7,8 @@ use Rattle.flow_ast.specs.Grammar.{ExprRule}
 use Rattle.flow_ast.specs.StmtView.{into_of}
 use Rattle.flow_parse.specs.Follow.{ExprEnds}
 use Rattle.flow_parse.proofs.Looking.{not_true}
-use Rattle.flow_parse.proofs.Leaves.{then_reads, done, tok_reads, deeper, fails, deeper_fails}
+use Rattle.flow_parse.proofs.Leaves.{then_reads, done, tok_reads, deeper, fails}
+use Rattle.flow_parse.proofs.Deeper.{deeper_fails}
 use Rattle.flow_parse.proofs.Unended.{no_value_reads2, given_left, given_link, given_wait, given_value}
 use Rattle.flow_parse.proofs.simple.valued.Goals as goal
 
@@ -37,7 +38,7 @@ returns-in_err-value-clause-reads c =
     let e = c.if-not-is_sign.ensures.sign.0 refl in
     let g = then_reads t.spots.items (given_link c.args.depth c.args.place (into_of c.args.into)) (given_left t c.args.at c.args.depth c.args.place (into_of c.args.into) c.requires.within e) (tok_reads t c.args.at (token.Sign sign.Assign) e) in
     let p = err_from_is_err_and c.from_residual-in_err-value.result c.from_residual-in_err-value.ensures.1 in
-    rw (p.1, p.2) (fails t (given_value t.spots.items c.args.depth c.args.place (into_of c.args.into) g (λ h. not_true (c.if-begins_wait.ensures.1 h))) c.in_err-value.field-0.0 (deeper_fails (ExprRule 0) ExprEnds c.args.depth t (c.args.at + 1) c.in_err-value.field-0.0 c.in_err-value.ensures.reads))
+    rw (p.1, p.2) (fails t (given_value t.spots.items c.args.depth c.args.place (into_of c.args.into) g (λ h. not_true (c.if-begins_wait.ensures.1 h))) c.in_err-value.field-0.0 (deeper_fails (ExprRule 0) ExprEnds t (c.args.at + 1) c.args.depth c.in_err-value.field-0.0 c.in_err-value.ensures.reads))
 
 pub returns-clause-reads : goal.returns-clause-reads
 returns-clause-reads c =
