@@ -44,7 +44,7 @@ path_names : {w : List Marked} {xs : List Ident} → PathRule w xs → Starts Na
 path_names (last_name x) = tt
 path_names (more_names x p more r e) = subst (Starts NameToken) (sym e) tt
 
-pub assign_names : {d : ℕ} {w : List Marked} {p : Place} {rest body : Body} → AssignRule d w p rest body → Starts NameToken w
+assign_names : {d : ℕ} {w : List Marked} {p : Place} {rest body : Body} → AssignRule d w p rest body → Starts NameToken w
 assign_names (assign at p path of r x e s) = starts_is NameToken path _ e (path_names r)
 assign_names (plus at p path of r x e s) = starts_is NameToken path _ e (path_names r)
 assign_names (minus at p path of r x e s) = starts_is NameToken path _ e (path_names r)
@@ -55,7 +55,7 @@ name_into : (t : Token) → NameToken t → IntoToken t
 name_into (token.Name n) h = tt
 name_into _ h = absurd h
 
-pub init_intos : {actor : Bool} {d : ℕ} {c c' : Counts} {w : List Marked} {p : Place} {rest body : Body} → InitRule actor d c c' w p rest body → Starts IntoToken w
+init_intos : {actor : Bool} {d : ℕ} {c c' : Counts} {w : List Marked} {p : Place} {rest body : Body} → InitRule actor d c c' w p rest body → Starts IntoToken w
 init_intos (declare at i s) = into_starts i
 init_intos (declare_value at p left of i x e s) = starts_is IntoToken left _ e (into_starts i)
 init_intos {w = w} (change at r) = starts_weaken NameToken IntoToken name_into w (assign_names r)
@@ -73,7 +73,7 @@ name_with m d n p ts =
     let x : Ident = record { name = n; at = p } in
     with_token m [] (token.Name n) p ts (sign_at sign.PlusPlus nowhere ∷ []) (ModifyStmt p (x ∷ []) UpChange End) tt (p, up p nowhere (name_at x ∷ []) (last_name x) refl refl)
 
-pub assignment_opens : (m d : ℕ) (ts : List Spot) → AsFirst NameToken (first_of ts) → Good (Assignment d) m (take 1 ts)
+assignment_opens : (m d : ℕ) (ts : List Spot) → AsFirst NameToken (first_of ts) → Good (Assignment d) m (take 1 ts)
 assignment_opens m d [] h = absurd h
 assignment_opens m d (x ∷ ts) h = by_token x.token x.at h
   where
@@ -129,7 +129,7 @@ module _ (m : ℕ) (low : m < 5) (actor : Bool) (d : ℕ) (c : Counts) where
   init_with (token.Word k) p ts h = init_word k p ts h
   init_with _ p ts h = absurd h
 
-  pub init_opens : (ts : List Spot) → AsFirst IntoToken (first_of ts) → Good (Init actor d c) m (take 1 ts)
+  init_opens : (ts : List Spot) → AsFirst IntoToken (first_of ts) → Good (Init actor d c) m (take 1 ts)
   init_opens [] h = absurd h
   init_opens (x ∷ ts) h = init_with x.token x.at ts h
 
@@ -198,14 +198,14 @@ module _ (m : ℕ) (low : m < 5) (actor : Bool) (d : ℕ) (c : Counts) where
   plain_with (token.Word k) p ts h = plain_word k p ts h
   plain_with _ p ts h = absurd h
 
-  pub plain_opens : (ts : List Spot) → AsFirst PlainToken (first_of ts) → Good (Plain actor d c) m (take 1 ts)
+  plain_opens : (ts : List Spot) → AsFirst PlainToken (first_of ts) → Good (Plain actor d c) m (take 1 ts)
   plain_opens [] h = absurd h
   plain_opens (x ∷ ts) h = plain_with x.token x.at ts h
 
   block_with : (p : Place) (ts : List Spot) → Good (Placed (Block actor d c)) m (take 1 (record { token = token.Sign sign.OpenCurly; at = p } ∷ ts))
   block_with p ts = with_token m [] (token.Sign sign.OpenCurly) p ts (sign_at sign.CloseCurly nowhere ∷ []) (p, record { body = End; counts = c; close = nowhere }) tt (refl, (p, [], no_stmts, refl))
 
-  pub block_opens : (ts : List Spot) → first_of ts ≡ Some (token.Sign sign.OpenCurly) → Good (Placed (Block actor d c)) m (take 1 ts)
+  block_opens : (ts : List Spot) → first_of ts ≡ Some (token.Sign sign.OpenCurly) → Good (Placed (Block actor d c)) m (take 1 ts)
   block_opens [] h = absurd (cc)
   block_opens (x ∷ ts) h = let e : x.token ≡ token.Sign sign.OpenCurly = cc in subst (λ y. Good (Placed (Block actor d c)) m (take 1 (record { token = y; at = x.at } ∷ ts))) (sym e) (block_with x.at ts)
 
@@ -230,7 +230,7 @@ module _ {A : Type 0} (R : List Marked → A → Type 0) (F : A → List Marked 
   too_deep f h = begun_of (Refused (rule.L 5) (place_at t at)) (marks_fails (Marks (Node d) R) F (Statement (suc c.statements)) t at (λ m l i. omega (arith, f)) (Refused (rule.L 5) (place_at t at))
       (beyond_fails R F (Node d) 5 t at (omega arith) (omega arith) lt (λ k. omega (arith, h, k (omega arith))) (λ m l i. absurd (omega (arith, l, i))) P begins any good))
 
-  pub begun_beyond : (e : SourceFault) → Beyond c d (place_at t at) e → Fails (Begun c d R) F t at e
+  begun_beyond : (e : SourceFault) → Beyond c d (place_at t at) e → Fails (Begun c d R) F t at e
   begun_beyond e h = elim h [
     | inl x ↦ subst (Fails (Begun c d R) F t at) (sym x.1) (too_many x.0)
     | inr x ↦ subst (Fails (Begun c d R) F t at) (sym x.2) (too_deep x.0 x.1)
@@ -247,7 +247,7 @@ no_brace (Some (token.Sign sign.OpenCurly)) h n = absurd (n refl)
 no_brace (Some (token.Sign _)) h n = absurd h
 
 module _ (t : Tokens) (at : ℕ) (actor : Bool) (d : ℕ) (c : Counts) where
-  pub plain_beyond : at < length t.spots.items → AsFirst PlainToken (token_at t.spots.items at) → (e : SourceFault) → Beyond c d (place_at t at) e → Fails (Begun c d (Plain actor d (one_statement c))) NoElse t at e
+  plain_beyond : at < length t.spots.items → AsFirst PlainToken (token_at t.spots.items at) → (e : SourceFault) → Beyond c d (place_at t at) e → Fails (Begun c d (Plain actor d (one_statement c))) NoElse t at e
   plain_beyond lt f e h = begun_beyond (Plain actor d (one_statement c)) NoElse PlainToken (λ w b r. plain_starts r.1) (some_plain actor d (one_statement c)) t at c d lt (λ m l. plain_opens m l actor d (one_statement c) (drop at t.spots.items) (subst (AsFirst PlainToken) (sym (next_is t.spots.items at)) f)) e h
 
   pub init_beyond : at < length t.spots.items → AsFirst IntoToken (token_at t.spots.items at) → (e : SourceFault) → Beyond c d (place_at t at) e → Fails (Begun c d (Init actor d (one_statement c))) (Before (token.Sign sign.Semicolon)) t at e

@@ -30,7 +30,7 @@ use Rattle.flow_parse.proofs.UniqueStmts.{CatchSeq, catch_back, else_as, else_fo
 pub closed_by : {w a r b : List Marked} (of : List Marked) (x : Marked) → w ≡ a ++ r → a ≡ of ++ x ∷ [] → r ≡ b → w ≡ of ++ (x ∷ b)
 closed_by {r} of x e f g = e ∙ ap (λ z. z ++ r) f ∙ append_assoc of (x ∷ []) r ∙ ap (λ z. of ++ (x ∷ z)) g
 
-pub in_brackets : {w a r b : List Marked} {y : Marked} (of : List Marked) (x : Marked) → w ≡ a ++ r → a ≡ y ∷ (of ++ x ∷ []) → r ≡ b → w ≡ y ∷ (of ++ (x ∷ b))
+in_brackets : {w a r b : List Marked} {y : Marked} (of : List Marked) (x : Marked) → w ≡ a ++ r → a ≡ y ∷ (of ++ x ∷ []) → r ≡ b → w ≡ y ∷ (of ++ (x ∷ b))
 in_brackets {r} {y} of x e f g = e ∙ ap (λ z. z ++ r) f ∙ ap (λ z. y ∷ z) (append_assoc of (x ∷ []) r) ∙ ap (λ z. y ∷ (of ++ (x ∷ z))) g
 
 block_rule : {actor : Bool} {d : ℕ} {c : Counts} {w : List Marked} {o : BlockOut} → Block actor d c w o → BlockRule actor d c o.counts w o.body
