@@ -23,3 +23,4 @@ pub mod UniqueTypes
 pub mod UniqueParts
 pub mod UniqueStmts
 pub mod OneProgram
+pub mod Verdict

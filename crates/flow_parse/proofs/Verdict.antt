@@ -1,0 +1,90 @@
+-- What `parse` may answer is one answer, want of memory aside.
+use Rattle.std.proofs.Common.{◌≡◌, ℕ, zero, suc, ◌≤◌, ◌<◌, List, [], ◌∷◌, length, take, drop, refl, sym, ap, ◌∙◌, subst, arith, ◌⊎◌, inl, inr}
+use Rattle.std.proofs.lemmas.List.{take-append-drop}
+use Rattle.flow_base.specs.declared.place.Place.{Place}
+use Rattle.flow_ast.specs.declared.token.Tokens.{Tokens}
+use Rattle.flow_ast.specs.declared.token.Spot.{Spot}
+use Rattle.flow_ast.specs.Decls.{ProgramTree}
+use Rattle.flow_ast.specs.GrammarToken.{Part, Declaration, Statement, Node, Variable, Branch, Marked, spots_of, InLimits, AllInLimits, Keeps, Derives, Good}
+use Rattle.flow_ast.specs.GrammarDecl.{ProgramRule, IsProgram}
+use Rattle.flow_ast.specs.GrammarAnswer.{place_at}
+use Rattle.flow_parse.specs.ParseAnswer.{GoodTo, begun, whole, FailsBy, FailsLimit}
+
+-- fewer limits are kept too
+fewer_part : (m n : ℕ) (p : Part) → m ≤ n → InLimits n p → InLimits m p
+fewer_part m n (Declaration k) h l = λ x. l (omega arith)
+fewer_part m n (Statement k) h l = λ x. l (omega arith)
+fewer_part m n (Node k) h l = λ x. l (omega arith)
+fewer_part m n (Variable k) h l = λ x. l (omega arith)
+fewer_part m n (Branch k) h l = λ x. l (omega arith)
+
+fewer_parts : (m n : ℕ) (ps : List Part) → m ≤ n → AllInLimits n ps → AllInLimits m ps
+fewer_parts m n [] h l = tt
+fewer_parts m n (p ∷ ps) h l = (fewer_part m n p h l.0, fewer_parts m n ps h l.1)
+
+pub fewer : (m n : ℕ) (xs : List Marked) → m ≤ n → Keeps n xs → Keeps m xs
+fewer m n [] h k = tt
+fewer m n (x ∷ xs) h k = (fewer_parts m n x.parts h k.0, fewer m n xs h k.1)
+
+pub fewer_good : {A : Type 0} {R : List Marked → A → Type 0} (m n : ℕ) (ts : List Spot) → m ≤ n → Good R n ts → Good R m ts
+fewer_good m n ts h g = record { read = g.read; rest = g.rest; tree = g.tree; rule = g.rule; is = g.is; keeps = fewer m n g.read h g.keeps }
+
+pub fewer_to : (t : Tokens) (m n k : ℕ) → m ≤ n → GoodTo t n k → GoodTo t m k
+fewer_to t m n k h (begun l g) = begun l (fewer_good m n (take (suc k) t.spots.items) h g)
+fewer_to t m n k h (whole p d) = whole p (record { marked = d.marked; rule = d.rule; is = d.is; keeps = fewer m n d.marked h d.keeps })
+
+keeps_take : (n k : ℕ) (xs : List Marked) → Keeps n xs → Keeps n (take k xs)
+keeps_take n zero xs h = tt
+keeps_take n (suc k) [] h = tt
+keeps_take n (suc k) (x ∷ xs) h = (h.0, keeps_take n k xs h.1)
+
+spots_take : (k : ℕ) (xs : List Marked) → spots_of (take k xs) ≡ take k (spots_of xs)
+spots_take zero xs = refl
+spots_take (suc k) [] = refl
+spots_take (suc k) (x ∷ xs) = ap (λ y. x.spot ∷ y) (spots_take k xs)
+
+-- a program is good up to each of its tokens, and up to the end
+pub program_good : (t : Tokens) (n k : ℕ) (p : ProgramTree) → k ≤ length t.spots.items → Derives (ProgramRule t.end) n t.spots.items p → GoodTo t n k
+program_good t n k p h d = elim (last k (length t.spots.items) h) [
+  | inl l ↦ begun l (record {
+    read = take (suc k) d.marked;
+    rest = drop (suc k) d.marked;
+    tree = p;
+    rule = subst (λ z. ProgramRule t.end z p) (sym (take-append-drop (suc k) d.marked)) d.rule;
+    is = spots_take (suc k) d.marked ∙ ap (take (suc k)) d.is;
+    keeps = keeps_take n (suc k) d.marked d.keeps;
+  })
+  | inr e ↦ subst (GoodTo t n) (sym e) (whole p d)
+]
+  where
+    last : (a b : ℕ) → a ≤ b → (a < b) ⊎ (a ≡ b)
+    last zero zero h = inr refl
+    last zero (suc b) h = inl (omega arith)
+    last (suc a) zero h = absurd (omega arith)
+    last (suc a) (suc b) h = elim (last a b (omega arith)) [
+      | inl l ↦ inl (omega arith)
+      | inr e ↦ inr (ap suc e)
+    ]
+
+-- where the tokens are a program, none fails
+pub program_never_fails : (t : Tokens) (n : ℕ) (at : Place) (p : ProgramTree) → n ≤ 7 → IsProgram t p → FailsBy n t at → ⊥
+program_never_fails t n at p h d f = f.bad (fewer_to t n 7 f.number h (program_good t 7 f.number p f.within d))
+
+-- one token fails
+pub one_token : (t : Tokens) (m n : ℕ) (p q : Place) → m ≤ 7 → n ≤ 7 → (f : FailsBy m t p) → (g : FailsBy n t q) → f.number ≡ g.number
+one_token t m n p q hm hn f g = same f.number g.number
+    (λ l. f.bad (fewer_to t m 7 f.number hm (g.first f.number l)))
+    (λ l. g.bad (fewer_to t n 7 g.number hn (f.first g.number l)))
+  where
+    same : (a b : ℕ) → (a < b → ⊥) → (b < a → ⊥) → a ≡ b
+    same zero zero f g = refl
+    same zero (suc b) f g = absurd (f (omega arith))
+    same (suc a) zero f g = absurd (g (omega arith))
+    same (suc a) (suc b) f g = ap suc (same a b (λ l. f (omega arith)) (λ l. g (omega arith)))
+
+-- and by one rule
+pub limit_above : (t : Tokens) (m n : ℕ) (p q : Place) → m < n → FailsBy m t p → FailsLimit n t q → ⊥
+limit_above t m n p q l f g = f.bad (subst (GoodTo t m) (sym (one_token t m n p q (omega (arith, g.greatest)) g.greatest f g.fails)) (g.below m l))
+
+pub one_place : (t : Tokens) (m n : ℕ) (p q : Place) → m ≤ 7 → n ≤ 7 → FailsBy m t p → FailsBy n t q → p ≡ q
+one_place t m n p q hm hn f g = f.place ∙ ap (place_at t) (one_token t m n p q hm hn f g) ∙ sym g.place
