@@ -1,5 +1,5 @@
 -- A text has one verdict.
-use Rattle.std.proofs.Common.{◌≡◌, ℕ, zero, suc, ◌≤◌, ◌<◌, List, take, length, refl, sym, ap, ap₂, ◌∙◌, subst, arith, ◌⊎◌, inl, inr, Ok, Err}
+use Rattle.std.proofs.Common.{◌≡◌, ℕ, zero, suc, ◌≤◌, ◌<◌, List, take, length, refl, sym, ap, ap₂, ◌∙◌, subst, arith, inl, inr, Ok, Err}
 use Rattle.std.specs.Prelude.{slice_get, unwrap_or}
 use Rattle.std.specs.Option.{option_map}
 use Rattle.flow_base.specs.declared.place.Place.{Place}
@@ -11,11 +11,11 @@ use Rattle.flow_ast.specs.declared.fault.SourceFault.TheVariants.{Refused}
 use Rattle.flow_ast.specs.Decls.{ProgramTree}
 use Rattle.flow_ast.specs.DeclView.{program_of}
 use Rattle.flow_ast.specs.GrammarToken.{Derives, Good}
-use Rattle.flow_ast.specs.GrammarDecl.{ProgramRule, IsProgram}
+use Rattle.flow_ast.specs.GrammarDecl.{ProgramRule}
 use Rattle.flow_ast.specs.GrammarAnswer.{place_at}
 use Rattle.flow_lex.proofs.Once.{reads_once}
 use Rattle.flow_parse.specs.Laws.{OneProgram}
-use Rattle.flow_parse.specs.ParseAnswer.{GoodTo, begun, whole, FailsBy, FailsLimit, TooMany, LimitAnswer, ParseAnswer}
+use Rattle.flow_parse.specs.ParseAnswer.{GoodTo, begun, whole, FailsBy, FailsLimit, LimitAnswer, ParseAnswer}
 use Rattle.flow_parse.proofs.Verdict.{program_never_fails, limit_above, one_place}
 use Rattle.flow_top.specs.Source.{HasTokens, IsRefused, too_long, no_tokens, no_program, IsAccepted}
 use Rattle.flow_top.specs.Laws.{OneVerdict}
