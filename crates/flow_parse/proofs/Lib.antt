@@ -23,4 +23,3 @@ pub mod UniqueTypes
 pub mod UniqueParts
 pub mod UniqueStmts
 pub mod OneProgram
-pub mod Verdict
