@@ -1,5 +1,6 @@
 pub mod Words
 pub mod Source
 pub mod Form
+pub mod Laws
 pub mod Refusal
 pub mod Run

@@ -6,6 +6,7 @@ mod command;
 mod copies;
 mod decide;
 mod form;
+mod laws;
 mod outcome;
 mod real;
 mod refusal;

@@ -1,0 +1,128 @@
+-- A text has one verdict.
+use Rattle.std.proofs.Common.{◌≡◌, ℕ, zero, suc, ◌≤◌, ◌<◌, List, take, length, refl, sym, ap, ap₂, ◌∙◌, subst, arith, inl, inr, Ok, Err}
+use Rattle.std.specs.Prelude.{slice_get, unwrap_or}
+use Rattle.std.specs.Option.{option_map}
+use Rattle.flow_base.specs.declared.place.Place.{Place}
+use Rattle.flow_ast.specs.declared.token.Tokens.{Tokens}
+use Rattle.flow_ast.specs.declared.decl.Program.{Program}
+use Rattle.flow_ast.specs.declared.fault.Rule.{Rule}
+use Rattle.flow_ast.specs.declared.fault.Rule.TheVariants.{S, L, K}
+use Rattle.flow_ast.specs.declared.fault.SourceFault.TheVariants.{Refused}
+use Rattle.flow_ast.specs.Decls.{ProgramTree}
+use Rattle.flow_ast.specs.DeclView.{program_of}
+use Rattle.flow_ast.specs.GrammarToken.{Derives, Good}
+use Rattle.flow_ast.specs.GrammarDecl.{ProgramRule}
+use Rattle.flow_ast.specs.GrammarAnswer.{place_at}
+use Rattle.flow_lex.proofs.Once.{reads_once}
+use Rattle.flow_parse.specs.Laws.{OneProgram}
+use Rattle.flow_parse.specs.ParseAnswer.{GoodTo, begun, whole, FailsBy, FailsLimit, LimitAnswer, ParseAnswer}
+use Rattle.flow_parse.proofs.Verdict.{program_never_fails, limit_above, one_place}
+use Rattle.flow_top.specs.Source.{HasTokens, IsRefused, too_long, no_tokens, no_program, IsAccepted}
+use Rattle.flow_top.specs.Laws.{OneVerdict}
+
+-- tokens are told by their list and their end
+pub record SameTokens (t u : Tokens) : Type 0 where
+  pub spots : t.spots.items ≡ u.spots.items
+  pub end : t.end ≡ u.end
+
+flipped : {t u : Tokens} → SameTokens t u → SameTokens u t
+flipped s = record { spots = sym s.spots; end = sym s.end }
+
+same_place : (t u : Tokens) (k : ℕ) → SameTokens t u → place_at t k ≡ place_at u k
+same_place t u k s = ap₂ (λ x z. unwrap_or (option_map (λ y. y.at) (slice_get x k)) z) s.spots s.end
+
+moved_program : (t u : Tokens) (n : ℕ) (p : ProgramTree) → SameTokens t u → Derives (ProgramRule t.end) n t.spots.items p → Derives (ProgramRule u.end) n u.spots.items p
+moved_program t u n p s d = subst (λ z. Derives (ProgramRule z) n u.spots.items p) s.end (subst (λ x. Derives (ProgramRule t.end) n x p) s.spots d)
+
+moved_good : (t u : Tokens) (n k : ℕ) → SameTokens t u → GoodTo t n k → GoodTo u n k
+moved_good t u n k s (begun l g) =
+    begun (subst (λ x. k < length x) s.spots l) (subst (λ z. Good (ProgramRule z) n (take (suc k) u.spots.items)) s.end (subst (λ x. Good (ProgramRule t.end) n (take (suc k) x)) s.spots g))
+moved_good t u n k s (whole p d) = subst (GoodTo u n) (sym (ap length s.spots)) (whole p (moved_program t u n p s d))
+
+moved_fails : (t u : Tokens) (n : ℕ) (at : Place) → SameTokens t u → FailsBy n t at → FailsBy n u at
+moved_fails t u n at s f = record {
+  few = subst (λ x. length x ≤ 200000) s.spots f.few;
+  number = f.number;
+  within = subst (λ x. f.number ≤ length x) s.spots f.within;
+  place = f.place ∙ same_place t u f.number s;
+  first = λ k l. moved_good t u 7 k s (f.first k l);
+  bad = λ g. f.bad (moved_good u t n f.number (flipped s) g);
+}
+
+moved_limit : (t u : Tokens) (n : ℕ) (at : Place) → SameTokens t u → LimitAnswer n t at → LimitAnswer n u at
+unfolding moved_fails
+moved_limit t u n at s (inl x) = inl (x.0, record { many = subst (λ y. 200000 < length y) s.spots x.1.many; place = x.1.place ∙ same_place t u 200000 s })
+moved_limit t u n at s (inr f) = inr (record {
+  least = f.least;
+  greatest = f.greatest;
+  fails = moved_fails t u n at s f.fails;
+  below = λ m l. moved_good t u m f.fails.number s (f.below m l);
+})
+
+moved : (t u : Tokens) (r : Rule) (at : Place) → SameTokens t u → ParseAnswer t (Err (Refused r at)) → ParseAnswer u (Err (Refused r at))
+moved t u (S n) at s a = (a.0, moved_fails t u 2 at s a.1)
+moved t u (L n) at s a = moved_limit t u n at s a
+moved t u (K n) at s a = a
+
+-- tokens are refused by one rule
+apart : (t : Tokens) (n : ℕ) (p q : Place) → FailsBy 2 t p → LimitAnswer n t q → ⊥
+apart t n p q f (inl x) = absurd (omega (arith, f.few, x.1.many))
+apart t n p q f (inr g) = limit_above t 2 n p q (omega (arith, g.least)) f g
+
+one_number : (t : Tokens) (m n : ℕ) (p q : Place) → FailsLimit m t p → FailsLimit n t q → m ≡ n
+one_number t m n p q f g = same m n (λ l. limit_above t m n p q l f.fails g) (λ l. limit_above t n m q p l g.fails f)
+  where
+    same : (a b : ℕ) → (a < b → ⊥) → (b < a → ⊥) → a ≡ b
+    same zero zero f g = refl
+    same zero (suc b) f g = absurd (f (omega arith))
+    same (suc a) zero f g = absurd (g (omega arith))
+    same (suc a) (suc b) f g = ap suc (same a b (λ l. f (omega arith)) (λ l. g (omega arith)))
+
+one_limit : (t : Tokens) (m n : ℕ) (p q : Place) → LimitAnswer m t p → LimitAnswer n t q → (L m ≡ L n) × (p ≡ q)
+one_limit t m n p q (inl x) (inl y) = (ap L (x.0 ∙ sym y.0), x.1.place ∙ sym y.1.place)
+one_limit t m n p q (inl x) (inr g) = absurd (omega (arith, g.fails.few, x.1.many))
+one_limit t m n p q (inr f) (inl y) = absurd (omega (arith, f.fails.few, y.1.many))
+one_limit t m n p q (inr f) (inr g) = (ap L (one_number t m n p q f g), one_place t m n p q f.greatest g.greatest f.fails g.fails)
+
+one_refusal : (t : Tokens) (r s : Rule) (p q : Place) → ParseAnswer t (Err (Refused r p)) → ParseAnswer t (Err (Refused s q)) → (r ≡ s) × (p ≡ q)
+one_refusal t (S m) (S n) p q a b = (ap S (a.0 ∙ sym b.0), one_place t 2 2 p q (omega arith) (omega arith) a.1 b.1)
+one_refusal t (S m) (L n) p q a b = absurd (apart t n p q a.1 b)
+one_refusal t (S m) (K n) p q a b = absurd b
+one_refusal t (L m) (S n) p q a b = absurd (apart t m q p b.1 a)
+one_refusal t (L m) (L n) p q a b = one_limit t m n p q a b
+one_refusal t (L m) (K n) p q a b = absurd b
+one_refusal t (K m) s p q a b = absurd a
+
+-- a program isn't refused
+never_both : (t : Tokens) (p : Program) (r : Rule) (at : Place) → ParseAnswer t (Ok p) → ParseAnswer t (Err (Refused r at)) → ⊥
+never_both t p (S n) at a b = program_never_fails t 2 at (program_of p) (omega arith) a.1 b.1
+never_both t p (L n) at a (inl x) = absurd (omega (arith, a.0, x.1.many))
+never_both t p (L n) at a (inr f) = program_never_fails t n at (program_of p) f.greatest a.1 f.fails
+never_both t p (K n) at a b = b
+
+same_tokens : (text : List ℕ) (t u : Tokens) → HasTokens text t → HasTokens text u → SameTokens t u
+same_tokens text t u h k = let e = (reads_once text).tokens t.spots.items u.spots.items t.end u.end h.lexes k.lexes in record { spots = e.0; end = e.1 }
+
+one_program : OneProgram → (text : List ℕ) (p q : Program) → IsAccepted text p → IsAccepted text q → program_of p ≡ program_of q
+one_program one text p q a b =
+    let s = same_tokens text a.tokens b.tokens a.has b.has in
+    one b.tokens.end 7 7 b.tokens.spots.items (program_of p) (program_of q) (moved_program a.tokens b.tokens 7 (program_of p) s a.parsed.1) b.parsed.1
+
+refused_once : (text : List ℕ) (r s : Rule) (p q : Place) → IsRefused text r p → IsRefused text s q → (r ≡ s) × (p ≡ q)
+refused_once text r s p q (too_long l) (too_long k) = (refl, refl)
+refused_once text r s p q (too_long l) (no_tokens k f) = absurd (omega (arith, l, k))
+refused_once text r s p q (too_long l) (no_program t h a) = absurd (omega (arith, l, h.short))
+refused_once text r s p q (no_tokens k f) (too_long l) = absurd (omega (arith, l, k))
+refused_once text r s p q (no_tokens k f) (no_tokens l g) = (reads_once text).fault r s p q f g
+refused_once text r s p q (no_tokens k f) (no_program t h a) = absurd ((reads_once text).either t.spots.items t.end r p h.lexes f)
+refused_once text r s p q (no_program t h a) (too_long l) = absurd (omega (arith, l, h.short))
+refused_once text r s p q (no_program t h a) (no_tokens k f) = absurd ((reads_once text).either t.spots.items t.end s q h.lexes f)
+refused_once text r s p q (no_program t h a) (no_program u k b) = one_refusal u r s p q (moved t u r p (same_tokens text t u h k) a) b
+
+accepted_or_refused : (text : List ℕ) (program : Program) (r : Rule) (p : Place) → IsAccepted text program → IsRefused text r p → ⊥
+accepted_or_refused text program r p a (too_long l) = absurd (omega (arith, l, a.has.short))
+accepted_or_refused text program r p a (no_tokens k f) = (reads_once text).either a.tokens.spots.items a.tokens.end r p a.has.lexes f
+accepted_or_refused text program r p a (no_program t h b) = never_both a.tokens program r p a.parsed (moved t a.tokens r p (same_tokens text t a.tokens h a.has) b)
+
+pub one_verdict : OneProgram → (text : List ℕ) → OneVerdict text
+one_verdict one text = record { program = one_program one text; refusal = refused_once text; either = accepted_or_refused text }

@@ -1,0 +1,13 @@
+-- What holds of the verdict on any text.
+use Rattle.std.specs.Prelude.{◌≡◌, ℕ, List}
+use Rattle.flow_base.specs.declared.place.Place.{Place}
+use Rattle.flow_ast.specs.declared.decl.Program.{Program}
+use Rattle.flow_ast.specs.declared.fault.Rule.{Rule}
+use Rattle.flow_ast.specs.DeclView.{program_of}
+use Rattle.flow_top.specs.Source.{IsRefused, IsAccepted}
+
+-- a text is one program at most, it is refused by one rule at one place at most, and never both
+pub record OneVerdict (text : List ℕ) : Type 0 where
+  pub program : (p q : Program) → IsAccepted text p → IsAccepted text q → program_of p ≡ program_of q
+  pub refusal : (r s : Rule) (p q : Place) → IsRefused text r p → IsRefused text s q → (r ≡ s) × (p ≡ q)
+  pub either : (program : Program) (r : Rule) (p : Place) → IsAccepted text program → IsRefused text r p → ⊥
