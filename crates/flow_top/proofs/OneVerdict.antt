@@ -14,9 +14,9 @@ use Rattle.flow_ast.specs.GrammarToken.{Derives, Good}
 use Rattle.flow_ast.specs.GrammarDecl.{ProgramRule}
 use Rattle.flow_ast.specs.GrammarAnswer.{place_at}
 use Rattle.flow_lex.proofs.Once.{reads_once}
-use Rattle.flow_parse.specs.Laws.{OneProgram}
+use Rattle.flow_parse.specs.Laws.{OneProgram, told}
 use Rattle.flow_parse.specs.ParseAnswer.{GoodTo, begun, whole, FailsBy, FailsLimit, LimitAnswer, ParseAnswer}
-use Rattle.flow_parse.proofs.Verdict.{program_never_fails, limit_above, one_place}
+use Rattle.flow_parse.proofs.OneAnswer.{one_answer}
 use Rattle.flow_top.specs.Source.{HasTokens, IsRefused, too_long, no_tokens, no_program, IsAccepted}
 use Rattle.flow_top.specs.Laws.{OneVerdict}
 
@@ -64,41 +64,20 @@ moved t u (S n) at s a = (a.0, moved_fails t u 2 at s a.1)
 moved t u (L n) at s a = moved_limit t u n at s a
 moved t u (K n) at s a = a
 
--- tokens are refused by one rule
-apart : (t : Tokens) (n : ℕ) (p q : Place) → FailsBy 2 t p → LimitAnswer n t q → ⊥
-apart t n p q f (inl x) = absurd (omega (arith, f.few, x.1.many))
-apart t n p q f (inr g) = limit_above t 2 n p q (omega (arith, g.least)) f g
-
-one_number : (t : Tokens) (m n : ℕ) (p q : Place) → FailsLimit m t p → FailsLimit n t q → m ≡ n
-one_number t m n p q f g = same m n (λ l. limit_above t m n p q l f.fails g) (λ l. limit_above t n m q p l g.fails f)
-  where
-    same : (a b : ℕ) → (a < b → ⊥) → (b < a → ⊥) → a ≡ b
-    same zero zero f g = refl
-    same zero (suc b) f g = absurd (f (omega arith))
-    same (suc a) zero f g = absurd (g (omega arith))
-    same (suc a) (suc b) f g = ap suc (same a b (λ l. f (omega arith)) (λ l. g (omega arith)))
-
-one_limit : (t : Tokens) (m n : ℕ) (p q : Place) → LimitAnswer m t p → LimitAnswer n t q → (L m ≡ L n) × (p ≡ q)
-one_limit t m n p q (inl x) (inl y) = (ap L (x.0 ∙ sym y.0), x.1.place ∙ sym y.1.place)
-one_limit t m n p q (inl x) (inr g) = absurd (omega (arith, g.fails.few, x.1.many))
-one_limit t m n p q (inr f) (inl y) = absurd (omega (arith, f.fails.few, y.1.many))
-one_limit t m n p q (inr f) (inr g) = (ap L (one_number t m n p q f g), one_place t m n p q f.greatest g.greatest f.fails g.fails)
-
+-- tokens are refused by one rule, and a program isn't refused
 one_refusal : (t : Tokens) (r s : Rule) (p q : Place) → ParseAnswer t (Err (Refused r p)) → ParseAnswer t (Err (Refused s q)) → (r ≡ s) × (p ≡ q)
-one_refusal t (S m) (S n) p q a b = (ap S (a.0 ∙ sym b.0), one_place t 2 2 p q (omega arith) (omega arith) a.1 b.1)
-one_refusal t (S m) (L n) p q a b = absurd (apart t n p q a.1 b)
-one_refusal t (S m) (K n) p q a b = absurd b
-one_refusal t (L m) (S n) p q a b = absurd (apart t m q p b.1 a)
-one_refusal t (L m) (L n) p q a b = one_limit t m n p q a b
-one_refusal t (L m) (K n) p q a b = absurd b
-one_refusal t (K m) s p q a b = absurd a
+one_refusal t r s p q a b =
+    let e : told (Err (Refused r p)) ≡ told (Err (Refused s q)) = one_answer t (Err (Refused r p)) (Err (Refused s q)) a b (λ h. cc) (λ h. cc) in
+    (refused_rule r s p q e, refused_place r s p q e)
+  where
+    refused_rule : (r s : Rule) (p q : Place) → told (Err (Refused r p)) ≡ told (Err (Refused s q)) → r ≡ s
+    refused_rule r s p q e = cc
 
--- a program isn't refused
+    refused_place : (r s : Rule) (p q : Place) → told (Err (Refused r p)) ≡ told (Err (Refused s q)) → p ≡ q
+    refused_place r s p q e = cc
+
 never_both : (t : Tokens) (p : Program) (r : Rule) (at : Place) → ParseAnswer t (Ok p) → ParseAnswer t (Err (Refused r at)) → ⊥
-never_both t p (S n) at a b = program_never_fails t 2 at (program_of p) (omega arith) a.1 b.1
-never_both t p (L n) at a (inl x) = absurd (omega (arith, a.0, x.1.many))
-never_both t p (L n) at a (inr f) = program_never_fails t n at (program_of p) f.greatest a.1 f.fails
-never_both t p (K n) at a b = b
+never_both t p r at a b = let e : told (Ok p) ≡ told (Err (Refused r at)) = one_answer t (Ok p) (Err (Refused r at)) a b (λ h. cc) (λ h. cc) in cc
 
 same_tokens : (text : List ℕ) (t u : Tokens) → HasTokens text t → HasTokens text u → SameTokens t u
 same_tokens text t u h k = let e = (reads_once text).tokens t.spots.items u.spots.items t.end u.end h.lexes k.lexes in record { spots = e.0; end = e.1 }
