@@ -1,76 +1,14 @@
 -- Tokens have one meaning as an expression.
 use Rattle.std.proofs.Common.{◌≡◌, ℕ, zero, suc, ◌≤◌, ◌<◌, List, [], ◌∷◌, ◌++◌, length, take, drop, refl, sym, ap, ◌∙◌, subst, arith, length-append, ◌⊎◌, inl, inr}
 use Rattle.std.proofs.lemmas.List.{take-append-drop}
-use Rattle.flow_ast.specs.GrammarToken.{Part, Declaration, Statement, Node, Variable, Branch, Marked, spots_of, InLimits, AllInLimits, Keeps, Good}
+use Rattle.flow_ast.specs.GrammarToken.{Marked, spots_of}
 use Rattle.flow_ast.proofs.GrammarLists.{length_spots}
-use Rattle.flow_ast.specs.Tree.{ExprTree, VoidExpr}
+use Rattle.flow_ast.specs.Tree.{ExprTree}
 use Rattle.flow_ast.specs.Grammar.{ExprRule}
-use Rattle.flow_exprs.specs.declared.kind.Kind.{Kind}
-use Rattle.flow_exprs.specs.declared.kind.Kind.TheVariants as kind
-use Rattle.flow_exprs.specs.Kinds.{kind_of}
-use Rattle.flow_exprs.specs.Machine.{Top, State, Want, Have, WantArgs, WantName, WantOpen, WantClose, Dead, step_have}
-use Rattle.flow_exprs.specs.Answer.{KindStops}
-use Rattle.flow_exprs.proofs.Goes.{feed}
-use Rattle.flow_exprs.proofs.Complete.{settle, reads, NotOpen}
-use Rattle.flow_exprs.proofs.Outcomes.{dead_bad, one_tree}
-use Rattle.flow_parse.specs.Follow.{EndsExpr, ExprEnds}
+use Rattle.flow_exprs.proofs.Outcomes.{one_tree}
+use Rattle.flow_parse.specs.Follow.{ExprEnds}
 use Rattle.flow_parse.proofs.Unique.{Uniq}
-
-part_two : (p : Part) → InLimits 2 p
-part_two (Declaration k) = λ h. absurd (omega arith)
-part_two (Statement k) = λ h. absurd (omega arith)
-part_two (Node k) = λ h. absurd (omega arith)
-part_two (Variable k) = λ h. absurd (omega arith)
-part_two (Branch k) = λ h. absurd (omega arith)
-
-parts_two : (ps : List Part) → AllInLimits 2 ps
-parts_two [] = tt
-parts_two (p ∷ ps) = (part_two p, parts_two ps)
-
--- below L3 there is no limit
-keeps_two : (xs : List Marked) → Keeps 2 xs
-keeps_two [] = tt
-keeps_two (x ∷ xs) = (parts_two x.parts, keeps_two xs)
-
-kind_ends : (b : ExprTree) (d : ℕ) (k : Kind) → EndsExpr k → step_have b (Top d) k ≡ Dead
-kind_ends b d kind.Close e = refl
-kind_ends b d kind.Comma e = refl
-kind_ends b d kind.Other e = refl
-kind_ends b d kind.Leaf e = absurd e
-kind_ends b d kind.Name e = absurd e
-kind_ends b d kind.Void e = absurd e
-kind_ends b d kind.Open e = absurd e
-kind_ends b d kind.Dot e = absurd e
-kind_ends b d kind.Not e = absurd e
-kind_ends b d (kind.Op op) e = absurd e
-
-kind_stops : (k : Kind) → EndsExpr k → NotOpen k × KindStops 1 VoidExpr k
-kind_stops kind.Close e = (tt, tt)
-kind_stops kind.Comma e = (tt, tt)
-kind_stops kind.Other e = (tt, tt)
-kind_stops kind.Leaf e = absurd e
-kind_stops kind.Name e = absurd e
-kind_stops kind.Void e = absurd e
-kind_stops kind.Open e = absurd e
-kind_stops kind.Dot e = absurd e
-kind_stops kind.Not e = absurd e
-kind_stops (kind.Op op) e = absurd e
-
-settled_dead : (S : State) → settle S ≡ Dead → S ≡ Dead
-settled_dead (Want K) e = absurd (cc)
-settled_dead (Have t K) e = absurd (cc)
-settled_dead (WantArgs h K) e = absurd (cc)
-settled_dead (WantName t K) e = absurd (cc)
-settled_dead (WantOpen K) e = absurd (cc)
-settled_dead (WantClose K) e = absurd (cc)
-settled_dead Dead e = refl
-
--- behind an expression no expression goes on with such a token
-expr_ends : (d : ℕ) (w : List Marked) (b : ExprTree) (y : Marked) (z : List Marked) → ExprRule 0 d w b → ExprEnds b (y ∷ z) → Good (ExprRule 0 d) 2 (spots_of w ++ y.spot ∷ []) → ⊥
-expr_ends d w b y z r e g =
-    let k = kind_of y.spot.token in
-    let s = reads r (Top d) (y.spot ∷ []) tt (kind_stops k e) ∙ ap settle (kind_ends b d k e) in
-    dead_bad d 2 (spots_of w ++ y.spot ∷ []) (settled_dead (feed (Want (Top d)) (spots_of w ++ y.spot ∷ [])) s) g
+use Rattle.flow_parse.proofs.Readers.{keeps_two, expr_ends}
 
 spots_take : (n : ℕ) (v u : List Marked) → n ≤ length v → spots_of (take n v) ≡ take n (spots_of (v ++ u))
 spots_take zero v u h = refl

@@ -74,19 +74,9 @@ WaitToken _ = ⊥
 
 -- a declaration of a variable, a wait, or what begins with a word of its own
 abbrev pub StartsWord : Word → Type 0
-StartsWord word.State = Unit {0}
 StartsWord word.Wait = Unit {0}
 StartsWord word.WaitNext = Unit {0}
-StartsWord word.Int = Unit {0}
-StartsWord word.Bool = Unit {0}
-StartsWord word.Str = Unit {0}
-StartsWord word.Void = Unit {0}
-StartsWord word.Error = Unit {0}
-StartsWord word.Future = Unit {0}
-StartsWord word.FutureStream = Unit {0}
-StartsWord word.Promise = Unit {0}
-StartsWord word.PromiseStream = Unit {0}
-StartsWord _ = ⊥
+StartsWord k = IntoWord k
 
 abbrev pub StmtWord : Word → Type 0
 StmtWord word.If = Unit {0}
