@@ -545,3 +545,25 @@ stop_then_boot_lines =
 stop_then_boot : SourceTrace stop_then_boot_program stop_then_boot_world stop_then_boot_lines
 unfolding stop_then_boot_program stop_then_boot_world stop_then_boot_lines state_after
 stop_then_boot = source_trace 20 400 stop_then_boot_program stop_then_boot_world stop_then_boot_lines refl
+
+promise_in_a_dropped_stream_program : ProgramTree
+promise_in_a_dropped_stream_program = record { decls = ((StructDecl (record { at = nowhere; name = (id (codes "Ask")); fields = ((record { ty = IntType; name = (id (codes "n")) }) ∷ (record { ty = (PromiseType IntType); name = (id (codes "reply")) }) ∷ []) })) ∷ (ActorDecl (record { at = nowhere; returns = VoidType; name = (id (codes "main")); params = ((record { ty = IntType; name = (id (codes "p")) }) ∷ []); body = (DeclareStmt nowhere (record { state = false; ty = (PromiseStreamType (NamedType (codes "Ask"))); name = (id (codes "q")) }) None (DeclareStmt nowhere (record { state = false; ty = (PromiseType IntType); name = (id (codes "r")) }) None (DeclareStmt nowhere (record { state = true; ty = (FutureType IntType); name = (id (codes "f")) }) (Some (MethodExpr (VarExpr (id (codes "r"))) (id (codes "getFuture")) NoExprs)) (CallStmt nowhere ((id (codes "q")) ∷ (id (codes "send")) ∷ []) (MoreExprs (CallExpr (id (codes "Ask")) (MoreExprs (IntExpr (pos 1)) (MoreExprs (VarExpr (id (codes "r"))) NoExprs))) NoExprs) (WaitStmt nowhere (record { into = (Some (record { state = false; ty = IntType; name = (id (codes "x")) })); next = false; operand = (VarExpr (id (codes "f"))) }) (CallStmt nowhere ((id (codes "trace")) ∷ []) (MoreExprs (VarExpr (id (codes "x"))) NoExprs) (ReturnStmt nowhere VoidExpr End))))))); close = nowhere })) ∷ []); end = nowhere }
+
+promise_in_a_dropped_stream_world : World
+promise_in_a_dropped_stream_world = record { seed = 0; words = []; processes = 1; events = 1000; turns = 100000; latency = (1, 2); loss = 0; diskdelay = (1, 2); script = [] }
+
+promise_in_a_dropped_stream_lines : List Line
+promise_in_a_dropped_stream_lines =
+    line.Head
+    ∷ (line.Boot 1 0 (process 0))
+    ∷ (line.Start (actor 1) (codes "main"))
+    ∷ (line.Wait (actor 1) 1)
+    ∷ (line.Broken (cell 3))
+    ∷ (line.Take (actor 1) 1 0)
+    ∷ (line.Throw (actor 1) (error 1100))
+    ∷ (line.Fail (actor 1) (error 1100))
+    ∷ line.EndIdle ∷ []
+
+promise_in_a_dropped_stream : SourceTrace promise_in_a_dropped_stream_program promise_in_a_dropped_stream_world promise_in_a_dropped_stream_lines
+unfolding promise_in_a_dropped_stream_program promise_in_a_dropped_stream_world promise_in_a_dropped_stream_lines state_after
+promise_in_a_dropped_stream = source_trace 20 400 promise_in_a_dropped_stream_program promise_in_a_dropped_stream_world promise_in_a_dropped_stream_lines refl
