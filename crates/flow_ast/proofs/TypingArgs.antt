@@ -2,9 +2,9 @@
 use Rattle.std.proofs.Common.{◌≡◌, ℕ, zero, suc, ◌+◌, ◌<◌, List, [], ◌∷◌, ◌++◌, length, drop, get_or, refl, ap, sym, ◌∙◌, arith, add-one, append_assoc}
 use Rattle.std.specs.declared.option.Option.{Option}
 use Rattle.std.specs.declared.option.Option.TheVariants.{None, Some}
-use Rattle.flow_ast.specs.declared.expr.Expr.{Expr}
-use Rattle.flow_ast.specs.Tree.{TypeTree}
-use Rattle.flow_ast.specs.View.{expr_of, exprs_of}
+use Rattle.flow_tree.specs.declared.expr.Expr.{Expr}
+use Rattle.flow_tree.specs.Tree.{TypeTree}
+use Rattle.flow_tree.specs.View.{expr_of, exprs_of}
 use Rattle.flow_ast.specs.Typing.{ScopeTree, type_in, types_in, more_types}
 
 -- types found so far, before those of the rest

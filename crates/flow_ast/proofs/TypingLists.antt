@@ -1,6 +1,6 @@
 -- Lists of types, compared along two lists.
 use Rattle.std.proofs.Common.{◌≡◌, ℕ, zero, suc, ◌+◌, ◌<◌, Bool, true, false, ◌&&◌, List, [], ◌∷◌, length, map, drop, get_or, refl, ap, ◌∙◌, arith, add-one}
-use Rattle.flow_ast.specs.Tree.{TypeTree}
+use Rattle.flow_tree.specs.Tree.{TypeTree}
 use Rattle.flow_ast.specs.Typing.{same_type, same_types}
 
 and_false : (b : Bool) → (b && false) ≡ false

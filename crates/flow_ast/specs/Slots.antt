@@ -2,8 +2,8 @@
 use Rattle.std.specs.Prelude.{List, [], ◌∷◌, ◌++◌, map, if◌then◌else◌}
 use Rattle.std.specs.declared.option.Option.{Option}
 use Rattle.std.specs.declared.option.Option.TheVariants.{None, Some}
-use Rattle.flow_ast.specs.Body.{IntoTree, WaitTree, Body, End, BlockStmt, IfStmt, IfElseStmt, WhileStmt, ForStmt, LoopStmt, BreakStmt, ContinueStmt, ReturnStmt, ThrowStmt, TryStmt, ChooseStmt, DeclareStmt, AssignStmt, ModifyStmt, CallStmt, WaitStmt, Branches, NoBranches, MoreBranches}
-use Rattle.flow_ast.specs.Decls.{ParamTree, SlotTree, RoutineTree}
+use Rattle.flow_tree.specs.Body.{IntoTree, WaitTree, Body, End, BlockStmt, IfStmt, IfElseStmt, WhileStmt, ForStmt, LoopStmt, BreakStmt, ContinueStmt, ReturnStmt, ThrowStmt, TryStmt, ChooseStmt, DeclareStmt, AssignStmt, ModifyStmt, CallStmt, WaitStmt, Branches, NoBranches, MoreBranches}
+use Rattle.flow_tree.specs.Decls.{ParamTree, SlotTree, RoutineTree}
 
 -- a state variable has a slot, a local has none
 abbrev pub declared_slots : IntoTree → List SlotTree
@@ -30,7 +30,7 @@ abbrev mutual
   body_slots (ContinueStmt at k) = body_slots k
   body_slots (ReturnStmt at e k) = body_slots k
   body_slots (ThrowStmt at e k) = body_slots k
-  body_slots (TryStmt at b x h k) = body_slots b ++ body_slots h ++ body_slots k
+  body_slots (TryStmt at b p x h k) = body_slots b ++ body_slots h ++ body_slots k
   body_slots (ChooseStmt at bs k) = branch_slots bs ++ body_slots k
   body_slots (DeclareStmt at i e k) = declared_slots i ++ body_slots k
   body_slots (AssignStmt at xs e k) = body_slots k
@@ -70,7 +70,7 @@ abbrev mutual
   body_groups (ContinueStmt at k) = body_groups k
   body_groups (ReturnStmt at e k) = body_groups k
   body_groups (ThrowStmt at e k) = body_groups k
-  body_groups (TryStmt at b x h k) = body_groups b ++ body_groups h ++ body_groups k
+  body_groups (TryStmt at b p x h k) = body_groups b ++ body_groups h ++ body_groups k
   body_groups (ChooseStmt at bs k) = branch_waits bs ∷ branch_groups bs ++ body_groups k
   body_groups (DeclareStmt at i e k) = body_groups k
   body_groups (AssignStmt at xs e k) = body_groups k

@@ -3,6 +3,7 @@ use Rattle.std.specs.Prelude.{ℕ, List, [], ◌∷◌, codes, if◌then◌else�
 use Rattle.std.specs.Str.{bytes_eq}
 use Rattle.std.specs.declared.option.Option.{Option}
 use Rattle.std.specs.declared.option.Option.TheVariants.{None, Some}
+use Rattle.flow_base.specs.ErrorNumbers.{end_of_stream, timed_out, broken_promise, operation_cancelled}
 use Rattle.flow_ast.specs.declared.predefined.Predefined.{Predefined}
 use Rattle.flow_ast.specs.declared.predefined.Predefined.TheVariants.{ToString, ToInt, Now, EndOfStream, TimedOut, BrokenPromise, OperationCancelled, ActorCancelled, Error, RandomInt, Delay, Never, Listen, ReadFile, WriteFile, SyncFile, FileSize, Trace, SendTo}
 use Rattle.flow_ast.specs.declared.predefined.Method.{Method}
@@ -56,9 +57,9 @@ method_names =
 -- the constants, all whole numbers
 abbrev pub constant_names : List (List ℕ × ℕ)
 constant_names =
-    (codes "error_code_end_of_stream", 1)
-    ∷ (codes "error_code_timed_out", 1004)
-    ∷ (codes "error_code_broken_promise", 1100)
-    ∷ (codes "error_code_operation_cancelled", 1101)
-    ∷ (codes "error_code_actor_cancelled", 1101)
+    (codes "error_code_end_of_stream", end_of_stream)
+    ∷ (codes "error_code_timed_out", timed_out)
+    ∷ (codes "error_code_broken_promise", broken_promise)
+    ∷ (codes "error_code_operation_cancelled", operation_cancelled)
+    ∷ (codes "error_code_actor_cancelled", operation_cancelled)
     ∷ []

@@ -2,15 +2,15 @@
 use Rattle.std.specs.Prelude.{List, map}
 use Rattle.std.specs.declared.alloc.Global.{Global}
 use Rattle.std.specs.declared.vec.Vec.{Vec}
-use Rattle.flow_ast.specs.declared.ty.Ty.{Ty}
+use Rattle.flow_tree.specs.declared.ty.Ty.{Ty}
 use Rattle.std.specs.declared.option.Option.{Option}
 use Rattle.std.specs.declared.option.Option.TheVariants as option
 use Rattle.flow_ast.specs.declared.scope.Scope.{Scope}
 use Rattle.flow_ast.specs.declared.scope.ExprType.{ExprType}
 use Rattle.flow_ast.specs.declared.scope.ExprType.TheVariants.{Is, None}
-use Rattle.flow_ast.specs.Tree.{TypeTree}
-use Rattle.flow_ast.specs.View.{type_of}
-use Rattle.flow_ast.specs.DeclView.{param_of, record_of, function_of, actor_of}
+use Rattle.flow_tree.specs.Tree.{TypeTree}
+use Rattle.flow_tree.specs.View.{type_of}
+use Rattle.flow_tree.specs.DeclView.{param_of, record_of, function_of, actor_of}
 use Rattle.flow_ast.specs.Typing.{ScopeTree}
 
 abbrev pub scope_of : Scope → ScopeTree

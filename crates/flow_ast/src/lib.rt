@@ -1,17 +1,11 @@
-//! The syntax of actor programs: tokens with their places, types, expressions, statements and
-//! declarations, what a refusal of a program names, and equal copies of each.
+//! Types of expressions: scopes, the types of predefined names, and the type of an expression in its
+//! scope. The trees that they speak of stand in `flow_tree`, and are handed on from here.
 //!
-//! The definitions of tokens, grammar and types stand in this crate's `specs/`. Contracts see a tree
-//! through its mirror there: plain data without boxes and capacities.
+//! The definitions of types stand in this crate's `specs/`.
 #![tactic(auto)]
 
-pub mod decl;
-pub mod expr;
-pub mod fault;
 pub mod predefined;
 pub mod scope;
-pub mod spelling;
-pub mod stmt;
-pub mod token;
-pub mod ty;
 pub mod typing;
+
+pub use flow_tree::{decl, expr, fault, spelling, stmt, token, ty};

@@ -3,6 +3,8 @@
 ghost use Rattle.std.specs.Prelude.{◌≡◌};
 ghost use Rattle.flow_ast.specs.TypingNames.{named, call_names, method_names, constant_names};
 
+use flow_base::errors::{BROKEN_PROMISE, END_OF_STREAM, OPERATION_CANCELLED, TIMED_OUT};
+
 /// What is called by a predefined name without a base: a call, an effect, or a statement call.
 #[derive(Clone, Copy, PartialEq, Eq, Debug)]
 pub enum Predefined {
@@ -152,19 +154,19 @@ pub fn predefined_constant(name: &[u8]) -> Option<u16>
     ensures { result ≡ named constant_names name.now }
 {
     if name == b"error_code_end_of_stream".as_slice() {
-        return Some(1);
+        return Some(END_OF_STREAM.0);
     }
     if name == b"error_code_timed_out".as_slice() {
-        return Some(1004);
+        return Some(TIMED_OUT.0);
     }
     if name == b"error_code_broken_promise".as_slice() {
-        return Some(1100);
+        return Some(BROKEN_PROMISE.0);
     }
     if name == b"error_code_operation_cancelled".as_slice() {
-        return Some(1101);
+        return Some(OPERATION_CANCELLED.0);
     }
     if name == b"error_code_actor_cancelled".as_slice() {
-        return Some(1101);
+        return Some(OPERATION_CANCELLED.0);
     }
     None
 }

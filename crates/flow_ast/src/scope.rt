@@ -1,7 +1,7 @@
 // What is in force where an expression stands.
 
-use crate::decl::{ActorDecl, FunctionDecl, Param, RecordDecl};
-use crate::ty::Ty;
+use flow_tree::decl::{ActorDecl, FunctionDecl, Param, RecordDecl};
+use flow_tree::ty::Ty;
 
 /// The records, functions and actors of a program, and the variables in force.
 #[derive(Drop, Debug)]

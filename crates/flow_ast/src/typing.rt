@@ -3,22 +3,22 @@
 ghost use Rattle.std.specs.Prelude.{◌≡◌, ℕ, List, [], ◌∷◌, Option, IfOk, map, find, if◌then◌else◌};
 ghost use Rattle.std.specs.Option.{option_map, option_copied};
 ghost use Rattle.std.specs.Str.{bytes_eq};
-ghost use Rattle.flow_ast.specs.Tree.{TypeTree, IntType, FutureType};
-ghost use Rattle.flow_ast.specs.View.{type_of, expr_of, exprs_of};
-ghost use Rattle.flow_ast.specs.DeclView.{param_of, record_of, function_of, actor_of};
+ghost use Rattle.flow_tree.specs.Tree.{TypeTree, IntType, FutureType};
+ghost use Rattle.flow_tree.specs.View.{type_of, expr_of, exprs_of};
+ghost use Rattle.flow_tree.specs.DeclView.{param_of, record_of, function_of, actor_of};
 ghost use Rattle.flow_ast.specs.TypingNames.{named, constant_names, method_names};
 ghost use Rattle.flow_ast.specs.Typing.{method_in, is_packet, packet_fields, record_field, variable_in, sum_type, order_type, equality_type, same_type, same_types, sign_type, binary_type, bool_only, int_only, applied, signature, method_signature, error_method, text_method, future_method, promise_method, stream_method, record_named, routine_named, param_named, field_type, call_signature, declared_call, variable_type, param_types, with_type, type_in, types_in};
 ghost use Rattle.flow_ast.specs.TypingView.{scope_of, found_type, found_types};
 
-use crate::decl::{ActorDecl, FunctionDecl, Param, RecordDecl};
-use crate::expr::{Expr, Op};
 use crate::predefined::{
     Method, Predefined, predefined_call, predefined_constant, predefined_method,
 };
 use crate::scope::{ExprType, Scope};
-use crate::ty::Ty;
 use flow_base::memory::NoMemory;
 use flow_base::name::Name;
+use flow_tree::decl::{ActorDecl, FunctionDecl, Param, RecordDecl};
+use flow_tree::expr::{Expr, Op};
+use flow_tree::ty::Ty;
 use std::alloc::Global;
 
 /// Whether two types are the same.

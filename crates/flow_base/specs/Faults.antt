@@ -1,7 +1,7 @@
 -- Counts of faults, and when a fault may be answered.
-use Rattle.std.specs.Prelude.{ℕ, ◌+◌, ◌-◌, ◌^◌, ◌≤◌, min, nat_lt, Result, IsErrOf, if◌then◌else◌}
+use Rattle.std.specs.Prelude.{◌≡◌, ℕ, ◌+◌, ◌-◌, ◌^◌, ◌≤◌, min, nat_lt, Result, Ok, Err, IsErrOf, if◌then◌else◌}
 use Rattle.flow_base.specs.declared.fault.OutFault.{OutFault}
-use Rattle.flow_base.specs.declared.fault.OutFault.TheVariants.{Failed}
+use Rattle.flow_base.specs.declared.fault.OutFault.TheVariants.{Failed, OutOfMemory}
 
 -- the count after one more; at its last value it stands still
 abbrev pub next_count : ℕ → ℕ
@@ -15,3 +15,9 @@ Rose before after = min (before + 1) (2 ^ 64 - 1) ≤ after
 pub record HasCause {T : Type 0} (before after : ℕ) (result : Result T OutFault) : Type 0 where
   pub kept : before ≤ after
   pub failed : IsErrOf result Failed → Rose before after
+
+-- a call that fails is counted, and no other is
+abbrev pub Counts : {T : Type 0} → (before after : ℕ) → Result T OutFault → Type 0
+Counts before after (Ok answer) = after ≡ before
+Counts before after (Err Failed) = after ≡ next_count before
+Counts before after (Err OutOfMemory) = after ≡ before

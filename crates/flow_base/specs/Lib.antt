@@ -1,7 +1,10 @@
 pub mod Asked
 pub mod Bytes
 pub mod Calls
+pub mod ErrorNumbers
 pub mod Faults
 pub mod MemoryFiles
 pub mod MemorySink
 pub mod Names
+pub mod Quote
+pub mod Seen

@@ -9,6 +9,7 @@ use Rattle.std.specs.declared.option.Option.{Option}
 use Rattle.std.specs.declared.string.String.{String}
 use Rattle.std.specs.declared.vec.Vec.{Vec}
 use Rattle.flow_base.specs.Calls.{CallState, next_fails, passed, failed}
+use Rattle.flow_base.specs.Seen.{FilesSeen}
 use Rattle.flow_base.specs.declared.fault.OutFault.{OutFault}
 use Rattle.flow_base.specs.declared.fault.OutFault.TheVariants.{Failed, OutOfMemory}
 use Rattle.flow_base.specs.declared.ids.FileNo.{FileNo}
@@ -57,6 +58,10 @@ rest_at files positions k = option_map (drop (unwrap_or (position_of positions k
 -- the bytes of a name from its position on
 unfoldable pub rest_of : List (List ℕ × List ℕ) → List (ℕ × ℕ) → List ℕ → Option (List ℕ)
 rest_of files positions name = option_and_then (rest_at files positions) (number_of files name)
+
+-- what is known of files in memory: everything
+abbrev pub seen_of : FilesState → FilesSeen
+seen_of s = record { content = bytes_of s.files; left = rest_of s.files s.positions; asked = s.asked; faults = s.calls.faults }
 
 -- a file was opened: it has a position, and its number is that of its name
 pub record IsOpen (files : List (List ℕ × List ℕ)) (positions : List (ℕ × ℕ)) (k : ℕ) : Type 0 where

@@ -1,6 +1,7 @@
 -- What the sink in memory does.
-use Rattle.std.specs.Prelude.{◌≡◌, ℕ, List, ◌++◌, true, false, Result, Ok, Err, length}
+use Rattle.std.specs.Prelude.{◌≡◌, ℕ, List, ◌++◌, true, false, Result, Ok, Err, length, Some}
 use Rattle.flow_base.specs.Calls.{CallState, next_fails, passed, failed}
+use Rattle.flow_base.specs.Seen.{SinkSeen}
 use Rattle.flow_base.specs.declared.fault.OutFault.{OutFault}
 use Rattle.flow_base.specs.declared.fault.OutFault.TheVariants.{Failed, OutOfMemory}
 
@@ -8,6 +9,10 @@ use Rattle.flow_base.specs.declared.fault.OutFault.TheVariants.{Failed, OutOfMem
 pub record SinkState : Type 0 where
   pub bytes : List ℕ
   pub calls : CallState
+
+-- what is known of a sink in memory: everything, and it holds nothing back
+abbrev pub seen_of : SinkState → SinkSeen
+seen_of s = record { written = Some s.bytes; handed = Some s.bytes; faults = s.calls.faults }
 
 -- a write takes the whole piece but at the listed calls, or finds no memory and changes nothing
 abbrev pub Writes : SinkState → List ℕ → Result ℕ OutFault → SinkState → Type 0

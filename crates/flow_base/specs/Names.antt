@@ -1,5 +1,5 @@
--- The form of a name.
-use Rattle.std.specs.Prelude.{ℕ, ◌≤◌, Bool, false, ◌&&◌, ◌||◌, nat_le, eqb, List, [], ◌∷◌, length, IsTrue}
+-- The form of names and of decimal numbers.
+use Rattle.std.specs.Prelude.{ℕ, ◌≤◌, ◌+◌, ◌*◌, ◌-◌, Bool, false, not, ◌&&◌, ◌||◌, ◌==◌, nat_le, eqb, List, [], ◌∷◌, length, IsTrue}
 use Rattle.std.specs.List.{list_all}
 
 -- an ASCII letter or an underscore
@@ -23,3 +23,12 @@ is_name_text (b ∷ w) = letter b && list_all name_byte w
 pub record IsName (bytes : List ℕ) : Type 0 where
   pub form : IsTrue (is_name_text bytes)
   pub short : length bytes ≤ 255
+
+-- one or more decimal digits
+abbrev pub are_digits : List ℕ → Bool
+are_digits ds = not (length ds == 0) && list_all digit ds
+
+-- the number that decimal digits spell, after what was read before
+abbrev pub digits_from : ℕ → List ℕ → ℕ
+digits_from n [] = n
+digits_from n (d ∷ ds) = digits_from (n * 10 + (d - 48)) ds

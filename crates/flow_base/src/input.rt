@@ -3,7 +3,8 @@
 ghost use Rattle.std.specs.Prelude.{◌≡◌, ◌+◌, IfOk};
 ghost use Rattle.flow_base.specs.Asked.{AsksOnce};
 ghost use Rattle.flow_base.specs.Bytes.{AreFirst};
-ghost use Rattle.flow_base.specs.Faults.{HasCause};
+ghost use Rattle.flow_base.specs.Faults.{Counts};
+ghost use Rattle.flow_base.specs.Seen.{MovesOnly, ReadsOn, ReadsWithin};
 
 use crate::fault::OutFault;
 use crate::files::Files;
@@ -11,7 +12,8 @@ use crate::ids::FileNo;
 use std::alloc::Global;
 
 /// The bytes that are left of an opened file, `limit + 1` of them at most: as many as tell a file
-/// within the limit from a longer one. `Failed` comes only where the files' count rose.
+/// within the limit from a longer one. No more than that is read. `Failed` comes exactly where a read
+/// failed.
 pub fn read_past<F: Files>(
     alloc: Global,
     files: &mut F,
@@ -19,10 +21,12 @@ pub fn read_past<F: Files>(
     limit: usize,
 ) -> Result<Vec<u8>, OutFault>
     requires { F.is_open files.old file.0 }
-    ensures bytes { IfOk result (λ v. AreFirst (limit + 1) (F.left files.old (F.name_of files.old file.0)) v.items) }
-    ensures content { F.content files.new ≡ F.content files.old }
-    ensures asked { F.asked files.new ≡ F.asked files.old }
-    ensures cause { HasCause (F.faults files.old) (F.faults files.new) result }
+    ensures bytes { IfOk result (λ v. AreFirst (limit + 1) ((F.seen files.old).left (F.name_of files.old file.0)) v.items) }
+    ensures within { ReadsOn (limit + 1) (F.name_of files.old file.0) (F.seen files.old) (F.seen files.new) }
+    ensures others { MovesOnly (F.name_of files.old file.0) (F.seen files.old) (F.seen files.new) }
+    ensures content { (F.seen files.new).content ≡ (F.seen files.old).content }
+    ensures asked { (F.seen files.new).asked ≡ (F.seen files.old).asked }
+    ensures counted { Counts (F.seen files.old).faults (F.seen files.new).faults result }
 {
     let mut bytes = Vec::new(alloc);
     let mut buf = [0; 4096];
@@ -39,18 +43,20 @@ pub fn read_past<F: Files>(
     Ok(bytes)
 }
 
-/// The bytes of the file of that name, `limit + 1` of them at most, read from its start. `Failed` comes
-/// only where the files' count rose.
+/// The bytes of the file of that name, `limit + 1` of them at most, read from its start. No more than
+/// that is read. `Failed` comes exactly where a call failed.
 pub fn read_file<F: Files>(
     alloc: Global,
     files: &mut F,
     name: &str,
     limit: usize,
 ) -> Result<Vec<u8>, OutFault>
-    ensures bytes { IfOk result (λ v. AreFirst (limit + 1) (F.content files.old name.now) v.items) }
-    ensures content { F.content files.new ≡ F.content files.old }
-    ensures asked { AsksOnce (F.asked files.old) (F.asked files.new) name.now result }
-    ensures cause { HasCause (F.faults files.old) (F.faults files.new) result }
+    ensures bytes { IfOk result (λ v. AreFirst (limit + 1) ((F.seen files.old).content name.now) v.items) }
+    ensures within { ReadsWithin (limit + 1) name.now (F.seen files.old) (F.seen files.new) }
+    ensures others { MovesOnly name.now (F.seen files.old) (F.seen files.new) }
+    ensures content { (F.seen files.new).content ≡ (F.seen files.old).content }
+    ensures asked { AsksOnce (F.seen files.old).asked (F.seen files.new).asked name.now result }
+    ensures counted { Counts (F.seen files.old).faults (F.seen files.new).faults result }
 {
     match files.open_file(name) {
         Ok(file) => read_past(alloc, files, file, limit),

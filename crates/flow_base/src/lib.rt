@@ -3,6 +3,7 @@
 #![tactic(auto)]
 
 mod calls;
+pub mod errors;
 pub mod fault;
 pub mod files;
 pub mod ids;

@@ -3,7 +3,8 @@
 ghost use Rattle.std.specs.Prelude.{position, bytes_eq, ◌≡◌, ◌≢◌, ℕ, List, IfOk, ◌+◌, ◌<◌, ◌^◌, [], length, map, min, take, drop, string_bytes, IsTrue, IsSome, OnErr, OnOk, Some, unwrap_or};
 ghost use Rattle.std.specs.Io.KnownBytes.{ReadConsumes};
 ghost use Rattle.flow_base.specs.Calls.{no_calls};
-ghost use Rattle.flow_base.specs.MemoryFiles.{Opens, Reads, Copies, IsOpen, SetsPosition, are_distinct, number_of, name_at, bytes_of, bytes_at, position_of, rest_of, named_bytes};
+ghost use Rattle.flow_base.specs.MemoryFiles.{Opens, Reads, Copies, IsOpen, SetsPosition, are_distinct, number_of, name_at, bytes_of, bytes_at, position_of, rest_of, named_bytes, seen_of};
+ghost use Rattle.flow_base.specs.Seen.{MovesOnly};
 
 use crate::calls::Calls;
 use crate::fault::OutFault;
@@ -124,17 +125,11 @@ fn rest_from(bytes: &[u8], place: usize) -> &[u8]
 }
 
 impl Files for MemFiles {
-    ghost content = { λ s name. bytes_of s.files name };
-
-    ghost left = { λ s name. rest_of s.files s.positions name };
+    ghost seen = { seen_of };
 
     ghost is_open = { λ s k. IsOpen s.files s.positions k };
 
     ghost name_of = { λ s k. name_at s.files k };
-
-    ghost asked = { λ s. s.asked };
-
-    ghost faults = { λ s. s.calls.faults };
 
     #[tactic(auto, using(crate::proofs::MemoryFiles::opened))]
     fn open_file(&mut self, name: &str) -> Result<FileNo, OutFault>
@@ -143,7 +138,8 @@ impl Files for MemFiles {
         ensures opened { IfOk result (λ f. IsOpen self.new.files self.new.positions f.0) }
         ensures name { IfOk result (λ f. name_at self.new.files f.0 ≡ name.now) }
         ensures start { OnOk result (rest_of self.new.files self.new.positions name.now ≡ bytes_of self.old.files name.now) }
-        ensures others { (other : List ℕ) → other ≢ name.now → rest_of self.new.files self.new.positions other ≡ rest_of self.old.files self.old.positions other }
+        ensures unopened { OnErr result (rest_of self.new.files self.new.positions name.now ≡ rest_of self.old.files self.old.positions name.now) }
+        ensures others { MovesOnly name.now (seen_of self.old) (seen_of self.new) }
     {
         let Ok(copy) = name.to_string(self.alloc) else {
             return Err(OutFault::OutOfMemory);
@@ -172,8 +168,11 @@ impl Files for MemFiles {
         requires { IsOpen self.old.files self.old.positions file.0 }
         ensures reads { Reads self.old file.0 buf.old result buf.new self.new }
 
-        ensures bytes { ReadConsumes (rest_of self.old.files self.old.positions (name_at self.old.files file.0)) (rest_of self.new.files self.new.positions (name_at self.old.files file.0)) result buf.new }
-        ensures others { (other : List ℕ) → other ≢ name_at self.old.files file.0 → rest_of self.new.files self.new.positions other ≡ rest_of self.old.files self.old.positions other }
+        ensures bytes { let name = name_at self.old.files file.0 in
+            let before = rest_of self.old.files self.old.positions name in
+            let after = rest_of self.new.files self.new.positions name in
+            ReadConsumes before after result buf.new }
+        ensures others { MovesOnly (name_at self.old.files file.0) (seen_of self.old) (seen_of self.new) }
     {
         if self.calls.next_fails() {
             return Err(self.calls.fail());

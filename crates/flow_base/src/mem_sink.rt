@@ -1,8 +1,8 @@
 // A sink in memory.
 
-ghost use Rattle.std.specs.Prelude.{◌≡◌, [], Some};
+ghost use Rattle.std.specs.Prelude.{◌≡◌, []};
 ghost use Rattle.flow_base.specs.Calls.{no_calls};
-ghost use Rattle.flow_base.specs.MemorySink.{Writes, Flushes};
+ghost use Rattle.flow_base.specs.MemorySink.{Writes, Flushes, seen_of};
 
 use crate::calls::Calls;
 use crate::fault::OutFault;
@@ -46,9 +46,7 @@ impl MemSink {
 }
 
 impl Sink for MemSink {
-    ghost written = { λ s. Some s.bytes };
-
-    ghost faults = { λ s. s.calls.faults };
+    ghost seen = { seen_of };
 
     fn write(&mut self, piece: &[u8]) -> Result<usize, OutFault>
         ensures { Writes self.old piece.now result self.new }

@@ -11,9 +11,9 @@ use crate::sink::Sink;
 /// Writes the whole piece, going on after each short write. What was written is always a first part
 /// of it. `Failed` comes only where the sink's count rose.
 pub fn write_whole<S: Sink>(out: &mut S, piece: &[u8]) -> Result<(), OutFault>
-    ensures whole { OnOk result (Appends (S.written out.old) (S.written out.new) piece.now) }
-    ensures part { AppendsPart (S.written out.old) (S.written out.new) piece.now }
-    ensures cause { HasCause (S.faults out.old) (S.faults out.new) result }
+    ensures whole { OnOk result (Appends (S.seen out.old).written (S.seen out.new).written piece.now) }
+    ensures part { AppendsPart (S.seen out.old).written (S.seen out.new).written piece.now }
+    ensures cause { HasCause (S.seen out.old).faults (S.seen out.new).faults result }
 {
     let mut rest = piece;
     while !rest.is_empty() {

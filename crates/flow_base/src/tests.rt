@@ -30,9 +30,7 @@ struct Trickle {
 }
 
 impl Sink for Trickle {
-    ghost written = { λ _. None };
-
-    ghost faults = { λ s. s.faults };
+    ghost seen = { λ s. record { written = None; handed = None; faults = s.faults } };
 
     fn write(&mut self, piece: &[u8]) -> Result<usize, OutFault> {
         if self.bytes.len() >= self.takes {

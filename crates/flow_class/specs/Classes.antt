@@ -2,9 +2,9 @@
 -- callbacks are numbered from 0, groups from 1.
 use Rattle.std.specs.Prelude.{ℕ, Bool, List}
 use Rattle.std.specs.declared.option.Option.{Option}
-use Rattle.flow_ast.specs.declared.ty.Ident.{Ident}
-use Rattle.flow_ast.specs.Tree.{TypeTree, ExprTree, ExprTrees}
-use Rattle.flow_ast.specs.Decls.{SlotTree, RecordTree, RoutineTree}
+use Rattle.flow_tree.specs.declared.ty.Ident.{Ident}
+use Rattle.flow_tree.specs.Tree.{TypeTree, ExprTree, ExprTrees}
+use Rattle.flow_tree.specs.Decls.{SlotTree, RecordTree, RoutineTree}
 use Rattle.flow_class.specs.declared.class.Slotted.{Slotted}
 
 -- where an error of a block goes on: the handler's block, the local that takes the error, and the locals that are

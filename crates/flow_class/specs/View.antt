@@ -1,8 +1,8 @@
 -- The classes of the code, seen as plain data.
 use Rattle.std.specs.Prelude.{List, map}
 use Rattle.std.specs.Option.{option_map}
-use Rattle.flow_ast.specs.View.{type_of, expr_of, exprs_of}
-use Rattle.flow_ast.specs.DeclView.{slot_of, record_of, function_of}
+use Rattle.flow_tree.specs.View.{type_of, expr_of, exprs_of}
+use Rattle.flow_tree.specs.DeclView.{slot_of, record_of, function_of}
 use Rattle.flow_class.specs.declared.class.Catcher.{Catcher}
 use Rattle.flow_class.specs.declared.class.Instr.{Instr}
 use Rattle.flow_class.specs.declared.class.Instr.TheVariants.{Set, Effect, New, Act, Drop}

@@ -2,10 +2,10 @@
 use Rattle.std.proofs.Common.{◌≡◌, ℕ, zero, suc, ◌+◌, ◌<◌, List, [], ◌∷◌, ◌++◌, length, map, drop, get_or, refl, ap, sym, ◌∙◌, arith, add-one, append_assoc}
 use Rattle.std.specs.declared.option.Option.{Option}
 use Rattle.std.specs.declared.option.Option.TheVariants.{None, Some}
-use Rattle.flow_ast.specs.declared.decl.Param.{Param}
-use Rattle.flow_ast.specs.declared.ty.Ident.{Ident}
-use Rattle.flow_ast.specs.DeclView.{param_of}
-use Rattle.flow_ast.specs.Decls.{RecordTree}
+use Rattle.flow_tree.specs.declared.decl.Param.{Param}
+use Rattle.flow_tree.specs.declared.ty.Ident.{Ident}
+use Rattle.flow_tree.specs.DeclView.{param_of}
+use Rattle.flow_tree.specs.Decls.{RecordTree}
 use Rattle.flow_value.specs.Values.{ValueTree}
 use Rattle.flow_eval.specs.Records.{field}
 use Rattle.flow_eval.specs.Functions.{Locals, entered, with_first, read_in}

@@ -1,21 +1,22 @@
 -- The function of the example is well typed, and so is what the tests call.
 use Rattle.std.proofs.Common.{◌≡◌, ℕ, zero, suc, ℤ, pos, List, [], ◌∷◌, refl, sym, subst, map}
-use Rattle.std.specs.Prelude.{codes, slice_get}
+use Rattle.std.specs.Prelude.{codes}
 use Rattle.std.specs.declared.option.Option.{Option}
-use Rattle.std.specs.declared.option.Option.TheVariants.{None, Some}
-use Rattle.flow_ast.specs.declared.decl.RecordDecl.{RecordDecl}
-use Rattle.flow_ast.specs.declared.decl.FunctionDecl.{FunctionDecl}
-use Rattle.flow_ast.specs.DeclView.{record_of, function_of}
-use Rattle.flow_ast.specs.Tree.{TypeTree, IntType, ExprTree}
-use Rattle.flow_ast.specs.Decls.{ParamTree, RecordTree, RoutineTree}
+use Rattle.std.specs.declared.option.Option.TheVariants.{None}
+use Rattle.flow_tree.specs.declared.decl.RecordDecl.{RecordDecl}
+use Rattle.flow_tree.specs.declared.decl.FunctionDecl.{FunctionDecl}
+use Rattle.flow_tree.specs.DeclView.{record_of, function_of}
+use Rattle.flow_tree.specs.Tree.{FutureType, TypeTree, IntType, ExprTree}
+use Rattle.flow_tree.specs.Decls.{RecordTree, RoutineTree}
 use Rattle.flow_ast.specs.TypingNames.{named}
 use Rattle.flow_value.specs.Values.{ValueTree, IntValue, OutcomeTree}
 use Rattle.flow_eval.specs.declared.variables.Var.{Var}
 use Rattle.flow_eval.specs.Variables.{var_of}
 use Rattle.flow_eval.specs.Meaning.{setting_with, no_cells}
 use Rattle.flow_eval.specs.Functions.{Locals}
-use Rattle.flow_eval.specs.Typed.{FunctionFits, FunctionsFit, CellsFit, HaveTypes, VariablesFit}
-use Rattle.flow_eval.specs.WellTyped.{WellTyped, WellTypedCall}
+use Rattle.flow_ast.specs.Fits.{FunctionFits, FunctionsFit}
+use Rattle.flow_eval.specs.Typed.{CellsFit}
+use Rattle.flow_eval.specs.WellTyped.{cell_typed, WellTyped, WellTypedCall}
 use Rattle.flow_eval.specs.Example.{word, n, call_f, countdown}
 use Rattle.flow_eval.proofs.TypedValues.{some_same, none_some}
 use Rattle.flow_eval.proofs.TypedLocals.{locals_look}
@@ -31,8 +32,8 @@ functions_fit (suc k) f e = none_some f e
 abbrev no_types : ℕ → Option TypeTree
 no_types c = None
 
-cells_fit : (rs : List RecordTree) (cells : ℕ → Option OutcomeTree) → CellsFit rs no_types cells
-cells_fit rs cells c t v e h = none_some t e
+cells_fit : (rs : List RecordTree) (cells : ℕ → Option OutcomeTree) → CellsFit rs (cell_typed no_types) cells
+cells_fit rs cells c t v e h = none_some (FutureType t) e
 
 pub example_called : (cells : ℕ → Option OutcomeTree) (now m : ℤ) → WellTypedCall (record { records = []; functions = countdown ∷ []; cells = cells; now = now }) 0 (IntValue m ∷ [])
 example_called cells now m = record {
@@ -53,7 +54,7 @@ example_typed cells now m = record {
   type = IntType;
   functions_fit = functions_fit;
   cells_fit = cells_fit [] cells;
-  variables_fit = locals_look [] no_types (record { ty = IntType; name = word (codes "n") } ∷ []) ((codes "n", IntValue m) ∷ []) (refl, refl, tt {0});
+  variables_fit = locals_look [] (cell_typed no_types) (record { ty = IntType; name = word (codes "n") } ∷ []) ((codes "n", IntValue m) ∷ []) (refl, refl, tt {0});
   yields = (refl, refl);
 }
 

@@ -13,4 +13,5 @@ pub mod TypedExprs
 pub mod TypedLocals
 pub mod TypedStatements
 pub mod TypesKept
+pub mod MoreEval
 pub mod Examples

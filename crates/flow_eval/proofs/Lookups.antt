@@ -4,16 +4,16 @@ use Rattle.std.specs.List.{position_or_len}
 use Rattle.std.specs.Str.{bytes_eq}
 use Rattle.std.specs.declared.option.Option.{Option}
 use Rattle.std.specs.declared.option.Option.TheVariants.{None, Some}
-use Rattle.flow_ast.specs.declared.decl.RecordDecl.{RecordDecl}
-use Rattle.flow_ast.specs.declared.decl.Param.{Param}
-use Rattle.flow_ast.specs.DeclView.{record_of, param_of}
-use Rattle.flow_ast.specs.Decls.{ParamTree, RecordTree}
+use Rattle.flow_tree.specs.declared.decl.RecordDecl.{RecordDecl}
+use Rattle.flow_tree.specs.declared.decl.Param.{Param}
+use Rattle.flow_tree.specs.DeclView.{record_of, param_of}
+use Rattle.flow_tree.specs.Decls.{ParamTree, RecordTree}
 use Rattle.flow_value.specs.declared.value.Value.{Value}
 use Rattle.flow_value.specs.View.{value_of, values_of}
 use Rattle.flow_value.specs.Values.{ValueTree, ValueTrees, NoValues, MoreValues}
 use Rattle.std.specs.Option.{option_map}
 use Rattle.std.proofs.Common.{slice_get, if◌then◌else◌}
-use Rattle.flow_ast.specs.declared.ty.Ident.{Ident}
+use Rattle.flow_tree.specs.declared.ty.Ident.{Ident}
 use Rattle.flow_eval.specs.declared.variables.Var.{Var}
 use Rattle.flow_eval.specs.Variables.{var_of}
 use Rattle.flow_eval.specs.Functions.{Locals, put_in, put_place, put_at_var, put_path}

@@ -3,7 +3,7 @@ use Rattle.std.proofs.Common.{◌≡◌, ℕ, zero, suc, ◌+◌, ◌-◌, ◌*�
 use Rattle.std.specs.Fmt.{signed_decimal}
 use Rattle.std.proofs.lemmas.Fmt.{length_signed_le}
 use lib.Signed.{mag}
-use Rattle.flow_eval.specs.Predefined.{digits_from}
+use Rattle.flow_base.specs.Names.{digits_from}
 
 abbrev most : ℕ
 most = 2 ^ 64 - 1

@@ -7,16 +7,16 @@ use Rattle.std.specs.declared.result.Result.{Result}
 use Rattle.std.specs.declared.result.Result.TheVariants.{Ok, Err}
 use Rattle.std.specs.declared.alloc.Global.{Global}
 use Rattle.std.specs.declared.boxed.Box.{Box}
-use Rattle.flow_ast.specs.declared.expr.Expr.{Expr}
-use Rattle.flow_ast.specs.declared.stmt.Stmt.{Stmt}
-use Rattle.flow_ast.specs.View.{expr_of}
-use Rattle.flow_ast.specs.StmtView.{simple_of, body_of}
+use Rattle.flow_tree.specs.declared.expr.Expr.{Expr}
+use Rattle.flow_tree.specs.declared.stmt.Stmt.{Stmt}
+use Rattle.flow_tree.specs.View.{expr_of}
+use Rattle.flow_tree.specs.StmtView.{simple_of, body_of}
 use Rattle.flow_eval.specs.declared.statements.Flow.TheVariants as flow
 use Rattle.flow_eval.specs.declared.variables.Var.{Var}
 use Rattle.flow_eval.specs.Variables.{var_of}
-use Rattle.flow_ast.specs.declared.ty.Ident.{Ident}
-use Rattle.flow_ast.specs.Tree.{ExprTree}
-use Rattle.flow_ast.specs.Body.{IntoTree, ChangeTree}
+use Rattle.flow_tree.specs.declared.ty.Ident.{Ident}
+use Rattle.flow_tree.specs.Tree.{ExprTree}
+use Rattle.flow_tree.specs.Body.{IntoTree, ChangeTree}
 use Rattle.flow_value.specs.Values.{ValueTree, ErrorValue}
 use Rattle.flow_eval.specs.declared.stop.Halt.{Halt}
 use Rattle.flow_eval.specs.declared.statements.Flow.{Flow}

@@ -7,23 +7,23 @@ use Rattle.std.specs.declared.alloc.Global.{Global}
 use Rattle.std.specs.declared.boxed.Box.{Box}
 use Rattle.std.specs.declared.vec.Vec.{Vec}
 use Rattle.flow_base.specs.declared.place.Place.{Place}
-use Rattle.flow_ast.specs.declared.ty.Ident.{Ident}
-use Rattle.flow_ast.specs.declared.expr.Expr.{Expr}
-use Rattle.flow_ast.specs.declared.stmt.Into as code
-use Rattle.flow_ast.specs.declared.stmt.Target.{Target}
-use Rattle.flow_ast.specs.declared.stmt.Change.{Change}
+use Rattle.flow_tree.specs.declared.ty.Ident.{Ident}
+use Rattle.flow_tree.specs.declared.expr.Expr.{Expr}
+use Rattle.flow_tree.specs.declared.stmt.Into as code
+use Rattle.flow_tree.specs.declared.stmt.Target.{Target}
+use Rattle.flow_tree.specs.declared.stmt.Change.{Change}
 use Rattle.std.proofs.Common.{subst}
 use Rattle.std.specs.declared.result.Result.{Result}
 use Rattle.flow_eval.specs.declared.stop.Halt.{Halt}
 use Rattle.flow_eval.specs.declared.statements.Flow.{Flow}
-use Rattle.flow_ast.specs.declared.stmt.Stmt.{Stmt, out-Stmt, fold_out-Stmt}
-use Rattle.flow_ast.specs.declared.stmt.StmtKind.{StmtKind, fold-roll-StmtKind}
-use Rattle.flow_ast.specs.declared.stmt.StmtKind.TheOpen as layer
-use Rattle.flow_ast.specs.declared.stmt.StmtKind.TheVariants as kind
-use Rattle.flow_ast.specs.View.{expr_of, exprs_of}
-use Rattle.flow_ast.specs.StmtView.{into_of, change_of, kind_of, kind_step, stmt_step, branch_step, simple_of, else_of, body_of, stmt_of}
-use Rattle.flow_ast.specs.Body.{Body, Branches, BlockStmt, IfStmt, IfElseStmt, LoopStmt, ReturnStmt, ThrowStmt, TryStmt, DeclareStmt, AssignStmt, CallStmt}
-use Rattle.flow_ast.proofs.Views.{kind_while, kind_for, kind_modify}
+use Rattle.flow_tree.specs.declared.stmt.Stmt.{Stmt, out-Stmt, fold_out-Stmt}
+use Rattle.flow_tree.specs.declared.stmt.StmtKind.{StmtKind, fold-roll-StmtKind}
+use Rattle.flow_tree.specs.declared.stmt.StmtKind.TheOpen as layer
+use Rattle.flow_tree.specs.declared.stmt.StmtKind.TheVariants as kind
+use Rattle.flow_tree.specs.View.{expr_of, exprs_of}
+use Rattle.flow_tree.specs.StmtView.{into_of, change_of, kind_of, kind_step, stmt_step, branch_step, simple_of, else_of, body_of, stmt_of}
+use Rattle.flow_tree.specs.Body.{Body, Branches, BlockStmt, IfStmt, IfElseStmt, LoopStmt, ReturnStmt, ThrowStmt, TryStmt, DeclareStmt, AssignStmt, CallStmt}
+use Rattle.flow_tree.proofs.Views.{kind_while, kind_for, kind_modify}
 use Rattle.flow_eval.specs.Eval.{Setting, Runner}
 use Rattle.flow_eval.specs.Functions.{Locals, Run, after, exec, scope, skip, if_run, loop_run, for_run, try_run, return_run, throw_run, declare_run, assign_run, modify_run, call_run}
 use Rattle.flow_eval.specs.View.{else_run, StmtRan}
@@ -37,8 +37,8 @@ kind_block b = ap kind_of (sym (kind.rolls-Block b)) ∙ fold-roll-StmtKind Puts
 kind_loop : (b : Vec Stmt Global) → kind_of (kind.Loop b) ≡ (λ at k. LoopStmt at (body_of b.items) k)
 kind_loop b = ap kind_of (sym (kind.rolls-Loop b)) ∙ fold-roll-StmtKind Puts (Body → Body) (Branches → Branches) kind_step stmt_step branch_step (layer.Loop b)
 
-kind_try : (b : Vec Stmt Global) (x : Ident) (h : Vec Stmt Global) → kind_of (kind.Try b x h) ≡ (λ at k. TryStmt at (body_of b.items) x (body_of h.items) k)
-kind_try b x h = ap kind_of (sym (kind.rolls-Try b x h)) ∙ fold-roll-StmtKind Puts (Body → Body) (Branches → Branches) kind_step stmt_step branch_step (layer.Try b x h)
+kind_try : (b : Vec Stmt Global) (p : Place) (x : Ident) (h : Vec Stmt Global) → kind_of (kind.Try b p x h) ≡ (λ at k. TryStmt at (body_of b.items) p x (body_of h.items) k)
+kind_try b p x h = ap kind_of (sym (kind.rolls-Try b p x h)) ∙ fold-roll-StmtKind Puts (Body → Body) (Branches → Branches) kind_step stmt_step branch_step (layer.Try b p x h)
 
 kind_if : (e : Expr) (b : Vec Stmt Global) → kind_of (kind.If e b None) ≡ (λ at k. IfStmt at (expr_of e) (body_of b.items) k)
 kind_if e b = ap kind_of (sym (kind.rolls-If e b None)) ∙ fold-roll-StmtKind Puts (Body → Body) (Branches → Branches) kind_step stmt_step branch_step (layer.If e b None)
@@ -82,9 +82,9 @@ module _ (s : Setting) (run : Runner) (caught : Option (List ℕ)) (vars : Local
       → Comes q (scope (for_run s run (exec s run (simple_of i) caught) (option_map expr_of t) (exec s run (simple_of u) caught) (exec s run (body_of b.items) caught)) vars left)
   comes_for q i t u b e = put_as q _ _ (ap kind_of e ∙ kind_for i t u b) (λ k. refl)
 
-  pub comes_try : (q : StmtKind) (b : Vec Stmt Global) (x : Ident) (h : Vec Stmt Global) → q ≡ kind.Try b x h
+  pub comes_try : (q : StmtKind) (b : Vec Stmt Global) (p : Place) (x : Ident) (h : Vec Stmt Global) → q ≡ kind.Try b p x h
       → Comes q (try_run (exec s run (body_of b.items) caught) x.name (exec s run (body_of h.items) (Some x.name)) vars left)
-  comes_try q b x h e = put_as q _ _ (ap kind_of e ∙ kind_try b x h) (λ k. refl)
+  comes_try q b p x h e = put_as q _ _ (ap kind_of e ∙ kind_try b p x h) (λ k. refl)
 
   pub comes_if : (q : StmtKind) (t : Expr) (b : Vec Stmt Global) (o : Option (Vec Stmt Global)) → q ≡ kind.If t b o
       → Comes q (if_run s run (expr_of t) (scope (exec s run (body_of b.items) caught)) (else_run s run (else_of o) caught) vars left)

@@ -2,18 +2,18 @@
 use Rattle.std.proofs.Common.{◌≡◌, ℕ, zero, suc, ◌+◌, ◌<◌, ◌≤◌, List, [], ◌∷◌, ◌++◌, length, map, take, drop, get_or, slice_get, Bool, true, false, cond, ◌-◌, refl, ap, sym, subst, ◌∙◌, arith, add-one, append_assoc}
 use Rattle.std.specs.declared.result.Result.{Result}
 use Rattle.std.specs.declared.result.Result.TheVariants.{Ok, Err}
-use Rattle.flow_ast.specs.declared.expr.Expr.{Expr}
-use Rattle.flow_ast.specs.declared.stmt.Stmt.{Stmt}
+use Rattle.flow_tree.specs.declared.expr.Expr.{Expr}
+use Rattle.flow_tree.specs.declared.stmt.Stmt.{Stmt}
 use Rattle.std.specs.Str.{bytes_eq}
 use Rattle.std.specs.declared.option.Option.{Option}
 use Rattle.std.specs.declared.option.Option.TheVariants.{None, Some}
-use Rattle.flow_ast.specs.declared.decl.FunctionDecl.{FunctionDecl}
-use Rattle.flow_ast.specs.DeclView.{function_of, param_of}
-use Rattle.flow_ast.specs.Decls.{RoutineTree}
+use Rattle.flow_tree.specs.declared.decl.FunctionDecl.{FunctionDecl}
+use Rattle.flow_tree.specs.DeclView.{function_of, param_of}
+use Rattle.flow_tree.specs.Decls.{RoutineTree}
 use Rattle.flow_ast.specs.Typing.{routine_named}
-use Rattle.flow_ast.specs.Body.{Body}
-use Rattle.flow_ast.specs.View.{expr_of, exprs_of}
-use Rattle.flow_ast.specs.StmtView.{stmt_of, body_of}
+use Rattle.flow_tree.specs.Body.{Body}
+use Rattle.flow_tree.specs.View.{expr_of, exprs_of}
+use Rattle.flow_tree.specs.StmtView.{stmt_of, body_of}
 use Rattle.flow_value.specs.declared.value.Value.{Value}
 use Rattle.flow_value.specs.Values.{ValueTree}
 use Rattle.flow_eval.specs.declared.stop.Halt.{Halt}

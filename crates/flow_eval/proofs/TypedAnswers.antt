@@ -3,14 +3,14 @@ use Rattle.std.proofs.Common.{◌≡◌, ℕ, zero, suc, ℤ, pos, Bool, true, f
 use Rattle.std.specs.Prelude.{nat_le, int_le, take, drop}
 use Rattle.std.specs.declared.option.Option.{Option}
 use Rattle.std.specs.declared.option.Option.TheVariants.{None, Some}
-use Rattle.flow_ast.specs.declared.expr.Op.{Op}
-use Rattle.flow_ast.specs.declared.expr.Op.TheVariants.{Or, And, Eq, Ne, Lt, Le, Gt, Ge, Add, Sub, Mul, Div, Rem}
+use Rattle.flow_tree.specs.declared.expr.Op.{Op}
+use Rattle.flow_tree.specs.declared.expr.Op.TheVariants.{Or, And, Eq, Ne, Lt, Le, Gt, Ge, Add, Sub, Mul, Div, Rem}
 use Rattle.flow_ast.specs.declared.predefined.Predefined.{Predefined}
 use Rattle.flow_ast.specs.declared.predefined.Predefined.TheVariants as call
 use Rattle.flow_ast.specs.declared.predefined.Method.{Method}
 use Rattle.flow_ast.specs.declared.predefined.Method.TheVariants as method
-use Rattle.flow_ast.specs.Tree.{TypeTree, IntType, BoolType, StringType, VoidType, ErrorType, NamedType, FutureType, FutureStreamType, PromiseType, PromiseStreamType}
-use Rattle.flow_ast.specs.Decls.{RecordTree}
+use Rattle.flow_tree.specs.Tree.{TypeTree, IntType, BoolType, StringType, VoidType, ErrorType, NamedType, FutureType, FutureStreamType, PromiseType, PromiseStreamType}
+use Rattle.flow_tree.specs.Decls.{RecordTree}
 use Rattle.flow_ast.specs.Typing.{Signature, signature, is_effect, applied, same_type, same_types, sum_type, order_type, equality_type, int_only, bool_only, sign_type, method_signature, field_type}
 use Rattle.flow_ast.specs.Typing as type
 use Rattle.flow_value.specs.declared.value.Kind.{Kind}
@@ -84,10 +84,10 @@ Answered P (Given v) = P v
 Answered P (Throws e) = Unit {0}
 Answered P NoMeaning = ⊥
 
-module _ (rs : List RecordTree) (types : ℕ → Option TypeTree) where
+module _ (rs : List RecordTree) (typed : ℕ → TypeTree → Type 0) where
   -- an answer of a type
   abbrev pub Typed : TypeTree → Answer → Type 0
-  Typed t a = Answered (λ v. HasType rs types v t) a
+  Typed t a = Answered (λ v. HasType rs typed v t) a
 
   pub whole_typed : (o : Option ℤ) → Typed IntType (whole o)
   whole_typed None = tt {0}
@@ -179,16 +179,16 @@ module _ (rs : List RecordTree) (types : ℕ → Option TypeTree) where
   unsigned PromiseStream u = refl
   unsigned FutureStream u = refl
 
-  pub operated_typed : (op : Op) (v w : ValueTree) (u t : TypeTree) → is_strict op ≡ true → HasType rs types v u → HasType rs types w u → sign_type op u ≡ Some t
+  pub operated_typed : (op : Op) (v w : ValueTree) (u t : TypeTree) → is_strict op ≡ true → HasType rs typed v u → HasType rs typed w u → sign_type op u ≡ Some t
       → Typed t (operated op v w)
   operated_typed op (IntValue a) w u t s h k e =
-      let b = is_int_value rs types w (subst (HasType rs types w) h k) in
+      let b = is_int_value rs typed w (subst (HasType rs typed w) h k) in
       subst (λ w. Typed t (operated op (IntValue a) w)) (sym b.1) (ints_typed op a b.0 t s (subst (λ u. sign_type op u ≡ Some t) h e))
   operated_typed op (BoolValue a) w u t s h k e =
-      let b = is_bool_value rs types w (subst (HasType rs types w) h k) in
+      let b = is_bool_value rs typed w (subst (HasType rs typed w) h k) in
       subst (λ w. Typed t (operated op (BoolValue a) w)) (sym b.1) (bools_typed op a b.0 t s (subst (λ u. sign_type op u ≡ Some t) h e))
   operated_typed op (TextValue a) w u t s h k e =
-      let b = is_text_value rs types w (subst (HasType rs types w) h k) in
+      let b = is_text_value rs typed w (subst (HasType rs typed w) h k) in
       subst (λ w. Typed t (operated op (TextValue a) w)) (sym b.1) (texts_typed op a b.0 t s (subst (λ u. sign_type op u ≡ Some t) h e))
   operated_typed op VoidValue w u t s h k e = no_sign op VoidType t refl (subst (λ u. sign_type op u ≡ Some t) h e)
   operated_typed op (ErrorValue n) w u t s h k e = no_sign op ErrorType t refl (subst (λ u. sign_type op u ≡ Some t) h e)
@@ -196,19 +196,19 @@ module _ (rs : List RecordTree) (types : ℕ → Option TypeTree) where
   operated_typed op (RefValue j c) w u t s h k e = no_sign op (reference_type j h.0) t (unsigned j h.0) (subst (λ u. sign_type op u ≡ Some t) h.1 e)
 
   -- the argument at a place
-  arg_at : (vs : List ValueTree) (ts : List TypeTree) (k : ℕ) (t : TypeTree) → HaveTypes rs types (values_of_list vs) ts → slice_get ts k ≡ Some t → HasType rs types (arg vs k) t
+  arg_at : (vs : List ValueTree) (ts : List TypeTree) (k : ℕ) (t : TypeTree) → HaveTypes rs typed (values_of_list vs) ts → slice_get ts k ≡ Some t → HasType rs typed (arg vs k) t
   arg_at [] ts k t h e = none_some t (sym (ap (λ l. slice_get l k) h) ∙ e)
-  arg_at (v ∷ vs) ts zero t h e = subst (HasType rs types v) (some_same h.0 t (sym (ap (λ l. slice_get l 0) h.2) ∙ e)) h.3
+  arg_at (v ∷ vs) ts zero t h e = subst (HasType rs typed v) (some_same h.0 t (sym (ap (λ l. slice_get l 0) h.2) ∙ e)) h.3
   arg_at (v ∷ vs) ts (suc k) t h e = arg_at vs h.1 k t h.4 (sym (ap (λ l. slice_get l (suc k)) h.2) ∙ e)
 
-  int_at : (vs : List ValueTree) (ts : List TypeTree) (k : ℕ) → HaveTypes rs types (values_of_list vs) ts → slice_get ts k ≡ Some IntType → (n : ℤ) × (int_of (arg vs k) ≡ Some n)
+  int_at : (vs : List ValueTree) (ts : List TypeTree) (k : ℕ) → HaveTypes rs typed (values_of_list vs) ts → slice_get ts k ≡ Some IntType → (n : ℤ) × (int_of (arg vs k) ≡ Some n)
   int_at vs ts k h e =
-      let n = is_int_value rs types (arg vs k) (arg_at vs ts k IntType h e) in
+      let n = is_int_value rs typed (arg vs k) (arg_at vs ts k IntType h e) in
       (n.0, ap int_of n.1)
 
-  text_at : (vs : List ValueTree) (ts : List TypeTree) (k : ℕ) → HaveTypes rs types (values_of_list vs) ts → slice_get ts k ≡ Some StringType → (s : List ℕ) × (text_of (arg vs k) ≡ Some s)
+  text_at : (vs : List ValueTree) (ts : List TypeTree) (k : ℕ) → HaveTypes rs typed (values_of_list vs) ts → slice_get ts k ≡ Some StringType → (s : List ℕ) × (text_of (arg vs k) ≡ Some s)
   text_at vs ts k h e =
-      let s = is_text_value rs types (arg vs k) (arg_at vs ts k StringType h e) in
+      let s = is_text_value rs typed (arg vs k) (arg_at vs ts k StringType h e) in
       (s.0, ap text_of s.1)
 
   read_typed : (o : Option ℤ) → Typed IntType (int_read o)
@@ -225,7 +225,7 @@ module _ (rs : List RecordTree) (types : ℕ → Option TypeTree) where
 
   -- a predefined call that is no effect
   pub call_typed : (p : Predefined) (now : ℤ) (vs : List ValueTree) (ts : List TypeTree) (t : TypeTree) → is_effect p ≡ false → applied (signature p) ts ≡ Some t
-      → HaveTypes rs types (values_of_list vs) ts → Typed t (call_answer p now vs)
+      → HaveTypes rs typed (values_of_list vs) ts → Typed t (call_answer p now vs)
   call_typed call.ToString now vs ts t f e h =
       let is = applied_some (record { params = IntType ∷ []; gives = StringType }) ts t e in
       let n = int_at vs ts 0 h (ap (λ l. slice_get l 0) (sym is.0)) in
@@ -256,8 +256,8 @@ module _ (rs : List RecordTree) (types : ℕ → Option TypeTree) where
   call_typed call.SendTo now vs ts t f e h = none_some t e
 
   -- a field of a record
-  pub field_typed : (v : ValueTree) (u : TypeTree) (x : List ℕ) (t : TypeTree) → HasType rs types v u → field_type rs u x ≡ Some t
-      → (w : ValueTree) × (field rs v x ≡ Some w) × HasType rs types w t
+  pub field_typed : (v : ValueTree) (u : TypeTree) (x : List ℕ) (t : TypeTree) → HasType rs typed v u → field_type rs u x ≡ Some t
+      → (w : ValueTree) × (field rs v x ≡ Some w) × HasType rs typed w t
   field_typed (IntValue n) u x t h e = none_some t (sym (ap (λ u. field_type rs u x) h) ∙ e)
   field_typed (BoolValue b) u x t h e = none_some t (sym (ap (λ u. field_type rs u x) h) ∙ e)
   field_typed (TextValue s) u x t h e = none_some t (sym (ap (λ u. field_type rs u x) h) ∙ e)
@@ -265,7 +265,7 @@ module _ (rs : List RecordTree) (types : ℕ → Option TypeTree) where
   field_typed (ErrorValue n) u x t h e = none_some t (sym (ap (λ u. field_type rs u x) h) ∙ e)
   field_typed (RecordValue r vs) u x t h e =
       let at = field_at rs h.0 r h.1 x t h.3 h.4 (sym (ap (λ u. field_type rs u x) h.2) ∙ e) in
-      let got = value_got rs types vs h.1.params at.0 t h.5 at.2 in
+      let got = value_got rs typed vs h.1.params at.0 t h.5 at.2 in
       (got.0, ap (at_place vs) at.1 ∙ got.1, got.2)
   field_typed (RefValue Promise c) u x t h e = none_some t (sym (ap (λ u. field_type rs u x) h.1) ∙ e)
   field_typed (RefValue Future c) u x t h e = none_some t (sym (ap (λ u. field_type rs u x) h.1) ∙ e)
@@ -292,7 +292,7 @@ module _ (rs : List RecordTree) (types : ℕ → Option TypeTree) where
       (subst (λ p. Typed StringType (substr s (Some from) p)) (sym h)
       (clipped_by (int_le (pos 0) from && int_le from (pos (length s)) && int_le (pos 0) count) (take (natural count) (drop (natural from) s))))
 
-  text_method_typed : (m : Method) (s : List ℕ) (vs : List ValueTree) (ts : List TypeTree) (t : TypeTree) → applied (type.text_method m) ts ≡ Some t → HaveTypes rs types (values_of_list vs) ts
+  text_method_typed : (m : Method) (s : List ℕ) (vs : List ValueTree) (ts : List TypeTree) (t : TypeTree) → applied (type.text_method m) ts ≡ Some t → HaveTypes rs typed (values_of_list vs) ts
       → Typed t (text_method m s vs)
   text_method_typed method.Size s vs ts t e h = sym (applied_some (record { params = []; gives = IntType }) ts t e).1
   text_method_typed method.Substr s vs ts t e h =
@@ -310,13 +310,13 @@ module _ (rs : List RecordTree) (types : ℕ → Option TypeTree) where
   text_method_typed method.SendError s vs ts t e h = none_some t e
   text_method_typed method.Cancel s vs ts t e h = none_some t e
 
-  got_typed : (o : Option OutcomeTree) (t : TypeTree) → ((v : ValueTree) → o ≡ Some (GoodOutcome v) → HasType rs types v t) → Typed t (got o)
+  got_typed : (o : Option OutcomeTree) (t : TypeTree) → ((v : ValueTree) → o ≡ Some (GoodOutcome v) → HasType rs typed v t) → Typed t (got o)
   got_typed None t h = tt {0}
   got_typed (Some (GoodOutcome v)) t h = h v refl
   got_typed (Some (BadOutcome e)) t h = tt {0}
 
   future_method_typed : (m : Method) (o : Option OutcomeTree) (u : TypeTree) (ts : List TypeTree) (t : TypeTree)
-      → ((v : ValueTree) → o ≡ Some (GoodOutcome v) → HasType rs types v u) → applied (type.future_method u m) ts ≡ Some t → Typed t (future_method m o)
+      → ((v : ValueTree) → o ≡ Some (GoodOutcome v) → HasType rs typed v u) → applied (type.future_method u m) ts ≡ Some t → Typed t (future_method m o)
   future_method_typed method.IsReady o u ts t h e = sym (applied_some (record { params = []; gives = BoolType }) ts t e).1
   future_method_typed method.IsError o u ts t h e = sym (applied_some (record { params = []; gives = BoolType }) ts t e).1
   future_method_typed method.Get o u ts t h e = subst (λ t. Typed t (got o)) (applied_some (record { params = []; gives = u }) ts t e).1 (got_typed o u h)
@@ -329,7 +329,7 @@ module _ (rs : List RecordTree) (types : ℕ → Option TypeTree) where
   future_method_typed method.SendError o u ts t h e = none_some t e
   future_method_typed method.Cancel o u ts t h e = none_some t e
 
-  promise_method_typed : (m : Method) (c : ℕ) (o : Option OutcomeTree) (u : TypeTree) (ts : List TypeTree) (t : TypeTree) → types c ≡ Some u
+  promise_method_typed : (m : Method) (c : ℕ) (o : Option OutcomeTree) (u : TypeTree) (ts : List TypeTree) (t : TypeTree) → typed c (FutureType u)
       → applied (type.promise_method u m) ts ≡ Some t → Typed t (promise_method m c o)
   promise_method_typed method.GetFuture c o u ts t h e = (u, sym (applied_some (record { params = []; gives = FutureType u }) ts t e).1, h)
   promise_method_typed method.IsSet c o u ts t h e = sym (applied_some (record { params = []; gives = BoolType }) ts t e).1
@@ -343,7 +343,7 @@ module _ (rs : List RecordTree) (types : ℕ → Option TypeTree) where
   promise_method_typed method.SendError c o u ts t h e = none_some t e
   promise_method_typed method.Cancel c o u ts t h e = none_some t e
 
-  stream_method_typed : (m : Method) (c : ℕ) (u : TypeTree) (ts : List TypeTree) (t : TypeTree) → types c ≡ Some u → applied (type.stream_method u m) ts ≡ Some t
+  stream_method_typed : (m : Method) (c : ℕ) (u : TypeTree) (ts : List TypeTree) (t : TypeTree) → typed c (FutureStreamType u) → applied (type.stream_method u m) ts ≡ Some t
       → Typed t (stream_method m c)
   stream_method_typed method.GetFuture c u ts t h e = (u, sym (applied_some (record { params = []; gives = FutureStreamType u }) ts t e).1, h)
   stream_method_typed method.Code c u ts t h e = none_some t e
@@ -358,7 +358,7 @@ module _ (rs : List RecordTree) (types : ℕ → Option TypeTree) where
   stream_method_typed method.Cancel c u ts t h e = none_some t e
 
   pub method_typed : (cells : ℕ → Option OutcomeTree) (m : Method) (v : ValueTree) (u : TypeTree) (vs : List ValueTree) (ts : List TypeTree) (t : TypeTree)
-      → CellsFit rs types cells → HasType rs types v u → applied (method_signature u m) ts ≡ Some t → HaveTypes rs types (values_of_list vs) ts → Typed t (method_answer cells m v vs)
+      → CellsFit rs typed cells → HasType rs typed v u → applied (method_signature u m) ts ≡ Some t → HaveTypes rs typed (values_of_list vs) ts → Typed t (method_answer cells m v vs)
   method_typed cells m (IntValue n) u vs ts t fit h e k = none_some t (sym (ap (λ u. applied (method_signature u m) ts) h) ∙ e)
   method_typed cells m (BoolValue b) u vs ts t fit h e k = none_some t (sym (ap (λ u. applied (method_signature u m) ts) h) ∙ e)
   method_typed cells m (TextValue s) u vs ts t fit h e k = text_method_typed m s vs ts t (sym (ap (λ u. applied (method_signature u m) ts) h) ∙ e) k

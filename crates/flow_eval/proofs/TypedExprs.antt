@@ -4,12 +4,12 @@ use Rattle.std.specs.Prelude.{neg_ℤ}
 use Rattle.std.specs.Option.{option_map}
 use Rattle.std.specs.declared.option.Option.{Option}
 use Rattle.std.specs.declared.option.Option.TheVariants.{None, Some}
-use Rattle.flow_ast.specs.declared.expr.Op.{Op}
-use Rattle.flow_ast.specs.declared.expr.Op.TheVariants.{Or, And, Eq, Ne, Lt, Le, Gt, Ge, Add, Sub, Mul, Div, Rem}
+use Rattle.flow_tree.specs.declared.expr.Op.{Op}
+use Rattle.flow_tree.specs.declared.expr.Op.TheVariants.{Or, And, Eq, Ne, Lt, Le, Gt, Ge, Add, Sub, Mul, Div, Rem}
 use Rattle.flow_ast.specs.declared.predefined.Predefined.{Predefined}
 use Rattle.flow_ast.specs.declared.predefined.Method.{Method}
-use Rattle.flow_ast.specs.Tree.{TypeTree, IntType, BoolType, StringType, VoidType, ErrorType, NamedType, FutureType, FutureStreamType, PromiseType, PromiseStreamType, ExprTree, ExprTrees, IntExpr, TextExpr, BoolExpr, VoidExpr, VarExpr, CallExpr, FieldExpr, MethodExpr, NotExpr, NegExpr, BinaryExpr, ParenExpr, NoExprs, MoreExprs}
-use Rattle.flow_ast.specs.Decls.{ParamTree, RecordTree, RoutineTree}
+use Rattle.flow_tree.specs.Tree.{TypeTree, IntType, BoolType, StringType, VoidType, ErrorType, NamedType, FutureType, FutureStreamType, PromiseType, PromiseStreamType, ExprTree, ExprTrees, IntExpr, TextExpr, BoolExpr, VoidExpr, VarExpr, CallExpr, FieldExpr, MethodExpr, NotExpr, NegExpr, BinaryExpr, ParenExpr, NoExprs, MoreExprs}
+use Rattle.flow_tree.specs.Decls.{ParamTree, RecordTree, RoutineTree}
 use Rattle.flow_ast.specs.TypingNames.{named, call_names, method_names, constant_names}
 use Rattle.flow_ast.specs.Typing.{ScopeTree, Signature, effect_call, or_else, is_there, record_call, routine_named, param_named, param_types, applied, same_type, int_only, bool_only, sign_type, with_type, binary_type, more_types, variable_in, method_in, field_type, call_in, effect_in, call_signature, type_in, types_in, without_effects, all_without_effects}
 use Rattle.flow_value.specs.Values.{ValueTree, IntValue, values_of_list}
@@ -18,7 +18,8 @@ use Rattle.flow_eval.specs.Predefined.{call_answer, method_answer}
 use Rattle.flow_eval.specs.Operators.{operated, negated, inverted}
 use Rattle.flow_eval.specs.Records.{record_id, field, field_answer}
 use Rattle.flow_eval.specs.Eval.{Res, Done, Fails, Spent, Meaningless, Setting, Runner, then, at_once, found, variable, truth_of, or_then, and_then, both, second, method_called, function_called, declared_called, called, eval, eval_all}
-use Rattle.flow_eval.specs.Typed.{HasType, HaveTypes, CellsFit, VariablesFit, scope_over}
+use Rattle.flow_ast.specs.Fits.{scope_over}
+use Rattle.flow_eval.specs.Typed.{HasType, HaveTypes, CellsFit, VariablesFit}
 use Rattle.flow_eval.specs.WellTyped.{Safe}
 use Rattle.flow_eval.proofs.TypedValues.{some_same, none_some, param_type, is_int_value, is_bool_value, id_there, no_id}
 use Rattle.flow_eval.proofs.TypedAnswers.{and_left, and_right, type_same, applied_some, binary_by, Answered, is_strict, whole_typed, operated_typed, call_typed, field_typed, method_typed}
@@ -81,20 +82,20 @@ function_is (Some f) s e =
     (f, refl, ap (λ (s : Signature). s.params) is, ap (λ (s : Signature). s.gives) is)
 
 -- a function on arguments of its types means something
-abbrev pub RunnerFits : List RecordTree → (ℕ → Option TypeTree) → List RoutineTree → Runner → Type 0
-RunnerFits rs types fs run =
-    (x : List ℕ) (f : RoutineTree) (vs : List ValueTree) (left : ℕ) → routine_named fs x ≡ Some f → HaveTypes rs types (values_of_list vs) (param_types f.params)
-    → Safe (λ v. HasType rs types v f.returns) (run f vs left)
+abbrev pub RunnerFits : List RecordTree → (ℕ → TypeTree → Type 0) → List RoutineTree → Runner → Type 0
+RunnerFits rs typed fs run =
+    (x : List ℕ) (f : RoutineTree) (vs : List ValueTree) (left : ℕ) → routine_named fs x ≡ Some f → HaveTypes rs typed (values_of_list vs) (param_types f.params)
+    → Safe (λ v. HasType rs typed v f.returns) (run f vs left)
 
-module _ (s : Setting) (types : ℕ → Option TypeTree) (actors : List RoutineTree) (run : Runner) where
+module _ (s : Setting) (typed : ℕ → TypeTree → Type 0) (actors : List RoutineTree) (run : Runner) where
   abbrev Is : TypeTree → ValueTree → Type 0
-  Is t v = HasType s.records types v t
+  Is t v = HasType s.records typed v t
 
   abbrev Are : List TypeTree → List ValueTree → Type 0
-  Are ts vs = HaveTypes s.records types (values_of_list vs) ts
+  Are ts vs = HaveTypes s.records typed (values_of_list vs) ts
 
   declared_good : (ro : Option Signature) (fo ao : Option RoutineTree) (x : List ℕ) (vs : List ValueTree) (ts : List TypeTree) (t : TypeTree) (left : ℕ)
-      → RunnerFits s.records types s.functions run → record_call s.records x ≡ ro → routine_named s.functions x ≡ fo
+      → RunnerFits s.records typed s.functions run → record_call s.records x ≡ ro → routine_named s.functions x ≡ fo
       → not (is_there ro) && not (is_there fo) && is_there ao ≡ false
       → applied (or_else ro (or_else (option_map (λ (f : RoutineTree). record { params = param_types f.params; gives = f.returns }) fo) (option_map (λ (f : RoutineTree). record { params = param_types f.params; gives = FutureType f.returns }) ao))) ts ≡ Some t
       → Are ts vs → Safe (Is t) (declared_called s run (record_id s.records x) x vs left)
@@ -102,59 +103,59 @@ module _ (s : Setting) (types : ℕ → Option TypeTree) (actors : List RoutineT
       let id = id_there s.records x sg ir in
       let is = applied_some sg ts t e in
       subst (λ o. Safe (Is t) (declared_called s run o x vs left)) (sym id.1)
-      (x, sg, sym is.1 ∙ id.2, id.1, ir, subst (λ ts. HaveTypes s.records types (values_of_list vs) ts) (sym is.0) h)
+      (x, sg, sym is.1 ∙ id.2, id.1, ir, subst (λ ts. HaveTypes s.records typed (values_of_list vs) ts) (sym is.0) h)
   declared_good None (Some f) ao x vs ts t left runs ir fi w e h =
       let is = applied_some (record { params = param_types f.params; gives = f.returns }) ts t e in
       subst (λ o. Safe (Is t) (declared_called s run o x vs left)) (sym (no_id s.records x ir))
       (subst (λ o. Safe (Is t) (function_called s run o vs left)) (sym fi)
-      (subst (λ t. Safe (Is t) (run f vs left)) is.1 (runs x f vs left fi (subst (λ ts. HaveTypes s.records types (values_of_list vs) ts) (sym is.0) h))))
+      (subst (λ t. Safe (Is t) (run f vs left)) is.1 (runs x f vs left fi (subst (λ ts. HaveTypes s.records typed (values_of_list vs) ts) (sym is.0) h))))
   declared_good None None (Some f) x vs ts t left runs ir fi w e h = absurd (cc)
   declared_good None None None x vs ts t left runs ir fi w e h = none_some t e
 
   module _ (vars : List ParamTree) where
     called_good : (o : Option Predefined) (x : List ℕ) (vs : List ValueTree) (ts : List TypeTree) (t : TypeTree) (left : ℕ)
-        → RunnerFits s.records types s.functions run → effect_in (scope_over s.records s.functions actors vars) x o ≡ false
+        → RunnerFits s.records typed s.functions run → effect_in (scope_over s.records s.functions actors vars) x o ≡ false
         → applied (call_in (scope_over s.records s.functions actors vars) x o) ts ≡ Some t → Are ts vs → Safe (Is t) (called s run o x vs left)
-    called_good (Some p) x vs ts t left runs w e h = once_good (Is t) (call_answer p s.now vs) left (call_typed s.records types p s.now vs ts t w e h)
+    called_good (Some p) x vs ts t left runs w e h = once_good (Is t) (call_answer p s.now vs) left (call_typed s.records typed p s.now vs ts t w e h)
     called_good None x vs ts t left runs w e h =
         declared_good (record_call s.records x) (routine_named s.functions x) (routine_named actors x) x vs ts t left runs refl refl w e h
 
     method_good : (o : Option Method) (v : ValueTree) (u : TypeTree) (vs : List ValueTree) (ts : List TypeTree) (t : TypeTree) (left : ℕ)
-        → CellsFit s.records types s.cells → Is u v → applied (method_in u o) ts ≡ Some t → Are ts vs → Safe (Is t) (at_once (method_called s.cells o v vs) left)
+        → CellsFit s.records typed s.cells → Is u v → applied (method_in u o) ts ≡ Some t → Are ts vs → Safe (Is t) (at_once (method_called s.cells o v vs) left)
     method_good None v u vs ts t left cells h e k = none_some t e
-    method_good (Some m) v u vs ts t left cells h e k = once_good (Is t) (method_answer s.cells m v vs) left (method_typed s.records types s.cells m v u vs ts t cells h e k)
+    method_good (Some m) v u vs ts t left cells h e k = once_good (Is t) (method_answer s.cells m v vs) left (method_typed s.records typed s.cells m v u vs ts t cells h e k)
 
-    variable_good : (look : List ℕ → Option ValueTree) (o : Option ℕ) (x : List ℕ) (t : TypeTree) (left : ℕ) → VariablesFit s.records types look vars
+    variable_good : (look : List ℕ → Option ValueTree) (o : Option ℕ) (x : List ℕ) (t : TypeTree) (left : ℕ) → VariablesFit s.records typed look vars
         → variable_in vars x o ≡ Some t → Safe (Is t) (at_once (variable look x o) left)
     variable_good look (Some n) x t left fit e = sym (some_same IntType t e)
     variable_good look None x t left fit e =
         let p = param_type (param_named vars x) t e in
         let v = fit x p.0 p.1 in
-        subst (λ o. Safe (Is t) (at_once (found o) left)) (sym v.1) (subst (HasType s.records types v.0) p.2 v.2)
+        subst (λ o. Safe (Is t) (at_once (found o) left)) (sym v.1) (subst (HasType s.records typed v.0) p.2 v.2)
 
     field_good : (v : ValueTree) (u : TypeTree) (x : List ℕ) (t : TypeTree) (left : ℕ) → Is u v → field_type s.records u x ≡ Some t → Safe (Is t) (at_once (field_answer (field s.records v x)) left)
     field_good v u x t left h e =
-        let w = field_typed s.records types v u x t h e in
+        let w = field_typed s.records typed v u x t h e in
         subst (λ o. Safe (Is t) (at_once (field_answer o) left)) (sym w.1) w.2
 
     not_good : (v : ValueTree) (u t : TypeTree) (left : ℕ) → Is u v → bool_only u ≡ Some t → Safe (Is t) (at_once (inverted v) left)
     not_good v u t left h e =
         let is = bool_is u t e in
-        let b = is_bool_value s.records types v (subst (λ u. Is u v) is.0 h) in
+        let b = is_bool_value s.records typed v (subst (λ u. Is u v) is.0 h) in
         subst (λ v. Safe (Is t) (at_once (inverted v) left)) (sym b.1) is.1
 
     neg_good : (v : ValueTree) (u t : TypeTree) (left : ℕ) → Is u v → int_only u ≡ Some t → Safe (Is t) (at_once (negated v) left)
     neg_good v u t left h e =
         let is = int_is u t e in
-        let n = is_int_value s.records types v (subst (λ u. Is u v) is.0 h) in
+        let n = is_int_value s.records typed v (subst (λ u. Is u v) is.0 h) in
         subst (λ v. Safe (Is t) (at_once (negated v) left)) (sym n.1)
         (subst (λ t. Safe (Is t) (at_once (negated (IntValue n.0)) left)) (sym is.1)
-        (once_good (Is IntType) (negated (IntValue n.0)) left (whole_typed s.records types (if_int (neg_ℤ n.0) (neg_ℤ n.0)))))
+        (once_good (Is IntType) (negated (IntValue n.0)) left (whole_typed s.records typed (if_int (neg_ℤ n.0) (neg_ℤ n.0)))))
 
     -- the second operand of `||` and `&&`
     truth_good : (r : Res ValueTree) → Safe (Is BoolType) r → Safe (Is BoolType) (truth_of r)
     truth_good r g = then_good (Is BoolType) (Is BoolType) r (λ v left. at_once (truth (bool_of v)) left) g
-        (λ v left h. let b = is_bool_value s.records types v h in subst (λ v. Safe (Is BoolType) (at_once (truth (bool_of v)) left)) (sym b.1) refl)
+        (λ v left h. let b = is_bool_value s.records typed v h in subst (λ v. Safe (Is BoolType) (at_once (truth (bool_of v)) left)) (sym b.1) refl)
 
     or_good : (b : Bool) (go : ℕ → Res ValueTree) (left : ℕ) → Safe (Is BoolType) (go left) → Safe (Is BoolType) (or_then (Some b) go left)
     or_good true go left g = refl
@@ -167,18 +168,18 @@ module _ (s : Setting) (types : ℕ → Option TypeTree) (actors : List RoutineT
     both_good : (op : Op) (v : ValueTree) (u t : TypeTree) (r : Res ValueTree) → is_strict op ≡ true → Is u v → sign_type op u ≡ Some t → Safe (Is u) r
         → Safe (Is t) (both op v r)
     both_good op v u t r strict h e g = then_good (Is u) (Is t) r (λ w left. at_once (operated op v w) left) g
-        (λ w left k. once_good (Is t) (operated op v w) left (operated_typed s.records types op v w u t strict h k e))
+        (λ w left k. once_good (Is t) (operated op v w) left (operated_typed s.records typed op v w u t strict h k e))
 
     second_good : (op : Op) (v : ValueTree) (u t : TypeTree) (go : ℕ → Res ValueTree) (left : ℕ) → Is u v → sign_type op u ≡ Some t → Safe (Is u) (go left)
         → Safe (Is t) (second op v go left)
     second_good Or v u t go left h e g =
         let is = bool_is u t e in
-        let b = is_bool_value s.records types v (subst (λ u. Is u v) is.0 h) in
+        let b = is_bool_value s.records typed v (subst (λ u. Is u v) is.0 h) in
         subst (λ v. Safe (Is t) (second Or v go left)) (sym b.1)
         (subst (λ t. Safe (Is t) (or_then (Some b.0) go left)) (sym is.1) (or_good b.0 go left (subst (λ u. Safe (Is u) (go left)) is.0 g)))
     second_good And v u t go left h e g =
         let is = bool_is u t e in
-        let b = is_bool_value s.records types v (subst (λ u. Is u v) is.0 h) in
+        let b = is_bool_value s.records typed v (subst (λ u. Is u v) is.0 h) in
         subst (λ v. Safe (Is t) (second And v go left)) (sym b.1)
         (subst (λ t. Safe (Is t) (and_then (Some b.0) go left)) (sym is.1) (and_good b.0 go left (subst (λ u. Safe (Is u) (go left)) is.0 g)))
     second_good Eq v u t go left h e g = both_good Eq v u t (go left) refl h e g
@@ -193,7 +194,7 @@ module _ (s : Setting) (types : ℕ → Option TypeTree) (actors : List RoutineT
     second_good Div v u t go left h e g = both_good Div v u t (go left) refl h e g
     second_good Rem v u t go left h e g = both_good Rem v u t (go left) refl h e g
 
-    module _ (look : List ℕ → Option ValueTree) (fit : VariablesFit s.records types look vars) (cells : CellsFit s.records types s.cells) (runs : RunnerFits s.records types s.functions run) where
+    module _ (look : List ℕ → Option ValueTree) (fit : VariablesFit s.records typed look vars) (cells : CellsFit s.records typed s.cells) (runs : RunnerFits s.records typed s.functions run) where
       abbrev scope : ScopeTree
       scope = scope_over s.records s.functions actors vars
 

@@ -4,11 +4,11 @@ use Rattle.std.specs.Prelude.{pos}
 use Rattle.std.specs.Str.{bytes_eq}
 use Rattle.std.specs.declared.option.Option.{Option}
 use Rattle.std.specs.declared.option.Option.TheVariants.{None, Some}
-use Rattle.flow_ast.specs.declared.ty.Ident.{Ident}
-use Rattle.flow_ast.specs.declared.expr.Op.TheVariants.{Add, Sub}
-use Rattle.flow_ast.specs.Tree.{TypeTree, IntType, BoolType, StringType, ErrorType, ExprTree, ExprTrees}
-use Rattle.flow_ast.specs.Body.{IntoTree, ChangeTree, PlusChange, MinusChange, UpChange, DownChange, Body, End, BlockStmt, IfStmt, IfElseStmt, WhileStmt, ForStmt, LoopStmt, BreakStmt, ContinueStmt, ReturnStmt, ThrowStmt, TryStmt, ChooseStmt, DeclareStmt, AssignStmt, ModifyStmt, CallStmt, WaitStmt}
-use Rattle.flow_ast.specs.Decls.{ParamTree, RoutineTree}
+use Rattle.flow_tree.specs.declared.ty.Ident.{Ident}
+use Rattle.flow_tree.specs.declared.expr.Op.TheVariants.{Add, Sub}
+use Rattle.flow_tree.specs.Tree.{TypeTree, IntType, BoolType, StringType, ErrorType, ExprTree, ExprTrees}
+use Rattle.flow_tree.specs.Body.{IntoTree, ChangeTree, PlusChange, MinusChange, UpChange, DownChange, Body, End, BlockStmt, IfStmt, IfElseStmt, WhileStmt, ForStmt, LoopStmt, BreakStmt, ContinueStmt, ReturnStmt, ThrowStmt, TryStmt, ChooseStmt, DeclareStmt, AssignStmt, ModifyStmt, CallStmt, WaitStmt}
+use Rattle.flow_tree.specs.Decls.{ParamTree, RoutineTree}
 use Rattle.flow_ast.specs.TypingNames.{named}
 use Rattle.flow_ast.specs.Typing.{is_there, sign_type, param_types}
 use Rattle.flow_value.specs.Values.{ValueTree, IntValue, BoolValue, TextValue, ErrorValue, values_of_list}
@@ -16,7 +16,9 @@ use Rattle.flow_eval.specs.Answers.{bool_of, error_of}
 use Rattle.flow_eval.specs.Operators.{operated}
 use Rattle.flow_eval.specs.Eval.{Res, Done, Fails, Spent, Meaningless, Setting, Runner, at_once, eval_all, function_called}
 use Rattle.flow_eval.specs.Functions.{Locals, Run, Goes, Breaks, Continues, Returns, Raises, SpentRun, NoRun, after, scoped, valued, chosen, again, passes, stepped, caught_by, thrown, error_at, default_value, bound, declared, assigned, scope, skip, leave_loop, change_sign, handled, try_run, put_path, evaluated, if_run, pass_run, turn_run, loop_run, for_run, throw_run, declare_run, assign_run, change_operand, changed, modify_run, call_by, call_run, return_run, exec, finished, entered, body_run, run_function}
-use Rattle.flow_eval.specs.Typed.{HasType, HaveTypes, CellsFit, declared_in, has_statement, reaches_end, reaches_break, path_type, has_default, Yields, MaybeYields, ChangeFits, DeclareFits, CallFits, ThrowFits, BodyFits, FunctionFits, FunctionsFit}
+use Rattle.flow_ast.specs.Leaving.{has_statement, reaches_end, reaches_break}
+use Rattle.flow_ast.specs.Fits.{declared_in, path_type, has_default, Yields, MaybeYields, ChangeFits, DeclareFits, CallFits, ThrowFits, BodyFits, FunctionFits, FunctionsFit}
+use Rattle.flow_eval.specs.Typed.{HasType, HaveTypes, CellsFit}
 use Rattle.flow_eval.specs.WellTyped.{Safe}
 use Rattle.flow_eval.proofs.TypedValues.{first_there, is_bool_value, is_error_value}
 use Rattle.flow_eval.proofs.TypedAnswers.{is_strict, types_same, operated_typed}
@@ -46,9 +48,9 @@ grows_by ps more = (more, refl)
 grows_on : (ps qs rs : List ParamTree) → Grows ps qs → Grows qs rs → Grows ps rs
 grows_on ps qs rs g h = (g.0 ++ h.0, h.1 ∙ ap (λ l. l ++ h.0) g.1 ∙ append_assoc ps g.0 h.0)
 
-module _ (s : Setting) (types : ℕ → Option TypeTree) where
+module _ (s : Setting) (typed : ℕ → TypeTree → Type 0) where
   abbrev Fit : List ParamTree → Locals → Type 0
-  Fit ps ls = LocalsFit s.records types ps ls
+  Fit ps ls = LocalsFit s.records typed ps ls
 
   -- the variables in force, before further ones
   abbrev Extends : List ParamTree → Locals → Type 0
@@ -62,14 +64,14 @@ module _ (s : Setting) (types : ℕ → Option TypeTree) where
 
   -- a scope's end leaves the variables before it
   cut : (ps : List ParamTree) (ls : Locals) (n : ℕ) → n ≡ length ps → Extends ps ls → Fit ps (take n ls)
-  cut ps ls n e h = subst (λ n. Fit ps (take n ls)) (sym e) (cut_fits s.records types ps h.1.0 ls (subst (λ qs. Fit qs ls) h.1.1 h.2))
+  cut ps ls n e h = subst (λ n. Fit ps (take n ls)) (sym e) (cut_fits s.records typed ps h.1.0 ls (subst (λ qs. Fit qs ls) h.1.1 h.2))
 
   -- what a run comes to, where it goes on, leaves the loop, goes round it, or throws with such variables
   abbrev Comes : TypeTree → (goes breaks continues raises : Locals → Type 0) → Run → Type 0
   Comes r G B C X (Goes ls left) = G ls
   Comes r G B C X (Breaks ls left) = B ls
   Comes r G B C X (Continues ls left) = C ls
-  Comes r G B C X (Returns v left) = HasType s.records types v r
+  Comes r G B C X (Returns v left) = HasType s.records typed v r
   Comes r G B C X (Raises e ls left) = X ls
   Comes r G B C X SpentRun = Unit {0}
   Comes r G B C X NoRun = ⊥
@@ -126,7 +128,7 @@ module _ (s : Setting) (types : ℕ → Option TypeTree) where
 
   scope_comes : (r : TypeTree) (loop : Bool) (ps qs : List ParamTree) (p b : Bool) (go : Locals → ℕ → Run) (ls : Locals) (left : ℕ) → Grows ps qs → Fit ps ls
       → Runs r loop ps qs p b (go ls left) → Scoped r loop ps p b (scope go ls left)
-  scope_comes r loop ps qs p b go ls left g f h = scoped_comes r loop ps qs p b (length ls) (go ls left) g (locals_count s.records types ps ls f) h
+  scope_comes r loop ps qs p b go ls left g f h = scoped_comes r loop ps qs p b (length ls) (go ls left) g (locals_count s.records typed ps ls f) h
 
   scoped_runs : (r : TypeTree) (loop : Bool) (ps : List ParamTree) (p b q c : Bool) (x : Run) → (p ≡ true → q ≡ true) → (b ≡ true → c ≡ true) → Scoped r loop ps p b x → Runs r loop ps ps q c x
   scoped_runs r loop ps p b q c x pq bc h =
@@ -196,18 +198,18 @@ module _ (s : Setting) (types : ℕ → Option TypeTree) where
       comes_as r (Went b ps) Never Never (Extends ps) (Went b ps) (Left loop false (Extends ps)) (Left loop true (Extends ps)) (Extends ps) x
       (λ ls h. h) (λ ls h. absurd h) (λ ls h. absurd h) (λ ls h. h) h
 
-  module _ (actors : List RoutineTree) (run : Runner) (cells : CellsFit s.records types s.cells) (runs : RunnerFits s.records types s.functions run) where
+  module _ (actors : List RoutineTree) (run : Runner) (cells : CellsFit s.records typed s.cells) (runs : RunnerFits s.records typed s.functions run) where
     abbrev Yield : List ParamTree → ExprTree → TypeTree → Type 0
     Yield ps e t = Yields s.records s.functions actors ps e t
 
-    value_good : (ps : List ParamTree) (ls : Locals) (e : ExprTree) (t : TypeTree) (left : ℕ) → Fit ps ls → Yield ps e t → Safe (λ v. HasType s.records types v t) (evaluated s run e ls left)
-    value_good ps ls e t left f y = eval_good s types actors run ps (named ls) (locals_look s.records types ps ls f) cells runs e t left y.0 y.1
+    value_good : (ps : List ParamTree) (ls : Locals) (e : ExprTree) (t : TypeTree) (left : ℕ) → Fit ps ls → Yield ps e t → Safe (λ v. HasType s.records typed v t) (evaluated s run e ls left)
+    value_good ps ls e t left f y = eval_good s typed actors run ps (named ls) (locals_look s.records typed ps ls f) cells runs e t left y.0 y.1
 
     if_comes : (r : TypeTree) (G B C X : Locals → Type 0) (ps : List ParamTree) (e : ExprTree) (main other : Locals → ℕ → Run) (ls : Locals) (left : ℕ) → Fit ps ls → Yield ps e BoolType → X ls
         → ((left : ℕ) → Comes r G B C X (main ls left)) → ((left : ℕ) → Comes r G B C X (other ls left)) → Comes r G B C X (if_run s run e main other ls left)
     if_comes r G B C X ps e main other ls left f y t m o =
-        valued_comes r (λ v. HasType s.records types v BoolType) G B C X (evaluated s run e ls left) ls (λ v left. chosen (bool_of v) main other ls left) (value_good ps ls e BoolType left f y) t
-        (λ v left h. let b = is_bool_value s.records types v h in
+        valued_comes r (λ v. HasType s.records typed v BoolType) G B C X (evaluated s run e ls left) ls (λ v left. chosen (bool_of v) main other ls left) (value_good ps ls e BoolType left f y) t
+        (λ v left h. let b = is_bool_value s.records typed v h in
         subst (λ v. Comes r G B C X (chosen (bool_of v) main other ls left)) (sym b.1) (by b.0 left))
       where
         by : (b : Bool) (left : ℕ) → Comes r G B C X (chosen (Some b) main other ls left)
@@ -234,13 +236,13 @@ module _ (s : Setting) (types : ℕ → Option TypeTree) where
     Goes_on r loop ps x = Runs r loop ps ps true false x
 
     assigned_runs : (r : TypeTree) (loop : Bool) (ps : List ParamTree) (ls : Locals) (xs : List Ident) (t : TypeTree) (v : ValueTree) (left : ℕ) → Fit ps ls → path_type s.records ps xs ≡ Some t
-        → HasType s.records types v t → Goes_on r loop ps (assigned (put_path s.records ls xs v) left)
+        → HasType s.records typed v t → Goes_on r loop ps (assigned (put_path s.records ls xs v) left)
     assigned_runs r loop ps ls xs t v left f e h =
-        let put = path_puts s.records types ps ls xs t v f e h in
+        let put = path_puts s.records typed ps ls xs t v f e h in
         subst (λ o. Goes_on r loop ps (assigned o left)) (sym put.1) (refl, put.2)
 
     change_good : (ps : List ParamTree) (ls : Locals) (c : ChangeTree) (t : TypeTree) (left : ℕ) → Fit ps ls → ChangeFits s.records s.functions actors ps c t
-        → (Safe (λ v. HasType s.records types v t) (change_operand s run c ls left)) × (sign_type (change_sign c) t ≡ Some t)
+        → (Safe (λ v. HasType s.records typed v t) (change_operand s run c ls left)) × (sign_type (change_sign c) t ≡ Some t)
     change_good ps ls (PlusChange e) t left f y = (value_good ps ls e t left f y.1, y.0)
     change_good ps ls (MinusChange e) t left f y = (value_good ps ls e t left f y.1, y.0)
     change_good ps ls UpChange t left f y = (y, subst (λ t. sign_type Add t ≡ Some t) (sym y) refl)
@@ -249,14 +251,14 @@ module _ (s : Setting) (types : ℕ → Option TypeTree) where
     modify_runs : (r : TypeTree) (loop : Bool) (ps : List ParamTree) (ls : Locals) (xs : List Ident) (c : ChangeTree) (t : TypeTree) (left : ℕ) → Fit ps ls → path_type s.records ps xs ≡ Some t
         → ChangeFits s.records s.functions actors ps c t → Goes_on r loop ps (modify_run s run xs c ls left)
     modify_runs r loop ps ls xs c t left f e y =
-        let old = path_reads s.records types ps ls xs t f e in
+        let old = path_reads s.records typed ps ls xs t f e in
         let c_good = change_good ps ls c t left f y in
         subst (λ o. Goes_on r loop ps (changed s run o c xs ls left)) (sym old.1)
-        (valued_comes r (λ v. HasType s.records types v t) (Went true ps) (Left loop false (Extends ps)) (Left loop true (Extends ps)) (Extends ps) (change_operand s run c ls left) ls
+        (valued_comes r (λ v. HasType s.records typed v t) (Went true ps) (Left loop false (Extends ps)) (Left loop true (Extends ps)) (Extends ps) (change_operand s run c ls left) ls
         (λ w left. valued (at_once (operated (change_sign c) old.0 w) left) ls (λ u left. assigned (put_path s.records ls xs u) left)) c_good.0 (extends_same ps ls f)
-        (λ w left h. valued_comes r (λ v. HasType s.records types v t) (Went true ps) (Left loop false (Extends ps)) (Left loop true (Extends ps)) (Extends ps) (at_once (operated (change_sign c) old.0 w) left) ls
+        (λ w left h. valued_comes r (λ v. HasType s.records typed v t) (Went true ps) (Left loop false (Extends ps)) (Left loop true (Extends ps)) (Extends ps) (at_once (operated (change_sign c) old.0 w) left) ls
         (λ u left. assigned (put_path s.records ls xs u) left)
-        (once_good (λ v. HasType s.records types v t) (operated (change_sign c) old.0 w) left (operated_typed s.records types (change_sign c) old.0 w t t (strict c) old.2 h c_good.1)) (extends_same ps ls f)
+        (once_good (λ v. HasType s.records typed v t) (operated (change_sign c) old.0 w) left (operated_typed s.records typed (change_sign c) old.0 w t t (strict c) old.2 h c_good.1)) (extends_same ps ls f)
         (λ u left k. assigned_runs r loop ps ls xs t u left f e k)))
       where
         strict : (c : ChangeTree) → is_strict (change_sign c) ≡ true
@@ -268,10 +270,10 @@ module _ (s : Setting) (types : ℕ → Option TypeTree) where
     assign_runs : (r : TypeTree) (loop : Bool) (ps : List ParamTree) (ls : Locals) (xs : List Ident) (e : ExprTree) (t : TypeTree) (left : ℕ) → Fit ps ls → path_type s.records ps xs ≡ Some t → Yield ps e t
         → Goes_on r loop ps (assign_run s run xs e ls left)
     assign_runs r loop ps ls xs e t left f p y =
-        valued_comes r (λ v. HasType s.records types v t) (Went true ps) (Left loop false (Extends ps)) (Left loop true (Extends ps)) (Extends ps) (evaluated s run e ls left) ls
+        valued_comes r (λ v. HasType s.records typed v t) (Went true ps) (Left loop false (Extends ps)) (Left loop true (Extends ps)) (Extends ps) (evaluated s run e ls left) ls
         (λ v left. assigned (put_path s.records ls xs v) left) (value_good ps ls e t left f y) (extends_same ps ls f) (λ v left h. assigned_runs r loop ps ls xs t v left f p h)
 
-    default_there : (t : TypeTree) → has_default t ≡ true → (v : ValueTree) × (default_value t ≡ Some v) × HasType s.records types v t
+    default_there : (t : TypeTree) → has_default t ≡ true → (v : ValueTree) × (default_value t ≡ Some v) × HasType s.records typed v t
     default_there IntType e = (IntValue (pos 0), refl, refl)
     default_there BoolType e = (BoolValue false, refl, refl)
     default_there StringType e = (TextValue [], refl, refl)
@@ -281,41 +283,41 @@ module _ (s : Setting) (types : ℕ → Option TypeTree) where
         → Runs r loop ps (ps ++ record { ty = i.ty; name = i.name } ∷ []) true false (declare_run s run i e ls left)
     declare_runs r loop ps ls i None left f y =
         let v = default_there i.ty y in
-        subst (λ o. Runs r loop ps (ps ++ record { ty = i.ty; name = i.name } ∷ []) true false (declared o i.name.name ls left)) (sym v.1) (refl, bound_fits s.records types ps ls i.name i.ty v.0 f v.2)
+        subst (λ o. Runs r loop ps (ps ++ record { ty = i.ty; name = i.name } ∷ []) true false (declared o i.name.name ls left)) (sym v.1) (refl, bound_fits s.records typed ps ls i.name i.ty v.0 f v.2)
     declare_runs r loop ps ls i (Some e) left f y =
-        valued_comes r (λ v. HasType s.records types v i.ty) (Went true (ps ++ record { ty = i.ty; name = i.name } ∷ [])) (Left loop false (Extends ps)) (Left loop true (Extends ps)) (Extends ps) (evaluated s run e ls left) ls
-        (λ v left. declared (Some v) i.name.name ls left) (value_good ps ls e i.ty left f y) (extends_same ps ls f) (λ v left h. (refl, bound_fits s.records types ps ls i.name i.ty v f h))
+        valued_comes r (λ v. HasType s.records typed v i.ty) (Went true (ps ++ record { ty = i.ty; name = i.name } ∷ [])) (Left loop false (Extends ps)) (Left loop true (Extends ps)) (Extends ps) (evaluated s run e ls left) ls
+        (λ v left. declared (Some v) i.name.name ls left) (value_good ps ls e i.ty left f y) (extends_same ps ls f) (λ v left h. (refl, bound_fits s.records typed ps ls i.name i.ty v f h))
 
     return_runs : (r : TypeTree) (loop : Bool) (ps : List ParamTree) (ls : Locals) (e : ExprTree) (left : ℕ) → Fit ps ls → Yield ps e r → Runs r loop ps ps false false (return_run s run e ls left)
     return_runs r loop ps ls e left f y =
-        valued_comes r (λ v. HasType s.records types v r) (Went false ps) (Left loop false (Extends ps)) (Left loop true (Extends ps)) (Extends ps) (evaluated s run e ls left) ls
+        valued_comes r (λ v. HasType s.records typed v r) (Went false ps) (Left loop false (Extends ps)) (Left loop true (Extends ps)) (Extends ps) (evaluated s run e ls left) ls
         (λ v left. Returns v left) (value_good ps ls e r left f y) (extends_same ps ls f) (λ v left h. h)
 
-    thrown_runs : (r : TypeTree) (loop : Bool) (ps : List ParamTree) (ls : Locals) (v : ValueTree) (left : ℕ) → Fit ps ls → HasType s.records types v ErrorType → Runs r loop ps ps false false (thrown (error_of v) ls left)
+    thrown_runs : (r : TypeTree) (loop : Bool) (ps : List ParamTree) (ls : Locals) (v : ValueTree) (left : ℕ) → Fit ps ls → HasType s.records typed v ErrorType → Runs r loop ps ps false false (thrown (error_of v) ls left)
     thrown_runs r loop ps ls v left f h =
-        let e = is_error_value s.records types v h in
+        let e = is_error_value s.records typed v h in
         subst (λ v. Runs r loop ps ps false false (thrown (error_of v) ls left)) (sym e.1) (extends_same ps ls f)
 
     throw_runs : (r : TypeTree) (loop : Bool) (caught : Option (List ℕ)) (ps : List ParamTree) (ls : Locals) (e : Option ExprTree) (left : ℕ) → Fit ps ls → ThrowFits s.records s.functions actors ps caught e
         → Runs r loop ps ps false false (throw_run s run e caught ls left)
     throw_runs r loop None ps ls None left f y = absurd y
     throw_runs r loop (Some x) ps ls None left f y =
-        let v = locals_look s.records types ps ls f x y.0 y.1 in
-        subst (λ o. Runs r loop ps ps false false (thrown (error_at o) ls left)) (sym v.1) (thrown_runs r loop ps ls v.0 left f (subst (HasType s.records types v.0) y.2 v.2))
+        let v = locals_look s.records typed ps ls f x y.0 y.1 in
+        subst (λ o. Runs r loop ps ps false false (thrown (error_at o) ls left)) (sym v.1) (thrown_runs r loop ps ls v.0 left f (subst (HasType s.records typed v.0) y.2 v.2))
     throw_runs r loop caught ps ls (Some e) left f y =
-        valued_comes r (λ v. HasType s.records types v ErrorType) (Went false ps) (Left loop false (Extends ps)) (Left loop true (Extends ps)) (Extends ps) (evaluated s run e ls left) ls
+        valued_comes r (λ v. HasType s.records typed v ErrorType) (Went false ps) (Left loop false (Extends ps)) (Left loop true (Extends ps)) (Extends ps) (evaluated s run e ls left) ls
         (λ v left. thrown (error_of v) ls left) (value_good ps ls e ErrorType left f y) (extends_same ps ls f) (λ v left h. thrown_runs r loop ps ls v left f h)
 
     call_runs : (r : TypeTree) (loop : Bool) (ps : List ParamTree) (ls : Locals) (xs : List Ident) (es : ExprTrees) (left : ℕ) → Fit ps ls → CallFits s.records s.functions actors ps xs es
         → Goes_on r loop ps (call_run s run xs es ls left)
     call_runs r loop ps ls xs es left f y =
-        valued_comes r (λ vs. HaveTypes s.records types (values_of_list vs) y.2) (Went true ps) (Left loop false (Extends ps)) (Left loop true (Extends ps)) (Extends ps) (eval_all s run (named ls) es left) ls
+        valued_comes r (λ vs. HaveTypes s.records typed (values_of_list vs) y.2) (Went true ps) (Left loop false (Extends ps)) (Left loop true (Extends ps)) (Extends ps) (eval_all s run (named ls) es left) ls
         (λ vs left. valued (call_by s run xs vs left) ls (λ v left. Goes ls left))
-        (all_good s types actors run ps (named ls) (locals_look s.records types ps ls f) cells runs es y.2 left y.5 y.7) (extends_same ps ls f)
+        (all_good s typed actors run ps (named ls) (locals_look s.records typed ps ls f) cells runs es y.2 left y.5 y.7) (extends_same ps ls f)
         (λ vs left h. subst (λ xs. Goes_on r loop ps (valued (call_by s run xs vs left) ls (λ v left. Goes ls left))) (sym y.3)
         (subst (λ o. Goes_on r loop ps (valued (function_called s run o vs left) ls (λ v left. Goes ls left))) (sym y.4)
-        (valued_comes r (λ v. HasType s.records types v y.1.returns) (Went true ps) (Left loop false (Extends ps)) (Left loop true (Extends ps)) (Extends ps) (run y.1 vs left) ls (λ v left. Goes ls left)
-        (runs y.0.name y.1 vs left y.4 (subst (HaveTypes s.records types (values_of_list vs)) (sym (types_same (param_types y.1.params) y.2 y.6)) h)) (extends_same ps ls f)
+        (valued_comes r (λ v. HasType s.records typed v y.1.returns) (Went true ps) (Left loop false (Extends ps)) (Left loop true (Extends ps)) (Extends ps) (run y.1 vs left) ls (λ v left. Goes ls left)
+        (runs y.0.name y.1 vs left y.4 (subst (HaveTypes s.records typed (values_of_list vs)) (sym (types_same (param_types y.1.params) y.2 y.6)) h)) (extends_same ps ls f)
         (λ v left h. (refl, f)))))
 
     -- the handler of a `try` is run only where its body has a statement
@@ -335,8 +337,8 @@ module _ (s : Setting) (types : ℕ → Option TypeTree) where
         → (n : ℕ) (ls : Locals) (left : ℕ) → Fit ps ls → Scoped r loop ps q c (handled x.name handler n ls left)
     handled_comes r loop ps qs x q c handler g k n ls left f =
         let more = ps ++ record { ty = ErrorType; name = x } ∷ [] in
-        let inner = k (bound ls x.name (ErrorValue n)) left (bound_fits s.records types ps ls x ErrorType (ErrorValue n) f refl) in
-        scoped_comes r loop ps qs q c (length ls) (handler (bound ls x.name (ErrorValue n)) left) (grows_on ps more qs (grows_by ps (record { ty = ErrorType; name = x } ∷ [])) g) (locals_count s.records types ps ls f)
+        let inner = k (bound ls x.name (ErrorValue n)) left (bound_fits s.records typed ps ls x ErrorType (ErrorValue n) f refl) in
+        scoped_comes r loop ps qs q c (length ls) (handler (bound ls x.name (ErrorValue n)) left) (grows_on ps more qs (grows_by ps (record { ty = ErrorType; name = x } ∷ [])) g) (locals_count s.records typed ps ls f)
         (comes_as r (Went q qs) (Left loop c (Extends more)) (Left loop true (Extends more)) (Extends more) (Went q qs) (Left loop c (Extends ps)) (Left loop true (Extends ps)) (Extends ps) (handler (bound ls x.name (ErrorValue n)) left)
         (λ ls h. h) (λ ls h. (h.0, h.1, extends_on ps more ls (grows_by ps (record { ty = ErrorType; name = x } ∷ [])) h.2)) (λ ls h. (h.0, h.1, extends_on ps more ls (grows_by ps (record { ty = ErrorType; name = x } ∷ [])) h.2))
         (λ ls h. extends_on ps more ls (grows_by ps (record { ty = ErrorType; name = x } ∷ [])) h) inner)
@@ -351,7 +353,7 @@ module _ (s : Setting) (types : ℕ → Option TypeTree) where
     try_comes r loop ps b caught x handler q c ls left f h k =
         ⊎_elim
         (λ e. subst (λ b. Scoped r loop ps (reaches_end b || q) (reaches_break b || (has_statement b && c)) (try_run (exec s run b caught) x.name handler ls left)) (sym e)
-        (refl, cut ps ls (length ls) (locals_count s.records types ps ls f) (extends_same ps ls f)))
+        (refl, cut ps ls (length ls) (locals_count s.records typed ps ls f) (extends_same ps ls f)))
         (λ e. caught_comes r loop ps (reaches_end b) (reaches_break b) q c (reaches_end b || q) (reaches_break b || (has_statement b && c)) (scope (exec s run b caught) ls left) (handled x.name handler) h k
         (first_true (reaches_end b) q) (first_true (reaches_break b) (has_statement b && c)) (second_true (reaches_end b) q) (λ t. second_true (reaches_break b) (has_statement b && c) (both_true (has_statement b) c e t)))
         (end_or_not b)
@@ -442,7 +444,7 @@ module _ (s : Setting) (types : ℕ → Option TypeTree) where
     exec_good (ThrowStmt at e k) r loop caught ps ls left h f =
         then_runs r loop ps ps (ps ++ declared_in k) false false (reaches_end k) (reaches_break k) false false (throw_run s run e caught ls left) (exec s run k caught) (grows_same ps)
         (throw_runs r loop caught ps ls e left f h.0) (λ ls left f. exec_good k r loop caught ps ls left h.1 f) (λ b. b) (λ p q. p) (λ p c. p)
-    exec_good (TryStmt at b x g k) r loop caught ps ls left h f =
+    exec_good (TryStmt at b q x g k) r loop caught ps ls left h f =
         let more = ps ++ record { ty = ErrorType; name = x } ∷ [] in
         then_runs r loop ps ps (ps ++ declared_in k) (reaches_end b || reaches_end g) (reaches_break b || (has_statement b && reaches_break g)) (reaches_end k) (reaches_break k) ((reaches_end b || reaches_end g) && reaches_end k)
         (reaches_break b || (has_statement b && reaches_break g) || ((reaches_end b || reaches_end g) && reaches_break k))
@@ -473,8 +475,8 @@ module _ (s : Setting) (types : ℕ → Option TypeTree) where
     exec_good (WaitStmt at w k) r loop caught ps ls left h f = absurd h
 
   -- a well-typed function on arguments of its types means something, however deep calls may be nested
-  module _ (actors : List RoutineTree) (cells : CellsFit s.records types s.cells) (functions : FunctionsFit s.records s.functions actors) where
-    finished_good : (r : TypeTree) (ps qs : List ParamTree) (p b : Bool) (x : Run) → p ≡ false → Runs r false ps qs p b x → Safe (λ v. HasType s.records types v r) (finished x)
+  module _ (actors : List RoutineTree) (cells : CellsFit s.records typed s.cells) (functions : FunctionsFit s.records s.functions actors) where
+    finished_good : (r : TypeTree) (ps qs : List ParamTree) (p b : Bool) (x : Run) → p ≡ false → Runs r false ps qs p b x → Safe (λ v. HasType s.records typed v r) (finished x)
     finished_good r ps qs p b (Goes ls left) e h = let d = h.0 in absurd (cc)
     finished_good r ps qs p b (Breaks ls left) e h = let d = h.0 in absurd (cc)
     finished_good r ps qs p b (Continues ls left) e h = let d = h.0 in absurd (cc)
@@ -483,16 +485,16 @@ module _ (s : Setting) (types : ℕ → Option TypeTree) where
     finished_good r ps qs p b SpentRun e h = tt {0}
     finished_good r ps qs p b NoRun e h = h
 
-    body_good : (run : Runner) → RunnerFits s.records types s.functions run → (f : RoutineTree) (vs : List ValueTree) (left : ℕ) → FunctionFits s.records s.functions actors f
-        → HaveTypes s.records types (values_of_list vs) (param_types f.params) → Safe (λ v. HasType s.records types v f.returns) (body_run s run f (entered f.params vs) left)
+    body_good : (run : Runner) → RunnerFits s.records typed s.functions run → (f : RoutineTree) (vs : List ValueTree) (left : ℕ) → FunctionFits s.records s.functions actors f
+        → HaveTypes s.records typed (values_of_list vs) (param_types f.params) → Safe (λ v. HasType s.records typed v f.returns) (body_run s run f (entered f.params vs) left)
     body_good run runs f vs left y h =
-        let ls = entered_fits s.records types f.params vs h in
-        subst (λ o. Safe (λ v. HasType s.records types v f.returns) (body_run s run f o left)) (sym ls.1)
+        let ls = entered_fits s.records typed f.params vs h in
+        subst (λ o. Safe (λ v. HasType s.records typed v f.returns) (body_run s run f o left)) (sym ls.1)
         (finished_good f.returns f.params (f.params ++ declared_in f.body) (reaches_end f.body) (reaches_break f.body) (exec s run f.body None ls.0 left) y.1
         (exec_good actors run cells runs f.body f.returns false None f.params ls.0 left y.0 ls.2))
 
     pub function_good : (nest : ℕ) (f : RoutineTree) (vs : List ValueTree) (left : ℕ) → FunctionFits s.records s.functions actors f
-        → HaveTypes s.records types (values_of_list vs) (param_types f.params) → Safe (λ v. HasType s.records types v f.returns) (run_function s nest f vs left)
+        → HaveTypes s.records typed (values_of_list vs) (param_types f.params) → Safe (λ v. HasType s.records typed v f.returns) (run_function s nest f vs left)
     function_good zero f vs zero y h = tt {0}
     function_good zero f vs (suc left) y h = tt {0}
     function_good (suc nest) f vs zero y h = tt {0}
@@ -500,7 +502,7 @@ module _ (s : Setting) (types : ℕ → Option TypeTree) where
         body_good (run_function s nest)
         (λ x g ws left e k. let at = first_there (λ (g : RoutineTree). bytes_eq g.name.name x) s.functions g e in function_good nest g ws left (functions at.0 g at.2) k) f vs left y h
 
-    pub runner_good : (nest : ℕ) → RunnerFits s.records types s.functions (run_function s nest)
+    pub runner_good : (nest : ℕ) → RunnerFits s.records typed s.functions (run_function s nest)
     runner_good nest x f vs left e h =
         let at = first_there (λ (g : RoutineTree). bytes_eq g.name.name x) s.functions f e in
         function_good nest f vs left (functions at.0 f at.2) h

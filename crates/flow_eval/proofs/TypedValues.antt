@@ -7,8 +7,8 @@ use Rattle.std.specs.declared.option.Option.{Option}
 use Rattle.std.specs.declared.option.Option.TheVariants.{None, Some}
 use Rattle.std.proofs.lemmas.List.Folds.{find_at}
 use Rattle.std.proofs.lemmas.Slice.Eq.{bytes_eq-Decides}
-use Rattle.flow_ast.specs.Tree.{TypeTree, IntType, BoolType, StringType, ErrorType, NamedType, FutureType, FutureStreamType, PromiseType, PromiseStreamType}
-use Rattle.flow_ast.specs.Decls.{ParamTree, RecordTree}
+use Rattle.flow_tree.specs.Tree.{TypeTree, IntType, BoolType, StringType, ErrorType, NamedType, FutureType, FutureStreamType, PromiseType, PromiseStreamType}
+use Rattle.flow_tree.specs.Decls.{ParamTree, RecordTree}
 use Rattle.flow_ast.specs.TypingNames.{named}
 use Rattle.flow_ast.specs.Typing.{Signature, is_packet, packet_fields, takes, record_named, param_named, param_types, record_call, record_field, declared_field}
 use Rattle.flow_value.specs.declared.value.Kind.{Kind}
@@ -185,8 +185,8 @@ reference_plain FutureStream u = refl
 pub no_reference : {A : Type 0} (k : Kind) (t u : TypeTree) → is_plain t ≡ true → t ≡ reference_type k u → A
 no_reference k t u p e = absurd (let d : true ≡ false = sym p ∙ ap is_plain e ∙ reference_plain k u in cc)
 
-module _ (rs : List RecordTree) (types : ℕ → Option TypeTree) where
-  pub is_int_value : (v : ValueTree) → HasType rs types v IntType → (n : ℤ) × (v ≡ IntValue n)
+module _ (rs : List RecordTree) (typed : ℕ → TypeTree → Type 0) where
+  pub is_int_value : (v : ValueTree) → HasType rs typed v IntType → (n : ℤ) × (v ≡ IntValue n)
   is_int_value (IntValue n) h = (n, refl)
   is_int_value (BoolValue b) h = absurd (cc)
   is_int_value (TextValue s) h = absurd (cc)
@@ -195,7 +195,7 @@ module _ (rs : List RecordTree) (types : ℕ → Option TypeTree) where
   is_int_value (RecordValue r vs) h = let d = h.2 in absurd (cc)
   is_int_value (RefValue k c) h = no_reference k IntType h.0 refl h.1
 
-  pub is_bool_value : (v : ValueTree) → HasType rs types v BoolType → (b : Bool) × (v ≡ BoolValue b)
+  pub is_bool_value : (v : ValueTree) → HasType rs typed v BoolType → (b : Bool) × (v ≡ BoolValue b)
   is_bool_value (IntValue n) h = absurd (cc)
   is_bool_value (BoolValue b) h = (b, refl)
   is_bool_value (TextValue s) h = absurd (cc)
@@ -204,7 +204,7 @@ module _ (rs : List RecordTree) (types : ℕ → Option TypeTree) where
   is_bool_value (RecordValue r vs) h = let d = h.2 in absurd (cc)
   is_bool_value (RefValue k c) h = no_reference k BoolType h.0 refl h.1
 
-  pub is_text_value : (v : ValueTree) → HasType rs types v StringType → (s : List ℕ) × (v ≡ TextValue s)
+  pub is_text_value : (v : ValueTree) → HasType rs typed v StringType → (s : List ℕ) × (v ≡ TextValue s)
   is_text_value (IntValue n) h = absurd (cc)
   is_text_value (BoolValue b) h = absurd (cc)
   is_text_value (TextValue s) h = (s, refl)
@@ -213,7 +213,7 @@ module _ (rs : List RecordTree) (types : ℕ → Option TypeTree) where
   is_text_value (RecordValue r vs) h = let d = h.2 in absurd (cc)
   is_text_value (RefValue k c) h = no_reference k StringType h.0 refl h.1
 
-  pub is_error_value : (v : ValueTree) → HasType rs types v ErrorType → (e : ℕ) × (v ≡ ErrorValue e)
+  pub is_error_value : (v : ValueTree) → HasType rs typed v ErrorType → (e : ℕ) × (v ≡ ErrorValue e)
   is_error_value (IntValue n) h = absurd (cc)
   is_error_value (BoolValue b) h = absurd (cc)
   is_error_value (TextValue s) h = absurd (cc)
@@ -223,19 +223,19 @@ module _ (rs : List RecordTree) (types : ℕ → Option TypeTree) where
   is_error_value (RefValue k c) h = no_reference k ErrorType h.0 refl h.1
 
   -- the field at the place of a type
-  pub value_got : (vs : ValueTrees) (ts : List TypeTree) (k : ℕ) (t : TypeTree) → HaveTypes rs types vs ts → slice_get ts k ≡ Some t
-      → (v : ValueTree) × (value_at vs k ≡ Some v) × HasType rs types v t
+  pub value_got : (vs : ValueTrees) (ts : List TypeTree) (k : ℕ) (t : TypeTree) → HaveTypes rs typed vs ts → slice_get ts k ≡ Some t
+      → (v : ValueTree) × (value_at vs k ≡ Some v) × HasType rs typed v t
   value_got NoValues ts k t h e = none_some t (sym (ap (λ l. slice_get l k) h) ∙ e)
   value_got (MoreValues v vs) ts zero t h e =
       let same : h.0 ≡ t = some_same h.0 t (sym (ap (λ l. slice_get l 0) h.2) ∙ e) in
-      (v, refl, subst (HasType rs types v) same h.3)
+      (v, refl, subst (HasType rs typed v) same h.3)
   value_got (MoreValues v vs) ts (suc k) t h e = value_got vs h.1 k t h.4 (sym (ap (λ l. slice_get l (suc k)) h.2) ∙ e)
 
-  pub value_put_fits : (vs : ValueTrees) (ts : List TypeTree) (k : ℕ) (t : TypeTree) (w : ValueTree) → HaveTypes rs types vs ts → slice_get ts k ≡ Some t → HasType rs types w t
-      → HaveTypes rs types (value_put vs k w) ts
+  pub value_put_fits : (vs : ValueTrees) (ts : List TypeTree) (k : ℕ) (t : TypeTree) (w : ValueTree) → HaveTypes rs typed vs ts → slice_get ts k ≡ Some t → HasType rs typed w t
+      → HaveTypes rs typed (value_put vs k w) ts
   value_put_fits NoValues ts k t w h e f = h
   value_put_fits (MoreValues v vs) ts zero t w h e f =
       let same : t ≡ h.0 = sym (some_same h.0 t (sym (ap (λ l. slice_get l 0) h.2) ∙ e)) in
-      (h.0, h.1, h.2, subst (HasType rs types w) same f, h.4)
+      (h.0, h.1, h.2, subst (HasType rs typed w) same f, h.4)
   value_put_fits (MoreValues v vs) ts (suc k) t w h e f =
       (h.0, h.1, h.2, h.3, value_put_fits vs h.1 k t w h.4 (sym (ap (λ l. slice_get l (suc k)) h.2) ∙ e) f)

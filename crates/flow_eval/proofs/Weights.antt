@@ -6,16 +6,16 @@ use Rattle.std.specs.declared.option.Option.TheVariants.{None, Some}
 use Rattle.std.specs.declared.alloc.Global.{Global}
 use Rattle.std.specs.declared.boxed.Box.{Box}
 use Rattle.std.specs.declared.vec.Vec.{Vec}
-use Rattle.flow_ast.specs.declared.expr.Expr.{Expr}
-use Rattle.flow_ast.specs.declared.stmt.Stmt.{Stmt, Stmt-F, fold-Stmt}
-use Rattle.flow_ast.specs.declared.stmt.When.{When-F}
-use Rattle.flow_ast.specs.declared.stmt.StmtKind.{StmtKind, StmtKind-F, fold-StmtKind}
-use Rattle.flow_ast.specs.declared.stmt.StmtKind.TheOpen.{Block, If, While, For, Loop, Break, Continue, Return, Throw, Try, Choose, Declare, Assign, Modify, Call, Wait}
-use Rattle.flow_ast.specs.declared.decl.FunctionDecl.{FunctionDecl}
-use Rattle.flow_ast.specs.Tree.{ExprTree, ExprTrees, IntExpr, TextExpr, BoolExpr, VoidExpr, VarExpr, CallExpr, FieldExpr, MethodExpr, NotExpr, NegExpr, BinaryExpr, ParenExpr, NoExprs, MoreExprs}
-use Rattle.flow_ast.specs.Body.{ChangeTree, PlusChange, MinusChange, UpChange, DownChange}
-use Rattle.flow_ast.specs.View.{expr_of, exprs_of}
-use Rattle.flow_ast.specs.StmtView.{change_of}
+use Rattle.flow_tree.specs.declared.expr.Expr.{Expr}
+use Rattle.flow_tree.specs.declared.stmt.Stmt.{Stmt, Stmt-F, fold-Stmt}
+use Rattle.flow_tree.specs.declared.stmt.When.{When-F}
+use Rattle.flow_tree.specs.declared.stmt.StmtKind.{StmtKind, StmtKind-F, fold-StmtKind}
+use Rattle.flow_tree.specs.declared.stmt.StmtKind.TheOpen.{Block, If, While, For, Loop, Break, Continue, Return, Throw, Try, Choose, Declare, Assign, Modify, Call, Wait}
+use Rattle.flow_tree.specs.declared.decl.FunctionDecl.{FunctionDecl}
+use Rattle.flow_tree.specs.Tree.{ExprTree, ExprTrees, IntExpr, TextExpr, BoolExpr, VoidExpr, VarExpr, CallExpr, FieldExpr, MethodExpr, NotExpr, NegExpr, BinaryExpr, ParenExpr, NoExprs, MoreExprs}
+use Rattle.flow_tree.specs.Body.{ChangeTree, PlusChange, MinusChange, UpChange, DownChange}
+use Rattle.flow_tree.specs.View.{expr_of, exprs_of}
+use Rattle.flow_tree.specs.StmtView.{change_of}
 
 abbrev pub total : List ℕ → ℕ
 total [] = 0
@@ -68,7 +68,7 @@ kind_layer Break = 1
 kind_layer Continue = 1
 kind_layer (Return e) = 10 + weight (expr_of e)
 kind_layer (Throw e) = 10 + maybe_weight (option_map expr_of e)
-kind_layer (Try ws x hs) = 20 + total ws.items + total hs.items
+kind_layer (Try ws p x hs) = 20 + total ws.items + total hs.items
 kind_layer (Choose bs) = 1
 kind_layer (Declare i e) = 10 + maybe_weight (option_map expr_of e)
 kind_layer (Assign t e) = 10 + weight (expr_of e)

@@ -2,6 +2,7 @@
 use Rattle.std.specs.Prelude.{◌≡◌, ℕ, ℤ, pos, negsuc, ◌^◌, ◌-◌, int_le, Bool, ◌&&◌, List, [], ◌∷◌, if◌then◌else◌}
 use Rattle.std.specs.declared.option.Option.{Option}
 use Rattle.std.specs.declared.option.Option.TheVariants.{None, Some}
+use Rattle.flow_base.specs.ErrorNumbers.{out_of_range}
 use Rattle.flow_value.specs.Values.{ValueTree, IntValue, BoolValue, TextValue, VoidValue, ErrorValue}
 
 -- a value, an error by its number, or no meaning: only what has no type comes to that
@@ -19,7 +20,7 @@ if_int test z = if is_int test then Some z else None
 
 -- a whole number, or the error of one that is out of range
 abbrev pub whole : Option ℤ → Answer
-whole None = Throws 9001
+whole None = Throws out_of_range
 whole (Some z) = Given (IntValue z)
 
 abbrev pub truth : Option Bool → Answer

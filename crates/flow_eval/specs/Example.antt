@@ -2,11 +2,11 @@
 -- `int f(int n) { if (n == 0) { return 0; } return f(n - 1) + 1; }`.
 use Rattle.std.specs.Prelude.{ℕ, pos, List, [], ◌∷◌, codes}
 use Rattle.flow_base.specs.declared.place.Place.{Place}
-use Rattle.flow_ast.specs.declared.ty.Ident.{Ident}
-use Rattle.flow_ast.specs.declared.expr.Op.TheVariants.{Eq, Add, Sub}
-use Rattle.flow_ast.specs.Tree.{IntType, ExprTree, IntExpr, VarExpr, CallExpr, BinaryExpr, NoExprs, MoreExprs}
-use Rattle.flow_ast.specs.Body.{Body, End, IfStmt, ReturnStmt}
-use Rattle.flow_ast.specs.Decls.{RoutineTree}
+use Rattle.flow_tree.specs.declared.ty.Ident.{Ident}
+use Rattle.flow_tree.specs.declared.expr.Op.TheVariants.{Eq, Add, Sub}
+use Rattle.flow_tree.specs.Tree.{IntType, ExprTree, IntExpr, VarExpr, CallExpr, BinaryExpr, NoExprs, MoreExprs}
+use Rattle.flow_tree.specs.Body.{Body, End, IfStmt, ReturnStmt}
+use Rattle.flow_tree.specs.Decls.{RoutineTree}
 
 abbrev pub start : Place
 start = record { line = 1; column = 1; byte = 0 }

@@ -4,12 +4,14 @@ use Rattle.std.specs.Option.{option_map}
 use Rattle.std.specs.Str.{bytes_eq}
 use Rattle.std.specs.declared.option.Option.{Option}
 use Rattle.std.specs.declared.option.Option.TheVariants.{None, Some}
-use Rattle.flow_ast.specs.declared.ty.Ident.{Ident}
-use Rattle.flow_ast.specs.declared.expr.Op.{Op}
-use Rattle.flow_ast.specs.declared.expr.Op.TheVariants.{Add, Sub}
-use Rattle.flow_ast.specs.Tree.{TypeTree, IntType, BoolType, StringType, ExprTree, ExprTrees}
-use Rattle.flow_ast.specs.Body.{IntoTree, ChangeTree, PlusChange, MinusChange, UpChange, DownChange, Body, End, BlockStmt, IfStmt, IfElseStmt, WhileStmt, ForStmt, LoopStmt, BreakStmt, ContinueStmt, ReturnStmt, ThrowStmt, TryStmt, ChooseStmt, DeclareStmt, AssignStmt, ModifyStmt, CallStmt, WaitStmt}
-use Rattle.flow_ast.specs.Decls.{ParamTree, RecordTree, RoutineTree}
+use Rattle.flow_tree.specs.declared.limits.TheConstants.{CALL_DEPTH}
+use Rattle.flow_base.specs.ErrorNumbers.{out_of_range}
+use Rattle.flow_tree.specs.declared.ty.Ident.{Ident}
+use Rattle.flow_tree.specs.declared.expr.Op.{Op}
+use Rattle.flow_tree.specs.declared.expr.Op.TheVariants.{Add, Sub}
+use Rattle.flow_tree.specs.Tree.{TypeTree, IntType, BoolType, StringType, ExprTree, ExprTrees}
+use Rattle.flow_tree.specs.Body.{IntoTree, ChangeTree, PlusChange, MinusChange, UpChange, DownChange, Body, End, BlockStmt, IfStmt, IfElseStmt, WhileStmt, ForStmt, LoopStmt, BreakStmt, ContinueStmt, ReturnStmt, ThrowStmt, TryStmt, ChooseStmt, DeclareStmt, AssignStmt, ModifyStmt, CallStmt, WaitStmt}
+use Rattle.flow_tree.specs.Decls.{ParamTree, RecordTree, RoutineTree}
 use Rattle.flow_ast.specs.TypingNames.{named}
 use Rattle.flow_ast.specs.Typing.{routine_named}
 use Rattle.flow_value.specs.Values.{ValueTree, IntValue, BoolValue, TextValue, ErrorValue, RecordValue}
@@ -271,7 +273,7 @@ module _ (s : Setting) (run : Runner) where
   exec (ContinueStmt at k) caught vars left = Continues vars left
   exec (ReturnStmt at e k) caught vars left = after (return_run e vars left) (exec k caught)
   exec (ThrowStmt at e k) caught vars left = after (throw_run e caught vars left) (exec k caught)
-  exec (TryStmt at b x h k) caught vars left = after (try_run (exec b caught) x.name (exec h (Some x.name)) vars left) (exec k caught)
+  exec (TryStmt at b q x h k) caught vars left = after (try_run (exec b caught) x.name (exec h (Some x.name)) vars left) (exec k caught)
   exec (ChooseStmt at bs k) caught vars left = NoRun
   exec (DeclareStmt at i e k) caught vars left = after (declare_run i e vars left) (exec k caught)
   exec (AssignStmt at xs e k) caught vars left = after (assign_run xs e vars left) (exec k caught)
@@ -296,13 +298,13 @@ called_body s run (Some f) vs left = body_run s run f (entered f.params vs) left
 -- turn, is judged for its depth, and runs
 abbrev pub run_function : Setting → ℕ → Runner
 run_function s zero f vs zero = Spent
-run_function s zero f vs (suc left) = Fails 9001 left
+run_function s zero f vs (suc left) = Fails out_of_range left
 run_function s (suc nest) f vs zero = Spent
 run_function s (suc nest) f vs (suc left) = body_run s (run_function s nest) f (entered f.params vs) left
 
 -- how deep calls of functions may be nested
 abbrev pub deepest : ℕ
-deepest = 64
+deepest = CALL_DEPTH
 
 -- the meaning of an expression, and of a call of a function
 abbrev pub Eval : Setting → (List ℕ → Option ValueTree) → ExprTree → ℕ → Res ValueTree

@@ -9,4 +9,5 @@ pub mod Variables
 pub mod Meaning
 pub mod Typed
 pub mod WellTyped
+pub mod MoreTurns
 pub mod Example

@@ -4,9 +4,9 @@ use Rattle.std.specs.declared.option.Option.{Option}
 use Rattle.std.specs.declared.option.Option.TheVariants.{None}
 use Rattle.std.specs.declared.result.Result.{Result}
 use Rattle.std.specs.declared.result.Result.TheVariants.{Ok, Err}
-use Rattle.flow_ast.specs.declared.decl.RecordDecl.{RecordDecl}
-use Rattle.flow_ast.specs.declared.decl.FunctionDecl.{FunctionDecl}
-use Rattle.flow_ast.specs.DeclView.{record_of, function_of}
+use Rattle.flow_tree.specs.declared.decl.RecordDecl.{RecordDecl}
+use Rattle.flow_tree.specs.declared.decl.FunctionDecl.{FunctionDecl}
+use Rattle.flow_tree.specs.DeclView.{record_of, function_of}
 use Rattle.flow_value.specs.Values.{ValueTree, OutcomeTree}
 use Rattle.flow_value.specs.declared.value.Value.{Value}
 use Rattle.flow_value.specs.View.{value_of}

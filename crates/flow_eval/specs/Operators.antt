@@ -5,8 +5,9 @@ use Rattle.std.specs.Cmp.Lexicographic.{slice_cmp}
 use Rattle.std.specs.declared.cmp.Ordering.{Ordering}
 use Rattle.std.specs.declared.option.Option.{Option}
 use Rattle.std.specs.declared.option.Option.TheVariants.{None, Some}
-use Rattle.flow_ast.specs.declared.expr.Op.{Op}
-use Rattle.flow_ast.specs.declared.expr.Op.TheVariants.{Eq, Ne, Lt, Le, Gt, Ge, Add, Sub, Mul, Div, Rem}
+use Rattle.flow_base.specs.ErrorNumbers.{too_long}
+use Rattle.flow_tree.specs.declared.expr.Op.{Op}
+use Rattle.flow_tree.specs.declared.expr.Op.TheVariants.{Eq, Ne, Lt, Le, Gt, Ge, Add, Sub, Mul, Div, Rem}
 use Rattle.flow_value.specs.Values.{ValueTree, IntValue, BoolValue, TextValue}
 use Rattle.flow_eval.specs.Answers.{Answer, Given, Throws, NoMeaning, if_int, whole, truth}
 
@@ -47,7 +48,7 @@ on_ints op a b = truth (compared op (int_cmp a b))
 
 -- two texts, joined where the whole is short enough, or compared by bytes
 abbrev pub joined : List ℕ → List ℕ → Answer
-joined s t = if nat_le (length (s ++ t)) 65535 then Given (TextValue (s ++ t)) else Throws 9002
+joined s t = if nat_le (length (s ++ t)) 65535 then Given (TextValue (s ++ t)) else Throws too_long
 
 abbrev pub on_texts : Op → List ℕ → List ℕ → Answer
 on_texts Add s t = joined s t

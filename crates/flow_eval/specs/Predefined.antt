@@ -4,7 +4,8 @@ use Rattle.std.specs.Fmt.{signed_decimal}
 use Rattle.std.specs.List.{list_all}
 use Rattle.std.specs.declared.option.Option.{Option}
 use Rattle.std.specs.declared.option.Option.TheVariants.{None, Some}
-use Rattle.flow_base.specs.Names.{digit}
+use Rattle.flow_base.specs.ErrorNumbers.{end_of_stream, bad_argument, broken_promise, not_ready, operation_cancelled, timed_out}
+use Rattle.flow_base.specs.Names.{digits_from, are_digits}
 use Rattle.flow_ast.specs.declared.predefined.Predefined as code
 use Rattle.flow_ast.specs.declared.predefined.Predefined.TheVariants.{ToString, ToInt, Now, EndOfStream, TimedOut, BrokenPromise, OperationCancelled, ActorCancelled, Error}
 use Rattle.flow_ast.specs.declared.predefined.Method.{Method}
@@ -13,14 +14,6 @@ use Rattle.flow_value.specs.declared.value.Kind.{Kind}
 use Rattle.flow_value.specs.declared.value.Kind.TheVariants.{Promise, Future, PromiseStream, FutureStream}
 use Rattle.flow_value.specs.Values.{ValueTree, IntValue, BoolValue, TextValue, ErrorValue, RefValue, OutcomeTree, GoodOutcome, BadOutcome}
 use Rattle.flow_eval.specs.Answers.{Answer, Given, Throws, NoMeaning, if_int, int_of, text_of, arg}
-
--- the number that decimal digits spell, after what was read before
-abbrev pub digits_from : ℕ → List ℕ → ℕ
-digits_from n [] = n
-digits_from n (d ∷ ds) = digits_from (n * 10 + (d - 48)) ds
-
-abbrev pub are_digits : List ℕ → Bool
-are_digits ds = not (length ds == 0) && list_all digit ds
 
 abbrev pub signed : Bool → ℕ → ℤ
 signed true n = neg_ℤ (pos n)
@@ -35,7 +28,7 @@ read_int [] = None
 read_int (b ∷ bs) = if b == 45 then read_digits true bs else read_digits false (b ∷ bs)
 
 abbrev pub int_read : Option ℤ → Answer
-int_read None = Throws 9007
+int_read None = Throws bad_argument
 int_read (Some z) = Given (IntValue z)
 
 abbrev pub to_string : Option ℤ → Answer
@@ -56,18 +49,18 @@ natural (negsuc n) = 0
 
 abbrev pub error_number : Option ℤ → Answer
 error_number None = NoMeaning
-error_number (Some z) = if in_error_range z then Given (ErrorValue (natural z)) else Throws 9007
+error_number (Some z) = if in_error_range z then Given (ErrorValue (natural z)) else Throws bad_argument
 
 -- a predefined call with these arguments at this time; effects and statement calls are none
 abbrev pub call_answer : code.Predefined → ℤ → List ValueTree → Answer
 call_answer ToString now vs = to_string (int_of (arg vs 0))
 call_answer ToInt now vs = to_int (text_of (arg vs 0))
 call_answer Now now vs = Given (IntValue now)
-call_answer EndOfStream now vs = Given (ErrorValue 1)
-call_answer TimedOut now vs = Given (ErrorValue 1004)
-call_answer BrokenPromise now vs = Given (ErrorValue 1100)
-call_answer OperationCancelled now vs = Given (ErrorValue 1101)
-call_answer ActorCancelled now vs = Given (ErrorValue 1101)
+call_answer EndOfStream now vs = Given (ErrorValue end_of_stream)
+call_answer TimedOut now vs = Given (ErrorValue timed_out)
+call_answer BrokenPromise now vs = Given (ErrorValue broken_promise)
+call_answer OperationCancelled now vs = Given (ErrorValue operation_cancelled)
+call_answer ActorCancelled now vs = Given (ErrorValue operation_cancelled)
 call_answer Error now vs = error_number (int_of (arg vs 0))
 call_answer _ now vs = NoMeaning
 
@@ -76,7 +69,7 @@ abbrev pub clipped : List ℕ → ℤ → ℤ → Answer
 clipped t from count =
     if int_le (pos 0) from && int_le from (pos (length t)) && int_le (pos 0) count
     then Given (TextValue (take (natural count) (drop (natural from) t)))
-    else Throws 9007
+    else Throws bad_argument
 
 abbrev pub substr : List ℕ → Option ℤ → Option ℤ → Answer
 substr t (Some from) (Some count) = clipped t from count
@@ -97,7 +90,7 @@ has_error _ = false
 
 -- what a future gives: its value, its own error, or the error of one that isn't ready
 abbrev pub got : Option OutcomeTree → Answer
-got None = Throws 9006
+got None = Throws not_ready
 got (Some (GoodOutcome v)) = Given v
 got (Some (BadOutcome e)) = Throws e
 

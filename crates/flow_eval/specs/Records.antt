@@ -4,8 +4,8 @@ use Rattle.std.specs.Option.{option_map}
 use Rattle.std.specs.Str.{bytes_eq}
 use Rattle.std.specs.declared.option.Option.{Option}
 use Rattle.std.specs.declared.option.Option.TheVariants.{None, Some}
-use Rattle.flow_ast.specs.Tree.{TypeTree}
-use Rattle.flow_ast.specs.Decls.{ParamTree, RecordTree}
+use Rattle.flow_tree.specs.Tree.{TypeTree}
+use Rattle.flow_tree.specs.Decls.{ParamTree, RecordTree}
 use Rattle.flow_ast.specs.Typing.{is_packet, packet_fields}
 use Rattle.flow_value.specs.declared.value.RecordId.{RecordId}
 use Rattle.flow_value.specs.declared.value.RecordId.TheVariants.{Packet, Declared}

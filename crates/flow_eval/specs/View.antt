@@ -9,14 +9,14 @@ use Rattle.flow_eval.specs.declared.stop.Halt.TheVariants as halt
 use Rattle.std.specs.declared.alloc.Global.{Global}
 use Rattle.std.specs.declared.vec.Vec.{Vec}
 use Rattle.std.specs.declared.option.Option.{Option}
-use Rattle.flow_ast.specs.DeclView.{record_of, function_of}
+use Rattle.flow_tree.specs.DeclView.{record_of, function_of}
 use Rattle.flow_value.specs.Values.{ValueTree, OutcomeTree}
 use Rattle.std.specs.declared.option.Option.TheVariants as option
 use Rattle.flow_eval.specs.declared.variables.Var.{Var}
 use Rattle.flow_eval.specs.Variables.{var_of}
 use Rattle.flow_eval.specs.declared.evaluate.Setting as code
 use Rattle.flow_eval.specs.Answers.{Answer, Given, Throws, NoMeaning}
-use Rattle.flow_ast.specs.Body.{Body}
+use Rattle.flow_tree.specs.Body.{Body}
 use Rattle.flow_eval.specs.declared.statements.Flow.{Flow}
 use Rattle.flow_eval.specs.declared.statements.Flow.TheVariants as flow
 use Rattle.flow_eval.specs.Functions.{skip, scope, exec, Locals, Run, Goes, Breaks, Continues, Returns, Raises, SpentRun, NoRun}

@@ -2,13 +2,14 @@
 use Rattle.std.specs.Prelude.{◌≡◌, ℕ, List, slice_get}
 use Rattle.std.specs.declared.option.Option.{Option}
 use Rattle.std.specs.declared.option.Option.TheVariants.{Some}
-use Rattle.flow_ast.specs.Tree.{TypeTree, ExprTree}
-use Rattle.flow_ast.specs.Decls.{ParamTree, RoutineTree}
+use Rattle.flow_tree.specs.Tree.{TypeTree, ExprTree}
+use Rattle.flow_tree.specs.Decls.{ParamTree, RoutineTree}
 use Rattle.flow_ast.specs.Typing.{param_types}
 use Rattle.flow_value.specs.Values.{ValueTree, values_of_list}
 use Rattle.flow_eval.specs.Eval.{Res, Done, Fails, Spent, Meaningless, Setting, function_called}
 use Rattle.flow_eval.specs.Functions.{Eval, run_function, deepest}
-use Rattle.flow_eval.specs.Typed.{HasType, HaveTypes, CellsFit, VariablesFit, Yields, FunctionsFit}
+use Rattle.flow_ast.specs.Fits.{Yields, FunctionsFit}
+use Rattle.flow_eval.specs.Typed.{HasType, HaveTypes, CellsFit, VariablesFit}
 
 -- an evaluation means something, and a thing that it comes to has a property
 abbrev pub Safe : {A : Type 0} → (A → Type 0) → Res A → Type 0
@@ -20,11 +21,15 @@ Safe P Meaningless = ⊥
 abbrev pub HasMeaning : Res ValueTree → Type 0
 HasMeaning r = Safe (λ v. Unit {0}) r
 
+-- cells have these types
+abbrev pub cell_typed : (ℕ → Option TypeTree) → ℕ → TypeTree → Type 0
+cell_typed types c t = types c ≡ Some t
+
 -- a call of the function at a place
 abbrev pub CallAt : Setting → ℕ → List ValueTree → ℕ → Res ValueTree
 CallAt s k vs left = function_called s (run_function s deepest) (slice_get s.functions k) vs left
 
--- An expression has a type and no effects, for some types of cells and of variables that the cells
+-- An expression has a type and no effects, for some types of cells (those of their future sides) and of variables that the cells
 -- and the variables have, in a program whose functions are well typed. Actors' names may stand in the
 -- scope, since they have types too.
 pub record WellTyped (s : Setting) (look : List ℕ → Option ValueTree) (e : ExprTree) : Type 0 where
@@ -33,8 +38,8 @@ pub record WellTyped (s : Setting) (look : List ℕ → Option ValueTree) (e : E
   pub vars : List ParamTree
   pub type : TypeTree
   pub functions_fit : FunctionsFit s.records s.functions actors
-  pub cells_fit : CellsFit s.records cell_types s.cells
-  pub variables_fit : VariablesFit s.records cell_types look vars
+  pub cells_fit : CellsFit s.records (cell_typed cell_types) s.cells
+  pub variables_fit : VariablesFit s.records (cell_typed cell_types) look vars
   pub yields : Yields s.records s.functions actors vars e type
 
 -- the function at a place is called with arguments of its parameters' types
@@ -44,10 +49,10 @@ pub record WellTypedCall (s : Setting) (k : ℕ) (vs : List ValueTree) : Type 0 
   pub called : RoutineTree
   pub there : slice_get s.functions k ≡ Some called
   pub functions_fit : FunctionsFit s.records s.functions actors
-  pub cells_fit : CellsFit s.records cell_types s.cells
-  pub arguments_fit : HaveTypes s.records cell_types (values_of_list vs) (param_types called.params)
+  pub cells_fit : CellsFit s.records (cell_typed cell_types) s.cells
+  pub arguments_fit : HaveTypes s.records (cell_typed cell_types) (values_of_list vs) (param_types called.params)
 
 -- a well-typed expression always means something, and its value has its type; so does a call
 pub record KeepsTypes : Type 0 where
-  pub of_expressions : (s : Setting) (look : List ℕ → Option ValueTree) (e : ExprTree) (w : WellTyped s look e) (left : ℕ) → Safe (λ v. HasType s.records w.cell_types v w.type) (Eval s look e left)
-  pub of_calls : (s : Setting) (k : ℕ) (vs : List ValueTree) (w : WellTypedCall s k vs) (left : ℕ) → Safe (λ v. HasType s.records w.cell_types v w.called.returns) (CallAt s k vs left)
+  pub of_expressions : (s : Setting) (look : List ℕ → Option ValueTree) (e : ExprTree) (w : WellTyped s look e) (left : ℕ) → Safe (λ v. HasType s.records (cell_typed w.cell_types) v w.type) (Eval s look e left)
+  pub of_calls : (s : Setting) (k : ℕ) (vs : List ValueTree) (w : WellTypedCall s k vs) (left : ℕ) → Safe (λ v. HasType s.records (cell_typed w.cell_types) v w.called.returns) (CallAt s k vs left)

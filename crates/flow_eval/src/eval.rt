@@ -1,7 +1,7 @@
 // The meaning of expressions and of calls, for whoever keeps variables and cells.
 
 ghost use Rattle.std.specs.Prelude.{◌≡◌, ◌<◌, ◌^◌, ℕ, map, length};
-ghost use Rattle.flow_ast.specs.View.{expr_of};
+ghost use Rattle.flow_tree.specs.View.{expr_of};
 ghost use Rattle.flow_ast.specs.TypingNames.{named};
 ghost use Rattle.flow_value.specs.Values.{ValueTree};
 ghost use Rattle.flow_value.specs.View.{value_of};
@@ -18,11 +18,9 @@ use crate::stop::{Halt, Stop};
 use crate::variables::{Var, VarList, Variables, Vars};
 use flow_ast::decl::{FunctionDecl, RecordDecl};
 use flow_ast::expr::Expr;
+use flow_tree::limits::CALL_DEPTH;
 use flow_value::value::Value;
 use std::alloc::Global;
-
-/// How deep calls of plain functions may be nested.
-pub const DEEPEST: u32 = 64;
 
 /// The records and the plain functions of a program.
 #[derive(Drop, Debug)]
@@ -71,7 +69,7 @@ fn evaluated<V: Variables, C: CellView>(
     requires { HasMeaning (Eval (setting_of C.content setting.now) (V.by_name vars.now) (expr_of expr.now) turns.old.left) }
     ensures { Means (Eval (setting_of C.content setting.now) (V.by_name vars.now) (expr_of expr.now) turns.old.left) result turns.new.left }
 {
-    match evaluate(setting, DEEPEST, &Vars::Outer(vars), expr, turns) {
+    match evaluate(setting, CALL_DEPTH, &Vars::Outer(vars), expr, turns) {
         Ok(value) => Ok(value),
         Err(halt) => Err(stopped(halt)),
     }
@@ -124,7 +122,7 @@ fn called(
     requires meant { HasMeaning (CallAt (setting_of (λ _. no_cells) setting.now) function (map value_of args.items) turns.old.left) }
     ensures { Means (CallAt (setting_of (λ _. no_cells) setting.now) function (map value_of args.items) turns.old.left) result turns.new.left }
 {
-    match run_at::<VarList, NoCells>(setting, DEEPEST, function, args, turns) {
+    match run_at::<VarList, NoCells>(setting, CALL_DEPTH, function, args, turns) {
         Ok(value) => Ok(value),
         Err(halt) => Err(stopped(halt)),
     }

@@ -2,8 +2,8 @@
 
 ghost use Rattle.std.specs.Prelude.{◌≡◌, ◌≤◌, ◌<◌, map, length, slice_get, IfSome};
 ghost use Rattle.flow_ast.specs.TypingNames.{named, call_names, method_names, constant_names};
-ghost use Rattle.flow_ast.specs.DeclView.{record_of, function_of};
-ghost use Rattle.flow_ast.specs.View.{expr_of, exprs_of};
+ghost use Rattle.flow_tree.specs.DeclView.{record_of, function_of};
+ghost use Rattle.flow_tree.specs.View.{expr_of, exprs_of};
 ghost use Rattle.flow_value.specs.View.{value_of};
 ghost use Rattle.flow_eval.specs.Answers.{bool_of, truth};
 ghost use Rattle.flow_eval.specs.Records.{field, field_answer};
@@ -19,11 +19,12 @@ use crate::operators::{inverted, negated, operated};
 use crate::predefined::{call_answer, method_answer};
 use crate::records::{field, record_id};
 use crate::statements::{finished, run_body};
-use crate::stop::{Halt, OUT_OF_RANGE};
+use crate::stop::Halt;
 use crate::variables::{Variables, Vars, look};
 use flow_ast::decl::{FunctionDecl, RecordDecl};
 use flow_ast::expr::{Expr, Op};
 use flow_ast::predefined::{predefined_call, predefined_constant, predefined_method};
+use flow_base::errors::OUT_OF_RANGE;
 use flow_value::value::Value;
 use std::alloc::Global;
 

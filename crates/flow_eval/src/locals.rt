@@ -3,8 +3,8 @@
 ghost use Rattle.std.specs.Prelude.{◌≡◌, ◌++◌, ◌∷◌, [], ℕ, List, Option, Some, map, OnOk, length, ◌<◌, position, if◌then◌else◌, None};
 ghost use Rattle.std.specs.Option.{option_map, option_copied};
 ghost use Rattle.std.specs.Str.{bytes_eq};
-ghost use Rattle.flow_ast.specs.DeclView.{record_of, param_of};
-ghost use Rattle.flow_ast.specs.View.{type_of};
+ghost use Rattle.flow_tree.specs.DeclView.{record_of, param_of};
+ghost use Rattle.flow_tree.specs.View.{type_of};
 ghost use Rattle.flow_ast.specs.TypingNames.{named};
 ghost use Rattle.flow_value.specs.View.{value_of, values_of};
 ghost use Rattle.flow_value.specs.Values.{ValueTree, RecordValue};

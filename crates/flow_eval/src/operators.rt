@@ -6,8 +6,9 @@ ghost use Rattle.flow_eval.specs.Answers.{whole, truth};
 ghost use Rattle.flow_eval.specs.Operators.{compared, equated, on_ints, on_texts, on_bools, joined, operated, negated, inverted};
 ghost use Rattle.flow_eval.specs.View.{Answers};
 
-use crate::stop::{Halt, OUT_OF_RANGE, TOO_LONG};
+use crate::stop::Halt;
 use flow_ast::expr::Op;
+use flow_base::errors::{OUT_OF_RANGE, TOO_LONG};
 use flow_base::text::Text;
 use flow_value::value::Value;
 use std::alloc::Global;

@@ -3,15 +3,16 @@
 ghost use Rattle.std.specs.Prelude.{◌≡◌, ◌^◌, ◌-◌, ℕ, ◌<◌, map, min, length};
 ghost use Rattle.std.specs.Option.{option_map, option_copied};
 ghost use Rattle.std.specs.List.{list_all};
-ghost use Rattle.flow_base.specs.Names.{digit};
+ghost use Rattle.flow_base.specs.Names.{digit, digits_from, are_digits};
 ghost use Rattle.flow_value.specs.View.{value_of, outcome_of};
 ghost use Rattle.flow_eval.specs.Answers.{int_of, text_of, arg, if_int};
-ghost use Rattle.flow_eval.specs.Predefined.{digits_from, are_digits, signed, read_digits, read_int, int_read, to_string, to_int, error_number, call_answer, clipped, substr, text_method, got, has_error, future_method, promise_method, stream_method, error_method, reference_method, method_answer};
+ghost use Rattle.flow_eval.specs.Predefined.{signed, read_digits, read_int, int_read, to_string, to_int, error_number, call_answer, clipped, substr, text_method, got, has_error, future_method, promise_method, stream_method, error_method, reference_method, method_answer};
 ghost use Rattle.flow_eval.specs.View.{Answers};
 
 use crate::cells::CellView;
-use crate::stop::{BAD_ARGUMENT, Halt, NOT_READY};
+use crate::stop::Halt;
 use flow_ast::predefined::{Method, Predefined};
+use flow_base::errors::{BAD_ARGUMENT, NOT_READY};
 use flow_base::ids::{CellId, ErrorCode};
 use flow_base::name::is_digit;
 use flow_base::text::Text;

@@ -3,7 +3,7 @@
 ghost use Rattle.std.specs.Prelude.{◌≡◌, List, map, position};
 ghost use Rattle.std.specs.Option.{option_map, option_copied};
 ghost use Rattle.std.specs.Str.{bytes_eq};
-ghost use Rattle.flow_ast.specs.DeclView.{record_of, param_of};
+ghost use Rattle.flow_tree.specs.DeclView.{record_of, param_of};
 ghost use Rattle.flow_ast.specs.Typing.{packet_fields};
 ghost use Rattle.flow_value.specs.View.{value_of, values_of};
 ghost use Rattle.flow_value.specs.Values.{ValueTree};

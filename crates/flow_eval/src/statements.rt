@@ -1,11 +1,11 @@
 // The statements of plain functions.
 
 ghost use Rattle.std.specs.Prelude.{◌≡◌, ◌≤◌, ℕ, Some, map};
-ghost use Rattle.flow_ast.specs.DeclView.{record_of};
-ghost use Rattle.flow_ast.specs.View.{expr_of, exprs_of};
+ghost use Rattle.flow_tree.specs.DeclView.{record_of};
+ghost use Rattle.flow_tree.specs.View.{expr_of, exprs_of};
 ghost use Rattle.flow_value.specs.View.{value_of};
 ghost use Rattle.std.specs.Option.{option_map, option_copied};
-ghost use Rattle.flow_ast.specs.StmtView.{stmt_of, kind_of, body_of, simple_of, else_of, into_of, change_of};
+ghost use Rattle.flow_tree.specs.StmtView.{stmt_of, kind_of, body_of, simple_of, else_of, into_of, change_of};
 ghost use Rattle.flow_eval.specs.Answers.{error_of};
 ghost use Rattle.flow_eval.specs.Operators.{operated};
 ghost use Rattle.flow_eval.specs.Functions.{read_path, declared, default_value, evaluated, Run, Locals, finished, run_function, exec, scope, if_run, pass_run, turn_run, loop_run, for_run, try_run, handled, return_run, throw_run, declare_run, assign_run, change_operand, change_sign, modify_run, call_run, assigned, put_path, rethrown};
@@ -225,7 +225,7 @@ fn run_kind<V: Variables, C: CellView>(
         StmtKind::Continue => Ok(Flow::Continue),
         StmtKind::Return(value) => run_return::<V, C>(setting, nest, value, locals, turns),
         StmtKind::Throw(error) => run_throw::<V, C>(setting, nest, error, caught, locals, turns),
-        StmtKind::Try(body, error, handler) => {
+        StmtKind::Try(body, _, error, handler) => {
             run_try::<V, C>(setting, nest, body, error, handler, caught, locals, turns)
         }
         StmtKind::Choose(_) => Err(Halt::NoMeaning),

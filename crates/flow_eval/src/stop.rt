@@ -22,18 +22,6 @@ pub enum Halt {
     OutOfMemory,
 }
 
-/// An int out of range, a zero divisor, or a call of a plain function nested too deep.
-pub const OUT_OF_RANGE: ErrorCode = ErrorCode(9001);
-
-/// A text that is too long.
-pub const TOO_LONG: ErrorCode = ErrorCode(9002);
-
-/// `get` on a future that isn't ready.
-pub const NOT_READY: ErrorCode = ErrorCode(9006);
-
-/// A bad argument of a call.
-pub const BAD_ARGUMENT: ErrorCode = ErrorCode(9007);
-
 impl From<NoMemory> for Halt {
     ghost use Rattle.std.specs.Prelude.{◌≡◌};
     ghost use Rattle.flow_eval.specs.declared.stop.Halt.TheVariants.{OutOfMemory};

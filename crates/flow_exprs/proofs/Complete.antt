@@ -1,16 +1,16 @@
 -- What is derived the machine reads.
 use Rattle.std.proofs.Common.{◌≡◌, ℕ, suc, ◌≤◌, ◌<◌, List, [], ◌∷◌, ◌++◌, refl, sym, ap, ◌∙◌, subst, arith, append_assoc}
 use Rattle.flow_base.specs.declared.place.Place.{Place}
-use Rattle.flow_ast.specs.declared.token.Token.TheVariants as token
-use Rattle.flow_ast.specs.declared.token.Word.TheVariants as word
-use Rattle.flow_ast.specs.declared.token.Sign.TheVariants as sign
-use Rattle.flow_ast.specs.declared.token.Spot.{Spot}
-use Rattle.flow_ast.specs.declared.expr.Op.{Op}
-use Rattle.flow_ast.specs.declared.expr.Op.TheVariants.{Or, And, Eq, Ne, Lt, Le, Gt, Ge, Add, Sub, Mul, Div, Rem}
-use Rattle.flow_ast.specs.Tree.{ExprTree, ExprTrees, IntExpr, TextExpr, BoolExpr, VoidExpr, VarExpr, CallExpr, FieldExpr, MethodExpr, NotExpr, NegExpr, BinaryExpr, ParenExpr, NoExprs}
-use Rattle.flow_ast.specs.GrammarToken.{Node, Marked, begin, spots_of}
-use Rattle.flow_ast.specs.Grammar.{sign_at, name_at, level, op_sign, ExprRule, number, text, truth, falsehood, void, variable, call, paren, field, method, negation, minus, binary, ArgsRule, no_args, some_args, MoreArgsRule, end_args, more_args}
-use Rattle.flow_ast.proofs.GrammarLists.{spots_append, spots_begin}
+use Rattle.flow_tree.specs.declared.token.Token.TheVariants as token
+use Rattle.flow_tree.specs.declared.token.Word.TheVariants as word
+use Rattle.flow_tree.specs.declared.token.Sign.TheVariants as sign
+use Rattle.flow_tree.specs.declared.token.Spot.{Spot}
+use Rattle.flow_tree.specs.declared.expr.Op.{Op}
+use Rattle.flow_tree.specs.declared.expr.Op.TheVariants.{Or, And, Eq, Ne, Lt, Le, Gt, Ge, Add, Sub, Mul, Div, Rem}
+use Rattle.flow_tree.specs.Tree.{ExprTree, ExprTrees, IntExpr, TextExpr, BoolExpr, VoidExpr, VarExpr, CallExpr, FieldExpr, MethodExpr, NotExpr, NegExpr, BinaryExpr, ParenExpr, NoExprs}
+use Rattle.flow_tree.specs.GrammarToken.{Node, Marked, begin, spots_of}
+use Rattle.flow_tree.specs.Grammar.{sign_at, name_at, level, op_sign, ExprRule, number, text, truth, falsehood, void, variable, call, paren, field, method, negation, minus, binary, ArgsRule, no_args, some_args, MoreArgsRule, end_args, more_args}
+use Rattle.flow_tree.proofs.GrammarLists.{spots_append, spots_begin}
 use Rattle.flow_exprs.specs.declared.kind.Kind.{Kind}
 use Rattle.flow_exprs.specs.declared.kind.Kind.TheVariants as kind
 use Rattle.flow_exprs.specs.Kinds.{kind_of, sign_kind}

@@ -3,18 +3,18 @@ use Rattle.std.proofs.Common.{◌≡◌, ℕ, suc, ◌+◌, ◌≤◌, List, [],
 use Rattle.std.specs.Prelude.{nat_le}
 use Rattle.std.proofs.lemmas.List.{append-nil}
 use Rattle.flow_base.specs.declared.place.Place.{Place}
-use Rattle.flow_ast.specs.declared.token.Token.TheVariants as token
-use Rattle.flow_ast.specs.declared.token.Word.TheVariants as word
-use Rattle.flow_ast.specs.declared.token.Sign.TheVariants as sign
-use Rattle.flow_ast.specs.declared.token.Spot.{Spot}
-use Rattle.flow_ast.specs.declared.ty.Ident.{Ident}
-use Rattle.flow_ast.specs.Tree.{ExprTree, IntExpr, VoidExpr, FieldExpr, NoExprs}
-use Rattle.flow_ast.specs.GrammarToken.{Node, opens, begin, spots_of, Good}
-use Rattle.flow_ast.specs.Grammar.{sign_at, name_at, node_word, ExprRule, number, void, field, no_args}
-use Rattle.flow_ast.proofs.GrammarLists.{spots_append, spots_begin, keeps_append, keeps_begin}
+use Rattle.flow_tree.specs.declared.token.Token.TheVariants as token
+use Rattle.flow_tree.specs.declared.token.Word.TheVariants as word
+use Rattle.flow_tree.specs.declared.token.Sign.TheVariants as sign
+use Rattle.flow_tree.specs.declared.token.Spot.{Spot}
+use Rattle.flow_tree.specs.declared.ty.Ident.{Ident}
+use Rattle.flow_tree.specs.Tree.{ExprTree, IntExpr, VoidExpr, FieldExpr, NoExprs}
+use Rattle.flow_tree.specs.GrammarToken.{Node, opens, begin, spots_of, Good}
+use Rattle.flow_tree.specs.Grammar.{sign_at, name_at, node_word, ExprRule, number, void, field, no_args}
+use Rattle.flow_tree.proofs.GrammarLists.{spots_append, spots_begin, keeps_append, keeps_begin}
 use Rattle.flow_exprs.specs.Machine.{called, Stack, Top, State, Want, Have, WantArgs, WantName, WantOpen, WantClose, Dead, closed_tree, closed_stack, step, height, head_height, hole, fits_stack, fits}
 use Rattle.std.specs.Prelude.{pos}
-use Rattle.flow_ast.specs.GrammarToken.{Derives}
+use Rattle.flow_tree.specs.GrammarToken.{Derives}
 use Rattle.flow_exprs.proofs.Sound.{sign_spot, Own, Front, need, HaveRead, HasRead, height_some}
 use Rattle.flow_exprs.proofs.Steps.{closed}
 use Rattle.flow_exprs.proofs.Reading.{step_reads, plug, and_left, and_right, le_true}

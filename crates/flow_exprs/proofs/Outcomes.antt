@@ -3,16 +3,16 @@ use Rattle.std.proofs.Common.{◌≡◌, ℕ, zero, suc, ◌+◌, ◌≤◌, ◌
 use Rattle.std.specs.Prelude.{nat_le}
 use Rattle.std.proofs.lemmas.List.{append-nil}
 use Rattle.flow_base.specs.declared.place.Place.{Place}
-use Rattle.flow_ast.specs.declared.token.Spot.{Spot}
-use Rattle.flow_ast.specs.Tree.{ExprTree, NotExpr, NegExpr, BinaryExpr}
-use Rattle.flow_ast.specs.GrammarToken.{Marked, spots_of, Keeps, Good}
-use Rattle.flow_ast.specs.Grammar.{level, ExprRule}
-use Rattle.flow_ast.proofs.GrammarLists.{spots_append}
+use Rattle.flow_tree.specs.declared.token.Spot.{Spot}
+use Rattle.flow_tree.specs.Tree.{ExprTree, NotExpr, NegExpr, BinaryExpr}
+use Rattle.flow_tree.specs.GrammarToken.{Marked, spots_of, Keeps, Good}
+use Rattle.flow_tree.specs.Grammar.{level, ExprRule}
+use Rattle.flow_tree.proofs.GrammarLists.{spots_append}
 use Rattle.flow_exprs.specs.Machine.{Negation, Minus, Stack, Top, InParen, InUnary, InTwo, InArgs, State, Want, Have, WantArgs, WantName, WantOpen, WantClose, Dead, closed_tree, closed_stack, step, height, hole, fits_stack, fits}
 use Rattle.std.proofs.Common.{◌-◌, length, take, drop}
-use Rattle.flow_ast.specs.declared.token.Tokens.{Tokens}
-use Rattle.flow_ast.specs.GrammarToken.{Derives}
-use Rattle.flow_ast.specs.GrammarAnswer.{place_at, ReadsAll, IsRead, IsMissing, IsTooDeep}
+use Rattle.flow_tree.specs.declared.token.Tokens.{Tokens}
+use Rattle.flow_tree.specs.GrammarToken.{Derives}
+use Rattle.flow_tree.specs.GrammarAnswer.{place_at, ReadsAll, IsRead, IsMissing, IsTooDeep}
 use Rattle.flow_exprs.specs.Machine.{Outcome, Ended, ShortAt, DeepAt, at_end, halt, turn, run}
 use Rattle.flow_exprs.proofs.Sound.{HasRead, HaveRead, Front}
 use Rattle.flow_exprs.proofs.Steps.{nat_lt_ge, closed}

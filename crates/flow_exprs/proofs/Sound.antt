@@ -1,19 +1,19 @@
 -- What the machine has read is derived: the derivations stand beside the trees, at each depth.
 use Rattle.std.proofs.Common.{◌≡◌, ℕ, suc, ◌+◌, ◌≤◌, ◌<◌, max, List, [], ◌∷◌, ◌++◌, refl, ap, ◌∙◌, arith}
 use Rattle.flow_base.specs.declared.place.Place.{Place}
-use Rattle.flow_ast.specs.declared.token.Token.{Token}
-use Rattle.flow_ast.specs.declared.token.Token.TheVariants as token
-use Rattle.flow_ast.specs.declared.token.Word.{Word}
-use Rattle.flow_ast.specs.declared.token.Word.TheVariants as word
-use Rattle.flow_ast.specs.declared.token.Sign.{Sign}
-use Rattle.flow_ast.specs.declared.token.Sign.TheVariants as sign
-use Rattle.flow_ast.specs.declared.token.Spot.{Spot}
-use Rattle.flow_ast.specs.declared.expr.Op.{Op}
-use Rattle.flow_ast.specs.declared.ty.Ident.{Ident}
-use Rattle.flow_ast.specs.Tree.{ExprTree, ExprTrees, IntExpr, TextExpr, BoolExpr, VoidExpr, VarExpr, CallExpr, FieldExpr, MethodExpr, NotExpr, NegExpr, BinaryExpr, ParenExpr, NoExprs, MoreExprs}
-use Rattle.flow_ast.specs.GrammarToken.{Node, Marked, opens, begin, spots_of, Keeps}
-use Rattle.flow_ast.specs.Grammar.{sign_at, name_at, node_sign, node_word, node_name, level, op_sign, ExprRule, number, text, truth, falsehood, void, variable, paren, field, negation, minus, binary, ArgsRule, MoreArgsRule}
-use Rattle.flow_ast.proofs.GrammarLists.{spots_append, spots_begin, keeps_append, keeps_begin}
+use Rattle.flow_tree.specs.declared.token.Token.{Token}
+use Rattle.flow_tree.specs.declared.token.Token.TheVariants as token
+use Rattle.flow_tree.specs.declared.token.Word.{Word}
+use Rattle.flow_tree.specs.declared.token.Word.TheVariants as word
+use Rattle.flow_tree.specs.declared.token.Sign.{Sign}
+use Rattle.flow_tree.specs.declared.token.Sign.TheVariants as sign
+use Rattle.flow_tree.specs.declared.token.Spot.{Spot}
+use Rattle.flow_tree.specs.declared.expr.Op.{Op}
+use Rattle.flow_tree.specs.declared.ty.Ident.{Ident}
+use Rattle.flow_tree.specs.Tree.{ExprTree, ExprTrees, IntExpr, TextExpr, BoolExpr, VoidExpr, VarExpr, CallExpr, FieldExpr, MethodExpr, NotExpr, NegExpr, BinaryExpr, ParenExpr, NoExprs, MoreExprs}
+use Rattle.flow_tree.specs.GrammarToken.{Node, Marked, opens, begin, spots_of, Keeps}
+use Rattle.flow_tree.specs.Grammar.{sign_at, name_at, node_sign, node_word, node_name, level, op_sign, ExprRule, number, text, truth, falsehood, void, variable, paren, field, negation, minus, binary, ArgsRule, MoreArgsRule}
+use Rattle.flow_tree.proofs.GrammarLists.{spots_append, spots_begin, keeps_append, keeps_begin}
 use Rattle.flow_exprs.specs.declared.kind.Kind.{Kind}
 use Rattle.flow_exprs.specs.declared.kind.Kind.TheVariants as kind
 use Rattle.flow_exprs.specs.Kinds.{kind_of, sign_kind, word_kind}

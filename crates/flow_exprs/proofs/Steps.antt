@@ -4,15 +4,15 @@ use Rattle.std.specs.Prelude.{nat_lt}
 use Rattle.std.proofs.lemmas.Bool.{cases_lt}
 use Rattle.std.proofs.lemmas.List.{append-nil}
 use Rattle.flow_base.specs.declared.place.Place.{Place}
-use Rattle.flow_ast.specs.declared.token.Sign.TheVariants as sign
-use Rattle.flow_ast.specs.declared.token.Spot.{Spot}
-use Rattle.flow_ast.specs.declared.expr.Op.{Op}
-use Rattle.flow_ast.specs.declared.expr.Op.TheVariants.{Or, And, Eq, Ne, Lt, Le, Gt, Ge, Add, Sub, Mul, Div, Rem}
-use Rattle.flow_ast.specs.declared.ty.Ident.{Ident}
-use Rattle.flow_ast.specs.Tree.{ExprTree, ExprTrees, BinaryExpr, NoExprs, MoreExprs}
-use Rattle.flow_ast.specs.GrammarToken.{Node, begin, spots_of}
-use Rattle.flow_ast.specs.Grammar.{sign_at, name_at, node_name, level, op_sign, call, method, ArgsRule, no_args, some_args, end_args, more_args}
-use Rattle.flow_ast.proofs.GrammarLists.{spots_append, spots_begin, keeps_append, keeps_begin}
+use Rattle.flow_tree.specs.declared.token.Sign.TheVariants as sign
+use Rattle.flow_tree.specs.declared.token.Spot.{Spot}
+use Rattle.flow_tree.specs.declared.expr.Op.{Op}
+use Rattle.flow_tree.specs.declared.expr.Op.TheVariants.{Or, And, Eq, Ne, Lt, Le, Gt, Ge, Add, Sub, Mul, Div, Rem}
+use Rattle.flow_tree.specs.declared.ty.Ident.{Ident}
+use Rattle.flow_tree.specs.Tree.{ExprTree, ExprTrees, BinaryExpr, NoExprs, MoreExprs}
+use Rattle.flow_tree.specs.GrammarToken.{Node, begin, spots_of}
+use Rattle.flow_tree.specs.Grammar.{sign_at, name_at, node_name, level, op_sign, call, method, ArgsRule, no_args, some_args, end_args, more_args}
+use Rattle.flow_tree.proofs.GrammarLists.{spots_append, spots_begin, keeps_append, keeps_begin}
 use Rattle.flow_exprs.specs.Machine.{Head, Function, Method, called, Unary, Negation, Minus, unary, Stack, Top, InParen, InUnary, InTwo, InArgs, push, closed_tree, closed_stack, Below}
 use Rattle.flow_exprs.proofs.Sound.{sign_spot, name_spot, Own, HeadOwn, ArgsOwn, Front, need, HaveRead, join, join_push, join_none, heights_push, called_height, height_some, not_own, minus_own, two_own}
 

@@ -3,30 +3,31 @@ use Rattle.std.specs.Prelude.{◌≡◌, ℕ, ◌+◌, ◌≤◌, ◌<◌, List,
 use Rattle.std.specs.declared.option.Option.{Option}
 use Rattle.std.specs.declared.option.Option.TheVariants.{None, Some}
 use Rattle.flow_base.specs.declared.place.Place.{Place}
-use Rattle.flow_ast.specs.declared.token.Token.{Token}
-use Rattle.flow_ast.specs.declared.token.Token.TheVariants as token
-use Rattle.flow_ast.specs.declared.token.Word.{Word}
-use Rattle.flow_ast.specs.declared.token.Word.TheVariants as word
-use Rattle.flow_ast.specs.declared.token.Spot.{Spot}
-use Rattle.flow_ast.specs.declared.token.Tokens.{Tokens}
-use Rattle.flow_ast.specs.declared.fault.Rule.TheVariants.{S, L}
-use Rattle.flow_ast.specs.declared.fault.SourceFault.{SourceFault}
-use Rattle.flow_ast.specs.declared.fault.SourceFault.TheVariants.{Refused, OutOfMemory}
-use Rattle.flow_ast.specs.GrammarAnswer.{place_at}
-use Rattle.flow_ast.specs.declared.expr.Op.{Op}
-use Rattle.flow_ast.specs.declared.expr.Op.TheVariants.{Sub}
-use Rattle.flow_ast.specs.declared.ty.Ident.{Ident}
-use Rattle.flow_ast.specs.View.{expr_of, exprs_of}
+use Rattle.flow_tree.specs.declared.token.Token.{Token}
+use Rattle.flow_tree.specs.declared.token.Token.TheVariants as token
+use Rattle.flow_tree.specs.declared.token.Word.{Word}
+use Rattle.flow_tree.specs.declared.token.Word.TheVariants as word
+use Rattle.flow_tree.specs.declared.token.Spot.{Spot}
+use Rattle.flow_tree.specs.declared.token.Tokens.{Tokens}
+use Rattle.flow_tree.specs.declared.fault.Rule.TheVariants.{S, L}
+use Rattle.flow_tree.specs.declared.fault.SourceFault.{SourceFault}
+use Rattle.flow_tree.specs.declared.fault.SourceFault.TheVariants.{Refused, OutOfMemory}
+use Rattle.flow_tree.specs.GrammarAnswer.{place_at}
+use Rattle.flow_tree.specs.declared.expr.Op.{Op}
+use Rattle.flow_tree.specs.declared.expr.Op.TheVariants.{Sub}
+use Rattle.flow_tree.specs.declared.ty.Ident.{Ident}
+use Rattle.flow_tree.specs.View.{expr_of, exprs_of}
 use Rattle.flow_exprs.specs.declared.expr.Read.{Read}
 use Rattle.flow_exprs.specs.declared.expr.ReadArgs.{ReadArgs}
-use Rattle.flow_ast.specs.Tree.{ExprTree, ExprTrees, IntExpr, TextExpr, BoolExpr, VarExpr, FieldExpr}
-use Rattle.flow_ast.specs.Grammar.{level}
+use Rattle.flow_tree.specs.Tree.{ExprTree, ExprTrees, IntExpr, TextExpr, BoolExpr, VarExpr, FieldExpr}
+use Rattle.flow_tree.specs.Grammar.{level}
 use Rattle.flow_exprs.specs.declared.kind.Kind.{Kind}
 use Rattle.flow_exprs.specs.declared.kind.Kind.TheVariants as kind
 use Rattle.flow_exprs.specs.declared.stop.Stop.{Stop}
 use Rattle.flow_exprs.specs.declared.stop.Stop.TheVariants.{Short, Deep, NoMemory}
 use Rattle.flow_exprs.specs.Kinds.{kind_at}
 use Rattle.flow_exprs.specs.Machine.{Stack, Want, Have, Head, WantArgs, called, height, heights, head_height, hole, fits_stack, Outcome, ShortAt, DeepAt, run, Below}
+use Rattle.flow_tree.specs.declared.limits.TheConstants.{DEPTH}
 
 -- an opening bracket behind this expression makes no call
 abbrev pub NotCallable : ExprTree → Type 0
@@ -75,8 +76,8 @@ pub record ReadsArgs (spots : List Spot) (from depth : ℕ) (ts : ExprTrees) (hi
   pub after : from < to
   pub within : to ≤ length spots
   pub high_is : high ≡ heights ts
-  pub fits_in : depth + high ≤ 64
-  pub comes : (h : Head) (K : Stack) → Fit 7 depth K → depth + head_height h ≤ 64 → run from (WantArgs h K) (drop from spots) ≡ run to (Have (called h ts) K) (drop to spots)
+  pub fits_in : depth + high ≤ DEPTH
+  pub comes : (h : Head) (K : Stack) → Fit 7 depth K → depth + head_height h ≤ DEPTH → run from (WantArgs h K) (drop from spots) ≡ run to (Have (called h ts) K) (drop to spots)
 
 -- why nothing is read
 abbrev pub Ends : Outcome → Stop → Type 0
@@ -88,7 +89,7 @@ abbrev pub Refuses : List Spot → ℕ → ℕ → ℕ → Stop → Type 0
 Refuses spots from n depth stop = (K : Stack) → Fit n depth K → Ends (run from (Want K) (drop from spots)) stop
 
 abbrev pub RefusesArgs : List Spot → ℕ → ℕ → Stop → Type 0
-RefusesArgs spots from depth stop = (h : Head) (K : Stack) → Fit 7 depth K → depth + head_height h ≤ 64 → Ends (run from (WantArgs h K) (drop from spots)) stop
+RefusesArgs spots from depth stop = (h : Head) (K : Stack) → Fit 7 depth K → depth + head_height h ≤ DEPTH → Ends (run from (WantArgs h K) (drop from spots)) stop
 
 -- the sign with which the tokens go on at this level or a higher one
 abbrev pub next_op : ℕ → Option Kind → Option Op

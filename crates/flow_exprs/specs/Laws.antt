@@ -1,9 +1,9 @@
 -- Laws of the grammar.
 use Rattle.std.specs.Prelude.{◌≡◌, ℕ, List}
-use Rattle.flow_ast.specs.declared.token.Spot.{Spot}
-use Rattle.flow_ast.specs.Tree.{TypeTree, ExprTree}
-use Rattle.flow_ast.specs.GrammarToken.{Derives}
-use Rattle.flow_ast.specs.Grammar.{ExprRule, TypeRule}
+use Rattle.flow_tree.specs.declared.token.Spot.{Spot}
+use Rattle.flow_tree.specs.Tree.{TypeTree, ExprTree}
+use Rattle.flow_tree.specs.GrammarToken.{Derives}
+use Rattle.flow_tree.specs.Grammar.{ExprRule, TypeRule}
 
 -- tokens are derived as one expression at most, and as one type at most
 abbrev pub OneExpr : Type 0

@@ -1,19 +1,20 @@
 -- A machine that reads the tokens of an expression one at a time, with what is open on a stack. The
 -- functions that read expressions say where they bring it; the grammar is what it is proved to follow.
 use Rattle.std.specs.Prelude.{ℕ, suc, ◌+◌, ◌≤◌, ◌<◌, max, List, [], ◌∷◌, cond, Bool, true, false, ◌&&◌, nat_lt, nat_le, if◌then◌else◌}
-use Rattle.flow_ast.specs.declared.token.Token.{Token}
-use Rattle.flow_ast.specs.declared.token.Token.TheVariants as token
-use Rattle.flow_ast.specs.declared.token.Word.{Word}
-use Rattle.flow_ast.specs.declared.token.Word.TheVariants as word
-use Rattle.flow_ast.specs.declared.token.Spot.{Spot}
-use Rattle.flow_ast.specs.declared.expr.Op.{Op}
-use Rattle.flow_ast.specs.declared.expr.Op.TheVariants.{Sub}
-use Rattle.flow_ast.specs.declared.ty.Ident.{Ident}
-use Rattle.flow_ast.specs.Tree.{ExprTree, ExprTrees, IntExpr, TextExpr, BoolExpr, VoidExpr, VarExpr, CallExpr, FieldExpr, MethodExpr, NotExpr, NegExpr, BinaryExpr, ParenExpr, NoExprs, MoreExprs}
-use Rattle.flow_ast.specs.Grammar.{level}
+use Rattle.flow_tree.specs.declared.token.Token.{Token}
+use Rattle.flow_tree.specs.declared.token.Token.TheVariants as token
+use Rattle.flow_tree.specs.declared.token.Word.{Word}
+use Rattle.flow_tree.specs.declared.token.Word.TheVariants as word
+use Rattle.flow_tree.specs.declared.token.Spot.{Spot}
+use Rattle.flow_tree.specs.declared.expr.Op.{Op}
+use Rattle.flow_tree.specs.declared.expr.Op.TheVariants.{Sub}
+use Rattle.flow_tree.specs.declared.ty.Ident.{Ident}
+use Rattle.flow_tree.specs.Tree.{ExprTree, ExprTrees, IntExpr, TextExpr, BoolExpr, VoidExpr, VarExpr, CallExpr, FieldExpr, MethodExpr, NotExpr, NegExpr, BinaryExpr, ParenExpr, NoExprs, MoreExprs}
+use Rattle.flow_tree.specs.Grammar.{level}
 use Rattle.flow_exprs.specs.declared.kind.Kind.{Kind}
 use Rattle.flow_exprs.specs.declared.kind.Kind.TheVariants as kind
 use Rattle.flow_exprs.specs.Kinds.{kind_of}
+use Rattle.flow_tree.specs.declared.limits.TheConstants.{DEPTH}
 
 -- the expression that one token is
 abbrev pub word_leaf : Word → ExprTree
@@ -192,18 +193,18 @@ hole (InArgs h ts K) = suc (hole K)
 -- all nodes that have begun keep the limit of depth
 abbrev pub fits_stack : Stack → Bool
 fits_stack (Top d) = true
-fits_stack (InParen K) = nat_le (hole K) 64 && fits_stack K
-fits_stack (InUnary u K) = nat_le (hole K) 64 && fits_stack K
-fits_stack (InTwo op l K) = nat_le (hole K + height l) 64 && fits_stack K
-fits_stack (InArgs h ts K) = nat_le (hole K + max (head_height h) (heights ts)) 64 && fits_stack K
+fits_stack (InParen K) = nat_le (hole K) DEPTH && fits_stack K
+fits_stack (InUnary u K) = nat_le (hole K) DEPTH && fits_stack K
+fits_stack (InTwo op l K) = nat_le (hole K + height l) DEPTH && fits_stack K
+fits_stack (InArgs h ts K) = nat_le (hole K + max (head_height h) (heights ts)) DEPTH && fits_stack K
 
 abbrev pub fits : State → Bool
 fits (Want K) = fits_stack K
 fits (Have t K) = nat_le (hole K + height t) 65 && fits_stack K
-fits (WantArgs h K) = nat_le (hole K + head_height h) 64 && fits_stack K
-fits (WantName t K) = nat_le (hole K + height t) 64 && fits_stack K
-fits (WantOpen K) = nat_le (hole K) 64 && fits_stack K
-fits (WantClose K) = nat_le (hole K) 64 && fits_stack K
+fits (WantArgs h K) = nat_le (hole K + head_height h) DEPTH && fits_stack K
+fits (WantName t K) = nat_le (hole K + height t) DEPTH && fits_stack K
+fits (WantOpen K) = nat_le (hole K) DEPTH && fits_stack K
+fits (WantClose K) = nat_le (hole K) DEPTH && fits_stack K
 fits Dead = true
 
 -- an expression that ends before the token of this number; or nothing goes on with that token; or

@@ -3,17 +3,18 @@ use Rattle.std.specs.Prelude.{ℕ, suc, ◌+◌, List, [], ◌∷◌, cond, Bool
 use Rattle.std.specs.Option.{option_map}
 use Rattle.std.specs.declared.option.Option.{Option}
 use Rattle.std.specs.declared.option.Option.TheVariants.{None, Some}
-use Rattle.flow_ast.specs.declared.token.Token.{Token}
-use Rattle.flow_ast.specs.declared.token.Token.TheVariants as token
-use Rattle.flow_ast.specs.declared.token.Word.{Word}
-use Rattle.flow_ast.specs.declared.token.Word.TheVariants as word
-use Rattle.flow_ast.specs.declared.token.Sign.{Sign}
-use Rattle.flow_ast.specs.declared.token.Sign.TheVariants as sign
-use Rattle.flow_ast.specs.declared.token.Spot.{Spot}
-use Rattle.flow_ast.specs.Tree.{TypeTree, IntType, BoolType, StringType, VoidType, ErrorType, NamedType, FutureType, FutureStreamType, PromiseType, PromiseStreamType}
-use Rattle.flow_ast.specs.Grammar.{Wrapper, FutureOf, FutureStreamOf, PromiseOf, PromiseStreamOf, wrapped}
+use Rattle.flow_tree.specs.declared.token.Token.{Token}
+use Rattle.flow_tree.specs.declared.token.Token.TheVariants as token
+use Rattle.flow_tree.specs.declared.token.Word.{Word}
+use Rattle.flow_tree.specs.declared.token.Word.TheVariants as word
+use Rattle.flow_tree.specs.declared.token.Sign.{Sign}
+use Rattle.flow_tree.specs.declared.token.Sign.TheVariants as sign
+use Rattle.flow_tree.specs.declared.token.Spot.{Spot}
+use Rattle.flow_tree.specs.Tree.{TypeTree, IntType, BoolType, StringType, VoidType, ErrorType, NamedType, FutureType, FutureStreamType, PromiseType, PromiseStreamType}
+use Rattle.flow_tree.specs.Grammar.{Wrapper, FutureOf, FutureStreamOf, PromiseOf, PromiseStreamOf, wrapped}
 use Rattle.flow_exprs.specs.declared.ty.TypeKind.{TypeKind}
 use Rattle.flow_exprs.specs.declared.ty.TypeKind.TheVariants.{Plain, Future, FutureStream, Promise, PromiseStream, Less, Greater, Other}
+use Rattle.flow_tree.specs.declared.limits.TheConstants.{DEPTH}
 
 abbrev pub type_word_kind : Word → TypeKind
 type_word_kind word.Int = Plain
@@ -138,11 +139,11 @@ type_hole (Inside w K) = suc (type_hole K)
 
 abbrev pub around_fits : Around → Bool
 around_fits (Bottom d) = true
-around_fits (Inside w K) = nat_le (type_hole K) 64 && around_fits K
+around_fits (Inside w K) = nat_le (type_hole K) DEPTH && around_fits K
 
 abbrev pub type_fits : TypeState → Bool
 type_fits (WantType K) = around_fits K
-type_fits (WantLess w K) = nat_le (type_hole K) 64 && around_fits K
+type_fits (WantLess w K) = nat_le (type_hole K) DEPTH && around_fits K
 type_fits (HaveType t K) = nat_le (type_hole K + type_height t) 65 && around_fits K
 type_fits DeadType = true
 

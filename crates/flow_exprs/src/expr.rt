@@ -3,25 +3,23 @@
 ghost use Rattle.std.specs.Prelude.{◌≡◌, ◌↔◌, ℕ, ◌+◌, ◌<◌, ◌≤◌, length, MatchResult, OnSome, IsTrue, Some, slice_get};
 ghost use Rattle.std.specs.Bool.{OnTrue};
 ghost use Rattle.std.specs.Option.{option_map};
-ghost use Rattle.flow_ast.specs.Tree.{VoidExpr, VarExpr, NotExpr, NegExpr, BinaryExpr, ParenExpr, FieldExpr, MethodExpr, CallExpr};
-ghost use Rattle.flow_ast.specs.View.{expr_of, exprs_of};
-ghost use Rattle.flow_ast.specs.Grammar.{level, ExprRule};
-ghost use Rattle.flow_ast.specs.GrammarAnswer.{ReaderAnswer, place_at};
+ghost use Rattle.flow_tree.specs.Tree.{VoidExpr, VarExpr, NotExpr, NegExpr, BinaryExpr, ParenExpr, FieldExpr, MethodExpr, CallExpr};
+ghost use Rattle.flow_tree.specs.View.{expr_of, exprs_of};
+ghost use Rattle.flow_tree.specs.Grammar.{level, ExprRule};
+ghost use Rattle.flow_tree.specs.GrammarAnswer.{ReaderAnswer, place_at};
 ghost use Rattle.flow_exprs.specs.Kinds.{kind_at};
 ghost use Rattle.flow_exprs.specs.Machine.{height};
 ghost use Rattle.flow_exprs.specs.Answer.{Answer, ArgsAnswer, GoesAnswer, RefusalIs, NoSign, next_op, leaf_of_word, leaf_of, leaf_at, ident_of, ident_at};
 
 use crate::kind::{self, Kind};
 use crate::stop::Stop;
-use flow_ast::expr::{Expr, Op};
-use flow_ast::fault::{Rule, SourceFault};
-use flow_ast::token::{Spot, Token, Tokens, Word};
-use flow_ast::ty::Ident;
 use flow_base::place::Place;
+use flow_tree::expr::{Expr, Op};
+use flow_tree::fault::{Rule, SourceFault};
+use flow_tree::limits::DEPTH;
+use flow_tree::token::{Spot, Token, Tokens, Word};
+use flow_tree::ty::Ident;
 use std::alloc::Global;
-
-/// The greatest depth of a node.
-const DEPTH: u32 = 64;
 
 /// An expression that was read: its tree, how many of its nodes lie below one another, and the
 /// number of the token after it.
@@ -445,7 +443,7 @@ fn bracket(alloc: Global, spots: &[Spot], from: usize, depth: u32) -> Result<Rea
 #[cycle(parse)]
 fn arguments(alloc: Global, spots: &[Spot], from: usize, depth: u32) -> Result<ReadArgs, Stop>
     requires within { from ≤ length spots.now }
-    requires shallow { depth ≤ 64 }
+    requires shallow { depth ≤ DEPTH }
     ensures { ArgsAnswer spots.now from depth result }
 {
     let mut args = Vec::new(alloc);
@@ -511,7 +509,7 @@ pub fn parse_expr(
     depth: u32,
 ) -> Result<(Expr, usize), SourceFault>
     requires within { from ≤ length tokens.now.spots.items }
-    requires shallow { depth ≤ 64 }
+    requires shallow { depth ≤ DEPTH }
     ensures { ReaderAnswer (ExprRule 0 depth) expr_of tokens.now from result }
 {
     match expression(alloc, &tokens.spots, from, 0, depth) {

@@ -4,8 +4,8 @@ ghost use Rattle.std.specs.Prelude.{◌≡◌, ◌<◌, OnSome, length, slice_ge
 ghost use Rattle.std.specs.Option.{option_map};
 ghost use Rattle.flow_exprs.specs.Kinds.{sign_kind, word_kind, kind_of, kind_at};
 
-use flow_ast::expr::Op;
-use flow_ast::token::{Sign, Spot, Token, Word};
+use flow_tree::expr::Op;
+use flow_tree::token::{Sign, Spot, Token, Word};
 
 /// What a token is to an expression: one that is an expression by itself, a name, the word `Void`,
 /// a bracket, a comma, a dot, `!`, a sign between two operands, or none of these.

@@ -1,4 +1,4 @@
-//! Expressions and types, read from tokens by the grammar of `flow_ast`.
+//! Expressions and types, read from tokens by the grammar of `flow_tree`.
 #![tactic(auto)]
 
 pub mod expr;

@@ -3,21 +3,19 @@
 ghost use Rattle.std.specs.Prelude.{◌≡◌, ◌↔◌, ℕ, ◌+◌, ◌<◌, ◌≤◌, length, MatchResult, OnSome, IsTrue, Some, None, slice_get};
 ghost use Rattle.std.specs.Bool.{OnTrue};
 ghost use Rattle.std.specs.Option.{option_map};
-ghost use Rattle.flow_ast.specs.View.{type_of};
-ghost use Rattle.flow_ast.specs.Grammar.{TypeRule};
-ghost use Rattle.flow_ast.specs.GrammarAnswer.{ReaderAnswer};
+ghost use Rattle.flow_tree.specs.View.{type_of};
+ghost use Rattle.flow_tree.specs.Grammar.{TypeRule};
+ghost use Rattle.flow_tree.specs.GrammarAnswer.{ReaderAnswer};
 ghost use Rattle.flow_exprs.specs.TypeMachine.{type_word_kind, type_sign_kind, type_kind_of, type_kind_at, plain_of_word, plain_of, plain_at, IsWrapper, wrapped_by};
 ghost use Rattle.flow_exprs.specs.TypeAnswer.{TypeAnswer};
 
 use crate::expr::refusal;
 use crate::stop::Stop;
-use flow_ast::fault::SourceFault;
-use flow_ast::token::{Sign, Spot, Token, Tokens, Word};
-use flow_ast::ty::Ty;
+use flow_tree::fault::SourceFault;
+use flow_tree::limits::DEPTH;
+use flow_tree::token::{Sign, Spot, Token, Tokens, Word};
+use flow_tree::ty::Ty;
 use std::alloc::Global;
-
-/// The greatest depth of a node.
-const DEPTH: u32 = 64;
 
 /// What a token is to a type: a type by itself, a word that takes an argument, an angle bracket, or
 /// none of these.
@@ -247,7 +245,7 @@ pub fn parse_type(
     depth: u32,
 ) -> Result<(Ty, usize), SourceFault>
     requires within { from ≤ length tokens.now.spots.items }
-    requires shallow { depth ≤ 64 }
+    requires shallow { depth ≤ DEPTH }
     ensures { ReaderAnswer (TypeRule depth) type_of tokens.now from result }
 {
     match read(alloc, &tokens.spots, from, depth) {

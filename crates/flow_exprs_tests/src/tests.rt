@@ -1,14 +1,14 @@
 // Texts and what they are read as.
 
-use flow_ast::expr::{Expr, Op};
-use flow_ast::fault::{Rule, SourceFault};
-use flow_ast::token::{Sign, Spot, Token, Tokens, Word};
-use flow_ast::ty::Ty;
 use flow_base::memory::NoMemory;
 use flow_base::name::Name;
 use flow_base::place::Place;
 use flow_exprs::expr::parse_expr;
 use flow_exprs::ty::parse_type;
+use flow_tree::expr::{Expr, Op};
+use flow_tree::fault::{Rule, SourceFault};
+use flow_tree::token::{Sign, Spot, Token, Tokens, Word};
+use flow_tree::ty::Ty;
 use std::alloc::Global;
 use std::test::Fail;
 

@@ -4,14 +4,14 @@ use Rattle.std.specs.Prelude.{not, ◌&&◌, ◌||◌, eqb, nat_lt}
 use Rattle.std.specs.List.{list_all, prefix_len}
 use Rattle.std.proofs.lemmas.Bool.Decides.{nat_tests}
 use Rattle.flow_base.specs.Names.{letter, digit, name_byte, is_name_text}
-use Rattle.flow_ast.specs.declared.token.Token.{Token}
-use Rattle.flow_ast.specs.declared.token.Token.TheVariants as token
-use Rattle.flow_ast.specs.declared.token.Token.TheVariants.{Name, Number, Text}
-use Rattle.flow_ast.specs.declared.token.Word as words
-use Rattle.flow_ast.specs.declared.token.Word.TheVariants.{Actor}
-use Rattle.flow_ast.specs.declared.token.Sign as signs
-use Rattle.flow_ast.specs.declared.token.Sign.TheVariants.{OpenRound}
-use Rattle.flow_ast.specs.Spelling.{word_bytes, sign_bytes, is_number_text, Spells}
+use Rattle.flow_tree.specs.declared.token.Token.{Token}
+use Rattle.flow_tree.specs.declared.token.Token.TheVariants as token
+use Rattle.flow_tree.specs.declared.token.Token.TheVariants.{Name, Number, Text}
+use Rattle.flow_tree.specs.declared.token.Word as words
+use Rattle.flow_tree.specs.declared.token.Word.TheVariants.{Actor}
+use Rattle.flow_tree.specs.declared.token.Sign as signs
+use Rattle.flow_tree.specs.declared.token.Sign.TheVariants.{OpenRound}
+use Rattle.flow_tree.specs.Spelling.{word_bytes, sign_bytes, is_number_text, Spells}
 use Rattle.flow_lex.specs.Next.{sign_byte}
 
 pub and_left : (a b : Bool) → (a && b) ≡ true → a ≡ true

@@ -1,14 +1,14 @@
 -- Small texts, and what the definition of tokens says of them.
 use Rattle.std.proofs.Common.{ℕ, [], ◌∷◌, refl, arith, pos}
 use Rattle.std.specs.Prelude.{codes}
-use Rattle.flow_ast.specs.declared.token.Spot.{Spot}
-use Rattle.flow_ast.specs.declared.token.Token.{Token}
-use Rattle.flow_ast.specs.declared.token.Token.TheVariants as token
-use Rattle.flow_ast.specs.declared.token.Token.TheVariants.{Name, Number}
-use Rattle.flow_ast.specs.declared.token.Word.TheVariants.{If}
-use Rattle.flow_ast.specs.declared.token.Sign.TheVariants.{LessEqual, Greater}
-use Rattle.flow_ast.specs.declared.fault.Rule.TheVariants.{S}
-use Rattle.flow_ast.specs.Lexing.{here, gap, token as and_token, Lexes, LexFault, open_comment, too_big}
+use Rattle.flow_tree.specs.declared.token.Spot.{Spot}
+use Rattle.flow_tree.specs.declared.token.Token.{Token}
+use Rattle.flow_tree.specs.declared.token.Token.TheVariants as token
+use Rattle.flow_tree.specs.declared.token.Token.TheVariants.{Name, Number}
+use Rattle.flow_tree.specs.declared.token.Word.TheVariants.{If}
+use Rattle.flow_tree.specs.declared.token.Sign.TheVariants.{LessEqual, Greater}
+use Rattle.flow_tree.specs.declared.fault.Rule.TheVariants.{S}
+use Rattle.flow_tree.specs.Lexing.{here, gap, token as and_token, Lexes, LexFault, open_comment, too_big}
 use Rattle.flow_lex.proofs.Tables.{word_missing, sign_missing}
 use Rattle.flow_lex.proofs.Longest.{finds_name}
 use Rattle.flow_lex.proofs.Numbers.{finds_zero, finds_number}

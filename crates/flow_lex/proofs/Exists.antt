@@ -6,16 +6,16 @@ use Rattle.std.specs.Str.Parse.{digits_value}
 use Rattle.std.proofs.lemmas.Bool.Decides.{nat_tests}
 use Rattle.flow_base.specs.declared.place.Place.{Place}
 use Rattle.flow_base.specs.Names.{letter, digit, name_byte}
-use Rattle.flow_ast.specs.declared.token.Token.{Token}
-use Rattle.flow_ast.specs.declared.token.Token.TheVariants as token
-use Rattle.flow_ast.specs.declared.token.Token.TheVariants.{Name, Number, Text}
-use Rattle.flow_ast.specs.declared.token.Word as words
-use Rattle.flow_ast.specs.declared.token.Sign as signs
-use Rattle.flow_ast.specs.declared.token.Spot.{Spot}
-use Rattle.flow_ast.specs.declared.fault.Rule.{Rule}
-use Rattle.flow_ast.specs.declared.fault.Rule.TheVariants.{S}
-use Rattle.flow_ast.specs.Spelling.{word_bytes, sign_bytes, plain_byte, escaped, hex_value, empty, piece, NoPiece, IsBounded, begins_gap, gap_length}
-use Rattle.flow_ast.specs.Lexing.{place_after, TokenAt, Refusal, Cannot, bad_inside, open_comment, Reads, here, gap, token as and_token}
+use Rattle.flow_tree.specs.declared.token.Token.{Token}
+use Rattle.flow_tree.specs.declared.token.Token.TheVariants as token
+use Rattle.flow_tree.specs.declared.token.Token.TheVariants.{Name, Number, Text}
+use Rattle.flow_tree.specs.declared.token.Word as words
+use Rattle.flow_tree.specs.declared.token.Sign as signs
+use Rattle.flow_tree.specs.declared.token.Spot.{Spot}
+use Rattle.flow_tree.specs.declared.fault.Rule.{Rule}
+use Rattle.flow_tree.specs.declared.fault.Rule.TheVariants.{S}
+use Rattle.flow_tree.specs.Spelling.{word_bytes, sign_bytes, plain_byte, escaped, hex_value, empty, piece, NoPiece, IsBounded, begins_gap, gap_length}
+use Rattle.flow_tree.specs.Lexing.{place_after, TokenAt, Refusal, Cannot, bad_inside, open_comment, Reads, here, gap, token as and_token}
 use Rattle.flow_lex.specs.Laws.{HasVerdict, read, refused}
 use Rattle.flow_lex.specs.Next.{sign_byte, FoundNumber, PieceAt, InsideAt}
 use Rattle.flow_lex.proofs.Bytes.{true_false}

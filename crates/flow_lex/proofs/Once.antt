@@ -6,17 +6,17 @@ use Rattle.std.proofs.lemmas.Bool.Decides.{nat_tests}
 use Rattle.std.proofs.lemmas.List.{take-append-drop}
 use Rattle.flow_base.specs.Names.{letter, digit}
 use Rattle.flow_base.specs.declared.place.Place.{Place}
-use Rattle.flow_ast.specs.declared.token.Token.{Token}
-use Rattle.flow_ast.specs.declared.token.Token.TheVariants as token_is
-use Rattle.flow_ast.specs.declared.token.Token.TheVariants.{Name, Number, Text}
-use Rattle.flow_ast.specs.declared.token.Spot.{Spot}
-use Rattle.flow_ast.specs.declared.token.Word as words
-use Rattle.flow_ast.specs.declared.token.Word.TheVariants.{Actor}
-use Rattle.flow_ast.specs.declared.token.Sign as signs
-use Rattle.flow_ast.specs.declared.token.Sign.TheVariants.{OpenRound}
-use Rattle.flow_ast.specs.declared.fault.Rule.{Rule}
-use Rattle.flow_ast.specs.Spelling.{word_bytes, sign_bytes, Spells, IsBounded, IsLongest, Inside, NoPiece, is_blank, in_line, block_length, close_position, begins_gap, gap_length}
-use Rattle.flow_ast.specs.Lexing.{place_after, TokenAt, Reads, here, gap, token, EndsLine, Cannot, Refusal, bad_byte, bad_inside, open_text, open_comment, too_big, LexFault}
+use Rattle.flow_tree.specs.declared.token.Token.{Token}
+use Rattle.flow_tree.specs.declared.token.Token.TheVariants as token_is
+use Rattle.flow_tree.specs.declared.token.Token.TheVariants.{Name, Number, Text}
+use Rattle.flow_tree.specs.declared.token.Spot.{Spot}
+use Rattle.flow_tree.specs.declared.token.Word as words
+use Rattle.flow_tree.specs.declared.token.Word.TheVariants.{Actor}
+use Rattle.flow_tree.specs.declared.token.Sign as signs
+use Rattle.flow_tree.specs.declared.token.Sign.TheVariants.{OpenRound}
+use Rattle.flow_tree.specs.declared.fault.Rule.{Rule}
+use Rattle.flow_tree.specs.Spelling.{word_bytes, sign_bytes, Spells, IsBounded, IsLongest, Inside, NoPiece, is_blank, in_line, block_length, close_position, begins_gap, gap_length}
+use Rattle.flow_tree.specs.Lexing.{place_after, TokenAt, Reads, here, gap, token, EndsLine, Cannot, Refusal, bad_byte, bad_inside, open_text, open_comment, too_big, LexFault}
 use Rattle.flow_lex.specs.Laws.{ReadsOnce}
 use Rattle.flow_lex.proofs.Bytes.{true_false, head_same, tail_same, Begins, begins, no_spelling}
 use Rattle.flow_lex.proofs.Tables.{all_words, all_signs}

@@ -1,10 +1,10 @@
 -- Quoted texts: pieces, insides, and that a closed text is the longest spelling.
 use Rattle.std.proofs.Common.{◌≡◌, ℕ, zero, suc, ◌+◌, ◌*◌, ◌≤◌, ◌<◌, List, [], ◌∷◌, ◌++◌, length, take, drop, get_or, refl, sym, ap, ap₂, ◌∙◌, subst, arith, true, false, Some, None, ◌⊎◌, inl, inr, append_assoc, length-append, zero-add, min}
 use Rattle.std.proofs.lemmas.List.{append-nil, take_all, take-append-drop, drop-drop, length-take}
-use Rattle.flow_ast.specs.declared.token.Token.TheVariants as token
-use Rattle.flow_ast.specs.declared.token.Token.TheVariants.{Name, Number, Text}
-use Rattle.flow_ast.specs.Spelling.{plain_byte, escaped, hex_value, Piece, itself, escape, code, Inside, empty, piece, NoPiece, IsLongest}
-use Rattle.flow_ast.specs.Lexing.{EndsLine, Cannot}
+use Rattle.flow_tree.specs.declared.token.Token.TheVariants as token
+use Rattle.flow_tree.specs.declared.token.Token.TheVariants.{Name, Number, Text}
+use Rattle.flow_tree.specs.Spelling.{plain_byte, escaped, hex_value, Piece, itself, escape, code, Inside, empty, piece, NoPiece, IsLongest}
+use Rattle.flow_tree.specs.Lexing.{EndsLine, Cannot}
 use Rattle.flow_lex.specs.Next.{PieceAt}
 use Rattle.flow_lex.proofs.Bytes.{true_false, head_same, tail_same, quote_no_letter, quote_no_digit, quote_no_sign, begins}
 

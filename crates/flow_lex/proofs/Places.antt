@@ -3,8 +3,8 @@ use Rattle.std.proofs.Common.{◌≡◌, ℕ, ◌+◌, ◌≤◌, ◌<◌, List,
 use Rattle.std.specs.Option.{option_map}
 use Rattle.std.proofs.lemmas.List.{take_more, drop_more, drop_all}
 use Rattle.flow_base.specs.declared.place.Place.{Place}
-use Rattle.flow_ast.specs.Spelling.{begins_close, close_position}
-use Rattle.flow_ast.specs.Lexing.{place_after}
+use Rattle.flow_tree.specs.Spelling.{begins_close, close_position}
+use Rattle.flow_tree.specs.Lexing.{place_after}
 
 map_map : (o : Option ℕ) (k : ℕ) → option_map (λ n. k + n) (option_map (λ n. n + 1) o) ≡ option_map (λ n. (k + 1) + n) o
 map_map None k = refl

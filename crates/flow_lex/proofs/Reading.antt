@@ -4,11 +4,11 @@ use Rattle.std.specs.Prelude.{eqb}
 use Rattle.std.proofs.lemmas.List.{append-nil, take-append-drop, length-reverse}
 use Rattle.std.proofs.lemmas.List.Sums.{count_by-le-length, prefix_len-le-length}
 use Rattle.flow_base.specs.declared.place.Place.{Place}
-use Rattle.flow_ast.specs.declared.token.Token.{Token}
-use Rattle.flow_ast.specs.declared.token.Spot.{Spot}
-use Rattle.flow_ast.specs.declared.fault.Rule.{Rule}
-use Rattle.flow_ast.specs.Spelling.{IsBounded, in_line, gap_length}
-use Rattle.flow_ast.specs.Lexing.{place_after, TokenAt, Reads, here, gap, token, Lexes, Refusal, LexFault}
+use Rattle.flow_tree.specs.declared.token.Token.{Token}
+use Rattle.flow_tree.specs.declared.token.Spot.{Spot}
+use Rattle.flow_tree.specs.declared.fault.Rule.{Rule}
+use Rattle.flow_tree.specs.Spelling.{IsBounded, in_line, gap_length}
+use Rattle.flow_tree.specs.Lexing.{place_after, TokenAt, Reads, here, gap, token, Lexes, Refusal, LexFault}
 
 -- reading on from where reading came to
 pub reads_on : {b t b' t' b'' t'' : List ℕ} {s s' : List Spot} → Reads b t s b' t' → Reads b' t' s' b'' t'' → Reads b t (s ++ s') b'' t''

@@ -4,11 +4,11 @@ use Rattle.std.specs.Prelude.{bytes_eq, nat_lt, IfSome}
 use Rattle.std.proofs.lemmas.Bool.Decides.{nat_tests}
 use Rattle.std.specs.List.{find}
 use Rattle.std.proofs.lemmas.Slice.Eq.{bytes_eq-Decides}
-use Rattle.flow_ast.specs.declared.token.Word as words
-use Rattle.flow_ast.specs.declared.token.Word.TheVariants.{Actor, Struct, State, Wait, WaitNext, Choose, When, Loop, While, For, If, Else, Break, Continue, Return, Throw, Try, Catch, Yes, No, Int, Bool as Bool', Str, Void, Error, Future, FutureStream, Promise, PromiseStream}
-use Rattle.flow_ast.specs.declared.token.Sign as signs
-use Rattle.flow_ast.specs.declared.token.Sign.TheVariants.{OpenRound, CloseRound, OpenCurly, CloseCurly, OpenSquare, CloseSquare, Less, Greater, Comma, Semicolon, Dot, Assign, Equal, NotEqual, LessEqual, GreaterEqual, AndAnd, OrOr, Not, Plus, Minus, Star, Slash, Percent, PlusAssign, MinusAssign, PlusPlus, MinusMinus, Amp}
-use Rattle.flow_ast.specs.Spelling.{word_bytes, sign_bytes}
+use Rattle.flow_tree.specs.declared.token.Word as words
+use Rattle.flow_tree.specs.declared.token.Word.TheVariants.{Actor, Struct, State, Wait, WaitNext, Choose, When, Loop, While, For, If, Else, Break, Continue, Return, Throw, Try, Catch, Yes, No, Int, Bool as Bool', Str, Void, Error, Future, FutureStream, Promise, PromiseStream}
+use Rattle.flow_tree.specs.declared.token.Sign as signs
+use Rattle.flow_tree.specs.declared.token.Sign.TheVariants.{OpenRound, CloseRound, OpenCurly, CloseCurly, OpenSquare, CloseSquare, Less, Greater, Comma, Semicolon, Dot, Assign, Equal, NotEqual, LessEqual, GreaterEqual, AndAnd, OrOr, Not, Plus, Minus, Star, Slash, Percent, PlusAssign, MinusAssign, PlusPlus, MinusMinus, Amp}
+use Rattle.flow_tree.specs.Spelling.{word_bytes, sign_bytes}
 use Rattle.flow_lex.proofs.Bytes.{true_false}
 
 -- what is found passes the test, and where nothing is, each place fails it

@@ -3,14 +3,14 @@ use Rattle.std.proofs.Common.{◌≡◌, ℕ, ℤ, pos, zero, suc, ◌+◌, ◌^
 use Rattle.std.proofs.lemmas.List.{length-take}
 use Rattle.flow_base.specs.Names.{IsName}
 use Rattle.flow_base.specs.declared.place.Place.{Place}
-use Rattle.flow_ast.specs.declared.token.Token.{Token}
-use Rattle.flow_ast.specs.declared.token.Token.TheVariants as token
-use Rattle.flow_ast.specs.declared.token.Token.TheVariants.{Name, Number, Text}
-use Rattle.flow_ast.specs.declared.token.Word as words
-use Rattle.flow_ast.specs.declared.token.Sign as signs
-use Rattle.flow_ast.specs.declared.fault.Rule.TheVariants.{S}
-use Rattle.flow_ast.specs.Spelling.{word_bytes, sign_bytes, IsBounded, IsLongest, Inside, NoPiece, begins_gap, gap_length}
-use Rattle.flow_ast.specs.Lexing.{place_after, TokenAt, Refusal, too_big, bad_byte, bad_inside, open_text, open_comment, EndsLine, Cannot}
+use Rattle.flow_tree.specs.declared.token.Token.{Token}
+use Rattle.flow_tree.specs.declared.token.Token.TheVariants as token
+use Rattle.flow_tree.specs.declared.token.Token.TheVariants.{Name, Number, Text}
+use Rattle.flow_tree.specs.declared.token.Word as words
+use Rattle.flow_tree.specs.declared.token.Sign as signs
+use Rattle.flow_tree.specs.declared.fault.Rule.TheVariants.{S}
+use Rattle.flow_tree.specs.Spelling.{word_bytes, sign_bytes, IsBounded, IsLongest, Inside, NoPiece, begins_gap, gap_length}
+use Rattle.flow_tree.specs.Lexing.{place_after, TokenAt, Refusal, too_big, bad_byte, bad_inside, open_text, open_comment, EndsLine, Cannot}
 use Rattle.flow_lex.specs.Next.{sign_byte, Found, InsideAt}
 use Rattle.flow_lex.proofs.Longest.{FoundName, NoSign, sign_longest}
 use Rattle.flow_lex.proofs.Pieces.{text_longest, quoted_split, quoted_front, after_inside, take_plus}

@@ -1,9 +1,9 @@
 -- What holds of reading any text.
 use Rattle.std.specs.Prelude.{◌≡◌, ℕ, List}
 use Rattle.flow_base.specs.declared.place.Place.{Place}
-use Rattle.flow_ast.specs.declared.token.Spot.{Spot}
-use Rattle.flow_ast.specs.declared.fault.Rule.{Rule}
-use Rattle.flow_ast.specs.Lexing.{Lexes, LexFault}
+use Rattle.flow_tree.specs.declared.token.Spot.{Spot}
+use Rattle.flow_tree.specs.declared.fault.Rule.{Rule}
+use Rattle.flow_tree.specs.Lexing.{Lexes, LexFault}
 
 -- a text has one list of tokens at most, one refusal at most, and never both
 pub record ReadsOnce (bytes : List ℕ) : Type 0 where

@@ -3,12 +3,12 @@ use Rattle.std.specs.Prelude.{◌≡◌, ℕ, pos, ◌≤◌, ◌<◌, Bool, not
 use Rattle.std.specs.Str.Parse.{digits_value}
 use Rattle.flow_base.specs.declared.place.Place.{Place}
 use Rattle.flow_base.specs.Names.{letter, digit}
-use Rattle.flow_ast.specs.declared.token.Token.{Token}
-use Rattle.flow_ast.specs.declared.token.Token.TheVariants.{Number}
-use Rattle.flow_ast.specs.declared.fault.SourceFault.{SourceFault}
-use Rattle.flow_ast.specs.declared.fault.SourceFault.TheVariants.{Refused, AcrossWait, OutOfMemory}
-use Rattle.flow_ast.specs.Spelling.{Spells, IsBounded, IsLongest, Piece, NoPiece, Inside}
-use Rattle.flow_ast.specs.Lexing.{TokenAt, Refusal, place_after}
+use Rattle.flow_tree.specs.declared.token.Token.{Token}
+use Rattle.flow_tree.specs.declared.token.Token.TheVariants.{Number}
+use Rattle.flow_tree.specs.declared.fault.SourceFault.{SourceFault}
+use Rattle.flow_tree.specs.declared.fault.SourceFault.TheVariants.{Refused, AcrossWait, OutOfMemory}
+use Rattle.flow_tree.specs.Spelling.{Spells, IsBounded, IsLongest, Piece, NoPiece, Inside}
+use Rattle.flow_tree.specs.Lexing.{TokenAt, Refusal, place_after}
 
 -- the first n bytes are the longest spelling, and they spell this token
 pub record Found (text : List ℕ) (t : Token) (n : ℕ) : Type 0 where

@@ -1,8 +1,8 @@
 // The lexer.
 
 ghost use Rattle.std.specs.Prelude.{◌≡◌, ◌+◌, ◌≤◌, ◌<◌, ◌^◌, ◌-◌, length};
-ghost use Rattle.flow_ast.specs.Spelling.{gap_length};
-ghost use Rattle.flow_ast.specs.Lexing.{Lexed};
+ghost use Rattle.flow_tree.specs.Spelling.{gap_length};
+ghost use Rattle.flow_tree.specs.Lexing.{Lexed};
 ghost use Rattle.flow_lex.specs.Next.{Next};
 
 use crate::number::number_token;
@@ -10,10 +10,10 @@ use crate::quoted::text_token;
 use crate::scan::{after, gap_len, is_gap, past};
 use crate::sign::sign_token;
 use crate::word::name_token;
-use flow_ast::fault::{Rule, SourceFault};
-use flow_ast::token::{Spot, Token, Tokens};
 use flow_base::name::{is_digit, is_letter};
 use flow_base::place::Place;
+use flow_tree::fault::{Rule, SourceFault};
+use flow_tree::token::{Spot, Token, Tokens};
 use std::alloc::Global;
 
 /// The tokens of a program text with their places, or its lexical refusal: S1 for a byte that begins

@@ -5,13 +5,13 @@ ghost use Rattle.std.specs.List.{list_all};
 ghost use Rattle.std.specs.Str.Parse.{digits_value};
 ghost use Rattle.std.specs.Char.{digit_value};
 ghost use Rattle.flow_base.specs.Names.{digit};
-ghost use Rattle.flow_ast.specs.Spelling.{begins_gap};
+ghost use Rattle.flow_tree.specs.Spelling.{begins_gap};
 ghost use Rattle.flow_lex.specs.Next.{Next, FoundNumber};
 
 use crate::scan::{digits_len, front};
-use flow_ast::fault::{Rule, SourceFault};
-use flow_ast::token::Token;
 use flow_base::place::Place;
+use flow_tree::fault::{Rule, SourceFault};
+use flow_tree::token::Token;
 
 // The length of the number that begins the text: a zero stands alone.
 #[tactic(auto, using(crate::proofs::Numbers::finds_zero, crate::proofs::Numbers::finds_number))]

@@ -1,15 +1,15 @@
 // Quoted texts.
 
 ghost use Rattle.std.specs.Prelude.{◌≡◌, ◌+◌, ◌<◌, ◌^◌, length, slice_index, IfOk, IfSome, true, false};
-ghost use Rattle.flow_ast.specs.Spelling.{plain_byte, escaped, hex_value, begins_gap};
+ghost use Rattle.flow_tree.specs.Spelling.{plain_byte, escaped, hex_value, begins_gap};
 ghost use Rattle.flow_lex.specs.Next.{Next, PieceAt, InsideAt};
 
 use crate::scan::{after, past};
-use flow_ast::fault::{Rule, SourceFault};
-use flow_ast::token::Token;
 use flow_base::memory::NoMemory;
 use flow_base::place::Place;
 use flow_base::text::Text;
+use flow_tree::fault::{Rule, SourceFault};
+use flow_tree::token::Token;
 use std::alloc::Global;
 
 fn is_plain(b: u8) -> bool

@@ -3,8 +3,8 @@
 ghost use Rattle.std.specs.Prelude.{◌≡◌, ℕ, ◌+◌, ◌^◌, ◌<◌, ◌≤◌, ◌++◌, ◌∷◌, [], length, drop, take, List, IfSome};
 ghost use Rattle.std.specs.List.{prefix_len};
 ghost use Rattle.flow_base.specs.Names.{digit, name_byte};
-ghost use Rattle.flow_ast.specs.Spelling.{is_blank, in_line, close_position, begins_close, begins_gap, gap_length};
-ghost use Rattle.flow_ast.specs.Lexing.{place_after};
+ghost use Rattle.flow_tree.specs.Spelling.{is_blank, in_line, close_position, begins_close, begins_gap, gap_length};
+ghost use Rattle.flow_tree.specs.Lexing.{place_after};
 
 use flow_base::name::{is_digit, is_name_byte};
 use flow_base::place::Place;

@@ -2,14 +2,14 @@
 
 ghost use Rattle.std.specs.Prelude.{◌≡◌, ◌<◌, length, slice_index, bytes_eq, take, IfSome, true, false};
 ghost use Rattle.std.specs.List.{find};
-ghost use Rattle.flow_ast.specs.declared.token.Sign as signs;
-ghost use Rattle.flow_ast.specs.Spelling.{sign_bytes, begins_gap};
+ghost use Rattle.flow_tree.specs.declared.token.Sign as signs;
+ghost use Rattle.flow_tree.specs.Spelling.{sign_bytes, begins_gap};
 ghost use Rattle.flow_lex.specs.Next.{Next, sign_byte};
 
 use crate::scan::front;
-use flow_ast::fault::{Rule, SourceFault};
-use flow_ast::token::{Sign, Token};
 use flow_base::place::Place;
+use flow_tree::fault::{Rule, SourceFault};
+use flow_tree::token::{Sign, Token};
 
 // The sign of these bytes.
 fn sign_of(bytes: &[u8]) -> Option<Sign>

@@ -1,10 +1,10 @@
 // Texts and what they are read as.
 
 use crate::lex::lex;
-use flow_ast::fault::{Rule, SourceFault};
-use flow_ast::token::{Sign, Spot, Token, Tokens, Word};
 use flow_base::memory::NoMemory;
 use flow_base::place::Place;
+use flow_tree::fault::{Rule, SourceFault};
+use flow_tree::token::{Sign, Spot, Token, Tokens, Word};
 use std::alloc::{AllocError, Global};
 
 /// Texts, each with its tokens and the end, as line, column and spelling.

@@ -3,14 +3,14 @@
 ghost use Rattle.std.specs.Prelude.{◌≡◌, ◌<◌, length, slice_index, bytes_eq, true, false};
 ghost use Rattle.std.specs.List.{find};
 ghost use Rattle.flow_base.specs.Names.{letter};
-ghost use Rattle.flow_ast.specs.Spelling.{word_bytes, begins_gap};
+ghost use Rattle.flow_tree.specs.Spelling.{word_bytes, begins_gap};
 ghost use Rattle.flow_lex.specs.Next.{Next};
 
 use crate::scan::{front, name_len};
-use flow_ast::fault::{Rule, SourceFault};
-use flow_ast::token::{Token, Word};
 use flow_base::name::Name;
 use flow_base::place::Place;
+use flow_tree::fault::{Rule, SourceFault};
+use flow_tree::token::{Token, Word};
 use std::alloc::Global;
 
 // The reserved word of these bytes.

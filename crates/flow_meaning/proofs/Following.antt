@@ -6,7 +6,7 @@ use Rattle.std.specs.declared.option.Option.TheVariants.{None, Some}
 use Rattle.flow_trace.specs.declared.line.Line.{Line}
 use Rattle.flow_trace.specs.declared.line.Line.TheVariants as line
 use Rattle.flow_worldfile.specs.Worlds as file
-use Rattle.flow_ast.specs.Decls.{ProgramTree}
+use Rattle.flow_tree.specs.Decls.{ProgramTree}
 use Rattle.flow_class.specs.Classes.{RawTree}
 use Rattle.flow_meaning.specs.Process.{Engine, Halt, Spent, NoMeaning}
 use Rattle.flow_meaning.specs.Burst.{Host, Live, Burst, burst, burst_from, advance, rests, steps}

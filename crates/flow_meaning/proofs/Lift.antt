@@ -3,19 +3,22 @@ use Rattle.std.proofs.Common.{◌≡◌, ℕ, zero, suc, ◌+◌, ◌<◌, ◌�
 use Rattle.std.proofs.lemmas.Bool.{cases_lt}
 use Rattle.std.specs.declared.option.Option.{Option}
 use Rattle.std.specs.declared.option.Option.TheVariants.{None, Some}
+use Rattle.flow_trace.specs.declared.line.Line.{Line}
 use Rattle.flow_meaning.specs.Numbered.{Numbered, thing, put}
 use Rattle.flow_meaning.specs.Asks.{Ask, Request, Supply}
 use Rattle.flow_meaning.specs.Process.{Task, Run, Halt, Core, Engine}
 use Rattle.flow_meaning.specs.Step.{Stepped, proc, view, answer, run_next, run, popped, do_task, step_tasks, step_if, step}
 use Rattle.flow_meaning.specs.Burst.{Host, Live, live, add_lines, serve, advanced, advance, Burst, rests, steps}
-use Rattle.flow_meaning.specs.Law.{Quietly, still, quiet, Answers, BothOrNone, Simulates, AllRelated, Same, BurstsFollow, BurstsReturn}
-use Rattle.flow_meaning.proofs.Alike.{related_thing, related_put, Matches, task_alike, answer_alike}
+use Rattle.flow_meaning.specs.Orderly.{Orderly, InOrder, UnlessStopped, Phase, Free}
+use Rattle.flow_meaning.specs.Law.{Quietly, still, quiet, Answers, BothOrNone, Simulates, Related, Same, BurstsFollow, BurstsReturn}
+use Rattle.flow_meaning.proofs.Posture.{thing_put, same_rank, Unless, unless, unless_map, unless_both}
+use Rattle.flow_meaning.proofs.Shifts.{run_of}
+use Rattle.flow_meaning.proofs.TaskShifts.{popped_at}
+use Rattle.flow_meaning.proofs.InOrder.{advance_in_order}
+use Rattle.flow_meaning.proofs.Relating.{related_thing, related_shifts}
+use Rattle.flow_meaning.proofs.Alike.{Matches, task_alike, answer_alike}
 
--- a thing that was put there is found, a later one takes its place, and the same one changes nothing
-thing_put : {A : Type 0} (xs : Numbered A) (i : ℕ) (a b : A) → thing xs i ≡ Some a → thing (put xs i b) i ≡ Some b
-thing_put [] i a b h = cc
-thing_put (x ∷ xs) i a b h = grind (arith, thing_put xs i a b)
-
+-- of two things that are put there the later one stays, and the same one changes nothing
 put_put : {A : Type 0} (xs : Numbered A) (i : ℕ) (a b : A) → put (put xs i a) i b ≡ put xs i b
 put_put [] i a b = refl
 put_put (x ∷ xs) i a b = grind (arith, put_put xs i a b)
@@ -66,20 +69,20 @@ many_of : {W A : Type 0} (e : Engine A) (h : Host W) {s t : Live W A} → Many1 
 many_of e h m = after m.0 m.1 m.2
 
 -- a process whose newest task is the step of an actor that is there
-step_runs : {A : Type 0} (d : Engine A) (s : Supply) (c : Core) (ys : Numbered A) (i : ℕ) (ts : List Task) (b : A) (p : Option Ask × A) → c.halted ≡ None → c.tasks ≡ Run i ∷ ts → thing ys i ≡ Some b → d.next (view s c) b ≡ p → step d s (proc c ys) ≡ Some (run_next d s i ts p (proc c ys))
+step_runs : {A : Type 0} (d : Engine A) (s : Supply) (c : Core) (ys : Numbered A) (i : ℕ) (ts : List Task) (b : A) (p : Option Ask × A) → c.halted ≡ None → c.tasks ≡ Run i ∷ ts → thing ys i ≡ Some b → d.next (view s i c) b ≡ p → step d s (proc c ys) ≡ Some (run_next d s i ts p (proc c ys))
 step_runs d s c ys i ts b p eh et en es =
     ap (λ k. step_if d s k (proc c ys)) eh
     ∙ ap (λ k. step_tasks d s k (proc c ys)) et
     ∙ ap (λ o. Some (run d s i ts o (proc c ys))) en
     ∙ ap (λ k. Some (run_next d s i ts k (proc c ys))) es
 
-quiet_many : {W B : Type 0} (d : Engine B) (h : Host W) (w : W) (c : Core) (i : ℕ) (ts : List Task) {b g : B} → c.halted ≡ None → c.tasks ≡ Run i ∷ ts → Quietly d (view (h.supply w) c) b g → (ys : Numbered B) → thing ys i ≡ Some b → Many d h (live (proc c ys) w) (live (proc c (put ys i g)) w)
+quiet_many : {W B : Type 0} (d : Engine B) (h : Host W) (w : W) (c : Core) (i : ℕ) (ts : List Task) {b g : B} → c.halted ≡ None → c.tasks ≡ Run i ∷ ts → Quietly d (view (h.supply w) i c) b g → (ys : Numbered B) → thing ys i ≡ Some b → Many d h (live (proc c ys) w) (live (proc c (put ys i g)) w)
 quiet_many d h w c i ts {b = b} eh et still ys k = subst (λ l. Many d h (live (proc c ys) w) (live (proc c l) w)) (sym (put_same ys i b k)) here
 quiet_many d h w c i ts {b = b} {g = g} eh et (quiet m e q) ys k =
     after (live (proc c (put ys i m)) w) (ap (advanced h w) (step_runs d (h.supply w) c ys i ts b (None, m) eh et k e))
     (subst (λ l. Many d h (live (proc c (put ys i m)) w) (live (proc c l) w)) (put_put ys i m g) (quiet_many d h w c i ts eh et q (put ys i m) (thing_put ys i b m k)))
 
-module _ {W A B : Type 0} (e : Engine A) (d : Engine B) (h : Host W) (R : A → B → Type 0) (sim : Simulates e d R) where
+module _ {W A B : Type 0} (e : Engine A) (d : Engine B) (h : Host W) (R : Phase → A → B → Type 0) (sim : Simulates e d R) where
   -- the second moves, or the first has become lighter
   abbrev Moves : Numbered A → Live W B → Live W A → Live W B → Type 0
   Moves xs u l m = Many1 d h u m ⊎ (Many d h u m × (load sim.weight l.proc.actors < load sim.weight xs))
@@ -88,30 +91,52 @@ module _ {W A B : Type 0} (e : Engine A) (d : Engine B) (h : Host W) (R : A → 
   moved xs u l m (inl k) = many_of d h k
   moved xs u l m (inr k) = k.0
 
+  -- the same process but for its actors, which are related unless the event was stopped
+  abbrev Near : Live W A → Live W B → Type 0
+  Near l m = (l.proc.core ≡ m.proc.core) × (l.out ≡ m.out) × Unless (λ k. Related R k l.proc.actors m.proc.actors) l.proc.core
+
   -- what the second does for a step of the first
   abbrev Does : Numbered A → Live W B → Option (Live W A) → Type 0
   Does xs u None = advance d h u ≡ None
-  Does xs u (Some l) = (m : Live W B) × Moves xs u l m × Same R l m
+  Does xs u (Some l) = (m : Live W B) × Moves xs u l m × Near l m
 
-  served_same : (w : W) (r : Stepped A) (q : Stepped B) → Matches e d R sim r q → Same R (serve h r.1 r.0 w) (serve h q.1 q.0 w)
-  served_same w (p, o) (q, n) k = by_request o n k.1
+  -- lines don't matter to what is related
+  lines_related : (ls : List Line) (c : Core) (xs : Numbered A) (ys : Numbered B) → Related R c xs ys → Related R (add_lines ls c) xs ys
+  lines_related ls c xs ys rs = record { all = rs.all; phases = rs.phases }
+
+  served_near : (w : W) (r : Stepped A) (q : Stepped B) → Matches e d R sim r q → Near (serve h r.1 r.0 w) (serve h q.1 q.0 w)
+  served_near w (p, o) (q, n) k = by_request o n k.1
     where
-      by_request : (o n : Option Request) → o ≡ n → Same R (serve h o p w) (serve h n q w)
+      by_request : (o n : Option Request) → o ≡ n → Near (serve h o p w) (serve h n q w)
       by_request None None f = (k.0, refl, k.2)
       by_request None (Some x) f = absurd cc
       by_request (Some x) None f = absurd cc
       by_request (Some x) (Some y) f =
-          let g : x ≡ y = same_of f in
-          (ap (λ z. add_lines (h.serve z w).0 p.core) g ∙ ap (add_lines (h.serve y w).0) k.0, ap (λ z. (h.serve z w).1) g, k.2)
+          let g : x ≡ y = same_of f in (
+            ap (λ z. add_lines (h.serve z w).0 p.core) g ∙ ap (add_lines (h.serve y w).0) k.0,
+            ap (λ z. (h.serve z w).1) g,
+            unless_map p.core.halted (lines_related (h.serve x w).0 p.core p.actors q.actors) k.2,
+          )
 
   -- from the same core in the same world
   abbrev Does_at : Core → Numbered A → Numbered B → W → Option (Live W A) → Type 0
   Does_at c xs ys w o = Does xs (live (proc c ys) w) o
 
-  answered : (w : W) (c : Core) (xs : Numbered A) (ys : Numbered B) (i : ℕ) (ts : List Task) (b : B) (k : Option Ask) (a0 a : A) → c.halted ≡ None → c.tasks ≡ Run i ∷ ts → AllRelated R xs ys → thing xs i ≡ Some a0 → thing ys i ≡ Some b → (k ≡ None → sim.weight a < sim.weight a0) → Answers R d (view (h.supply w) c) k a b → Does_at c xs ys w (advanced h w (Some (run_next e (h.supply w) i ts (k, a) (proc c xs))))
-  answered w c xs ys i ts b None a0 a eh et rs ex en lt ans =
-      (live (proc c (put ys i ans.0)) w, inr (quiet_many d h w c i ts eh et ans.1 ys en, load_put sim.weight xs i a0 a ex (lt refl)), (refl, refl, related_put R xs ys i a ans.0 rs ans.2))
-  answered w c xs ys i ts b (Some ask) a0 a eh et rs ex en lt ans =
+  quiet_related : (i : ℕ) (ts : List Task) (c : Core) (xs : Numbered A) (ys : Numbered B) (a0 a : A) (b0 b : B) → Orderly c → c.tasks ≡ Run i ∷ ts → Related R c xs ys → thing xs i ≡ Some a0 → thing ys i ≡ Some b0
+      → R Free a b → Related R c (put xs i a) (put ys i b)
+  quiet_related i ts c xs ys a0 a b0 b o et rs ex en r =
+      let pop = popped_at i c.left (Run i) ts c o et (run_of i) in
+      related_shifts e d R sim i Free c c xs ys a0 a b0 b ex en rs (same_rank pop.phase, λ j n. omega arith) r
+
+  answered : (w : W) (c : Core) (xs : Numbered A) (ys : Numbered B) (i : ℕ) (ts : List Task) (b : B) (k : Option Ask) (a0 a : A) → Orderly c → c.halted ≡ None → c.tasks ≡ Run i ∷ ts → Related R c xs ys
+      → thing xs i ≡ Some a0 → thing ys i ≡ Some b → (k ≡ None → sim.weight a < sim.weight a0) → Answers R d (view (h.supply w) i c) k a b
+      → Does_at c xs ys w (advanced h w (Some (run_next e (h.supply w) i ts (k, a) (proc c xs))))
+  answered w c xs ys i ts b None a0 a o eh et rs ex en lt ans = (
+    live (proc c (put ys i ans.0)) w,
+    inr (quiet_many d h w c i ts eh et ans.1 ys en, load_put sim.weight xs i a0 a ex (lt refl)),
+    (refl, refl, unless c.halted (quiet_related i ts c xs ys a0 a b ans.0 o et rs ex en ans.2)),
+  )
+  answered w c xs ys i ts b (Some ask) a0 a o eh et rs ex en lt ans =
       let m = ans.0 in let g = ans.1 in
       let c2 = record c { tasks = ts; left = ask.left } in
       let r = answer e (h.supply w) i ask.act (proc c2 (put xs i a)) in
@@ -123,53 +148,70 @@ module _ {W A B : Type 0} (e : Engine A) (d : Engine B) (h : Host W) (R : A → 
               ∙ ap (λ l. Some (answer d (h.supply w) i ask.act (proc c2 l))) (put_put ys i m g)),
           here,
         )),
-        served_same w r q (answer_alike e d R sim (h.supply w) i ask.act c2 (put xs i a) (put ys i g) (related_put R xs ys i a g rs ans.4)),
+        served_near w r q (answer_alike e d R sim (h.supply w) i ask.act c c2 xs ys a g
+            (record { pop = popped_at i ask.left (Run i) ts c o et (run_of i); rs = rs; first = (a0, ex); second = (b, en); after = ans.4 })),
       )
 
-  run_does : (w : W) (c : Core) (xs : Numbered A) (ys : Numbered B) (i : ℕ) (ts : List Task) (o : Option A) (u : Option B) → c.halted ≡ None → c.tasks ≡ Run i ∷ ts → AllRelated R xs ys → thing xs i ≡ o → thing ys i ≡ u → BothOrNone R o u → Does_at c xs ys w (advanced h w (Some (run e (h.supply w) i ts o (proc c xs))))
-  run_does w c xs ys i ts None None eh et rs ex en k = (
+  run_does : (w : W) (c : Core) (xs : Numbered A) (ys : Numbered B) (i : ℕ) (ts : List Task) (x : Option A) (y : Option B) → Orderly c → c.halted ≡ None → c.tasks ≡ Run i ∷ ts → Related R c xs ys
+      → thing xs i ≡ x → thing ys i ≡ y → BothOrNone (R Free) x y → Does_at c xs ys w (advanced h w (Some (run e (h.supply w) i ts x (proc c xs))))
+  run_does w c xs ys i ts None None o eh et rs ex en k = (
     live (run d (h.supply w) i ts None (proc c ys)).0 w,
     inl (_, ap (advanced h w) (ap (λ k. step_if d (h.supply w) k (proc c ys)) eh ∙ ap (λ k. step_tasks d (h.supply w) k (proc c ys)) et ∙ ap (λ o. Some (run d (h.supply w) i ts o (proc c ys))) en), here),
-    (refl, refl, rs),
+    (refl, refl, tt),
   )
-  run_does w c xs ys i ts None (Some b) eh et rs ex en k = absurd k
-  run_does w c xs ys i ts (Some a) None eh et rs ex en k = absurd k
-  run_does w c xs ys i ts (Some a) (Some b) eh et rs ex en k =
-      let v = view (h.supply w) c in
-      answered w c xs ys i ts b (e.next v a).0 a (e.next v a).1 eh et rs ex en (sim.falls v a) (sim.next v a b k)
+  run_does w c xs ys i ts None (Some b) o eh et rs ex en k = absurd k
+  run_does w c xs ys i ts (Some a) None o eh et rs ex en k = absurd k
+  run_does w c xs ys i ts (Some a) (Some b) o eh et rs ex en k =
+      let v = view (h.supply w) i c in
+      answered w c xs ys i ts b (e.next v a).0 a (e.next v a).1 o eh et rs ex en (sim.falls v a) (sim.next v a b k)
 
   -- a task but the step of an actor
-  task_does : (w : W) (c : Core) (xs : Numbered A) (ys : Numbered B) (t : Task) (ts : List Task) → AllRelated R xs ys → advance d h (live (proc c ys) w) ≡ advanced h w (Some (do_task d (h.supply w) t (popped ts (proc c ys)))) → Does_at c xs ys w (advanced h w (Some (do_task e (h.supply w) t (popped ts (proc c xs)))))
-  task_does w c xs ys t ts rs eq =
+  task_does : (w : W) (c : Core) (xs : Numbered A) (ys : Numbered B) (t : Task) (ts : List Task) → Orderly c → c.tasks ≡ t ∷ ts → Related R c xs ys
+      → advance d h (live (proc c ys) w) ≡ advanced h w (Some (do_task d (h.supply w) t (popped ts (proc c ys)))) → Does_at c xs ys w (advanced h w (Some (do_task e (h.supply w) t (popped ts (proc c xs)))))
+  task_does w c xs ys t ts o et rs eq =
       let r = do_task e (h.supply w) t (popped ts (proc c xs)) in
       let q = do_task d (h.supply w) t (popped ts (proc c ys)) in
-      (serve h q.1 q.0 w, inl (serve h q.1 q.0 w, eq, here), served_same w r q (task_alike e d R sim (h.supply w) t (record c { tasks = ts }) xs ys rs))
+      (serve h q.1 q.0 w, inl (serve h q.1 q.0 w, eq, here), served_near w r q (task_alike e d R sim (h.supply w) t ts c xs ys o et rs))
 
-  tasks_does : (w : W) (c : Core) (xs : Numbered A) (ys : Numbered B) (ts : List Task) → c.halted ≡ None → c.tasks ≡ ts → AllRelated R xs ys → Does_at c xs ys w (advanced h w (step_tasks e (h.supply w) ts (proc c xs)))
-  tasks_does w c xs ys [] eh et rs = ap (advanced h w) (ap (λ k. step_if d (h.supply w) k (proc c ys)) eh ∙ ap (λ k. step_tasks d (h.supply w) k (proc c ys)) et)
-  tasks_does w c xs ys (Run i ∷ ts) eh et rs = run_does w c xs ys i ts (thing xs i) (thing ys i) eh et rs refl refl (related_thing R xs ys i rs)
-  tasks_does w c xs ys (t ∷ ts) eh et rs =
-      task_does w c xs ys t ts rs (ap (advanced h w) (ap (λ k. step_if d (h.supply w) k (proc c ys)) eh ∙ ap (λ k. step_tasks d (h.supply w) k (proc c ys)) et))
+  tasks_does : (w : W) (c : Core) (xs : Numbered A) (ys : Numbered B) (ts : List Task) → Orderly c → c.halted ≡ None → c.tasks ≡ ts → Related R c xs ys
+      → Does_at c xs ys w (advanced h w (step_tasks e (h.supply w) ts (proc c xs)))
+  tasks_does w c xs ys [] o eh et rs = ap (advanced h w) (ap (λ k. step_if d (h.supply w) k (proc c ys)) eh ∙ ap (λ k. step_tasks d (h.supply w) k (proc c ys)) et)
+  tasks_does w c xs ys (Run i ∷ ts) o eh et rs = run_does w c xs ys i ts (thing xs i) (thing ys i) o eh et rs refl refl (related_thing (R Free) xs ys i rs.all)
+  tasks_does w c xs ys (t ∷ ts) o eh et rs =
+      task_does w c xs ys t ts o et rs (ap (advanced h w) (ap (λ k. step_if d (h.supply w) k (proc c ys)) eh ∙ ap (λ k. step_tasks d (h.supply w) k (proc c ys)) et))
 
-  halted_does : (w : W) (c : Core) (xs : Numbered A) (ys : Numbered B) (o : Option Halt) → c.halted ≡ o → AllRelated R xs ys → Does_at c xs ys w (advanced h w (step_if e (h.supply w) o (proc c xs)))
-  halted_does w c xs ys (Some x) eh rs = ap (advanced h w) (ap (λ k. step_if d (h.supply w) k (proc c ys)) eh)
-  halted_does w c xs ys None eh rs = tasks_does w c xs ys c.tasks eh refl rs
+  halted_does : (w : W) (c : Core) (xs : Numbered A) (ys : Numbered B) (x : Option Halt) → c.halted ≡ x → UnlessStopped x (Orderly c × Related R c xs ys) → Does_at c xs ys w (advanced h w (step_if e (h.supply w) x (proc c xs)))
+  halted_does w c xs ys (Some x) eh k = ap (advanced h w) (ap (λ k. step_if d (h.supply w) k (proc c ys)) eh)
+  halted_does w c xs ys None eh k = tasks_does w c xs ys c.tasks k.0 eh refl k.1
 
-  does_at : (w : W) (c : Core) (xs : Numbered A) (ys : Numbered B) → AllRelated R xs ys → Does_at c xs ys w (advance e h (live (proc c xs) w))
-  does_at w c xs ys rs = halted_does w c xs ys c.halted refl rs
+  does_at : (w : W) (c : Core) (xs : Numbered A) (ys : Numbered B) → UnlessStopped c.halted (Orderly c × Related R c xs ys) → Does_at c xs ys w (advance e h (live (proc c xs) w))
+  does_at w c xs ys k = halted_does w c xs ys c.halted refl k
 
   rebuilt : (c k : Core) (w v : W) (ys : Numbered B) → c ≡ k → w ≡ v → live (proc c ys) w ≡ live (proc k ys) v
   rebuilt c k w v ys e f = ap (λ x. live (proc x ys) w) e ∙ ap (λ x. live (proc k ys) x) f
 
-  does : (s : Live W A) (u : Live W B) → Same R s u → Does s.proc.actors u (advance e h s)
+  near : (s : Live W A) (u : Live W B) → Same R s u → Does s.proc.actors u (advance e h s)
+  near s u k =
+      subst (λ z. Does s.proc.actors z (advance e h s)) (rebuilt s.proc.core u.proc.core s.out u.out u.proc.actors k.0.0 k.1)
+      (does_at s.out s.proc.core s.proc.actors u.proc.actors k.0.1)
+
+  -- and the process stays in order
+  abbrev Steps : Numbered A → Live W B → Option (Live W A) → Type 0
+  Steps xs u None = advance d h u ≡ None
+  Steps xs u (Some l) = (m : Live W B) × Moves xs u l m × Same R l m
+
+  ordered : (xs : Numbered A) (u : Live W B) (o : Option (Live W A)) → ((l : Live W A) → o ≡ Some l → InOrder l.proc.core) → Does xs u o → Steps xs u o
+  ordered xs u None f k = k
+  ordered xs u (Some l) f k = (k.0, k.1, ((k.2.0, unless_both _ _ l.proc.core.halted (f l refl) k.2.2), k.2.1))
+
+  does : (s : Live W A) (u : Live W B) → Same R s u → Steps s.proc.actors u (advance e h s)
   does s u k =
-      subst (λ z. Does s.proc.actors z (advance e h s)) (rebuilt s.proc.core u.proc.core s.out u.out u.proc.actors k.0 k.1)
-      (does_at s.out s.proc.core s.proc.actors u.proc.actors k.2)
+      ordered s.proc.actors u (advance e h s) (λ l. advance_in_order e h s l (unless_map s.proc.core.halted (λ x. x.0) k.0.1)) (near s u k)
 
   pub bursts_follow : BurstsFollow e d h R
-  bursts_follow s t u k (rests a) = (u, rests (subst (Does s.proc.actors u) a (does s u k)), k)
+  bursts_follow s t u k (rests a) = (u, rests (subst (Steps s.proc.actors u) a (does s u k)), k)
   bursts_follow s t u k (steps r a b) =
-      let one : Does s.proc.actors u (Some r) = subst (Does s.proc.actors u) a (does s u k) in
+      let one : Steps s.proc.actors u (Some r) = subst (Steps s.proc.actors u) a (does s u k) in
       let all = bursts_follow r t one.0 one.2 b in
       (all.0, many_burst d h (moved s.proc.actors u r one.0 one.1) all.1, all.2)
 
@@ -216,7 +258,7 @@ module _ {W A B : Type 0} (e : Engine A) (d : Engine B) (h : Host W) (R : A → 
   stepped : (s r : Live W A) (v : Live W B) → advance e h s ≡ Some r → Found r v → Found s v
   stepped s r v a f = (f.0, steps r a f.1, f.2)
 
-  back_step : (n : ℕ) (s : Live W A) (u v : Live W B) → Same R s u → BurstIn n u v → ((k : ℕ) → k < n → Back k) → ((r : Live W A) (m : Live W B) → load sim.weight r.proc.actors < load sim.weight s.proc.actors → Same R r m → BurstIn n m v → Found r v) → (o : Option (Live W A)) → advance e h s ≡ o → Does s.proc.actors u o → Found s v
+  back_step : (n : ℕ) (s : Live W A) (u v : Live W B) → Same R s u → BurstIn n u v → ((k : ℕ) → k < n → Back k) → ((r : Live W A) (m : Live W B) → load sim.weight r.proc.actors < load sim.weight s.proc.actors → Same R r m → BurstIn n m v → Found r v) → (o : Option (Live W A)) → advance e h s ≡ o → Steps s.proc.actors u o → Found s v
   back_step n s u v k b prev same_n None a g = at_rest n s u v k a g b
   back_step n s u v k b prev same_n (Some r) a g = stepped s r v a (by_moves g.1)
     where

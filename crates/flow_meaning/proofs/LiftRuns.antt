@@ -3,31 +3,37 @@ use Rattle.std.proofs.Common.{◌≡◌, ℕ, zero, suc, Bool, false, List, [], 
 use Rattle.std.specs.Prelude.{pos, replicate, slice_index_or, slice_set}
 use Rattle.std.specs.declared.option.Option.{Option}
 use Rattle.std.specs.declared.option.Option.TheVariants.{None, Some}
+use Rattle.flow_trace.specs.declared.line.Line.{Line}
 use Rattle.flow_trace.specs.declared.line.Line.TheVariants as line
 use Rattle.flow_worldfile.specs.Worlds as file
 use Rattle.flow_worldfile.specs.declared.directive.Order.{Order}
 use Rattle.flow_worldfile.specs.declared.directive.Order.TheVariants.{Kill, Stop, Boot, Cut, Heal, DiskFail}
-use Rattle.flow_value.specs.Values.{IntValue}
+use Rattle.flow_value.specs.Values.{IntValue, VoidValue, OutcomeTree, GoodOutcome}
 use Rattle.flow_meaning.specs.Numbered.{Numbered}
-use Rattle.flow_meaning.specs.Process.{Core, Proc, Engine}
+use Rattle.flow_meaning.specs.Process.{Core, Engine}
 use Rattle.flow_meaning.specs.Step.{proc}
-use Rattle.flow_meaning.specs.Deliver.{begin, boot_core, boot_with, boot, idle}
-use Rattle.flow_meaning.specs.Burst.{Live}
-use Rattle.flow_meaning.specs.Law.{BothOrNone, Simulates, AllRelated, Same}
+use Rattle.flow_meaning.specs.Deliver.{idle_core, idle, begin, boot_core, boot_with, boot, stop, deliver, arrive}
+use Rattle.flow_meaning.specs.Burst.{Live, Burst}
+use Rattle.flow_meaning.specs.Orderly.{Orderly, InOrder, UnlessStopped, Phase, Free}
+use Rattle.flow_meaning.specs.Law.{BothOrNone, Simulates, Related, SameProc, Same, AtRest}
 use Rattle.flow_meaning.specs.Outside.{What, Boots, Rings, Arrives, Answers, Outside, host}
-use Rattle.flow_meaning.specs.World.{Place, World, Begun, Next, Nothing, Script, Event, next_of, booted, ordered, arrived, listener, happened, process_of, process_in, ready, counted, begun_by, ending, at_start}
+use Rattle.flow_meaning.specs.World.{Place, World, Begun, Next, Nothing, Script, Event, next_of, with_core, booted, ordered, packet, arrived, listener, happened, process_of, process_in, ready, counted, begun_by, ending, at_start}
 use Rattle.flow_meaning.specs.Runs.{before, after, lines_of, Runs, ends, spent, event}
 use Rattle.flow_meaning.specs.RunLaw.{SamePlace, SamePlaces, SameWorld, SameStates, RunsFollow, RunsReturn, TracesFollow, TracesReturn}
-use Rattle.flow_meaning.proofs.Alike.{related_added}
+use Rattle.flow_meaning.proofs.Posture.{Unless, unless, unless_map, unless_both, Eases}
+use Rattle.flow_meaning.proofs.TaskShifts.{booted_enrolled, stop_eases, deliver_eases, arrive_eases}
+use Rattle.flow_meaning.proofs.Relating.{related_eased, related_new}
+use Rattle.flow_meaning.proofs.InOrder.{boot_in_order, begin_in_order, stop_in_order, deliver_in_order, arrive_in_order, burst_at_rest}
+use Rattle.flow_meaning.proofs.RestRuns.{idle_orderly, idle_at_rest}
 use Rattle.flow_meaning.proofs.Lift.{bursts_follow, bursts_return}
 
 abbrev place : {A : Type 0} → Bool → Core → Numbered A → Place A
 place up c xs = record { up = up; proc = proc c xs }
 
-module _ {A B : Type 0} (e : Engine A) (d : Engine B) (R : A → B → Type 0) (sim : Simulates e d R) where
+module _ {A B : Type 0} (e : Engine A) (d : Engine B) (R : Phase → A → B → Type 0) (sim : Simulates e d R) where
   -- both begin an event with the same lines, in the same world outside, with the same process
   abbrev SameBegun : Begun A → Begun B → Type 0
-  SameBegun b k = (b.head ≡ k.head) × (b.out ≡ k.out) × SamePlace R b.place k.place
+  SameBegun b k = (b.head ≡ k.head) × (b.out ≡ k.out) × (b.place.up ≡ k.place.up) × SameProc R b.place.proc k.place.proc
 
   abbrev BegunBoth : Option (Begun A) → Option (Begun B) → Type 0
   BegunBoth None None = Unit {0}
@@ -49,52 +55,85 @@ module _ {A B : Type 0} (e : Engine A) (d : Engine B) (R : A → B → Type 0) (
   place_set (p ∷ ps) (q ∷ qs) zero a b h s = (s, h.1)
   place_set (p ∷ ps) (q ∷ qs) (suc k) a b h s = (h.0, place_set ps qs k a b h.1 s)
 
+  -- nothing is related that isn't there
+  idle_related : (made started : ℕ) → Related R (record idle_core { made = made; started = started }) [] []
+  idle_related made started = record { all = tt; phases = λ i. tt }
+
+  idle_place : SamePlace R (record { up = false; proc = idle }) (record { up = false; proc = idle })
+  idle_place = (refl, refl, idle_at_rest, idle_related 0 0)
+
+  -- a process at the begin of an event
+  begun_place : (turns : ℕ) (a : Place A) (b : Place B) → SamePlace R a b → SamePlace R (with_core a (begin turns)) (with_core b (begin turns))
+  begun_place turns a b s = (
+    s.0,
+    ap (begin turns) s.1,
+    record { orderly = begin_in_order turns a.proc.core s.2.orderly; no_tasks = s.2.no_tasks; suspended = s.2.suspended },
+    record { all = s.3.all; phases = s.3.phases },
+  )
+
   ready_same : (w : World A) (v : World B) (k : ℕ) → SameWorld R w v → SamePlace R (ready w k) (ready v k)
   ready_same w v k h =
       let a : Place A = record { up = false; proc = idle } in
       let b : Place B = record { up = false; proc = idle } in
-      let s = place_at w.places v.places k a b h.1 (refl, refl, tt) in
-      let c = (slice_index_or w.places k a).proc.core in
-      (s.0, ap (λ (o : Outside). begin o.file.turns c) h.0 ∙ ap (begin v.out.file.turns) s.1, s.2)
+      let p = slice_index_or v.places k b in
+      subst (λ (o : Outside). SamePlace R (ready w k) (with_core p (begin o.file.turns))) h.0
+      (begun_place w.out.file.turns (slice_index_or w.places k a) p (place_at w.places v.places k a b h.1 idle_place))
 
-  -- a boot
-  abbrev SameProc : Proc A → Proc B → Type 0
-  SameProc p q = (p.core ≡ q.core) × AllRelated R p.actors q.actors
+  -- what is delivered to a process in order, whose actors are as they were
+  delivered : (c k : Core) (xs : Numbered A) (ys : Numbered B) → InOrder k → Unless (Eases c) k → Related R c xs ys → SameProc R (proc k xs) (proc k ys)
+  delivered c k xs ys o h rs = (refl, unless_both _ _ k.halted o (unless_map k.halted (related_eased e d R sim c k xs ys rs) h))
 
-  boot_with_same : (x : Option A) (y : Option B) (c : Core) (xs : Numbered A) (ys : Numbered B) → AllRelated R xs ys → BothOrNone R x y → SameProc (boot_with e x (proc c xs)) (boot_with d y (proc c ys))
-  boot_with_same None None c xs ys rs h = (refl, rs)
-  boot_with_same None (Some y) c xs ys rs h = absurd h
-  boot_with_same (Some x) None c xs ys rs h = absurd h
-  boot_with_same (Some x) (Some y) c xs ys rs h =
-      (ap (λ n. boot_core e.main n c) (sim.label e.main) ∙ ap (λ k. boot_core k (d.label k) c) sim.main, related_added R xs ys (suc c.started) x y rs h)
+  boot_with_same : (x : Option A) (y : Option B) (c : Core) (xs : Numbered A) (ys : Numbered B) → Orderly c → Related R c xs ys → BothOrNone (R Free) x y → SameProc R (boot_with e x (proc c xs)) (boot_with d y (proc c ys))
+  boot_with_same None None c xs ys o rs h = (refl, tt)
+  boot_with_same None (Some y) c xs ys o rs h = absurd h
+  boot_with_same (Some x) None c xs ys o rs h = absurd h
+  boot_with_same (Some x) (Some y) c xs ys o rs h =
+      let k = boot_core e.main (e.label e.main) c in (
+        ap (λ n. boot_core e.main n c) (sim.label e.main) ∙ ap (λ k. boot_core k (d.label k) c) sim.main,
+        unless_both _ _ k.halted (boot_in_order e.main (e.label e.main) c o)
+            (unless_map k.halted (λ n. related_new e d R sim (suc c.started) c k xs ys x y rs n.0 n.1 h) (booted_enrolled e.main (e.label e.main) c o.numbered)),
+      )
 
-  boot_same : (p : ℕ) (c : Core) (xs : Numbered A) (ys : Numbered B) → AllRelated R xs ys → SameProc (boot e p (proc c xs)) (boot d p (proc c ys))
-  boot_same p c xs ys rs =
+  boot_same : (p : ℕ) (c : Core) (xs : Numbered A) (ys : Numbered B) → Orderly c → Related R c xs ys → SameProc R (boot e p (proc c xs)) (boot d p (proc c ys))
+  boot_same p c xs ys o rs =
       let vs = IntValue (pos p) ∷ [] in
-      boot_with_same (e.fresh e.main vs) (d.fresh d.main vs) c xs ys rs (subst (λ k. BothOrNone R (e.fresh e.main vs) (d.fresh k vs)) sim.main (sim.fresh e.main vs))
-
-  booted_same : (p : ℕ) (up : Bool) (c : Core) (xs : Numbered A) (ys : Numbered B) (o : Option ℕ) → AllRelated R xs ys → SamePlace R (booted e p (place up c xs) o) (booted d p (place up c ys) o)
-  booted_same p up c xs ys (Some held) rs = (refl, refl, rs)
-  booted_same p up c xs ys None rs = let b = boot_same p c xs ys rs in (refl, b.0, b.1)
+      boot_with_same (e.fresh e.main vs) (d.fresh d.main vs) c xs ys o rs (subst (λ k. BothOrNone (R Free) (e.fresh e.main vs) (d.fresh k vs)) sim.main (sim.fresh e.main vs))
 
   -- each event
-  ordered_same : (o : Order) (up : Bool) (c : Core) (xs : Numbered A) (ys : Numbered B) (w : Outside) → AllRelated R xs ys → SameBegun (ordered e o (place up c xs) w) (ordered d o (place up c ys) w)
-  ordered_same (Boot p) up c xs ys w rs = (refl, refl, booted_same p up c xs ys c.main rs)
-  ordered_same (Stop p) up c xs ys w rs = (refl, refl, (refl, refl, rs))
-  ordered_same (Kill p) up c xs ys w rs = (refl, refl, (refl, refl, tt))
-  ordered_same (Cut p q) up c xs ys w rs = (refl, refl, (refl, refl, rs))
-  ordered_same (Heal p q) up c xs ys w rs = (refl, refl, (refl, refl, rs))
-  ordered_same (DiskFail p n) up c xs ys w rs = (refl, refl, (refl, refl, rs))
+  abbrev Begins : Core → Numbered A → Numbered B → Begun A → Begun B → Type 0
+  Begins c xs ys b k = Orderly c → Related R c xs ys → SameBegun b k
 
-  arrived_same : (m from port : ℕ) (text : List ℕ) (up : Bool) (c : Core) (xs : Numbered A) (ys : Numbered B) (w : Outside) (o : Option ℕ) → AllRelated R xs ys → SameBegun (arrived m from port text (place up c xs) w o) (arrived m from port text (place up c ys) w o)
-  arrived_same m from port text up c xs ys w None rs = (refl, refl, (refl, refl, rs))
-  arrived_same m from port text up c xs ys w (Some cell) rs = (refl, refl, (refl, refl, rs))
+  unchanged : (c : Core) (xs : Numbered A) (ys : Numbered B) → Orderly c → Related R c xs ys → SameProc R (proc c xs) (proc c ys)
+  unchanged c xs ys o rs = (refl, unless c.halted (o, rs))
 
-  happened_same : (x : What) (up : Bool) (c : Core) (xs : Numbered A) (ys : Numbered B) (w : Outside) → AllRelated R xs ys → SameBegun (happened e x (place up c xs) w) (happened d x (place up c ys) w)
-  happened_same (Boots p) up c xs ys w rs = ordered_same (Boot p) up c xs ys w rs
-  happened_same (Rings p k) up c xs ys w rs = (refl, refl, (refl, refl, rs))
-  happened_same (Arrives m from to port text) up c xs ys w rs = arrived_same m from port text up c xs ys w (listener (place up c xs) port) rs
-  happened_same (Answers p k call) up c xs ys w rs = (refl, refl, (refl, refl, rs))
+  booted_same : (p : ℕ) (up : Bool) (c : Core) (xs : Numbered A) (ys : Numbered B) (held : Option ℕ) (head : List Line) (w : Outside)
+      → Begins c xs ys (record { head = head; place = booted e p (place up c xs) held; out = w }) (record { head = head; place = booted d p (place up c ys) held; out = w })
+  booted_same p up c xs ys (Some held) head w o rs = (refl, refl, refl, unchanged c xs ys o rs)
+  booted_same p up c xs ys None head w o rs = (refl, refl, refl, boot_same p c xs ys o rs)
+
+  ordered_same : (x : Order) (up : Bool) (c : Core) (xs : Numbered A) (ys : Numbered B) (w : Outside) → Begins c xs ys (ordered e x (place up c xs) w) (ordered d x (place up c ys) w)
+  ordered_same (Boot p) up c xs ys w o rs = booted_same p up c xs ys c.main _ w o rs
+  ordered_same (Stop p) up c xs ys w o rs = (refl, refl, refl, delivered c (stop c) xs ys (unless (stop c).halted (stop_in_order c o)) (unless (stop c).halted (stop_eases c)) rs)
+  ordered_same (Kill p) up c xs ys w o rs = (refl, refl, refl, (refl, (idle_orderly c.made c.started, idle_related c.made c.started)))
+  ordered_same (Cut p q) up c xs ys w o rs = (refl, refl, refl, unchanged c xs ys o rs)
+  ordered_same (Heal p q) up c xs ys w o rs = (refl, refl, refl, unchanged c xs ys o rs)
+  ordered_same (DiskFail p n) up c xs ys w o rs = (refl, refl, refl, unchanged c xs ys o rs)
+
+  answer_same : (cell : ℕ) (v : OutcomeTree) (c : Core) (xs : Numbered A) (ys : Numbered B) → Orderly c → Related R c xs ys → SameProc R (proc (deliver cell v c) xs) (proc (deliver cell v c) ys)
+  answer_same cell v c xs ys o rs = delivered c (deliver cell v c) xs ys (deliver_in_order cell v c o) (deliver_eases cell v c) rs
+
+  arrived_same : (m from port : ℕ) (text : List ℕ) (up : Bool) (c : Core) (xs : Numbered A) (ys : Numbered B) (w : Outside) (l : Option ℕ)
+      → Begins c xs ys (arrived m from port text (place up c xs) w l) (arrived m from port text (place up c ys) w l)
+  arrived_same m from port text up c xs ys w None o rs = (refl, refl, refl, unchanged c xs ys o rs)
+  arrived_same m from port text up c xs ys w (Some cell) o rs =
+      let v = packet from port text in
+      (refl, refl, refl, delivered c (arrive cell v c) xs ys (arrive_in_order cell v c o) (arrive_eases cell v c) rs)
+
+  happened_same : (x : What) (up : Bool) (c : Core) (xs : Numbered A) (ys : Numbered B) (w : Outside) → Begins c xs ys (happened e x (place up c xs) w) (happened d x (place up c ys) w)
+  happened_same (Boots p) up c xs ys w o rs = ordered_same (Boot p) up c xs ys w o rs
+  happened_same (Rings p k) up c xs ys w o rs = (refl, refl, refl, answer_same k (GoodOutcome VoidValue) c xs ys o rs)
+  happened_same (Arrives m from to port text) up c xs ys w o rs = arrived_same m from port text up c xs ys w (listener (place up c xs) port) o rs
+  happened_same (Answers p k call) up c xs ys w o rs = (refl, refl, refl, answer_same k _ c xs ys o rs)
 
   rebuilt_place : (up on : Bool) (c k : Core) (ys : Numbered B) → up ≡ on → c ≡ k → place up c ys ≡ place on k ys
   rebuilt_place up on c k ys f g = ap (λ x. place x c ys) f ∙ ap (λ x. place on x ys) g
@@ -102,12 +141,14 @@ module _ {A B : Type 0} (e : Engine A) (d : Engine B) (R : A → B → Type 0) (
   ordered_at : (o : Order) (a : Place A) (b : Place B) (w v : Outside) → SamePlace R a b → w ≡ v → SameBegun (ordered e o a w) (ordered d o b v)
   ordered_at o a b w v s f =
       subst (λ z. SameBegun (ordered e o a w) (ordered d o b z)) f
-      (subst (λ z. SameBegun (ordered e o a w) (ordered d o z w)) (rebuilt_place a.up b.up a.proc.core b.proc.core b.proc.actors s.0 s.1) (ordered_same o a.up a.proc.core a.proc.actors b.proc.actors w s.2))
+      (subst (λ z. SameBegun (ordered e o a w) (ordered d o z w)) (rebuilt_place a.up b.up a.proc.core b.proc.core b.proc.actors s.0 s.1)
+      (ordered_same o a.up a.proc.core a.proc.actors b.proc.actors w s.2.orderly s.3))
 
   happened_at : (x : What) (a : Place A) (b : Place B) (w v : Outside) → SamePlace R a b → w ≡ v → SameBegun (happened e x a w) (happened d x b v)
   happened_at x a b w v s f =
       subst (λ z. SameBegun (happened e x a w) (happened d x b z)) f
-      (subst (λ z. SameBegun (happened e x a w) (happened d x z w)) (rebuilt_place a.up b.up a.proc.core b.proc.core b.proc.actors s.0 s.1) (happened_same x a.up a.proc.core a.proc.actors b.proc.actors w s.2))
+      (subst (λ z. SameBegun (happened e x a w) (happened d x z w)) (rebuilt_place a.up b.up a.proc.core b.proc.core b.proc.actors s.0 s.1)
+      (happened_same x a.up a.proc.core a.proc.actors b.proc.actors w s.2.orderly s.3))
 
   begun_at : (n : Next) (w : World A) (v : World B) → SameWorld R w v → BegunBoth (begun_by e w n) (begun_by d v n)
   begun_at Nothing w v h = tt
@@ -128,15 +169,24 @@ module _ {A B : Type 0} (e : Engine A) (d : Engine B) (R : A → B → Type 0) (
   found_back (Some b) k h = (b, refl, h)
 
   lines_same : (b : Begun A) (k : Begun B) (l : Live Outside A) (m : Live Outside B) → SameBegun b k → Same R l m → lines_of b l ≡ lines_of k m
-  lines_same b k l m s t = ap (λ x. x ++ l.proc.core.lines) s.0 ∙ ap (λ c. k.head ++ c.lines) t.0
+  lines_same b k l m s t = ap (λ x. x ++ l.proc.core.lines) s.0 ∙ ap (λ c. k.head ++ c.lines) t.0.0
 
-  after_same : (w : World A) (v : World B) (b : Begun A) (k : Begun B) (l : Live Outside A) (m : Live Outside B) → SameWorld R w v → SameBegun b k → Same R l m → SameWorld R (after w b l) (after v k m)
-  after_same w v b k l m h s t =
+  -- the process after an event that wasn't stopped
+  rested : (b : Begun A) (k : Begun B) (l : Live Outside A) (m : Live Outside B) → SameBegun b k → Same R l m → Burst e host (before b) l → l.proc.core.halted ≡ None
+      → AtRest l.proc.core × Related R l.proc.core l.proc.actors m.proc.actors
+  rested b k l m s t r x =
+      let rest = burst_at_rest e host (before b) l (unless_map b.place.proc.core.halted (λ z. z.0) s.3.1) r in
+      (subst (λ o. UnlessStopped o (AtRest l.proc.core)) x rest, (subst (λ o. UnlessStopped o (Orderly l.proc.core × Related R l.proc.core l.proc.actors m.proc.actors)) x t.0.1).1)
+
+  after_same : (w : World A) (v : World B) (b : Begun A) (k : Begun B) (l : Live Outside A) (m : Live Outside B) → SameWorld R w v → SameBegun b k → Same R l m → Burst e host (before b) l → l.proc.core.halted ≡ None
+      → SameWorld R (after w b l) (after v k m)
+  after_same w v b k l m h s t r q =
       let x : Place A = record { up = b.place.up; proc = l.proc } in
-      let y : Place B = record { up = k.place.up; proc = m.proc } in (
+      let y : Place B = record { up = k.place.up; proc = m.proc } in
+      let rest = rested b k l m s t r q in (
         t.1,
         subst (λ i. SamePlaces R (slice_set w.places l.out.active x) (slice_set v.places i y)) (ap (λ o. o.active) t.1)
-            (place_set w.places v.places l.out.active x y h.1 (s.2.0, t.0, t.2)),
+            (place_set w.places v.places l.out.active x y h.1 (s.2, t.0.0, rest.0, rest.1)),
       )
 
   ending_same : (w : World A) (v : World B) → SameWorld R w v → ending v.out (next_of v.out) ≡ ending w.out (next_of w.out)
@@ -146,20 +196,20 @@ module _ {A B : Type 0} (e : Engine A) (d : Engine B) (R : A → B → Type 0) (
   runs_follow w v states lines h (ends last g) = ([], ends last (ending_same w v h ∙ g), tt)
   runs_follow w v states lines h (spent b l g k r x) =
       let f = found b (begun_by d v (next_of v.out)) (subst (λ o. BegunBoth o (begun_by d v (next_of v.out))) k (begun_same w v h)) in
-      let m = bursts_follow e d host R sim (before b) l (before f.0) (f.2.2.1, f.2.1, f.2.2.2) r in (
+      let m = bursts_follow e d host R sim (before b) l (before f.0) (f.2.3, f.2.1) r in (
         [],
         subst (λ ls. Runs d v [] (ls ++ line.EndSpent ∷ [])) (sym (lines_same b f.0 l m.0 f.2 m.2))
-            (spent f.0 m.0 (ending_same w v h ∙ g) f.1 m.1 (sym (ap (λ c. c.halted) m.2.0) ∙ x)),
+            (spent f.0 m.0 (ending_same w v h ∙ g) f.1 m.1 (sym (ap (λ c. c.halted) m.2.0.0) ∙ x)),
         tt,
       )
   runs_follow w v states lines h (event {states = states2} {lines = lines2} b l g k r x rest) =
       let f = found b (begun_by d v (next_of v.out)) (subst (λ o. BegunBoth o (begun_by d v (next_of v.out))) k (begun_same w v h)) in
-      let m = bursts_follow e d host R sim (before b) l (before f.0) (f.2.2.1, f.2.1, f.2.2.2) r in
-      let s = after_same w v b f.0 l m.0 h f.2 m.2 in
+      let m = bursts_follow e d host R sim (before b) l (before f.0) (f.2.3, f.2.1) r in
+      let s = after_same w v b f.0 l m.0 h f.2 m.2 r x in
       let all = runs_follow (after w b l) (after v f.0 m.0) states2 lines2 s rest in (
         after v f.0 m.0 ∷ all.0,
         subst (λ ls. Runs d v (after v f.0 m.0 ∷ all.0) (ls ++ lines2)) (sym (lines_same b f.0 l m.0 f.2 m.2))
-            (event {states = all.0} f.0 m.0 (ending_same w v h ∙ g) f.1 m.1 (sym (ap (λ c. c.halted) m.2.0) ∙ x) all.1),
+            (event {states = all.0} f.0 m.0 (ending_same w v h ∙ g) f.1 m.1 (sym (ap (λ c. c.halted) m.2.0.0) ∙ x) all.1),
         (s, all.2),
       )
 
@@ -167,27 +217,27 @@ module _ {A B : Type 0} (e : Engine A) (d : Engine B) (R : A → B → Type 0) (
   runs_return w v others lines h (ends last g) = ([], ends last (sym (ending_same w v h) ∙ g), tt)
   runs_return w v others lines h (spent k m g j r x) =
       let f = found_back (begun_by e w (next_of w.out)) k (subst (λ o. BegunBoth (begun_by e w (next_of w.out)) o) j (begun_same w v h)) in
-      let l = bursts_return e d host R sim (before f.0) (before k) m (f.2.2.1, f.2.1, f.2.2.2) r in (
+      let l = bursts_return e d host R sim (before f.0) (before k) m (f.2.3, f.2.1) r in (
         [],
         subst (λ ls. Runs e w [] (ls ++ line.EndSpent ∷ [])) (lines_same f.0 k l.0 m f.2 l.2)
-            (spent f.0 l.0 (sym (ending_same w v h) ∙ g) f.1 l.1 (ap (λ c. c.halted) l.2.0 ∙ x)),
+            (spent f.0 l.0 (sym (ending_same w v h) ∙ g) f.1 l.1 (ap (λ c. c.halted) l.2.0.0 ∙ x)),
         tt,
       )
   runs_return w v others lines h (event {states = others2} {lines = lines2} k m g j r x rest) =
       let f = found_back (begun_by e w (next_of w.out)) k (subst (λ o. BegunBoth (begun_by e w (next_of w.out)) o) j (begun_same w v h)) in
-      let l = bursts_return e d host R sim (before f.0) (before k) m (f.2.2.1, f.2.1, f.2.2.2) r in
-      let s = after_same w v f.0 k l.0 m h f.2 l.2 in
+      let l = bursts_return e d host R sim (before f.0) (before k) m (f.2.3, f.2.1) r in
+      let s = after_same w v f.0 k l.0 m h f.2 l.2 l.1 (ap (λ c. c.halted) l.2.0.0 ∙ x) in
       let all = runs_return (after w f.0 l.0) (after v k m) others2 lines2 s rest in (
         after w f.0 l.0 ∷ all.0,
         subst (λ ls. Runs e w (after w f.0 l.0 ∷ all.0) (ls ++ lines2)) (lines_same f.0 k l.0 m f.2 l.2)
-            (event {states = all.0} f.0 l.0 (sym (ending_same w v h) ∙ g) f.1 l.1 (ap (λ c. c.halted) l.2.0 ∙ x) all.1),
+            (event {states = all.0} f.0 l.0 (sym (ending_same w v h) ∙ g) f.1 l.1 (ap (λ c. c.halted) l.2.0.0 ∙ x) all.1),
         (s, all.2),
       )
 
   -- whole traces begin in the same world
   starts_same : (n : ℕ) → SamePlaces R (replicate n (record { up = false; proc = idle })) (replicate n (record { up = false; proc = idle }))
   starts_same zero = tt
-  starts_same (suc n) = ((refl, refl, tt), starts_same n)
+  starts_same (suc n) = (idle_place, starts_same n)
 
   start_same : (w : file.World) → SameWorld R (at_start w) (at_start w)
   start_same w = (refl, starts_same w.processes)

@@ -4,6 +4,7 @@ use Rattle.std.specs.Prelude.{Bool, true, false}
 use Rattle.std.proofs.lemmas.List.{append-nil}
 use Rattle.std.specs.declared.option.Option.{Option}
 use Rattle.std.specs.declared.option.Option.TheVariants.{None, Some}
+use Rattle.flow_base.specs.ErrorNumbers.{operation_cancelled, broken_promise}
 use Rattle.flow_value.specs.declared.value.Kind.{Kind}
 use Rattle.flow_value.specs.Values.{ValueTree, OutcomeTree, BadOutcome}
 use Rattle.flow_trace.specs.declared.line.Line.{Line}
@@ -133,7 +134,7 @@ take_branch_fair i b k e vs None = fair _ (halt_even NoMeaning)
 take_branch_fair i b k e vs (Some cell) = take_from_fair i b k e vs cell
 
 cancel_by_even : (s : Bool) (i : ℕ) (e : Entry) → Even (cancel_by s i e)
-cancel_by_even true i e = leave_for_even i (marked e) [] (Throw i 1101)
+cancel_by_even true i e = leave_for_even i (marked e) [] (Throw i operation_cancelled)
 cancel_by_even false i e = still (cancel_by false i e) (λ k c. refl) (λ c. refl)
 
 cancel_even : (i : ℕ) (e : Entry) → Even (cancel i e)
@@ -146,8 +147,8 @@ cancel_owner_even (Some o) = cancel_even o.0 o.1
 -- drops
 break_cell_fair : (k : ℕ) → Fair (break_cell k)
 break_cell_fair k =
-    after_turn (λ d. fill k (BadOutcome 1100) (writes (broken_line k) d))
-    (fair _ (then_even (writes (broken_line k)) (fill k (BadOutcome 1100)) (writes_even (broken_line k)) (fill_even k (BadOutcome 1100))))
+    after_turn (λ d. fill k (BadOutcome broken_promise) (writes (broken_line k) d))
+    (fair _ (then_even (writes (broken_line k)) (fill k (BadOutcome broken_promise)) (writes_even (broken_line k)) (fill_even k (BadOutcome broken_promise))))
 
 suffer_fair : (k : ℕ) (l : Loss) → Fair (suffer k l)
 suffer_fair k Kept = fair _ same_even

@@ -3,31 +3,35 @@ use Rattle.std.proofs.Common.{◌≡◌, ℕ, ◌+◌, List, [], ◌∷◌, ◌�
 use Rattle.std.specs.Prelude.{Bool, true, false}
 use Rattle.std.specs.declared.option.Option.{Option}
 use Rattle.std.specs.declared.option.Option.TheVariants.{None, Some}
-use Rattle.flow_ast.specs.declared.ty.Ident.{Ident}
+use Rattle.flow_base.specs.ErrorNumbers.{operation_cancelled}
+use Rattle.flow_tree.specs.declared.ty.Ident.{Ident}
 use Rattle.flow_ast.specs.declared.predefined.Predefined.{Predefined}
 use Rattle.flow_ast.specs.declared.predefined.Predefined.TheVariants as code
 use Rattle.flow_ast.specs.declared.predefined.Method.{Method}
-use Rattle.flow_ast.specs.Tree.{TypeTree, IntType, BoolType, StringType, VoidType, ErrorType, NamedType, FutureType, FutureStreamType, PromiseType, PromiseStreamType, ExprTree, ExprTrees}
-use Rattle.flow_ast.specs.Body.{IntoTree, Body, End, BlockStmt, IfStmt, IfElseStmt, WhileStmt, ForStmt, LoopStmt, BreakStmt, ContinueStmt, ReturnStmt, ThrowStmt, TryStmt, ChooseStmt, DeclareStmt, AssignStmt, ModifyStmt, CallStmt, WaitStmt}
-use Rattle.flow_ast.specs.Decls.{RoutineTree, ProgramTree}
+use Rattle.flow_tree.specs.Tree.{TypeTree, IntType, BoolType, StringType, VoidType, ErrorType, NamedType, FutureType, FutureStreamType, PromiseType, PromiseStreamType, ExprTree, ExprTrees}
+use Rattle.flow_tree.specs.Body.{IntoTree, Body, End, BlockStmt, IfStmt, IfElseStmt, WhileStmt, ForStmt, LoopStmt, BreakStmt, ContinueStmt, ReturnStmt, ThrowStmt, TryStmt, ChooseStmt, DeclareStmt, AssignStmt, ModifyStmt, CallStmt, WaitStmt}
+use Rattle.flow_tree.specs.Decls.{RoutineTree, ProgramTree}
 use Rattle.flow_ast.specs.TypingNames.{named, call_names, method_names}
 use Rattle.flow_ast.specs.Typing.{routine_named}
 use Rattle.flow_value.specs.Values.{ValueTree, IntValue, BoolValue, TextValue, VoidValue, ErrorValue, RecordValue, RefValue}
 use Rattle.flow_eval.specs.Answers.{bool_of, error_of, int_of, text_of, arg}
 use Rattle.flow_eval.specs.Eval.{Res, Done, Fails, Spent, Meaningless}
+use Rattle.flow_eval.specs.MoreTurns.{Later}
 use Rattle.flow_eval.specs.Functions.{Call, default_value, read_in}
 use Rattle.flow_class.specs.Classes.{InstrTree, SetInstr, EffectInstr, NewInstr, ActInstr, DropInstr, LastTree, GotoLast, PassLast, TestLast, ChooseLast, ReturnLast, ThrowLast, CallbackTree, RawTree}
 use Rattle.flow_meaning.specs.Asks.{Spot, Act, Goes, Make, Goal, Stored, Kept, Pass, Drops, Effects, Operand, Prints, SendsTo, Returns, Throws}
 use Rattle.flow_meaning.specs.Process.{View}
 use Rattle.flow_meaning.specs.Evaluating.{Names, setting, Look, bind, StepOf, asks, quietly, stuck, given, evaluated, Effectful, effect_in, effect_of, value, values, call_act, function_act, plain_act, based_act, method_act, done, before_last, last_of}
-use Rattle.flow_meaning.specs.Variables.{Vars, look, scope, outside}
-use Rattle.flow_meaning.specs.Items.{Site, Loop, Cases, Target, Declared, Path, Item, Do, Leave, Round, Check, Made, Handler, Into, Await, Over, Actor, actor, over, leave_scope, left_scope, with_locals, everything, put_goal, change, operand}
+use Rattle.flow_class.specs.Scopes.{scope, outside}
+use Rattle.flow_meaning.specs.Variables.{Vars, look}
+use Rattle.flow_meaning.specs.Items.{Site, Loop, Single, OneOf, Target, Declared, Path, Item, Do, Leave, Round, Check, Made, Handler, Over, Actor, actor, over, leave_scope, left_scope, with_locals, everything, put_goal, change, operand}
 use Rattle.flow_meaning.specs.SourceStep as source_step
 use Rattle.flow_meaning.specs.Source.{names_of, source}
+use Rattle.flow_class.specs.Code as class_code
 use Rattle.flow_meaning.specs.Frame as frame
 use Rattle.flow_meaning.specs.Class as class
 use Rattle.flow_meaning.specs.Turns.{later, IsOut, Thrifty}
-use Rattle.flow_meaning.proofs.MoreEval.{Later, done_later, then_later, whole_later, all_later, call_whole_later}
+use Rattle.flow_eval.proofs.MoreEval.{done_later, then_later, whole_later, all_later, call_whole_later}
 
 -- a step with more turns
 abbrev LaterStep : {A : Type 0} → ℕ → StepOf A → StepOf A → Type 0
@@ -126,8 +130,6 @@ module _ (k : ℕ) (ns : Names) (v : View) (sum : ℕ) (e : sum ≡ v.left + k) 
   exit_later how me a (Made l ∷ r) = quiet_later k _
   exit_later how me a (Round l ∷ r) = stuck_later k a _
   exit_later how me a (Check l ∷ r) = stuck_later k a _
-  exit_later how me a (Into g ∷ r) = stuck_later k a _
-  exit_later how me a (Await s cs n ∷ r) = stuck_later k a _
   exit_later how me a (Over ∷ r) = stuck_later k a _
 
   choose_later : (a : Actor) (b : Option Bool) (main other : Actor) (l m : ℕ) → m ≡ l + k → LaterStep k (source_step.choose l a b main other) (source_step.choose m a b main other)
@@ -144,14 +146,14 @@ module _ (k : ℕ) (ns : Names) (v : View) (sum : ℕ) (e : sum ≡ v.left + k) 
   place_later a g u r l m h =
       given_later k a (put_goal ns.records g u a.vars) (source_step.placed ns v l a r) (source_step.placed ns (with_left v sum) m a r) (λ p. asks_later k (Drops p.0) (actor p.1 r) l m h)
 
-  effects_later : (a : Actor) (g : Goal) (x : Effectful × ExprTrees) (b : Actor) → LaterStep k (source_step.effects ns v a g x b) (source_step.effects ns (with_left v sum) a g x b)
-  effects_later a g x b =
-      evaluated_later k a (λ vs left. given a (effect_of x.0 vs) (λ eff. asks left (Effects g eff) b))
-      (λ vs l m h. given_later k a (effect_of x.0 vs) (λ eff. asks l (Effects g eff) b) (λ eff. asks m (Effects g eff) b) (λ eff. asks_later k (Effects g eff) b l m h))
+  effects_later : (a : Actor) (g : Goal) (x : Effectful × ExprTrees) → LaterStep k (source_step.effects ns v a g x) (source_step.effects ns (with_left v sum) a g x)
+  effects_later a g x =
+      evaluated_later k a (λ vs left. given a (effect_of x.0 vs) (λ eff. asks left (Effects g eff) a))
+      (λ vs l m h. given_later k a (effect_of x.0 vs) (λ eff. asks l (Effects g eff) a) (λ eff. asks m (Effects g eff) a) (λ eff. asks_later k (Effects g eff) a l m h))
       (values ns v (look a.vars) x.1) (values ns (with_left v sum) (look a.vars) x.1) (values_later (look a.vars) x.1)
 
   store_by_later : (o : Option (Effectful × ExprTrees)) (a : Actor) (g : Target) (x : ExprTree) (r : List Item) → LaterStep k (source_step.store_by ns v o a g x r) (source_step.store_by ns (with_left v sum) o a g x r)
-  store_by_later (Some y) a g x r = effects_later a Stored y (actor a.vars (Into g ∷ r))
+  store_by_later (Some y) a g x r = effects_later a Stored y
   store_by_later None a g x r =
       evaluated_later k a (λ u left. source_step.place ns v left a g u r) (λ u l m h. place_later a g u r l m h)
       (value ns v (look a.vars) x) (value ns (with_left v sum) (look a.vars) x) (value_later (look a.vars) x)
@@ -191,6 +193,25 @@ module _ (k : ℕ) (ns : Names) (v : View) (sum : ℕ) (e : sum ≡ v.left + k) 
       → LaterStep k (given a o (λ x. source_step.store ns v a (Path xs) x r)) (given a o (λ x. source_step.store ns (with_left v sum) a (Path xs) x r))
   changed_later a o xs r = given_later k a o _ _ (λ x. store_by_later (effect_in ns x) a (Path xs) x r)
 
+  ref_later : (p : Spot) (a : Actor) (u : ValueTree) (l m : ℕ) → m ≡ l + k → LaterStep k (source_step.operand_ref ns v l p a u) (source_step.operand_ref ns (with_left v sum) m p a u)
+  ref_later p a (RefValue kd cell) l m h = asks_later k (Operand p (kd, cell)) a l m h
+  ref_later p a (IntValue n) l m h = stuck_later k a _
+  ref_later p a (BoolValue n) l m h = stuck_later k a _
+  ref_later p a (TextValue n) l m h = stuck_later k a _
+  ref_later p a VoidValue l m h = stuck_later k a _
+  ref_later p a (ErrorValue n) l m h = stuck_later k a _
+  ref_later p a (RecordValue n vs) l m h = stuck_later k a _
+
+  operand_later : (o : Option (Effectful × ExprTrees)) (a : Actor) (p : Spot) (x : ExprTree) → LaterStep k (source_step.operand_by ns v o a p x) (source_step.operand_by ns (with_left v sum) o a p x)
+  operand_later (Some g) a p x = effects_later a (Kept p) g
+  operand_later None a p x =
+      evaluated_later k a (λ u left. source_step.operand_ref ns v left p a u) (λ u l m h. ref_later p a u l m h)
+      (value ns v (look a.vars) x) (value ns (with_left v sum) (look a.vars) x) (value_later (look a.vars) x)
+
+  await_later : (a : Actor) (p : Spot) (o : Option ExprTree) → LaterStep k (source_step.await ns v a p o) (source_step.await ns (with_left v sum) a p o)
+  await_later a p (Some x) = operand_later (effect_in ns x) a p x
+  await_later a p None = asks_later k _ _ v.left sum e
+
   body_later : (a : Actor) (s : Site) (b : Body) (r : List Item) → LaterStep k (source_step.do_body ns v a s b r) (source_step.do_body ns (with_left v sum) a s b r)
   body_later a s End r = quiet_later k _
   body_later a s (BlockStmt at b n) r = quiet_later k _
@@ -205,57 +226,36 @@ module _ (k : ℕ) (ns : Names) (v : View) (sum : ℕ) (e : sum ≡ v.left + k) 
       evaluated_later k a (λ u left. asks left (Returns u (everything a.vars)) over) (λ u l m h. asks_later k (Returns u (everything a.vars)) over l m h)
       (value ns v (look a.vars) x) (value ns (with_left v sum) (look a.vars) x) (value_later (look a.vars) x)
   body_later a s (ThrowStmt at x n) r = throws_later a x s.caught
-  body_later a s (TryStmt at b x h n) r = quiet_later k _
-  body_later a s (ChooseStmt at bs n) r = quiet_later k _
+  body_later a s (TryStmt at b q x h n) r = quiet_later k _
+  body_later a s (ChooseStmt at bs n) r = await_later a s.spot (operand (OneOf bs) v.kept)
   body_later a s (DeclareStmt at i x n) r = declares_later a i x (Do s n ∷ r)
   body_later a s (AssignStmt at xs x n) r = store_by_later (effect_in ns x) a (Path xs) x (Do s n ∷ r)
   body_later a s (ModifyStmt at xs c n) r = changed_later a (change xs c) xs (Do s n ∷ r)
   body_later a s (CallStmt at xs es n) r =
       evaluated_later k a (λ act left. asks left act (actor a.vars (Do s n ∷ r))) (λ act l m h. asks_later k act (actor a.vars (Do s n ∷ r)) l m h)
       (call_act ns v (look a.vars) xs es) (call_act ns (with_left v sum) (look a.vars) xs es) (call_act_later (look a.vars) xs es)
-  body_later a s (WaitStmt at w n) r = quiet_later k _
-
-  ref_later : (p : Spot) (a : Actor) (u : ValueTree) (b : Actor) (l m : ℕ) → m ≡ l + k → LaterStep k (source_step.operand_ref ns v l p a u b) (source_step.operand_ref ns (with_left v sum) m p a u b)
-  ref_later p a (RefValue kd cell) b l m h = asks_later k (Operand p (kd, cell)) b l m h
-  ref_later p a (IntValue n) b l m h = stuck_later k a _
-  ref_later p a (BoolValue n) b l m h = stuck_later k a _
-  ref_later p a (TextValue n) b l m h = stuck_later k a _
-  ref_later p a VoidValue b l m h = stuck_later k a _
-  ref_later p a (ErrorValue n) b l m h = stuck_later k a _
-  ref_later p a (RecordValue n vs) b l m h = stuck_later k a _
-
-  operand_later : (o : Option (Effectful × ExprTrees)) (a : Actor) (p : Spot) (x : ExprTree) (b : Actor) → LaterStep k (source_step.operand_by ns v o a p x b) (source_step.operand_by ns (with_left v sum) o a p x b)
-  operand_later (Some g) a p x b = effects_later a (Kept p) g b
-  operand_later None a p x b =
-      evaluated_later k a (λ u left. source_step.operand_ref ns v left p a u b) (λ u l m h. ref_later p a u b l m h)
-      (value ns v (look a.vars) x) (value ns (with_left v sum) (look a.vars) x) (value_later (look a.vars) x)
-
-  await_later : (a : Actor) (s : Site) (cs : Cases) (n : ℕ) (r : List Item) (o : Option ExprTree) → LaterStep k (source_step.await ns v a s cs n r o) (source_step.await ns (with_left v sum) a s cs n r o)
-  await_later a s cs n r (Some x) = operand_later (effect_in ns x) a s.spot x _
-  await_later a s cs n r None = asks_later k _ _ v.left sum e
+  body_later a s (WaitStmt at w n) r = await_later a s.spot (operand (Single w) v.kept)
 
   check_later : (a : Actor) (l : Loop) (o : Option ExprTree) (r : List Item) → LaterStep k (source_step.check ns v a l o r) (source_step.check ns (with_left v sum) a l o r)
   check_later a l None r = quiet_later k _
   check_later a l (Some x) r = test_later a x _ _
 
   item_later : (a : Actor) (r : List Item) → LaterStep k (source_step.do_item ns v a r) (source_step.do_item ns (with_left v sum) a r)
-  item_later a [] = asks_later k (Throws 1101) a v.left sum e
+  item_later a [] = asks_later k (Throws operation_cancelled) a v.left sum e
   item_later a (Do s b ∷ r) = body_later a s b r
   item_later a (Leave ∷ r) = scope_later a.vars r
   item_later a (Round l ∷ r) = asks_later k Pass _ v.left sum e
   item_later a (Check l ∷ r) = check_later a l l.condition r
   item_later a (Made l ∷ r) = quiet_later k _
   item_later a (Handler x s h ∷ r) = quiet_later k _
-  item_later a (Into g ∷ r) = stuck_later k a _
   item_later a (Over ∷ r) = stuck_later k a _
-  item_later a (Await s cs n ∷ r) = await_later a s cs n r (operand cs n)
 
   -- frames
   module _ (f : frame.Frame) where
-    frame_effects : (g : Goal) (b : frame.Frame) (x : Effectful × ExprTrees) → LaterStep k (class.effects ns v f g b x) (class.effects ns (with_left v sum) f g b x)
-    frame_effects g b x =
-        evaluated_later k f (λ vs left. given f (effect_of x.0 vs) (λ eff. asks left (Effects g eff) b))
-        (λ vs l m h. given_later k f (effect_of x.0 vs) (λ eff. asks l (Effects g eff) b) (λ eff. asks m (Effects g eff) b) (λ eff. asks_later k (Effects g eff) b l m h))
+    frame_effects : (g : Goal) (x : Effectful × ExprTrees) → LaterStep k (class.effects ns v f g x) (class.effects ns (with_left v sum) f g x)
+    frame_effects g x =
+        evaluated_later k f (λ vs left. given f (effect_of x.0 vs) (λ eff. asks left (Effects g eff) f))
+        (λ vs l m h. given_later k f (effect_of x.0 vs) (λ eff. asks l (Effects g eff) f) (λ eff. asks m (Effects g eff) f) (λ eff. asks_later k (Effects g eff) f l m h))
         (values ns v (frame.look f.mem) x.1) (values ns (with_left v sum) (frame.look f.mem) x.1) (values_later (frame.look f.mem) x.1)
 
     frame_value : (go : ValueTree → ℕ → StepOf frame.Frame) → ((u : ValueTree) (l m : ℕ) → m ≡ l + k → LaterStep k (go u l) (go u m)) → (x : ExprTree)
@@ -266,8 +266,8 @@ module _ (k : ℕ) (ns : Names) (v : View) (sum : ℕ) (e : sum ≡ v.left + k) 
     instruction_later (SetInstr path x) =
         frame_value (λ u left. given f (frame.assign ns.records f.mem path u) (class.placed ns v f left))
         (λ u l m h. given_later k f (frame.assign ns.records f.mem path u) (class.placed ns v f l) (class.placed ns v f m) (λ p. asks_later k (Drops p.0) (frame.next_instr p.1 f) l m h)) x
-    instruction_later (EffectInstr path x) = given_later k f (effect_in ns x) _ _ (frame_effects Stored f)
-    instruction_later (NewInstr p) = given_later k f (bind (class.type_at f.code p) class.promise_kind) _ _ (λ kd. asks_later k (Effects Stored (Make kd)) f v.left sum e)
+    instruction_later (EffectInstr path x) = given_later k f (effect_in ns x) _ _ (frame_effects Stored)
+    instruction_later (NewInstr p) = given_later k f (bind (class_code.type_at f.code p) class.promise_kind) _ _ (λ kd. asks_later k (Effects Stored (Make kd)) f v.left sum e)
     instruction_later (ActInstr path es) =
         evaluated_later k f (λ act left. asks left act (frame.next_instr f.mem f)) (λ act l m h. asks_later k act (frame.next_instr f.mem f) l m h)
         (call_act ns v (frame.look f.mem) path es) (call_act ns (with_left v sum) (frame.look f.mem) path es) (call_act_later (frame.look f.mem) path es)
@@ -279,7 +279,7 @@ module _ (k : ℕ) (ns : Names) (v : View) (sum : ℕ) (e : sum ≡ v.left + k) 
     frame_test (Some false) y n l m h = asks_later k Goes _ l m h
 
     frame_ref : (p : Spot) (u : ValueTree) (l m : ℕ) → m ≡ l + k → LaterStep k (class.operand_ref ns v f l p u) (class.operand_ref ns (with_left v sum) f m p u)
-    frame_ref p (RefValue kd cell) l m h = asks_later k (Operand p (kd, cell)) _ l m h
+    frame_ref p (RefValue kd cell) l m h = asks_later k (Operand p (kd, cell)) f l m h
     frame_ref p (IntValue n) l m h = stuck_later k f _
     frame_ref p (BoolValue n) l m h = stuck_later k f _
     frame_ref p (TextValue n) l m h = stuck_later k f _
@@ -288,7 +288,7 @@ module _ (k : ℕ) (ns : Names) (v : View) (sum : ℕ) (e : sum ≡ v.left + k) 
     frame_ref p (RecordValue n vs) l m h = stuck_later k f _
 
     frame_operand : (p : Spot) (x : ExprTree) (o : Option (Effectful × ExprTrees)) → LaterStep k (class.operand_by ns v f p x o) (class.operand_by ns (with_left v sum) f p x o)
-    frame_operand p x (Some g) = frame_effects (Kept p) _ g
+    frame_operand p x (Some g) = frame_effects (Kept p) g
     frame_operand p x None = frame_value (λ u left. class.operand_ref ns v f left p u) (λ u l m h. frame_ref p u l m h) x
 
     frame_choose : (p : Spot) (o : Option CallbackTree) → LaterStep k (class.choose ns v f p o) (class.choose ns (with_left v sum) f p o)
@@ -303,17 +303,17 @@ module _ (k : ℕ) (ns : Names) (v : View) (sum : ℕ) (e : sum ≡ v.left + k) 
     last_later (GotoLast b) = quiet_later k _
     last_later (PassLast b) = asks_later k Pass _ v.left sum e
     last_later (TestLast x b c) = frame_value (λ u left. class.test ns v f left (bool_of u) b c) (λ u l m h. frame_test (bool_of u) b c l m h) x
-    last_later (ChooseLast g) = frame_choose (frame.spot_of f.code g) (frame.callback_at f.code g f.asked)
+    last_later (ChooseLast g) = frame_choose (frame.spot_of f.code g) (class_code.callback_at f.code g v.kept)
     last_later (ReturnLast x) = frame_value (λ u left. asks left (Returns u (frame.everything f.mem)) frame.over) (λ u l m h. asks_later k (Returns u (frame.everything f.mem)) frame.over l m h) x
     last_later (ThrowLast x) = frame_value (λ u left. class.throw_value ns v f left (error_of u)) (λ u l m h. frame_throw (error_of u) l m h) x
 
-    fetched_later : (x : frame.Fetched) → LaterStep k (class.fetched ns v f x) (class.fetched ns (with_left v sum) f x)
-    fetched_later (frame.Body i) = instruction_later i
-    fetched_later (frame.Last l) = last_later l
-    fetched_later frame.Nothing = stuck_later k f _
+    fetched_later : (x : class_code.Fetched) → LaterStep k (class.fetched ns v f x) (class.fetched ns (with_left v sum) f x)
+    fetched_later (class_code.Body i) = instruction_later i
+    fetched_later (class_code.Last l) = last_later l
+    fetched_later class_code.Nothing = stuck_later k f _
 
 pub source_thrifty : (p : ProgramTree) → Thrifty (source p)
 source_thrifty p = record { same = λ k sum v a e. item_later k (names_of p) v sum e a a.rest }
 
 pub classes_thrifty : (c : RawTree) → Thrifty (class.classes c)
-classes_thrifty c = record { same = λ k sum v f e. fetched_later k (class.class_names c) v sum e f (frame.fetch f.code f.block f.instr) }
+classes_thrifty c = record { same = λ k sum v f e. fetched_later k (class.class_names c) v sum e f (class_code.fetch f.code f.block f.instr) }

@@ -3,19 +3,20 @@ use Rattle.std.proofs.Common.{◌≡◌, ℕ, suc, ◌+◌, List, [], ◌∷◌,
 use Rattle.std.specs.Prelude.{ℤ, pos, ◌-ℤ◌, ◌^◌, int_le, nat_le, nat_lt, Bool, true, false, ◌&&◌, if◌then◌else◌}
 use Rattle.std.specs.declared.option.Option.{Option}
 use Rattle.std.specs.declared.option.Option.TheVariants.{None, Some}
+use Rattle.flow_base.specs.ErrorNumbers.{second_waiter, already_set, port_in_use, bad_argument, out_of_range}
 use Rattle.flow_value.specs.declared.value.Kind.{Kind}
 use Rattle.flow_value.specs.declared.value.Kind.TheVariants as kind
 use Rattle.flow_value.specs.Values.{ValueTree, IntValue, RefValue, OutcomeTree, GoodOutcome}
 use Rattle.flow_trace.specs.declared.line.Line.{Line}
 use Rattle.flow_draw.specs.Words.{scaled}
 use Rattle.flow_eval.specs.Predefined.{natural}
-use Rattle.flow_meaning.specs.Numbered.{Numbered, thing, added}
+use Rattle.flow_meaning.specs.Numbered.{thing, added}
 use Rattle.flow_meaning.specs.Cells.{Cell, Single, Stream, is_complete}
 use Rattle.flow_meaning.specs.Asks.{Spot, Act, Goes, Pass, Drops, Effects, Operand, Waits, Sends, Cancels, Prints, SendsTo, Returns, Throws, RunsOut, Stuck, DiskCall, Effect, Make, Start, Draw, Delay, Never, Listen, Disk, Goal, Request, Drew, Timer, Packet, Disks, Supply}
 use Rattle.flow_meaning.specs.Process.{Task, Run, Throw, Keep, Close, Entry, Spent, NoMeaning, Core}
 use Rattle.flow_meaning.specs.Lines.{wait_line, print_line}
 use Rattle.flow_meaning.specs.Occ.{refs_in}
-use Rattle.flow_meaning.specs.Work.{halt, turn, writes, pushed, dropping, dropping_values, new_cell, fill, take_branch, first_ready, register, owner, cancel_owner}
+use Rattle.flow_meaning.specs.Work.{halt, turn, writes, pushed, dropping, dropping_values, new_cell, fill, take_branch, first_ready, Registration, Registered, Refused, Missing, register, owner, cancel_owner}
 use Rattle.flow_meaning.specs.Effects.{Reaction, quiet, throws, result_task, push_result, gives, gives_new, gives_open, empty_cell, between, draw, delay, is_port, open_port, listen, judged, ask_disk, effect, send_to}
 use Rattle.flow_meaning.specs.React.{send_by, send_in, print, at_spot, suspend, wait_by, wait, react}
 use Rattle.flow_meaning.specs.Turns.{Starts, more, IsHalted}
@@ -87,16 +88,16 @@ gives_open_even i g =
 
 draw_fair : (s : Supply) (i : ℕ) (g : Goal) (lo hi : ℤ) → FairAsk (draw s i g lo hi)
 draw_fair s i g lo hi =
-    either (between (hi -ℤ lo) 1 (2 ^ 32)) (λ c. (gives i g (IntValue (scaled lo (natural (hi -ℤ lo)) s.word)) c, Some Drew)) (throws i 9007)
-    (asking (gives i g (IntValue (scaled lo (natural (hi -ℤ lo)) s.word))) (λ c. Some Drew) (gives_even i g _) (λ k c. refl)) (throws_fair i 9007)
+    either (between (hi -ℤ lo) 1 (2 ^ 32)) (λ c. (gives i g (IntValue (scaled lo (natural (hi -ℤ lo)) s.word)) c, Some Drew)) (throws i bad_argument)
+    (asking (gives i g (IntValue (scaled lo (natural (hi -ℤ lo)) s.word))) (λ c. Some Drew) (gives_even i g _) (λ k c. refl)) (throws_fair i bad_argument)
 
 delay_fair : (i : ℕ) (g : Goal) (time : ℕ) → FairAsk (delay i g time)
 delay_fair i g time =
-    either (nat_le time (2 ^ 62)) (λ c. (gives_open i g c, Some (Timer (suc c.made) time))) (throws i 9001)
-    (asking (gives_open i g) (λ c. Some (Timer (suc c.made) time)) (gives_open_even i g) (λ k c. refl)) (throws_fair i 9001)
+    either (nat_le time (2 ^ 62)) (λ c. (gives_open i g c, Some (Timer (suc c.made) time))) (throws i out_of_range)
+    (asking (gives_open i g) (λ c. Some (Timer (suc c.made) time)) (gives_open_even i g) (λ k c. refl)) (throws_fair i out_of_range)
 
 open_port_fair : (i : ℕ) (g : Goal) (port : ℕ) (o : Option ℕ) → FairAsk (open_port i g port o)
-open_port_fair i g port (Some cell) = throws_fair i 9005
+open_port_fair i g port (Some cell) = throws_fair i port_in_use
 open_port_fair i g port None =
     quiet_fair (λ c. gives_new i g kind.FutureStream (Stream [] None None) (record c { ports = added c.ports port (suc c.made) }))
     (fair _ (then_even (λ c. record c { ports = added c.ports port (suc c.made) }) (gives_new i g kind.FutureStream (Stream [] None None))
@@ -104,11 +105,11 @@ open_port_fair i g port None =
 
 listen_fair : (i : ℕ) (g : Goal) (port : ℤ) → FairAsk (listen i g port)
 listen_fair i g port =
-    either (is_port port) (λ c. open_port i g (natural port) (thing c.ports (natural port)) c) (throws i 9007)
-    (own_ask (open_port i g (natural port)) (λ c. thing c.ports (natural port)) (λ k c. refl) (open_port_fair i g (natural port))) (throws_fair i 9007)
+    either (is_port port) (λ c. open_port i g (natural port) (thing c.ports (natural port)) c) (throws i bad_argument)
+    (own_ask (open_port i g (natural port)) (λ c. thing c.ports (natural port)) (λ k c. refl) (open_port_fair i g (natural port))) (throws_fair i bad_argument)
 
 ask_disk_fair : (i : ℕ) (g : Goal) (call : Option (DiskCall ℕ)) → FairAsk (ask_disk i g call)
-ask_disk_fair i g None = throws_fair i 9007
+ask_disk_fair i g None = throws_fair i bad_argument
 ask_disk_fair i g (Some call) = asking (gives_open i g) (λ c. Some (Disks (suc c.made) call)) (gives_open_even i g) (λ k c. refl)
 
 pub effect_fair : (s : Supply) (i : ℕ) (g : Goal) (e : Effect) → FairAsk (effect s i g e)
@@ -122,12 +123,12 @@ effect_fair s i g (Disk call) = ask_disk_fair i g (judged call)
 
 send_to_fair : (s : Supply) (i : ℕ) (q port : ℤ) (text : List ℕ) → FairAsk (send_to s i q port text)
 send_to_fair s i q port text =
-    either (int_le (pos 0) q && nat_lt (natural q) s.processes && is_port port) (λ c. (pushed (Run i) c, Some (Packet (natural q) (natural port) text))) (throws i 9007)
-    (asking (pushed (Run i)) (λ c. Some (Packet (natural q) (natural port) text)) (pushed_even (Run i)) (λ k c. refl)) (throws_fair i 9007)
+    either (int_le (pos 0) q && nat_lt (natural q) s.processes && is_port port) (λ c. (pushed (Run i) c, Some (Packet (natural q) (natural port) text))) (throws i bad_argument)
+    (asking (pushed (Run i)) (λ c. Some (Packet (natural q) (natural port) text)) (pushed_even (Run i)) (λ k c. refl)) (throws_fair i bad_argument)
 
 -- asks
 send_by_fair : (b : Bool) (i k : ℕ) (o : OutcomeTree) → Fair (send_by b i k o)
-send_by_fair true i k o = fair _ (pushed_even (Throw i 9004))
+send_by_fair true i k o = fair _ (pushed_even (Throw i already_set))
 send_by_fair false i k o = after_turn (λ d. fill k o (pushed (Run i) d)) (fair _ (then_even (pushed (Run i)) (fill k o) (pushed_even (Run i)) (fill_even k o)))
 
 send_in_fair : (i k : ℕ) (o : OutcomeTree) (x : Option Cell) → Fair (send_in x i k o)
@@ -138,14 +139,15 @@ print_even : (i : ℕ) (l : Option Line) → Even (print i l)
 print_even i None = halt_even NoMeaning
 print_even i (Some l) = then_even (writes l) (pushed (Run i)) (writes_even l) (pushed_even (Run i))
 
-suspend_even : (i : ℕ) (spot : Spot) (e : Entry) (vs : List ValueTree) (cells : Option (Numbered Cell)) → Even (suspend i spot e vs cells)
-suspend_even i spot e vs None = leave_for_even i e vs (Throw i 9003)
-suspend_even i spot e vs (Some cells) = record { even = λ k c. refl; adds = λ c. (wait_line i spot.group ∷ [], refl) }
+suspend_even : (i : ℕ) (spot : Spot) (e : Entry) (vs : List ValueTree) (r : Registration) → Even (suspend i spot e vs r)
+suspend_even i spot e vs Missing = halt_even NoMeaning
+suspend_even i spot e vs Refused = leave_for_even i e vs (Throw i second_waiter)
+suspend_even i spot e vs (Registered cells) = record { even = λ k c. refl; adds = λ c. (wait_line i spot.group ∷ [], refl) }
 
 wait_by_fair : (i : ℕ) (spot : Spot) (e : Entry) (vs : List ValueTree) (b : Option (ℕ × ℕ)) → Fair (wait_by i spot e vs b)
 wait_by_fair i spot e vs (Some b) = own_fair (take_branch i b.0 b.1 e vs) (λ c. thing c.cells b.1) (λ k c. refl) (take_branch_fair i b.0 b.1 e vs)
 wait_by_fair i spot e vs None =
-    own_fair (suspend i spot e vs) (λ c. register i 0 e.operands (Some c.cells)) (λ k c. refl) (λ cells. fair _ (suspend_even i spot e vs cells))
+    own_fair (suspend i spot e vs) (λ c. register i 0 e.operands (Registered c.cells)) (λ k c. refl) (λ r. fair _ (suspend_even i spot e vs r))
 
 wait_fair : (i : ℕ) (spot : Spot) (vs : List ValueTree) (e : Option Entry) → Fair (wait i spot e vs)
 wait_fair i spot vs None = fair _ (halt_even NoMeaning)

@@ -3,6 +3,7 @@ use Rattle.std.proofs.Common.{◌≡◌, ℕ, suc, ◌+◌, List, [], ◌∷◌,
 use Rattle.std.specs.Prelude.{length}
 use Rattle.std.specs.declared.option.Option.{Option}
 use Rattle.std.specs.declared.option.Option.TheVariants.{None, Some}
+use Rattle.flow_base.specs.ErrorNumbers.{operation_cancelled}
 use Rattle.flow_value.specs.declared.value.Kind.TheVariants as kind
 use Rattle.flow_value.specs.Values.{ValueTree, RefValue, OutcomeTree, GoodOutcome, BadOutcome}
 use Rattle.flow_meaning.specs.Numbered.{Numbered, thing, added, put, removed}
@@ -37,7 +38,7 @@ throw_even i err r (Some e) = then_even (writes (throw_line i err)) (leave_for i
 
 leave_kept_fair : (i b : ℕ) (v : Verdict) (r : Ref) (en : Entry) (vs : List ValueTree) → Fair (leave_kept i b v r en vs)
 leave_kept_fair i b GoesOn r en vs = fair _ same_even
-leave_kept_fair i b Cancelled r en vs = fair _ (leave_for_even i en vs (Throw i 1101))
+leave_kept_fair i b Cancelled r en vs = fair _ (leave_for_even i en vs (Throw i operation_cancelled))
 leave_kept_fair i b Ready r en vs = own_fair (take_branch i b r.1 en vs) (λ c. thing c.cells r.1) (λ k c. refl) (take_branch_fair i b r.1 en vs)
 
 handle_even : (i err : ℕ) → Even (handle i err)
@@ -150,8 +151,8 @@ module _ {A : Type 0} where
   run_step : (e : Engine A) → Thrifty e → (s : Supply) (i : ℕ) (ts : List Task) (o : Option A) (xs : Numbered A) → FairStep (λ c. run e s i ts o (proc c xs))
   run_step e t s i ts None xs = astray_step xs
   run_step e t s i ts (Some a) xs = record {
-    alike = λ k c. turned e s i ts k (e.next (view s c) a) (e.next (view s (more k c)) a) c xs (t.same k (c.left + k) (view s c) a refl);
-    grows = λ c. next_grows e s i ts (e.next (view s c) a) c xs;
+    alike = λ k c. turned e s i ts k (e.next (view s i c) a) (e.next (view s i (more k c)) a) c xs (t.same k (c.left + k) (view s i c) a refl);
+    grows = λ c. next_grows e s i ts (e.next (view s i c) a) c xs;
   }
 
   -- the other tasks
@@ -242,7 +243,7 @@ module _ {A : Type 0} where
     where
       run_grows : (o : Option A) → Starts c.lines (run e s i ts o (proc c xs)).0.core.lines
       run_grows None = starts_same c.lines
-      run_grows (Some a) = next_grows e s i ts (e.next (view s c) a) c xs
+      run_grows (Some a) = next_grows e s i ts (e.next (view s i c) a) c xs
   tasks_grow e s (Give i b o ∷ ts) xs c = (task_step e s (Give i b o) xs).grows (record c { tasks = ts })
   tasks_grow e s (Throw i err ∷ ts) xs c = (task_step e s (Throw i err) xs).grows (record c { tasks = ts })
   tasks_grow e s (Catch i err ∷ ts) xs c = (task_step e s (Catch i err) xs).grows (record c { tasks = ts })

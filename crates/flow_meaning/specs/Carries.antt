@@ -1,23 +1,27 @@
 -- A class carries an actor: the recursion over the actor's text.
-use Rattle.std.specs.Prelude.{◌≡◌, ℕ, List, [], ◌∷◌}
+use Rattle.std.specs.Prelude.{◌≡◌, ℕ, true, List, [], ◌∷◌}
 use Rattle.std.specs.declared.option.Option.{Option}
 use Rattle.std.specs.declared.option.Option.TheVariants.{None, Some}
-use Rattle.flow_ast.specs.declared.ty.Ident.{Ident}
-use Rattle.flow_ast.specs.Tree.{ExprTree, VarExpr}
-use Rattle.flow_ast.specs.Body.{IntoTree, WaitTree, Body, End, BlockStmt, IfStmt, IfElseStmt, WhileStmt, ForStmt, LoopStmt, BreakStmt, ContinueStmt, ReturnStmt, ThrowStmt, TryStmt, ChooseStmt, DeclareStmt, AssignStmt, ModifyStmt, CallStmt, WaitStmt, Branches, NoBranches, MoreBranches}
-use Rattle.flow_ast.specs.Decls.{RoutineTree, ProgramTree}
+use Rattle.flow_tree.specs.declared.ty.Ident.{Ident}
+use Rattle.flow_tree.specs.Tree.{ExprTree, VarExpr}
+use Rattle.flow_tree.specs.Body.{IntoTree, WaitTree, Body, End, BlockStmt, IfStmt, IfElseStmt, WhileStmt, ForStmt, LoopStmt, BreakStmt, ContinueStmt, ReturnStmt, ThrowStmt, TryStmt, ChooseStmt, DeclareStmt, AssignStmt, ModifyStmt, CallStmt, WaitStmt, Branches, NoBranches, MoreBranches}
+use Rattle.flow_tree.specs.Decls.{RoutineTree, ProgramTree}
+use Rattle.flow_ast.specs.Leaving.{has_statement}
 use Rattle.flow_class.specs.declared.class.Slotted.{Slotted}
 use Rattle.flow_class.specs.Classes.{ActInstr, TestLast, ChooseLast, ReturnLast, ThrowLast, CallbackTree, ClassTree, RawTree}
 use Rattle.flow_meaning.specs.Asks.{Spot}
 use Rattle.flow_meaning.specs.Evaluating.{Names}
-use Rattle.flow_meaning.specs.Variables.{Mark, Var, scope, outside}
+use Rattle.flow_class.specs.Scopes.{Mark, Var, scope, outside}
 use Rattle.flow_meaning.specs.Text.{first_spot, next_spot, branch_count, past_branches}
 use Rattle.flow_meaning.specs.Items.{Site, Loop, Item, Do, Leave, Round, Made, Handler, change, site_past, site_at}
 use Rattle.flow_meaning.specs.SourceStep.{Exit, Breaks, Continues}
 use Rattle.flow_meaning.specs.Source.{names_of, actors_in}
-use Rattle.flow_meaning.specs.Frame.{Last, place_named, group_at, spot_of}
-use Rattle.flow_meaning.specs.Frame as frame
-use Rattle.flow_meaning.specs.Carry.{Scope, Pos, entry, after, Target, At, Again, Hand, EndsScope, place_of, over, over_all, path_over, act_over, at, Goes, Free, CaughtAt, AssignAt, ChangeAt, DeclareAt, DeclaredAs, SimpleAt, PassAt, DropThen, GoesOn}
+use Rattle.flow_class.specs.Places.{place_named}
+use Rattle.flow_class.specs.Code.{Last, group_at}
+use Rattle.flow_meaning.specs.Frame.{spot_of}
+use Rattle.flow_class.specs.Code as frame
+use Rattle.flow_class.specs.Scopes.{Scope, place_of, over, over_all, path_over, act_over}
+use Rattle.flow_meaning.specs.Carry.{Pos, entry, after, Target, At, Again, Hand, EndsScope, at, Goes, NewLocal, CaughtAt, AssignAt, ChangeAt, DeclareAt, DeclaredAs, SimpleAt, PassAt, DropThen, GoesOn}
 
 module _ (ns : Names) (c : ClassTree) where
   -- a break or a continue: the scopes up to the loop are left, each with its drop, and then the loop
@@ -33,13 +37,13 @@ module _ (ns : Names) (c : ClassTree) where
   abbrev pub LoopAt : Scope → List Item → List Target → Option ExprTree → (block : ℕ) → (Pos → Type 0) → Type 0
   LoopAt s r ts None b inner = inner (entry b)
   LoopAt s r ts (Some e) b inner =
-      CaughtAt ns c s r ts (entry b) × (y : ℕ) × (n : ℕ) × (at ns c (entry b) ≡ Last (TestLast (over ns c s e) y n)) × inner (entry y) × GoesOn ns c s r ts (entry n)
+      CaughtAt ns c s r ts (entry b) × (y : ℕ) × (n : ℕ) × (at ns c (entry b) ≡ Last (TestLast (over c.slots s e) y n)) × inner (entry y) × GoesOn ns c s r ts (entry n)
 
   -- an error by an expression, or that of the catch around by its variable
   abbrev pub ThrowAt : Scope → Option ExprTree → Option (List ℕ) → Pos → Type 0
-  ThrowAt s (Some e) caught p = at ns c p ≡ Last (ThrowLast (over ns c s e))
+  ThrowAt s (Some e) caught p = at ns c p ≡ Last (ThrowLast (over c.slots s e))
   ThrowAt s None None p = ⊥
-  ThrowAt s None (Some x) p = (y : Ident) × (at ns c p ≡ Last (ThrowLast (VarExpr y))) × (place_named y.name ≡ place_of ns c s x)
+  ThrowAt s None (Some x) p = (y : Ident) × (at ns c p ≡ Last (ThrowLast (VarExpr y))) × (place_named y.name ≡ place_of c.slots s x)
 
   -- a group's callbacks at a position
   abbrev pub GroupAt : Spot → List CallbackTree → Pos → Type 0
@@ -53,21 +57,22 @@ module _ (ns : Names) (c : ClassTree) where
   TakesInto s (Some i) (Some to) later = DeclaredAs ns c s i to later
 
   abbrev pub BranchAt : Scope → Scope → WaitTree → CallbackTree → Scope → Type 0
-  BranchAt s inside w k later = (k.next ≡ w.next) × (k.operand ≡ over ns c s w.operand) × TakesInto inside w.into k.into later
+  BranchAt s inside w k later = (k.next ≡ w.next) × (k.operand ≡ over c.slots s w.operand) × TakesInto inside w.into k.into later
 
-  -- A body stands at p, over the items r, which go on at the targets ts.
+  -- A body stands at p, over the items r, which go on at the targets ts. Statements behind one that isn't passed stand
+  -- somewhere.
   abbrev mutual
     pub BodyAt : Scope → List Item → List Target → Site → Body → Pos → Type 0
     BodyAt s r ts x End p = GoesOn ns c s r ts p
     BodyAt s r ts x (BlockStmt place b k) p =
         (q : Pos) × BodyAt (Mark ∷ s) (Leave ∷ Do (site_past b x) k ∷ r) (At q ∷ ts) x b p × BodyAt s r ts (site_past b x) k q
     BodyAt s r ts x (IfStmt place e b k) p =
-        CaughtAt ns c s r ts p × (y : ℕ) × (n : ℕ) × (q : Pos) × (at ns c p ≡ Last (TestLast (over ns c s e) y n))
+        CaughtAt ns c s r ts p × (y : ℕ) × (n : ℕ) × (q : Pos) × (at ns c p ≡ Last (TestLast (over c.slots s e) y n))
         × BodyAt (Mark ∷ s) (Leave ∷ Do (site_past b x) k ∷ r) (At q ∷ ts) x b (entry y)
         × Goes ns c (entry n) q
         × BodyAt s r ts (site_past b x) k q
     BodyAt s r ts x (IfElseStmt place e b d k) p =
-        CaughtAt ns c s r ts p × (y : ℕ) × (n : ℕ) × (q : Pos) × (at ns c p ≡ Last (TestLast (over ns c s e) y n))
+        CaughtAt ns c s r ts p × (y : ℕ) × (n : ℕ) × (q : Pos) × (at ns c p ≡ Last (TestLast (over c.slots s e) y n))
         × BodyAt (Mark ∷ s) (Leave ∷ Do (site_past d (site_past b x)) k ∷ r) (At q ∷ ts) x b (entry y)
         × BodyAt (Mark ∷ s) (Leave ∷ Do (site_past d (site_past b x)) k ∷ r) (At q ∷ ts) (site_past b x) d (entry n)
         × BodyAt s r ts (site_past d (site_past b x)) k q
@@ -90,16 +95,18 @@ module _ (ns : Names) (c : ClassTree) where
         × PassAt ns c m h
         × LoopAt s2 behind (At q ∷ ts) e h (BodyAt (Mark ∷ s2) (Leave ∷ Made l ∷ behind) (Again h ∷ At q ∷ ts) y b)
         × BodyAt s r ts (site_past b y) k q
-    BodyAt s r ts x (BreakStmt place k) p = ExitAt Breaks s r ts p
-    BodyAt s r ts x (ContinueStmt place k) p = ExitAt Continues s r ts p
-    BodyAt s r ts x (ReturnStmt place e k) p = CaughtAt ns c s r ts p × (at ns c p ≡ Last (ReturnLast (over ns c s e)))
-    BodyAt s r ts x (ThrowStmt place e k) p = CaughtAt ns c s r ts p × ThrowAt s e x.caught p
-    BodyAt s r ts x (TryStmt place b v d k) p =
+    BodyAt s r ts x (BreakStmt place k) p = ExitAt Breaks s r ts p × (has_statement k ≡ true → (q : Pos) × BodyAt s r ts x k q)
+    BodyAt s r ts x (ContinueStmt place k) p = ExitAt Continues s r ts p × (has_statement k ≡ true → (q : Pos) × BodyAt s r ts x k q)
+    BodyAt s r ts x (ReturnStmt place e k) p =
+        CaughtAt ns c s r ts p × (at ns c p ≡ Last (ReturnLast (over c.slots s e))) × (has_statement k ≡ true → (q : Pos) × BodyAt s r ts x k q)
+    BodyAt s r ts x (ThrowStmt place e k) p =
+        CaughtAt ns c s r ts p × ThrowAt s e x.caught p × (has_statement k ≡ true → (q : Pos) × BodyAt s r ts x k q)
+    BodyAt s r ts x (TryStmt place b w v d k) p =
         let y = site_past b x in
         let z : Site = record { spot = y.spot; caught = Some v.name } in
         (m : Pos) × (h : ℕ) × (n : ℕ) × (q : Pos) × Goes ns c p m
         × BodyAt (Mark ∷ s) (Leave ∷ Handler v.name z d ∷ Do (site_past d y) k ∷ r) (Hand h n ∷ At q ∷ ts) x b m
-        × Free ns c n s
+        × NewLocal ns c n s
         × BodyAt (Var v.name n ∷ Mark ∷ s) (Leave ∷ Do (site_past d y) k ∷ r) (At q ∷ ts) z d (entry h)
         × BodyAt s r ts (site_past d y) k q
     BodyAt s r ts x (ChooseStmt place bs k) p =
@@ -110,10 +117,10 @@ module _ (ns : Names) (c : ClassTree) where
         × BodyAt s r ts z k q
     BodyAt s r ts x (DeclareStmt place i e k) p =
         CaughtAt ns c s r ts p × EndsScope r × (to : Slotted) × (s2 : Scope) × DeclareAt ns c s to i.ty e p × DeclaredAs ns c s i to s2 × BodyAt s2 r ts x k (after p)
-    BodyAt s r ts x (AssignStmt place xs e k) p = CaughtAt ns c s r ts p × AssignAt ns c s (path_over ns c s xs) e p × BodyAt s r ts x k (after p)
+    BodyAt s r ts x (AssignStmt place xs e k) p = CaughtAt ns c s r ts p × AssignAt ns c s (path_over c.slots s xs) e p × BodyAt s r ts x k (after p)
     BodyAt s r ts x (ModifyStmt place xs d k) p = CaughtAt ns c s r ts p × ChangeAt ns c s xs (change xs d) p × BodyAt s r ts x k (after p)
     BodyAt s r ts x (CallStmt place xs es k) p =
-        CaughtAt ns c s r ts p × (at ns c p ≡ frame.Body (ActInstr (act_over ns c s xs) (over_all ns c s es))) × BodyAt s r ts x k (after p)
+        CaughtAt ns c s r ts p × (at ns c p ≡ frame.Body (ActInstr (act_over c.slots s xs) (over_all c.slots s es))) × BodyAt s r ts x k (after p)
     BodyAt s r ts x (WaitStmt place w k) p =
         (d : CallbackTree) × (s2 : Scope) × CaughtAt ns c s r ts p × EndsScope r × GroupAt x.spot (d ∷ []) p × BranchAt s s w d s2
         × BodyAt s2 r ts (site_at (next_spot 1 x.spot) x) k (entry d.block)

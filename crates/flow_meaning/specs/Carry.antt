@@ -1,27 +1,21 @@
 -- A class carries an actor: what stands where in the blocks of a class, for each point of the actor's text. A point has a
 -- position only where control comes back to it; everything else is said by recursion over the text.
-use Rattle.std.specs.Prelude.{◌≡◌, ◌≢◌, ℕ, suc, ◌<◌, pos, true, false, List, [], ◌∷◌, length, position, codes, decimal}
-use Rattle.std.specs.Str.{bytes_eq}
+use Rattle.std.specs.Prelude.{◌≡◌, ℕ, suc, ◌<◌, pos, true, false, List, [], ◌∷◌, length, codes}
 use Rattle.std.specs.declared.option.Option.{Option}
 use Rattle.std.specs.declared.option.Option.TheVariants.{None, Some}
-use Rattle.flow_ast.specs.declared.ty.Ident.{Ident}
-use Rattle.flow_ast.specs.Tree.{TypeTree, IntType, BoolType, StringType, ExprTree, ExprTrees, IntExpr, TextExpr, BoolExpr, VoidExpr, VarExpr, CallExpr, FieldExpr, MethodExpr, NotExpr, NegExpr, BinaryExpr, ParenExpr, NoExprs, MoreExprs}
-use Rattle.flow_ast.specs.Body.{IntoTree, Body, End, DeclareStmt, AssignStmt, ModifyStmt}
-use Rattle.flow_ast.specs.Decls.{SlotTree}
-use Rattle.flow_ast.specs.TypingNames.{named, constant_names}
+use Rattle.flow_tree.specs.declared.ty.Ident.{Ident}
+use Rattle.flow_tree.specs.Tree.{TypeTree, IntType, BoolType, StringType, ExprTree, ExprTrees, IntExpr, TextExpr, BoolExpr, CallExpr, NoExprs}
+use Rattle.flow_tree.specs.Body.{IntoTree, Body, End, DeclareStmt, AssignStmt, ModifyStmt}
 use Rattle.flow_class.specs.declared.class.Slotted.{Slotted}
 use Rattle.flow_class.specs.declared.class.Slotted.TheVariants as place
 use Rattle.flow_class.specs.Classes.{SetInstr, EffectInstr, NewInstr, DropInstr, GotoLast, PassLast, ThrowLast, ClassTree}
 use Rattle.flow_meaning.specs.Evaluating.{Names, Effectful, effect_in}
-use Rattle.flow_meaning.specs.Variables.{Local, Mark, Var, find, scope, outside}
+use Rattle.flow_class.specs.Scopes.{Var, scope, outside, Scope, Above, Covers, place_of, over, path_over}
 use Rattle.flow_meaning.specs.Items.{Item, Do, Leave, Round, Made, Handler, Unwound, unwind, change}
-use Rattle.flow_meaning.specs.Frame.{place_named, Fetched, Last, Nothing, fetch, catcher_at, group_at, spot_of}
-use Rattle.flow_meaning.specs.Frame as frame
-use Rattle.flow_meaning.specs.Class.{type_at}
-
--- the locals in force with their numbers, newest first
-abbrev pub Scope : Type 0
-Scope = List (Local ℕ)
+use Rattle.flow_class.specs.Places.{place_named}
+use Rattle.flow_class.specs.Code.{Fetched, Last, Nothing, fetch, catcher_at, group_at}
+use Rattle.flow_class.specs.Code as frame
+use Rattle.flow_class.specs.Code.{type_at}
 
 -- a position in a class
 pub record Pos : Type 0 where
@@ -41,23 +35,6 @@ pub data Target : Type 0 where
   Again : (block : ℕ) → Target
   Hand : (block error : ℕ) → Target
 
--- no local in force has this number
-abbrev pub Apart : ℕ → Scope → Type 0
-Apart n [] = Unit {0}
-Apart n (Mark ∷ s) = Apart n s
-Apart n (Var x k ∷ s) = (n ≢ k) × Apart n s
-
--- A drop list covers locals: those in order, and between them locals that are not in force, which are empty.
-pub data Covers (s : Scope) : List ℕ → List ℕ → Type 0 where
-  none : Covers s [] []
-  this : {n : ℕ} {ds ps : List ℕ} → Covers s ds ps → Covers s (n ∷ ds) (n ∷ ps)
-  extra : {n : ℕ} {ds ps : List ℕ} → Apart n s → Covers s ds ps → Covers s (n ∷ ds) ps
-
--- the name of a place in class text
-abbrev pub place_name : Slotted → List ℕ
-place_name (place.Slot n) = 115 ∷ decimal n
-place_name (place.Local n) = 108 ∷ decimal n
-
 -- a body follows the scope of its own, or is the whole text
 abbrev pub EndsScope : List Item → Type 0
 EndsScope [] = Unit {0}
@@ -65,55 +42,6 @@ EndsScope (Leave ∷ r) = Unit {0}
 EndsScope _ = ⊥
 
 module _ (ns : Names) (c : ClassTree) where
-  -- the place of a name: of the newest local, or else of the slot
-  abbrev pub slot_place : Option ℕ → Option Slotted
-  slot_place None = None
-  slot_place (Some n) = Some (place.Slot n)
-
-  abbrev pub place_by : Option ℕ → Option ℕ → Option Slotted
-  place_by (Some n) k = Some (place.Local n)
-  place_by None k = slot_place k
-
-  abbrev pub place_of : Scope → List ℕ → Option Slotted
-  place_of s x = place_by (find s x) (position (λ (t : SlotTree). bytes_eq x t.name) c.slots)
-
-  -- names, expressions and paths over places; a constant is no variable
-  abbrev pub name_over : Option ℕ → Option Slotted → List ℕ → List ℕ
-  name_over (Some n) p x = x
-  name_over None None x = x
-  name_over None (Some p) x = place_name p
-
-  abbrev pub ident_over : Scope → Ident → Ident
-  ident_over s x = record x { name = name_over (named constant_names x.name) (place_of s x.name) x.name }
-
-  abbrev mutual
-    pub over : Scope → ExprTree → ExprTree
-    over s (IntExpr n) = IntExpr n
-    over s (TextExpr t) = TextExpr t
-    over s (BoolExpr b) = BoolExpr b
-    over s VoidExpr = VoidExpr
-    over s (VarExpr x) = VarExpr (ident_over s x)
-    over s (CallExpr f es) = CallExpr f (over_all s es)
-    over s (FieldExpr e x) = FieldExpr (over s e) x
-    over s (MethodExpr e m es) = MethodExpr (over s e) m (over_all s es)
-    over s (NotExpr e) = NotExpr (over s e)
-    over s (NegExpr e) = NegExpr (over s e)
-    over s (BinaryExpr op a b) = BinaryExpr op (over s a) (over s b)
-    over s (ParenExpr e) = ParenExpr (over s e)
-
-    pub over_all : Scope → ExprTrees → ExprTrees
-    over_all s NoExprs = NoExprs
-    over_all s (MoreExprs e es) = MoreExprs (over s e) (over_all s es)
-
-  abbrev pub path_over : Scope → List Ident → List Ident
-  path_over s [] = []
-  path_over s (x ∷ xs) = ident_over s x ∷ xs
-
-  -- a path of a single name after `act` is what is called
-  abbrev pub act_over : Scope → List Ident → List Ident
-  act_over s (f ∷ []) = f ∷ []
-  act_over s xs = path_over s xs
-
   abbrev pub at : Pos → Fetched
   at p = fetch c p.block p.instr
 
@@ -122,9 +50,9 @@ module _ (ns : Names) (c : ClassTree) where
     here : {p : Pos} → Goes p p
     jump : {p q : Pos} (b : ℕ) → at p ≡ Last (GotoLast b) → Goes (entry b) q → Goes p q
 
-  -- a local that there is and that is not in force
-  abbrev pub Free : ℕ → Scope → Type 0
-  Free n s = (n < length c.locals) × Apart n s
+  -- a local that there is, with a number above those of all locals in force
+  abbrev pub NewLocal : ℕ → Scope → Type 0
+  NewLocal n s = (n < length c.locals) × Above n s
 
   -- The block of a position catches as the items say: at the innermost catch's handler, after the drop of the locals
   -- declared inside its body, or not at all.
@@ -150,11 +78,11 @@ module _ (ns : Names) (c : ClassTree) where
   AssignBy (Some g) path e p = at p ≡ frame.Body (EffectInstr path e)
 
   abbrev pub AssignAt : Scope → List Ident → ExprTree → Pos → Type 0
-  AssignAt s path e p = AssignBy (effect_in ns e) path (over s e) p
+  AssignAt s path e p = AssignBy (effect_in ns e) path (over c.slots s e) p
 
   abbrev pub ChangeAt : Scope → List Ident → Option ExprTree → Pos → Type 0
   ChangeAt s xs None p = ⊥
-  ChangeAt s xs (Some e) p = AssignAt s (path_over s xs) e p
+  ChangeAt s xs (Some e) p = AssignAt s (path_over c.slots s xs) e p
 
   -- a declared variable gets its value at a position: what its type has at first, a new cell, an expression, an effect
   abbrev pub default_expr : TypeTree → Option ExprTree
@@ -173,13 +101,13 @@ module _ (ns : Names) (c : ClassTree) where
 
   -- the place of a declared variable: its slot, or a free local, which is in force from then on
   abbrev pub DeclaredAs : Scope → IntoTree → Slotted → Scope → Type 0
-  DeclaredAs s i (place.Slot n) later = (i.state ≡ true) × (place_of s i.name.name ≡ Some (place.Slot n)) × (later ≡ s)
-  DeclaredAs s i (place.Local n) later = (i.state ≡ false) × Free n s × (later ≡ Var i.name.name n ∷ s)
+  DeclaredAs s i (place.Slot n) later = (i.state ≡ true) × (place_of c.slots s i.name.name ≡ Some (place.Slot n)) × (later ≡ s)
+  DeclaredAs s i (place.Local n) later = (i.state ≡ false) × NewLocal n s × (later ≡ Var i.name.name n ∷ s)
 
   -- A part of a `for`, or none, from p to q, and the locals in force after it.
   abbrev pub SimpleAt : Scope → List Item → List Target → Body → Pos → Pos → Scope → Type 0
   SimpleAt s r ts End p q later = (p ≡ q) × (later ≡ s)
-  SimpleAt s r ts (AssignStmt place xs e End) p q later = CaughtAt s r ts p × AssignAt s (path_over s xs) e p × (q ≡ after p) × (later ≡ s)
+  SimpleAt s r ts (AssignStmt place xs e End) p q later = CaughtAt s r ts p × AssignAt s (path_over c.slots s xs) e p × (q ≡ after p) × (later ≡ s)
   SimpleAt s r ts (ModifyStmt place xs k End) p q later = CaughtAt s r ts p × ChangeAt s xs (change xs k) p × (q ≡ after p) × (later ≡ s)
   SimpleAt s r ts (DeclareStmt place i e End) p q later =
       CaughtAt s r ts p × (to : Slotted) × DeclareAt s to i.ty e p × DeclaredAs s i to later × (q ≡ after p)
@@ -194,9 +122,10 @@ module _ (ns : Names) (c : ClassTree) where
   DropThen [] p follows = follows p
   DropThen (n ∷ ns) p follows = (h : Pos) × Goes p h × (at h ≡ frame.Body (DropInstr (n ∷ ns))) × follows (after h)
 
-  -- from p the class goes on with the items; the end of a text, which nothing reaches, throws
+  -- from p the class goes on with the items; the end of a text, which nothing reaches, throws, and nothing catches that
   abbrev pub GoesOn : Scope → List Item → List Target → Pos → Type 0
   GoesOn s [] ts p = (h : Pos) × (f : Ident) × Goes p h × (at h ≡ Last (ThrowLast (CallExpr f NoExprs))) × (f.name ≡ codes "operation_cancelled")
+      × (catcher_at c h.block ≡ None)
   GoesOn s (Leave ∷ r) ts p = DropThen (scope s) p (GoesOn (outside s) r ts)
   GoesOn s (Do site k ∷ r) (At q ∷ ts) p = Goes p q
   GoesOn s (Made l ∷ r) (Again b ∷ ts) p = (h : Pos) × (q : Pos) × Goes p h × SimpleAt s (Round l ∷ r) (Again b ∷ ts) l.step h q s × PassAt q b

@@ -1,27 +1,20 @@
 -- The step of a frame by its instruction, and frames as actors of a process.
-use Rattle.std.specs.Prelude.{ℕ, suc, nat_eq, Bool, true, false, List, [], ◌∷◌, ◌++◌, map, length, drop, slice_get, unwrap_or, if◌then◌else◌}
-use Rattle.std.specs.Option.{option_map}
+use Rattle.std.specs.Prelude.{ℕ, nat_eq, Bool, true, false, List, [], ◌∷◌, ◌++◌, map, length, drop, slice_get, unwrap_or, if◌then◌else◌}
 use Rattle.std.specs.declared.option.Option.{Option}
 use Rattle.std.specs.declared.option.Option.TheVariants.{None, Some}
-use Rattle.flow_ast.specs.Tree.{TypeTree, PromiseType, PromiseStreamType, ExprTree, ExprTrees}
-use Rattle.flow_ast.specs.Decls.{SlotTree}
+use Rattle.flow_tree.specs.Tree.{TypeTree, PromiseType, PromiseStreamType, ExprTree, ExprTrees}
 use Rattle.flow_value.specs.declared.value.Kind.{Kind}
 use Rattle.flow_value.specs.declared.value.Kind.TheVariants as kind
 use Rattle.flow_value.specs.Values.{ValueTree, RefValue}
 use Rattle.flow_eval.specs.Answers.{bool_of, error_of}
 use Rattle.flow_class.specs.declared.class.Slotted.{Slotted}
-use Rattle.flow_class.specs.declared.class.Slotted.TheVariants.{Slot, Local}
 use Rattle.flow_class.specs.Classes.{InstrTree, SetInstr, EffectInstr, NewInstr, ActInstr, DropInstr, LastTree, GotoLast, PassLast, TestLast, ChooseLast, ReturnLast, ThrowLast, CallbackTree, ClassTree, RawTree}
 use Rattle.flow_meaning.specs.Asks.{Spot, Make, Goal, Stored, Kept, Goes, Pass, Drops, Effects, Operand, Waits, Returns, Throws}
 use Rattle.flow_meaning.specs.Process.{View, Engine}
 use Rattle.flow_meaning.specs.Evaluating.{Names, bind, StepOf, asks, quietly, stuck, given, evaluated, Effectful, effect_in, effect_of, value, values, call_act}
 use Rattle.flow_meaning.specs.Source.{main_of}
-use Rattle.flow_meaning.specs.Frame.{Memory, Frame, look, held_in, emptied, blanks, everything, occ_memory, put_at, assign, Fetched, Body, Last, Nothing, fetch, spot_of, callback_at, go, next_instr, over, lose, raise}
-
--- the type of a place
-abbrev pub type_at : ClassTree → Slotted → Option TypeTree
-type_at c (Slot n) = option_map (λ (s : SlotTree). s.ty) (slice_get c.slots n)
-type_at c (Local n) = slice_get c.locals n
+use Rattle.flow_class.specs.Code.{type_at, Fetched, Body, Last, Nothing, fetch, callback_at}
+use Rattle.flow_meaning.specs.Frame.{Memory, Frame, look, held_in, emptied, blanks, everything, occ_memory, put_at, assign, spot_of, go, next_instr, over, lose, raise}
 
 -- what a new cell of a promise's type is
 abbrev pub promise_kind : TypeTree → Option Kind
@@ -34,12 +27,13 @@ module _ (ns : Names) (v : View) (f : Frame) where
   abbrev pub placed : ℕ → List ValueTree × Memory → StepOf Frame
   placed left p = asks left (Drops p.0) (next_instr p.1 f)
 
-  abbrev pub effects : Goal → Frame → Effectful × ExprTrees → StepOf Frame
-  effects goal g e = evaluated f (values ns v (look f.mem) e.1) (λ vs left. given f (effect_of e.0 vs) (λ eff. asks left (Effects goal eff) g))
+  -- an effect, whose result goes into place or among the operands; the frame stays where it is
+  abbrev pub effects : Goal → Effectful × ExprTrees → StepOf Frame
+  effects goal e = evaluated f (values ns v (look f.mem) e.1) (λ vs left. given f (effect_of e.0 vs) (λ eff. asks left (Effects goal eff) f))
 
   abbrev pub instruction : InstrTree → StepOf Frame
   instruction (SetInstr path e) = evaluated f (value ns v (look f.mem) e) (λ u left. given f (assign ns.records f.mem path u) (placed left))
-  instruction (EffectInstr path e) = given f (effect_in ns e) (effects Stored f)
+  instruction (EffectInstr path e) = given f (effect_in ns e) (effects Stored)
   instruction (NewInstr p) = given f (bind (type_at f.code p) promise_kind) (λ k. asks v.left (Effects Stored (Make k)) f)
   instruction (ActInstr path es) = evaluated f (call_act ns v (look f.mem) path es) (λ act left. asks left act (next_instr f.mem f))
   instruction (DropInstr locals) = asks v.left (Drops (held_in f.mem locals)) (next_instr (emptied locals f.mem) f)
@@ -51,11 +45,11 @@ module _ (ns : Names) (v : View) (f : Frame) where
 
   -- the next operand of a group is asked for; when all are kept, the frame waits with the group as its state number
   abbrev pub operand_ref : (left : ℕ) → Spot → ValueTree → StepOf Frame
-  operand_ref left spot (RefValue k cell) = asks left (Operand spot (k, cell)) (record f { asked = suc f.asked })
+  operand_ref left spot (RefValue k cell) = asks left (Operand spot (k, cell)) f
   operand_ref left spot _ = stuck f
 
   abbrev pub operand_by : Spot → ExprTree → Option (Effectful × ExprTrees) → StepOf Frame
-  operand_by spot e (Some g) = effects (Kept spot) (record f { asked = suc f.asked }) g
+  operand_by spot e (Some g) = effects (Kept spot) g
   operand_by spot e None = evaluated f (value ns v (look f.mem) e) (λ u left. operand_ref left spot u)
 
   abbrev pub waits : Spot → List ValueTree × Frame → StepOf Frame
@@ -73,7 +67,7 @@ module _ (ns : Names) (v : View) (f : Frame) where
   last (GotoLast b) = quietly (go b f.mem f)
   last (PassLast b) = asks v.left Pass (go b f.mem f)
   last (TestLast e b c) = evaluated f (value ns v (look f.mem) e) (λ u left. test left (bool_of u) b c)
-  last (ChooseLast g) = choose (spot_of f.code g) (callback_at f.code g f.asked)
+  last (ChooseLast g) = choose (spot_of f.code g) (callback_at f.code g v.kept)
   last (ReturnLast e) = evaluated f (value ns v (look f.mem) e) (λ u left. asks left (Returns u (everything f.mem)) over)
   last (ThrowLast e) = evaluated f (value ns v (look f.mem) e) (λ u left. throw_value left (error_of u))
 
@@ -120,7 +114,6 @@ begun c vs = record {
   mem = record { slots = map Some vs ++ blanks (drop c.params c.slots); locals = blanks c.locals };
   block = 0;
   instr = 0;
-  asked = 0;
   state = 0;
 }
 

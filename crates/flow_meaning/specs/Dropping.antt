@@ -2,6 +2,7 @@
 use Rattle.std.specs.Prelude.{ℕ, zero, suc, nat_eq, Bool, true, false, List, [], ◌∷◌, if◌then◌else◌}
 use Rattle.std.specs.declared.option.Option.{Option}
 use Rattle.std.specs.declared.option.Option.TheVariants.{None, Some}
+use Rattle.flow_base.specs.ErrorNumbers.{broken_promise}
 use Rattle.flow_value.specs.declared.value.Kind.{Kind}
 use Rattle.flow_value.specs.Values.{OutcomeTree, BadOutcome}
 use Rattle.flow_meaning.specs.Numbered.{Numbered, thing, removed}
@@ -44,9 +45,9 @@ loss PromiseSide (suc p) f cell o port = Kept
 loss FutureSide (suc p) zero cell o port = futures_gone o port
 loss FutureSide p (suc f) cell o port = Kept
 
--- a cell is broken: a turn, the line, the error 1100
+-- a cell is broken: a turn, the line, the error of a broken promise
 abbrev pub break_cell : ℕ → Core → Core
-break_cell k c = turn c (λ d. fill k (BadOutcome 1100) (writes (broken_line k) d))
+break_cell k c = turn c (λ d. fill k (BadOutcome broken_promise) (writes (broken_line k) d))
 
 abbrev pub suffer : ℕ → Loss → Core → Core
 suffer k Kept c = c

@@ -1,8 +1,9 @@
--- Effects and messages: what a process does for an effect, and what it asks of the world for it. A bad argument is
--- thrown as 9007 where the actor stands.
+-- Effects and messages: what a process does for an effect, and what it asks of the world for it. A bad argument
+-- is an error that is thrown where the actor stands.
 use Rattle.std.specs.Prelude.{ℕ, suc, ◌+◌, ◌^◌, ℤ, pos, ◌-ℤ◌, int_le, nat_le, nat_lt, Bool, true, false, ◌&&◌, List, [], ◌∷◌, ◌++◌, length, if◌then◌else◌}
 use Rattle.std.specs.declared.option.Option.{Option}
 use Rattle.std.specs.declared.option.Option.TheVariants.{None, Some}
+use Rattle.flow_base.specs.ErrorNumbers.{bad_argument, out_of_range, port_in_use}
 use Rattle.flow_value.specs.declared.value.Kind.{Kind}
 use Rattle.flow_value.specs.declared.value.Kind.TheVariants as kind
 use Rattle.flow_value.specs.Values.{ValueTree, IntValue, RefValue}
@@ -59,22 +60,22 @@ abbrev pub draw : Supply → (actor : ℕ) → Goal → (lo hi : ℤ) → Core �
 draw s i goal lo hi c =
     if between (hi -ℤ lo) 1 (2 ^ 32)
     then (gives i goal (IntValue (scaled lo (natural (hi -ℤ lo)) s.word)) c, Some Drew)
-    else throws i 9007 c
+    else throws i bad_argument c
 
 -- a timer, not after 2^62; a negative time counts as 0
 abbrev pub delay : (actor : ℕ) → Goal → (time : ℕ) → Core → Reaction
-delay i goal time c = if nat_le time (2 ^ 62) then (gives_open i goal c, Some (Timer (suc c.made) time)) else throws i 9001 c
+delay i goal time c = if nat_le time (2 ^ 62) then (gives_open i goal c, Some (Timer (suc c.made) time)) else throws i out_of_range c
 
 abbrev pub is_port : ℤ → Bool
 is_port z = between z 0 65535
 
 -- a port that nobody listens to yet
 abbrev pub open_port : (actor : ℕ) → Goal → (port : ℕ) → Option ℕ → Core → Reaction
-open_port i goal port (Some cell) c = throws i 9005 c
+open_port i goal port (Some cell) c = throws i port_in_use c
 open_port i goal port None c = quiet (gives_new i goal kind.FutureStream (Stream [] None None) (record c { ports = added c.ports port (suc c.made) }))
 
 abbrev pub listen : (actor : ℕ) → Goal → ℤ → Core → Reaction
-listen i goal port c = if is_port port then open_port i goal (natural port) (thing c.ports (natural port)) c else throws i 9007 c
+listen i goal port c = if is_port port then open_port i goal (natural port) (thing c.ports (natural port)) c else throws i bad_argument c
 
 -- a file's name has 1 to 255 bytes, and a file ends at 1,048,576
 abbrev pub is_file : List ℕ → Bool
@@ -97,7 +98,7 @@ judged (SyncCall file) = if_ok (is_file file) (SyncCall file)
 judged (SizeCall file) = if_ok (is_file file) (SizeCall file)
 
 abbrev pub ask_disk : (actor : ℕ) → Goal → Option (DiskCall ℕ) → Core → Reaction
-ask_disk i goal None c = throws i 9007 c
+ask_disk i goal None c = throws i bad_argument c
 ask_disk i goal (Some call) c = (gives_open i goal c, Some (Disks (suc c.made) call))
 
 -- what a process does for an effect; the call of an actor is done where actors are made
@@ -115,4 +116,4 @@ abbrev pub send_to : Supply → (actor : ℕ) → (process port : ℤ) → List 
 send_to s i q port text c =
     if int_le (pos 0) q && nat_lt (natural q) s.processes && is_port port
     then (pushed (Run i) c, Some (Packet (natural q) (natural port) text))
-    else throws i 9007 c
+    else throws i bad_argument c

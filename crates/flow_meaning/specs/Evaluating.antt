@@ -4,13 +4,13 @@ use Rattle.std.specs.Option.{option_map}
 use Rattle.std.specs.Str.{bytes_eq}
 use Rattle.std.specs.declared.option.Option.{Option}
 use Rattle.std.specs.declared.option.Option.TheVariants.{None, Some}
-use Rattle.flow_ast.specs.declared.ty.Ident.{Ident}
+use Rattle.flow_tree.specs.declared.ty.Ident.{Ident}
 use Rattle.flow_ast.specs.declared.predefined.Predefined.{Predefined}
 use Rattle.flow_ast.specs.declared.predefined.Predefined.TheVariants as code
 use Rattle.flow_ast.specs.declared.predefined.Method.{Method}
 use Rattle.flow_ast.specs.declared.predefined.Method.TheVariants as method
-use Rattle.flow_ast.specs.Tree.{ExprTree, ExprTrees, CallExpr}
-use Rattle.flow_ast.specs.Decls.{RecordTree, RoutineTree}
+use Rattle.flow_tree.specs.Tree.{ExprTree, ExprTrees, CallExpr}
+use Rattle.flow_tree.specs.Decls.{RecordTree, RoutineTree}
 use Rattle.flow_ast.specs.TypingNames.{named, call_names, method_names}
 use Rattle.flow_ast.specs.Typing.{is_effect, routine_named}
 use Rattle.flow_value.specs.declared.value.Kind.TheVariants as kind

@@ -1,17 +1,17 @@
 -- Frames: actors that are run from classes. A frame has numbered slots and locals, and stands at an instruction.
-use Rattle.std.specs.Prelude.{ℕ, zero, suc, ◌+◌, ◌==◌, Bool, true, false, ◌&&◌, not, List, [], ◌∷◌, ◌++◌, map, length, slice_get, slice_set, if◌then◌else◌}
-use Rattle.std.specs.Option.{option_map}
+use Rattle.std.specs.Prelude.{ℕ, suc, true, false, List, [], ◌∷◌, ◌++◌, slice_get, slice_set}
 use Rattle.std.specs.declared.option.Option.{Option}
 use Rattle.std.specs.declared.option.Option.TheVariants.{None, Some}
-use Rattle.flow_ast.specs.declared.ty.Ident.{Ident}
-use Rattle.flow_ast.specs.Tree.{VoidType}
-use Rattle.flow_ast.specs.Decls.{RecordTree}
+use Rattle.flow_tree.specs.declared.ty.Ident.{Ident}
+use Rattle.flow_tree.specs.Tree.{VoidType}
+use Rattle.flow_tree.specs.Decls.{RecordTree}
 use Rattle.flow_value.specs.Values.{ValueTree, ErrorValue}
-use Rattle.flow_eval.specs.Predefined.{are_digits, digits_from}
 use Rattle.flow_eval.specs.Functions.{put_in, read_in}
 use Rattle.flow_class.specs.declared.class.Slotted.{Slotted}
 use Rattle.flow_class.specs.declared.class.Slotted.TheVariants.{Slot, Local}
-use Rattle.flow_class.specs.Classes.{CatcherTree, InstrTree, LastTree, BlockTree, CallbackTree, ClassTree}
+use Rattle.flow_class.specs.Classes.{CatcherTree, ClassTree}
+use Rattle.flow_class.specs.Places.{place_named}
+use Rattle.flow_class.specs.Code.{catcher_at, callbacks_before}
 use Rattle.flow_meaning.specs.Cells.{Side}
 use Rattle.flow_meaning.specs.Asks.{Spot}
 use Rattle.flow_meaning.specs.Occ.{count, refs_in}
@@ -24,29 +24,14 @@ pub record Memory : Type 0 where
   pub slots : List (Option ValueTree)
   pub locals : List (Option ValueTree)
 
--- A frame: its class, its memory, its block and instruction, how many operands of a group it asked for, and its state
--- number: the group at which it waits with all operands, and else 0.
+-- A frame: its class, its memory, its block and instruction, and its state number: the group at which it waits with all
+-- operands, and else 0.
 pub record Frame : Type 0 where
   pub code : ClassTree
   pub mem : Memory
   pub block : ℕ
   pub instr : ℕ
-  pub asked : ℕ
   pub state : ℕ
-
--- The name of a slot is `s` and its number, that of a local `l` and its number; a number has no zero in front.
-abbrev pub is_number : List ℕ → Bool
-is_number [] = false
-is_number (d ∷ []) = are_digits (d ∷ [])
-is_number (d ∷ e ∷ ds) = not (d == 48) && are_digits (d ∷ e ∷ ds)
-
-abbrev pub number_of : List ℕ → Option ℕ
-number_of ds = if is_number ds then Some (digits_from 0 ds) else None
-
-abbrev pub place_named : List ℕ → Option Slotted
-place_named [] = None
-place_named (c ∷ ds) =
-    if c == 115 then option_map Slot (number_of ds) else if c == 108 then option_map Local (number_of ds) else None
 
 -- what stands at a place
 abbrev pub read : Memory → Slotted → Option ValueTree
@@ -60,9 +45,11 @@ abbrev pub write : Memory → Slotted → Option ValueTree → Memory
 write m (Slot n) o = record m { slots = slice_set m.slots n o }
 write m (Local n) o = record m { locals = slice_set m.locals n o }
 
--- locals by number: what they hold, and the memory without it
+-- Locals by number, one after another: each is emptied as it is read, so that one that is named twice is dropped once.
+-- What they held, and the memory without it.
 abbrev pub held_in : Memory → List ℕ → List ValueTree
-held_in m ns = filled (map (λ n. read m (Local n)) ns)
+held_in m [] = []
+held_in m (n ∷ ns) = filled (read m (Local n) ∷ []) ++ held_in (write m (Local n) None) ns
 
 abbrev pub emptied : List ℕ → Memory → Memory
 emptied [] m = m
@@ -100,52 +87,13 @@ abbrev pub assign : List RecordTree → Memory → List Ident → ValueTree → 
 assign rs m [] v = None
 assign rs m (x ∷ xs) v = bind (place_named x.name) (λ p. put_at rs m p xs v)
 
--- the instruction at which a frame stands
-pub data Fetched : Type 0 where
-  Body : InstrTree → Fetched
-  Last : LastTree → Fetched
-  Nothing : Fetched
-
-abbrev pub fetch_in : List InstrTree → LastTree → ℕ → Fetched
-fetch_in [] last zero = Last last
-fetch_in [] last (suc n) = Nothing
-fetch_in (i ∷ is) last zero = Body i
-fetch_in (i ∷ is) last (suc n) = fetch_in is last n
-
-abbrev pub fetch_at : Option BlockTree → ℕ → Fetched
-fetch_at None n = Nothing
-fetch_at (Some b) n = fetch_in b.body b.last n
-
-abbrev pub fetch : ClassTree → (block instr : ℕ) → Fetched
-fetch c b n = fetch_at (slice_get c.blocks b) n
-
-abbrev pub catcher_in : Option BlockTree → Option CatcherTree
-catcher_in None = None
-catcher_in (Some b) = b.catcher
-
-abbrev pub catcher_at : ClassTree → (block : ℕ) → Option CatcherTree
-catcher_at c b = catcher_in (slice_get c.blocks b)
-
--- the callbacks of a group, from 1, and the number of its first among all of the class
-abbrev pub group_at : List (List CallbackTree) → ℕ → Option (List CallbackTree)
-group_at gs zero = None
-group_at gs (suc n) = slice_get gs n
-
-abbrev pub callbacks_before : List (List CallbackTree) → ℕ → ℕ
-callbacks_before gs zero = 0
-callbacks_before gs (suc zero) = 0
-callbacks_before [] (suc (suc n)) = 0
-callbacks_before (g ∷ gs) (suc (suc n)) = length g + callbacks_before gs (suc n)
-
+-- the group of a class, with the number of its first callback
 abbrev pub spot_of : ClassTree → (group : ℕ) → Spot
 spot_of c g = record { group = g; first = callbacks_before c.groups g }
 
-abbrev pub callback_at : ClassTree → (group branch : ℕ) → Option CallbackTree
-callback_at c g n = bind (group_at c.groups g) (λ cs. slice_get cs n)
-
 -- a frame goes on at a block, at its next instruction, or is over
 abbrev pub go : (block : ℕ) → Memory → Frame → Frame
-go b m f = record { code = f.code; mem = m; block = b; instr = 0; asked = 0; state = 0 }
+go b m f = record { code = f.code; mem = m; block = b; instr = 0; state = 0 }
 
 abbrev pub next_instr : Memory → Frame → Frame
 next_instr m f = record f { mem = m; instr = suc f.instr }
@@ -154,7 +102,7 @@ abbrev pub no_class : ClassTree
 no_class = record { name = []; returns = VoidType; params = 0; slots = []; locals = []; blocks = []; groups = [] }
 
 abbrev pub over : Frame
-over = record { code = no_class; mem = record { slots = []; locals = [] }; block = 0; instr = 0; asked = 0; state = 0 }
+over = record { code = no_class; mem = record { slots = []; locals = [] }; block = 0; instr = 0; state = 0 }
 
 -- all locals are emptied, by falling number
 abbrev pub lose : Frame → List ValueTree × Frame

@@ -3,17 +3,18 @@
 use Rattle.std.specs.Prelude.{ℕ, zero, suc, pos, Bool, true, false, List, [], ◌∷◌, ◌++◌}
 use Rattle.std.specs.declared.option.Option.{Option}
 use Rattle.std.specs.declared.option.Option.TheVariants.{None, Some}
-use Rattle.flow_ast.specs.declared.ty.Ident.{Ident}
-use Rattle.flow_ast.specs.declared.expr.Op.TheVariants.{Add, Sub}
-use Rattle.flow_ast.specs.Tree.{ExprTree, IntExpr, VarExpr, FieldExpr, BinaryExpr, ParenExpr}
-use Rattle.flow_ast.specs.Body.{IntoTree, WaitTree, ChangeTree, PlusChange, MinusChange, UpChange, DownChange, Body, Branches, NoBranches, MoreBranches}
-use Rattle.flow_ast.specs.Decls.{RecordTree}
+use Rattle.flow_tree.specs.declared.ty.Ident.{Ident}
+use Rattle.flow_tree.specs.declared.expr.Op.TheVariants.{Add, Sub}
+use Rattle.flow_tree.specs.Tree.{ExprTree, IntExpr, VarExpr, FieldExpr, BinaryExpr, ParenExpr}
+use Rattle.flow_tree.specs.Body.{IntoTree, WaitTree, ChangeTree, PlusChange, MinusChange, UpChange, DownChange, Body, Branches, NoBranches, MoreBranches}
+use Rattle.flow_tree.specs.Decls.{RecordTree}
 use Rattle.flow_value.specs.Values.{ValueTree, ErrorValue}
 use Rattle.flow_eval.specs.Functions.{put_in, read_in}
 use Rattle.flow_meaning.specs.Asks.{Spot, Drops}
 use Rattle.flow_meaning.specs.Process.{Raised}
 use Rattle.flow_meaning.specs.Evaluating.{StepOf, asks, quietly}
-use Rattle.flow_meaning.specs.Variables.{Local, Mark, Var, Vars, scope, all_locals, outside, emptied, filled, backwards, look, set_var}
+use Rattle.flow_class.specs.Scopes.{Local, Mark, Var, scope, all_locals, outside}
+use Rattle.flow_meaning.specs.Variables.{Vars, emptied, filled, backwards, look, place_in, set_var}
 use Rattle.flow_meaning.specs.Text.{past}
 
 -- where a body stands in its text: the next wait, and the variable of the innermost catch body around it
@@ -33,12 +34,13 @@ pub data Cases : Type 0 where
   Single : WaitTree → Cases
   OneOf : Branches → Cases
 
--- where the result of an effect goes: to a declared variable, or to what a path leads to
+-- where a value goes: to a declared variable, or to what a path leads to
 pub data Target : Type 0 where
   Declared : IntoTree → Target
   Path : List Ident → Target
 
--- What is still to be done.
+-- What is still to be done. An actor that has asked for an effect, or for an operand of a wait, stays at its statement
+-- until it is told what that came to.
 pub data Item : Type 0 where
   -- statements
   Do : Site → Body → Item
@@ -50,10 +52,6 @@ pub data Item : Type 0 where
   Made : Loop → Item
   -- the end of a try body: the error's variable and the handler
   Handler : (name : List ℕ) → Site → Body → Item
-  -- the result of an effect is stored
-  Into : Target → Item
-  -- a wait in progress, and how many of its operands were asked for
-  Await : Site → Cases → ℕ → Item
   -- nothing: the actor is over
   Over : Item
 
@@ -113,9 +111,14 @@ abbrev pub assign_old : List RecordTree → Ident → List Ident → ValueTree �
 assign_old rs x [] v vars old = Some (is_there old, set_var vars x.name v)
 assign_old rs x (y ∷ ys) v vars old = assign_root x.name (put_in rs old (y ∷ ys) v) (is_there (read_in rs old (y ∷ ys))) vars
 
+-- an assignment to what is no variable has no meaning
+abbrev pub assign_at : List RecordTree → Ident → List Ident → ValueTree → Vars → Option (Option ValueTree) → Option (List ValueTree × Vars)
+assign_at rs x xs v vars None = None
+assign_at rs x xs v vars (Some old) = assign_old rs x xs v vars old
+
 abbrev pub assign : List RecordTree → List Ident → ValueTree → Vars → Option (List ValueTree × Vars)
 assign rs [] v vars = None
-assign rs (x ∷ xs) v vars = assign_old rs x xs v vars (look vars x.name)
+assign rs (x ∷ xs) v vars = assign_at rs x xs v vars (place_in vars x.name)
 
 abbrev pub put_goal : List RecordTree → Target → ValueTree → Vars → Option (List ValueTree × Vars)
 put_goal rs (Declared i) v vars = Some (declare i v vars)
@@ -164,8 +167,6 @@ unwind ps es (Do s b ∷ r) = unwind ps es r
 unwind ps es (Round l ∷ r) = unwind ps es r
 unwind ps es (Check l ∷ r) = unwind ps es r
 unwind ps es (Made l ∷ r) = unwind ps es r
-unwind ps es (Into g ∷ r) = unwind ps es r
-unwind ps es (Await s cs n ∷ r) = unwind ps es r
 unwind ps es (Over ∷ r) = unwind ps es r
 
 abbrev pub raised : (error : ℕ) → Vars → Option (Unwound (Option ValueTree)) → Raised × Actor

@@ -24,6 +24,7 @@ pub mod Disk
 pub mod Outside
 pub mod World
 pub mod Runs
+pub mod Orderly
 pub mod Law
 pub mod Views
 pub mod Boundaries

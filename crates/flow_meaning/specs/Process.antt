@@ -65,11 +65,13 @@ pub record Proc (A : Type 0) : Type 0 where
   pub core : Core
   pub actors : Numbered A
 
--- what an actor sees while it evaluates: what the set cells hold, the time, and the turns left
+-- what an actor sees while it evaluates: what the set cells hold, the time, the turns left, and how many operands of
+-- its wait in progress are kept
 pub record View : Type 0 where
   pub cells : ℕ → Option OutcomeTree
   pub now : ℕ
   pub left : ℕ
+  pub kept : ℕ
 
 -- where an error goes: to a handler or out of the actor, and the values that left the variables, newest first
 pub record Raised : Type 0 where

@@ -5,17 +5,18 @@ use Rattle.std.specs.declared.option.Option.{Option}
 use Rattle.std.specs.declared.option.Option.TheVariants.{None, Some}
 use Rattle.flow_value.specs.Values.{ValueTree, OutcomeTree, GoodOutcome}
 use Rattle.flow_trace.specs.declared.line.Line.{Line}
-use Rattle.flow_meaning.specs.Numbered.{Numbered, thing, put}
+use Rattle.flow_base.specs.ErrorNumbers.{second_waiter, already_set}
+use Rattle.flow_meaning.specs.Numbered.{thing, put}
 use Rattle.flow_meaning.specs.Cells.{Cell, is_complete}
 use Rattle.flow_meaning.specs.Asks.{Spot, Act, Goes, Pass, Drops, Effects, Operand, Waits, Sends, Cancels, Prints, SendsTo, Returns, Throws, RunsOut, Stuck, Supply}
 use Rattle.flow_meaning.specs.Process.{Run, Throw, Keep, Close, Entry, Spent, NoMeaning, Core}
 use Rattle.flow_meaning.specs.Lines.{wait_line, print_line}
-use Rattle.flow_meaning.specs.Work.{halt, turn, writes, pushed, dropping_values, fill, leave_for, take_branch, first_ready, register, owner, cancel_owner}
+use Rattle.flow_meaning.specs.Work.{halt, turn, writes, pushed, dropping_values, fill, leave_for, take_branch, first_ready, Registration, Registered, Refused, Missing, register, owner, cancel_owner}
 use Rattle.flow_meaning.specs.Effects.{Reaction, quiet, throws, effect, send_to}
 
--- A send into a cell that nothing more can be sent to throws 9004; otherwise a turn, and the cell fires.
+-- A send into a cell that nothing more can be sent to throws `already_set`; otherwise a turn, and the cell fires.
 abbrev pub send_by : (complete : Bool) → (actor cell : ℕ) → OutcomeTree → Core → Core
-send_by true i k o c = pushed (Throw i 9004) c
+send_by true i k o c = pushed (Throw i already_set) c
 send_by false i k o c = turn c (λ d. fill k o (pushed (Run i) d))
 
 abbrev pub send_in : Option Cell → (actor cell : ℕ) → OutcomeTree → Core → Core
@@ -27,18 +28,19 @@ print i None c = halt NoMeaning c
 print i (Some line) c = pushed (Run i) (writes line c)
 
 -- All operands are kept. The first that is ready is taken. Otherwise the actor is registered at all of them in order,
--- the line is written, it is suspended, and then its locals are dropped; where a stream refuses, 9003 is thrown.
+-- the line is written, it is suspended, and then its locals are dropped; where a stream refuses, `second_waiter` is thrown.
 abbrev pub at_spot : Spot → Entry → Entry
 at_spot spot e = record e { spot = spot }
 
-abbrev pub suspend : (actor : ℕ) → Spot → Entry → List ValueTree → Option (Numbered Cell) → Core → Core
-suspend i spot e vs None c = leave_for i e vs (Throw i 9003) c
-suspend i spot e vs (Some cells) c =
+abbrev pub suspend : (actor : ℕ) → Spot → Entry → List ValueTree → Registration → Core → Core
+suspend i spot e vs Missing c = halt NoMeaning c
+suspend i spot e vs Refused c = leave_for i e vs (Throw i second_waiter) c
+suspend i spot e vs (Registered cells) c =
     dropping_values vs (record (writes (wait_line i spot.group) c) { cells = cells; entries = put c.entries i (record e { suspended = true }) })
 
 abbrev pub wait_by : (actor : ℕ) → Spot → Entry → List ValueTree → Option (ℕ × ℕ) → Core → Core
 wait_by i spot e vs (Some b) c = take_branch i b.0 b.1 e vs (thing c.cells b.1) c
-wait_by i spot e vs None c = suspend i spot e vs (register i 0 e.operands (Some c.cells)) c
+wait_by i spot e vs None c = suspend i spot e vs (register i 0 e.operands (Registered c.cells)) c
 
 abbrev pub wait : (actor : ℕ) → Spot → Option Entry → List ValueTree → Core → Core
 wait i spot None vs c = halt NoMeaning c

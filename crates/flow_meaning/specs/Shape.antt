@@ -1,7 +1,7 @@
 -- The classes of a program: one for each actor, with the same slots and groups in the order of the text.
 use Rattle.std.specs.Prelude.{◌≡◌, Bool, List, [], ◌∷◌, map, length}
-use Rattle.flow_ast.specs.Body.{WaitTree}
-use Rattle.flow_ast.specs.Decls.{RoutineTree, ProgramTree}
+use Rattle.flow_tree.specs.Body.{WaitTree}
+use Rattle.flow_tree.specs.Decls.{RoutineTree, ProgramTree}
 use Rattle.flow_ast.specs.Slots.{slots_of, groups_of}
 use Rattle.flow_class.specs.Classes.{CallbackTree, ClassTree, RawTree}
 use Rattle.flow_meaning.specs.Source.{records_in, functions_in, actors_in}

@@ -1,17 +1,19 @@
 -- Actors that are run from their text, as actors of a process.
-use Rattle.std.specs.Prelude.{ℕ, zero, suc, List, [], ◌∷◌, map, length, position, slice_get, unwrap_or, codes}
+use Rattle.std.specs.Prelude.{ℕ, zero, suc, Bool, true, false, List, [], ◌∷◌, map, length, position, slice_get, unwrap_or, codes}
 use Rattle.std.specs.Str.{bytes_eq}
 use Rattle.std.specs.declared.option.Option.{Option}
 use Rattle.std.specs.declared.option.Option.TheVariants.{None, Some}
-use Rattle.flow_ast.specs.Body.{IntoTree, Branches, NoBranches, MoreBranches, Body}
-use Rattle.flow_ast.specs.Decls.{ParamTree, SlotTree, RoutineTree, RecordTree, DeclTree, StructDecl, FunctionDecl, ActorDecl, ProgramTree}
+use Rattle.flow_tree.specs.Body.{IntoTree, Branches, NoBranches, MoreBranches, Body, ChooseStmt, DeclareStmt, AssignStmt, WaitStmt}
+use Rattle.flow_tree.specs.Decls.{ParamTree, SlotTree, RoutineTree, RecordTree, DeclTree, StructDecl, FunctionDecl, ActorDecl, ProgramTree}
 use Rattle.flow_ast.specs.Slots.{body_slots}
+use Rattle.flow_tree.specs.Tree.{TypeTree, PromiseType, PromiseStreamType, ExprTree}
 use Rattle.flow_value.specs.Values.{ValueTree}
+use Rattle.flow_meaning.specs.Cells.{is_some}
 use Rattle.flow_meaning.specs.Process.{Engine}
-use Rattle.flow_meaning.specs.Evaluating.{Names, bind}
+use Rattle.flow_meaning.specs.Evaluating.{Names, bind, effect_in}
 use Rattle.flow_meaning.specs.Variables.{Vars, occ_vars}
-use Rattle.flow_meaning.specs.Text.{first_spot, next_spot, branch_count, past}
-use Rattle.flow_meaning.specs.Items.{Site, Single, OneOf, Item, Do, Leave, Into, Await, Actor, actor, entered, site_at, declare, put_goal, raise, lose}
+use Rattle.flow_meaning.specs.Text.{first_spot, next_spot, branch_count, past, past_branches}
+use Rattle.flow_meaning.specs.Items.{Site, Item, Do, Leave, Actor, actor, entered, site_at, declare, assign, raise, lose}
 use Rattle.flow_meaning.specs.SourceStep.{next_step}
 
 -- the records, functions and actors of a program, in the order of the text
@@ -66,14 +68,29 @@ abbrev pub fresh_from : Option RoutineTree → List ValueTree → Option Actor
 fresh_from None vs = None
 fresh_from (Some a) vs = bind (with_args a.params vs (no_values (body_slots a.body))) (λ ss. Some (begun a.body ss))
 
--- the result of an effect comes to the item that waits for it
+-- the result of an effect comes to the statement that asked for it, and the actor goes on behind it
 abbrev pub stored : Actor → List Item → Option (List ValueTree × Vars) → List ValueTree × Actor
 stored a r None = ([], a)
 stored a r (Some p) = (p.0, actor p.1 r)
 
-abbrev pub store_at : List RecordTree → ValueTree → Actor → List Item → List ValueTree × Actor
-store_at rs v a (Into goal ∷ r) = stored a r (put_goal rs goal v a.vars)
-store_at rs v a _ = ([], a)
+abbrev pub store_if : (asked : Bool) → Actor → List Item → Option (List ValueTree × Vars) → List ValueTree × Actor
+store_if false a r o = ([], a)
+store_if true a r o = stored a r o
+
+-- whether a declaration without a value makes a new cell
+abbrev pub makes_cell : TypeTree → Bool
+makes_cell (PromiseType t) = true
+makes_cell (PromiseStreamType t) = true
+makes_cell _ = false
+
+abbrev pub is_effect_in : Names → ExprTree → Bool
+is_effect_in ns e = is_some (effect_in ns e)
+
+abbrev pub store_at : Names → ValueTree → Actor → List Item → List ValueTree × Actor
+store_at ns v a (Do s (DeclareStmt at i (Some e) k) ∷ r) = store_if (is_effect_in ns e) a (Do s k ∷ r) (Some (declare i v a.vars))
+store_at ns v a (Do s (DeclareStmt at i None k) ∷ r) = store_if (makes_cell i.ty) a (Do s k ∷ r) (Some (declare i v a.vars))
+store_at ns v a (Do s (AssignStmt at xs e k) ∷ r) = store_if (is_effect_in ns e) a (Do s k ∷ r) (assign ns.records xs v a.vars)
+store_at ns v a _ = ([], a)
 
 -- the value of a wait goes to the variable that it declares, or is dropped
 abbrev pub bound : Option IntoTree → ValueTree → Vars → List ValueTree × Vars
@@ -89,9 +106,12 @@ take_case NoBranches n s v a r = ([], a)
 take_case (MoreBranches at w b bs) zero s v a r = onward (Do s b ∷ Leave ∷ r) (bound w.into v (entered a.vars))
 take_case (MoreBranches at w b bs) (suc n) s v a r = take_case bs n (site_at (past b s.spot) s) v a r
 
+-- The first statement is a wait, which has branch 0 alone, or a choose; the actor goes on behind it.
 abbrev pub take_at : (branch : ℕ) → ValueTree → Actor → List Item → List ValueTree × Actor
-take_at n v a (Await s (Single w) k ∷ r) = onward r (bound w.into v a.vars)
-take_at n v a (Await s (OneOf bs) k ∷ r) = take_case bs n (site_at (next_spot (branch_count bs) s.spot) s) v a r
+take_at zero v a (Do s (WaitStmt at w k) ∷ r) = onward (Do (site_at (next_spot 1 s.spot) s) k ∷ r) (bound w.into v a.vars)
+take_at n v a (Do s (ChooseStmt at bs k) ∷ r) =
+    let inside = next_spot (branch_count bs) s.spot in
+    take_case bs n (site_at inside s) v a (Do (site_at (past_branches bs inside) s) k ∷ r)
 take_at n v a _ = ([], a)
 
 -- the actors of a program
@@ -102,7 +122,7 @@ source p = record {
   fresh = λ k vs. fresh_from (slice_get (actors_in p.decls) k) vs;
   next = next_step (names_of p);
   lose = lose;
-  store = λ v a. store_at (names_of p).records v a a.rest;
+  store = λ v a. store_at (names_of p) v a a.rest;
   take = λ n v a. take_at n v a a.rest;
   raise = raise;
   occ = λ s k a. occ_vars s k a.vars;

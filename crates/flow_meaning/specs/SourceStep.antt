@@ -1,9 +1,10 @@
 -- The step of an actor that is run from its text.
-use Rattle.std.specs.Prelude.{ℕ, suc, Bool, true, false, List, [], ◌∷◌}
+use Rattle.std.specs.Prelude.{ℕ, Bool, true, false, List, [], ◌∷◌}
 use Rattle.std.specs.declared.option.Option.{Option}
 use Rattle.std.specs.declared.option.Option.TheVariants.{None, Some}
-use Rattle.flow_ast.specs.Tree.{TypeTree, PromiseType, PromiseStreamType, ExprTree, ExprTrees}
-use Rattle.flow_ast.specs.Body.{IntoTree, Body, End, BlockStmt, IfStmt, IfElseStmt, WhileStmt, ForStmt, LoopStmt, BreakStmt, ContinueStmt, ReturnStmt, ThrowStmt, TryStmt, ChooseStmt, DeclareStmt, AssignStmt, ModifyStmt, CallStmt, WaitStmt}
+use Rattle.flow_base.specs.ErrorNumbers.{operation_cancelled}
+use Rattle.flow_tree.specs.Tree.{TypeTree, PromiseType, PromiseStreamType, ExprTree, ExprTrees}
+use Rattle.flow_tree.specs.Body.{IntoTree, Body, End, BlockStmt, IfStmt, IfElseStmt, WhileStmt, ForStmt, LoopStmt, BreakStmt, ContinueStmt, ReturnStmt, ThrowStmt, TryStmt, ChooseStmt, DeclareStmt, AssignStmt, ModifyStmt, CallStmt, WaitStmt}
 use Rattle.flow_value.specs.declared.value.Kind.TheVariants as kind
 use Rattle.flow_value.specs.Values.{ValueTree, RefValue}
 use Rattle.flow_eval.specs.Answers.{bool_of, error_of}
@@ -12,8 +13,7 @@ use Rattle.flow_meaning.specs.Asks.{Spot, Make, Goal, Stored, Kept, Goes, Pass, 
 use Rattle.flow_meaning.specs.Process.{View}
 use Rattle.flow_meaning.specs.Evaluating.{Names, bind, StepOf, asks, quietly, stuck, given, evaluated, Effectful, effect_in, effect_of, value, values, call_act}
 use Rattle.flow_meaning.specs.Variables.{Vars, look}
-use Rattle.flow_meaning.specs.Text.{branch_count, next_spot, past_branches}
-use Rattle.flow_meaning.specs.Items.{Site, Loop, Cases, Single, OneOf, Target, Declared, Path, Item, Do, Leave, Round, Check, Made, Handler, Into, Await, Over, Actor, actor, over, site_past, site_at, entered, left_scope, everything, put_goal, change, operand, lose}
+use Rattle.flow_meaning.specs.Items.{Site, Loop, Single, OneOf, Target, Declared, Path, Item, Do, Leave, Round, Check, Made, Handler, Over, Actor, actor, over, site_past, entered, left_scope, everything, put_goal, change, operand, lose}
 
 -- A break goes up to the innermost loop and past it; a continue goes up to it, and a pass was made. Each scope on the
 -- way ends by itself.
@@ -33,8 +33,6 @@ exit left how me a (Leave ∷ r) = left_scope left a.vars (me ∷ r)
 exit left how me a (Made l ∷ r) = quietly (actor a.vars (at_loop how l r))
 exit left how me a (Round l ∷ r) = stuck a
 exit left how me a (Check l ∷ r) = stuck a
-exit left how me a (Into g ∷ r) = stuck a
-exit left how me a (Await s cs n ∷ r) = stuck a
 exit left how me a (Over ∷ r) = stuck a
 
 -- a body as a scope of its own, before other items
@@ -58,13 +56,13 @@ module _ (ns : Names) (v : View) where
   abbrev pub place : ℕ → Actor → Target → ValueTree → List Item → StepOf Actor
   place left a goal u r = given a (put_goal ns.records goal u a.vars) (placed left a r)
 
-  -- an effect, whose result goes into place or among the operands
-  abbrev pub effects : Actor → Goal → Effectful × ExprTrees → Actor → StepOf Actor
-  effects a goal g b = evaluated a (values ns v (look a.vars) g.1) (λ vs left. given a (effect_of g.0 vs) (λ eff. asks left (Effects goal eff) b))
+  -- an effect, whose result goes into place or among the operands; the actor stays where it is
+  abbrev pub effects : Actor → Goal → Effectful × ExprTrees → StepOf Actor
+  effects a goal g = evaluated a (values ns v (look a.vars) g.1) (λ vs left. given a (effect_of g.0 vs) (λ eff. asks left (Effects goal eff) a))
 
   -- an assignment or a declaration of an expression, or of an effect
   abbrev pub store_by : Option (Effectful × ExprTrees) → Actor → Target → ExprTree → List Item → StepOf Actor
-  store_by (Some g) a goal e r = effects a Stored g (actor a.vars (Into goal ∷ r))
+  store_by (Some g) a goal e r = effects a Stored g
   store_by None a goal e r = evaluated a (value ns v (look a.vars) e) (λ u left. place left a goal u r)
 
   abbrev pub store : Actor → Target → ExprTree → List Item → StepOf Actor
@@ -72,8 +70,8 @@ module _ (ns : Names) (v : View) where
 
   -- a declaration without a value: a new cell, or the value that its type has at first
   abbrev pub declare_new : Actor → IntoTree → List Item → TypeTree → StepOf Actor
-  declare_new a i r (PromiseType t) = asks v.left (Effects Stored (Make kind.Promise)) (actor a.vars (Into (Declared i) ∷ r))
-  declare_new a i r (PromiseStreamType t) = asks v.left (Effects Stored (Make kind.PromiseStream)) (actor a.vars (Into (Declared i) ∷ r))
+  declare_new a i r (PromiseType t) = asks v.left (Effects Stored (Make kind.Promise)) a
+  declare_new a i r (PromiseStreamType t) = asks v.left (Effects Stored (Make kind.PromiseStream)) a
   declare_new a i r t = given a (default_value t) (λ u. place v.left a (Declared i) u r)
 
   abbrev pub declares : Actor → IntoTree → Option ExprTree → List Item → StepOf Actor
@@ -89,6 +87,22 @@ module _ (ns : Names) (v : View) where
   throws a (Some e) caught = evaluated a (value ns v (look a.vars) e) (λ u left. throw_value a (error_of u) left)
   throws a None None = stuck a
   throws a None (Some x) = throw_value a (bind (look a.vars x) error_of) v.left
+
+  -- the next operand of a wait is asked for; when all are kept, the actor waits
+  abbrev pub operand_ref : ℕ → Spot → Actor → ValueTree → StepOf Actor
+  operand_ref left spot a (RefValue k cell) = asks left (Operand spot (k, cell)) a
+  operand_ref left spot a _ = stuck a
+
+  abbrev pub operand_by : Option (Effectful × ExprTrees) → Actor → Spot → ExprTree → StepOf Actor
+  operand_by (Some g) a spot e = effects a (Kept spot) g
+  operand_by None a spot e = evaluated a (value ns v (look a.vars) e) (λ u left. operand_ref left spot a u)
+
+  abbrev pub waits : Spot → List ValueTree × Actor → StepOf Actor
+  waits spot l = asks v.left (Waits spot l.0) l.1
+
+  abbrev pub await : Actor → Spot → Option ExprTree → StepOf Actor
+  await a spot (Some e) = operand_by (effect_in ns e) a spot e
+  await a spot None = waits spot (lose a)
 
   -- the first statement of a body, before the items r
   abbrev pub do_body : Actor → Site → Body → List Item → StepOf Actor
@@ -112,33 +126,16 @@ module _ (ns : Names) (v : View) where
   do_body a s (ContinueStmt at k) r = exit v.left Continues (Do s (ContinueStmt at k)) a r
   do_body a s (ReturnStmt at e k) r = evaluated a (value ns v (look a.vars) e) (λ u left. asks left (Returns u (everything a.vars)) over)
   do_body a s (ThrowStmt at e k) r = throws a e s.caught
-  do_body a s (TryStmt at b x h k) r =
+  do_body a s (TryStmt at b q x h k) r =
       let s_h = site_past b s in
       let handler = Handler x.name (record { spot = s_h.spot; caught = Some x.name }) h in
       quietly (in_scope a.vars s b (handler ∷ Do (site_past h s_h) k ∷ r))
-  do_body a s (ChooseStmt at bs k) r =
-      quietly (actor a.vars (Await s (OneOf bs) 0 ∷ Do (site_at (past_branches bs (next_spot (branch_count bs) s.spot)) s) k ∷ r))
+  do_body a s (ChooseStmt at bs k) r = await a s.spot (operand (OneOf bs) v.kept)
   do_body a s (DeclareStmt at i e k) r = declares a i e (Do s k ∷ r)
   do_body a s (AssignStmt at xs e k) r = store a (Path xs) e (Do s k ∷ r)
   do_body a s (ModifyStmt at xs c k) r = given a (change xs c) (λ e. store a (Path xs) e (Do s k ∷ r))
   do_body a s (CallStmt at xs es k) r = evaluated a (call_act ns v (look a.vars) xs es) (λ act left. asks left act (actor a.vars (Do s k ∷ r)))
-  do_body a s (WaitStmt at w k) r = quietly (actor a.vars (Await s (Single w) 0 ∷ Do (site_at (next_spot 1 s.spot) s) k ∷ r))
-
-  -- the next operand of a wait is asked for; when all are kept, the actor waits
-  abbrev pub operand_ref : ℕ → Spot → Actor → ValueTree → Actor → StepOf Actor
-  operand_ref left spot a (RefValue k cell) b = asks left (Operand spot (k, cell)) b
-  operand_ref left spot a _ b = stuck a
-
-  abbrev pub operand_by : Option (Effectful × ExprTrees) → Actor → Spot → ExprTree → Actor → StepOf Actor
-  operand_by (Some g) a spot e b = effects a (Kept spot) g b
-  operand_by None a spot e b = evaluated a (value ns v (look a.vars) e) (λ u left. operand_ref left spot a u b)
-
-  abbrev pub waits : Spot → List ValueTree × Actor → StepOf Actor
-  waits spot l = asks v.left (Waits spot l.0) l.1
-
-  abbrev pub await : Actor → Site → Cases → ℕ → List Item → Option ExprTree → StepOf Actor
-  await a s cs n r (Some e) = operand_by (effect_in ns e) a s.spot e (actor a.vars (Await s cs (suc n) ∷ r))
-  await a s cs n r None = waits s.spot (lose a)
+  do_body a s (WaitStmt at w k) r = await a s.spot (operand (Single w) v.kept)
 
   -- a pass of a loop, if the condition holds
   abbrev pub pass : Actor → Loop → List Item → Actor
@@ -151,16 +148,14 @@ module _ (ns : Names) (v : View) where
   -- The first item of the rest decides. An actor of a checked program never comes to the end of its text; one that does
   -- throws `operation_cancelled`, as its class does.
   abbrev pub do_item : Actor → List Item → StepOf Actor
-  do_item a [] = asks v.left (Throws 1101) a
+  do_item a [] = asks v.left (Throws operation_cancelled) a
   do_item a (Do s b ∷ r) = do_body a s b r
   do_item a (Leave ∷ r) = left_scope v.left a.vars r
   do_item a (Round l ∷ r) = asks v.left Pass (actor a.vars (Check l ∷ r))
   do_item a (Check l ∷ r) = check a l l.condition r
   do_item a (Made l ∷ r) = quietly (actor a.vars (Do l.site l.step ∷ Round l ∷ r))
   do_item a (Handler x s h ∷ r) = quietly (actor a.vars r)
-  do_item a (Into g ∷ r) = stuck a
   do_item a (Over ∷ r) = stuck a
-  do_item a (Await s cs n ∷ r) = await a s cs n r (operand cs n)
 
   abbrev pub next_step : Actor → StepOf Actor
   next_step a = do_item a a.rest

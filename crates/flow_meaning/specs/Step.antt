@@ -2,6 +2,7 @@
 use Rattle.std.specs.Prelude.{ℕ, suc, Bool, true, false, List, [], ◌∷◌, ◌++◌, length}
 use Rattle.std.specs.declared.option.Option.{Option}
 use Rattle.std.specs.declared.option.Option.TheVariants.{None, Some}
+use Rattle.flow_base.specs.ErrorNumbers.{operation_cancelled}
 use Rattle.flow_value.specs.declared.value.Kind.TheVariants as kind
 use Rattle.flow_value.specs.Values.{ValueTree, RefValue, OutcomeTree, GoodOutcome, BadOutcome}
 use Rattle.flow_meaning.specs.Numbered.{Numbered, thing, added, put, removed}
@@ -29,8 +30,12 @@ abbrev pub astray : {A : Type 0} → Proc A → Stepped A
 astray p = silent (proc (halt NoMeaning p.core) p.actors)
 
 -- what an actor sees
-abbrev pub view : Supply → Core → View
-view s c = record { cells = λ k. outcome (thing c.cells k); now = s.now; left = c.left }
+abbrev pub kept_by : Option Entry → ℕ
+kept_by None = 0
+kept_by (Some e) = length e.operands
+
+abbrev pub view : Supply → (actor : ℕ) → Core → View
+view s i c = record { cells = λ k. outcome (thing c.cells k); now = s.now; left = c.left; kept = kept_by (thing c.entries i) }
 
 -- An actor is made: its result and the actor get their numbers, the line is written, and its task comes on top.
 abbrev pub entry_of : (class cell : ℕ) → Entry
@@ -71,7 +76,7 @@ run_next e s i ts (Some ask, a) p = answer e s i ask.act (proc (record p.core { 
 
 abbrev pub run : {A : Type 0} → Engine A → Supply → (actor : ℕ) → List Task → Option A → Proc A → Stepped A
 run e s i ts None p = astray p
-run e s i ts (Some a) p = run_next e s i ts (e.next (view s p.core) a) p
+run e s i ts (Some a) p = run_next e s i ts (e.next (view s i p.core) a) p
 
 -- The actor hands out values, which are dropped in order, and goes on.
 abbrev pub replaced : {A : Type 0} → (actor : ℕ) → List ValueTree × A → Proc A → Stepped A
@@ -106,7 +111,7 @@ throw e i err None p = astray p
 throw e i err (Some a) p = throw_with i err (e.raise err a) p
 
 -- The task Keep, with the actor's task under it: the operand is kept. A marked actor then leaves its wait and throws
--- 1101; an operand that is ready is taken; otherwise the actor goes on.
+-- `operation_cancelled`; an operand that is ready is taken; otherwise the actor goes on.
 pub data Verdict : Type 0 where
   GoesOn : Verdict
   Cancelled : Verdict
@@ -127,7 +132,7 @@ below (t ∷ ts) = ts
 
 abbrev pub leave_kept : (actor branch : ℕ) → Verdict → Ref → Entry → List ValueTree → Core → Core
 leave_kept i b GoesOn r en vs c = c
-leave_kept i b Cancelled r en vs c = leave_for i en vs (Throw i 1101) c
+leave_kept i b Cancelled r en vs c = leave_for i en vs (Throw i operation_cancelled) c
 leave_kept i b Ready r en vs c = take_branch i b r.1 en vs (thing c.cells r.1) c
 
 abbrev pub lost : {A : Type 0} → (actor branch : ℕ) → Verdict → Ref → Entry → List ValueTree × A → Proc A → Stepped A

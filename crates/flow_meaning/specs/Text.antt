@@ -1,6 +1,6 @@
 -- The numbers of waits and branches, given in the order of the text.
 use Rattle.std.specs.Prelude.{ℕ, suc, ◌+◌}
-use Rattle.flow_ast.specs.Body.{Body, End, BlockStmt, IfStmt, IfElseStmt, WhileStmt, ForStmt, LoopStmt, BreakStmt, ContinueStmt, ReturnStmt, ThrowStmt, TryStmt, ChooseStmt, DeclareStmt, AssignStmt, ModifyStmt, CallStmt, WaitStmt, Branches, NoBranches, MoreBranches}
+use Rattle.flow_tree.specs.Body.{Body, End, BlockStmt, IfStmt, IfElseStmt, WhileStmt, ForStmt, LoopStmt, BreakStmt, ContinueStmt, ReturnStmt, ThrowStmt, TryStmt, ChooseStmt, DeclareStmt, AssignStmt, ModifyStmt, CallStmt, WaitStmt, Branches, NoBranches, MoreBranches}
 use Rattle.flow_meaning.specs.Asks.{Spot}
 
 -- how many branches a choose has
@@ -27,7 +27,7 @@ abbrev mutual
   past (ContinueStmt at k) s = past k s
   past (ReturnStmt at e k) s = past k s
   past (ThrowStmt at e k) s = past k s
-  past (TryStmt at b x h k) s = past k (past h (past b s))
+  past (TryStmt at b q x h k) s = past k (past h (past b s))
   past (ChooseStmt at bs k) s = past k (past_branches bs (next_spot (branch_count bs) s))
   past (DeclareStmt at i e k) s = past k s
   past (AssignStmt at xs e k) s = past k s

@@ -4,27 +4,16 @@ use Rattle.std.specs.Str.{bytes_eq}
 use Rattle.std.specs.declared.option.Option.{Option}
 use Rattle.std.specs.declared.option.Option.TheVariants.{None, Some}
 use Rattle.flow_ast.specs.TypingNames.{named}
+use Rattle.flow_class.specs.Scopes.{Local, Mark, Var, find, all_locals}
 use Rattle.flow_value.specs.Values.{ValueTree}
 use Rattle.flow_meaning.specs.Cells.{Side}
 use Rattle.flow_meaning.specs.Occ.{count, refs_in}
-
--- The locals, newest first: a mark begins a scope. P is what stands at a local: a value when the actor runs, its number
--- when the actor is compiled.
-pub data Local (P : Type 0) : Type 0 where
-  Mark : Local P
-  Var : (name : List ℕ) → P → Local P
 
 -- Parameters and state variables in the order of the text, all of them from the start, and the locals. A state variable
 -- that was not declared yet has no value, and a local loses its value at a wait and stays.
 pub record Vars : Type 0 where
   pub states : List (List ℕ × Option ValueTree)
   pub locals : List (Local (Option ValueTree))
-
--- the newest local of a name
-abbrev pub find : {P : Type 0} → List (Local P) → List ℕ → Option P
-find [] x = None
-find (Mark ∷ es) x = find es x
-find (Var y p ∷ es) x = if bytes_eq x y then Some p else find es x
 
 -- the newest local of a name replaced
 abbrev pub set_local : {P : Type 0} → List (Local P) → List ℕ → P → List (Local P)
@@ -35,23 +24,6 @@ set_local (Var y p ∷ es) x q = if bytes_eq x y then Var y q ∷ es else Var y 
 abbrev pub set_state : {P : Type 0} → List (List ℕ × P) → List ℕ → P → List (List ℕ × P)
 set_state [] x q = []
 set_state (s ∷ ss) x q = if bytes_eq x s.0 then (s.0, q) ∷ ss else s ∷ set_state ss x q
-
--- what stands at the locals of the innermost scope, and at all locals, newest first
-abbrev pub scope : {P : Type 0} → List (Local P) → List P
-scope [] = []
-scope (Mark ∷ es) = []
-scope (Var y p ∷ es) = p ∷ scope es
-
-abbrev pub all_locals : {P : Type 0} → List (Local P) → List P
-all_locals [] = []
-all_locals (Mark ∷ es) = all_locals es
-all_locals (Var y p ∷ es) = p ∷ all_locals es
-
--- the locals outside the innermost scope
-abbrev pub outside : {P : Type 0} → List (Local P) → List (Local P)
-outside [] = []
-outside (Mark ∷ es) = es
-outside (Var y p ∷ es) = outside es
 
 -- all locals without their values
 abbrev pub emptied : List (Local (Option ValueTree)) → List (Local (Option ValueTree))
@@ -74,13 +46,17 @@ abbrev pub backwards : List (List ℕ × Option ValueTree) → List (Option Valu
 backwards [] = []
 backwards (s ∷ ss) = backwards ss ++ s.1 ∷ []
 
--- the value of a name: of the newest local, or else of the state variable or parameter
-abbrev pub look_in : Option (Option ValueTree) → Option (Option ValueTree) → Option ValueTree
-look_in (Some o) state = o
-look_in None state = flat state
+-- what stands at a name: at the newest local, or else at the state variable or parameter; none, where there is no such
+-- variable; and its value
+abbrev pub or_else : {A : Type 0} → Option A → Option A → Option A
+or_else (Some a) o = Some a
+or_else None o = o
+
+abbrev pub place_in : Vars → List ℕ → Option (Option ValueTree)
+place_in vars x = or_else (find vars.locals x) (named vars.states x)
 
 abbrev pub look : Vars → List ℕ → Option ValueTree
-look vars x = look_in (find vars.locals x) (named vars.states x)
+look vars x = flat (place_in vars x)
 
 -- the variable of a name gets a value
 abbrev pub set_found : Option (Option ValueTree) → Vars → List ℕ → ValueTree → Vars

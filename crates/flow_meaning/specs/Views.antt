@@ -1,12 +1,18 @@
--- What is seen of a process at the boundary of events: its unfinished actors, and the branches at which they wait.
-use Rattle.std.specs.Prelude.{ℕ, suc, List, [], ◌∷◌, ◌++◌}
+-- What is seen of a process at the boundary of events: its unfinished actors, and the branches at which they wait. And
+-- what holds of them there.
+use Rattle.std.specs.Prelude.{◌≡◌, ℕ, suc, ◌<◌, true, false, List, [], ◌∷◌, ◌++◌, length, slice_get}
 use Rattle.std.specs.declared.option.Option.{Option}
 use Rattle.std.specs.declared.option.Option.TheVariants.{None, Some}
 use Rattle.flow_meaning.specs.Numbered.{Numbered, thing}
-use Rattle.flow_meaning.specs.Cells.{Ref}
+use Rattle.flow_class.specs.Classes.{CallbackTree, RawTree}
+use Rattle.flow_class.specs.Code.{group_at}
+use Rattle.flow_meaning.specs.Cells.{Ref, FutureSide}
+use Rattle.flow_meaning.specs.Occ.{Occ}
+use Rattle.flow_meaning.specs.Step.{scanned}
 use Rattle.flow_meaning.specs.Asks.{Spot}
-use Rattle.flow_meaning.specs.Process.{Entry, Core, Proc}
-use Rattle.flow_meaning.specs.Items.{Item, Await, Actor}
+use Rattle.flow_meaning.specs.Process.{Entry, Proc, Engine}
+use Rattle.flow_tree.specs.Body.{ChooseStmt, WaitStmt}
+use Rattle.flow_meaning.specs.Items.{Item, Do, Actor}
 use Rattle.flow_meaning.specs.Frame.{Frame, spot_of}
 
 -- an unfinished actor: its number, its declaration's place among the actors, and the number of its wait
@@ -16,7 +22,7 @@ pub record Unfinished : Type 0 where
   pub group : ℕ
 
 -- a branch at which an actor waits: its number among all branches of the actor's text, and its cell
-pub record Waiting : Type 0 where
+pub record WaitingBranch : Type 0 where
   pub actor : ℕ
   pub branch : ℕ
   pub cell : ℕ
@@ -26,7 +32,8 @@ abbrev pub no_spot : Spot
 no_spot = record { group = 0; first = 0 }
 
 abbrev pub spot_in : List Item → Spot
-spot_in (Await s cs n ∷ r) = s.spot
+spot_in (Do s (WaitStmt at w k) ∷ r) = s.spot
+spot_in (Do s (ChooseStmt at bs k) ∷ r) = s.spot
 spot_in _ = no_spot
 
 abbrev pub actor_spot : Actor → Spot
@@ -35,38 +42,61 @@ actor_spot a = spot_in a.rest
 abbrev pub frame_spot : Frame → Spot
 frame_spot f = spot_of f.code f.state
 
--- one line for each unfinished actor, in the order of their numbers
-abbrev pub unfinished_with : ℕ → Spot → Option Entry → List Unfinished
-unfinished_with i s None = []
-unfinished_with i s (Some e) = record { actor = i; class = e.class; group = s.group } ∷ []
+abbrev pub spot_at : {A : Type 0} → (A → Spot) → Option A → Spot
+spot_at spot None = no_spot
+spot_at spot (Some a) = spot a
 
-abbrev pub unfinished : {A : Type 0} → (A → Spot) → Core → Numbered A → List Unfinished
-unfinished spot c [] = []
-unfinished spot c (x ∷ xs) = unfinished_with x.0 (spot x.1) (thing c.entries x.0) ++ unfinished spot c xs
+-- one line for each unfinished actor, in the order of their numbers
+abbrev pub unfinished : {A : Type 0} → (A → Spot) → Numbered A → Numbered Entry → List Unfinished
+unfinished spot xs [] = []
+unfinished spot xs (x ∷ es) = record { actor = x.0; class = x.1.class; group = (spot_at spot (thing xs x.0)).group } ∷ unfinished spot xs es
 
 -- one line for each branch of each of them, in the order of the branches
-abbrev pub branches_from : (actor branch : ℕ) → List Ref → List Waiting
+abbrev pub branches_from : (actor branch : ℕ) → List Ref → List WaitingBranch
 branches_from i b [] = []
 branches_from i b (r ∷ rs) = record { actor = i; branch = b; cell = r.1 } ∷ branches_from i (suc b) rs
 
-abbrev pub waiting_with : ℕ → Spot → Option Entry → List Waiting
-waiting_with i s None = []
-waiting_with i s (Some e) = branches_from i s.first e.operands
-
-abbrev pub waiting : {A : Type 0} → (A → Spot) → Core → Numbered A → List Waiting
-waiting spot c [] = []
-waiting spot c (x ∷ xs) = waiting_with x.0 (spot x.1) (thing c.entries x.0) ++ waiting spot c xs
+abbrev pub waiting : {A : Type 0} → (A → Spot) → Numbered A → Numbered Entry → List WaitingBranch
+waiting spot xs [] = []
+waiting spot xs (x ∷ es) = branches_from x.0 (spot_at spot (thing xs x.0)).first x.1.operands ++ waiting spot xs es
 
 -- the unfinished actors of a process and their branches, by their texts
 abbrev pub Live : Proc Actor → List Unfinished
-Live p = unfinished actor_spot p.core p.actors
+Live p = unfinished actor_spot p.actors p.core.entries
 
-abbrev pub Pending : Proc Actor → List Waiting
-Pending p = waiting actor_spot p.core p.actors
+abbrev pub Pending : Proc Actor → List WaitingBranch
+Pending p = waiting actor_spot p.actors p.core.entries
 
 -- the same by their frames
 abbrev pub Frames : Proc Frame → List Unfinished
-Frames p = unfinished frame_spot p.core p.actors
+Frames p = unfinished frame_spot p.actors p.core.entries
 
-abbrev pub Callbacks : Proc Frame → List Waiting
-Callbacks p = waiting frame_spot p.core p.actors
+abbrev pub Callbacks : Proc Frame → List WaitingBranch
+Callbacks p = waiting frame_spot p.actors p.core.entries
+
+-- Each unfinished actor has one frame. Its code is the class of the actor, and where the actor is suspended, the state
+-- number is the group at which it waits, with an operand for each callback.
+pub record IsTied (r : RawTree) (e : Entry) (f : Frame) : Type 0 where
+  pub code : slice_get r.classes e.class ≡ Some f.code
+  pub group : e.suspended ≡ true → (cs : List CallbackTree) × (group_at f.code.groups f.state ≡ Some cs) × (length cs ≡ length e.operands)
+
+abbrev pub AllTied : RawTree → Numbered Entry → Numbered Frame → Type 0
+AllTied r [] [] = Unit {0}
+AllTied r [] (y ∷ ys) = ⊥
+AllTied r (x ∷ xs) [] = ⊥
+AllTied r (x ∷ xs) (y ∷ ys) = (x.0 ≡ y.0) × IsTied r x.1 y.1 × AllTied r xs ys
+
+abbrev pub Tied : RawTree → Proc Frame → Type 0
+Tied r p = AllTied r p.core.entries p.actors
+
+-- Each unfinished actor is uncancelled, and a future refers to its result.
+abbrev pub IsReferred : Option ℕ → (ℕ → ℕ) → Type 0
+IsReferred None futures = ⊥
+IsReferred (Some k) futures = 0 < futures k
+
+abbrev pub AllReferred : (ℕ → ℕ) → Numbered Entry → Type 0
+AllReferred futures [] = Unit {0}
+AllReferred futures (x ∷ xs) = (x.1.marked ≡ false) × IsReferred x.1.result futures × AllReferred futures xs
+
+abbrev pub Referred : {A : Type 0} → Engine A → Proc A → Type 0
+Referred e p = AllReferred (λ k. Occ (scanned e p) FutureSide k p.core) p.core.entries

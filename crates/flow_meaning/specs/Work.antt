@@ -5,6 +5,7 @@ use Rattle.std.specs.declared.option.Option.{Option}
 use Rattle.std.specs.declared.option.Option.TheVariants.{None, Some}
 use Rattle.flow_value.specs.Values.{ValueTree, OutcomeTree}
 use Rattle.flow_trace.specs.declared.line.Line.{Line}
+use Rattle.flow_base.specs.ErrorNumbers.{operation_cancelled}
 use Rattle.flow_meaning.specs.Numbered.{Numbered, thing, added, put, removed}
 use Rattle.flow_meaning.specs.Cells.{Ref, Waiter, Cell, is_ready, held, filled, taken, after_taking, with_waiter, is_busy, left_by}
 use Rattle.flow_meaning.specs.Process.{Task, Give, Throw, Fire, Drop, Entry, Halt, Spent, NoMeaning, Core}
@@ -100,16 +101,23 @@ abbrev pub first_ready : Numbered Cell → (branch : ℕ) → List Ref → Optio
 first_ready cells b [] = None
 first_ready cells b (r ∷ rs) = if is_ready_at (thing cells r.1) then Some (b, r.1) else first_ready cells (suc b) rs
 
--- the cells after the actor's registration at all operands in order; none, where a stream that has a waiter refuses
-abbrev pub register_at : Waiter → (cell : ℕ) → Numbered Cell → Option Cell → Option (Numbered Cell)
-register_at w k cells None = None
-register_at w k cells (Some cell) = if is_busy cell then None else Some (put cells k (with_waiter cell w))
+-- the actor's registration at all operands in order: the cells afterwards; a stream that has a waiter refuses; a cell
+-- that isn't there has no meaning
+pub data Registration : Type 0 where
+  Registered : Numbered Cell → Registration
+  Refused : Registration
+  Missing : Registration
 
-abbrev pub register_one : Waiter → (cell : ℕ) → Option (Numbered Cell) → Option (Numbered Cell)
-register_one w k None = None
-register_one w k (Some cells) = register_at w k cells (thing cells k)
+abbrev pub register_at : Waiter → (cell : ℕ) → Numbered Cell → Option Cell → Registration
+register_at w k cells None = Missing
+register_at w k cells (Some cell) = if is_busy cell then Refused else Registered (put cells k (with_waiter cell w))
 
-abbrev pub register : (actor branch : ℕ) → List Ref → Option (Numbered Cell) → Option (Numbered Cell)
+abbrev pub register_one : Waiter → (cell : ℕ) → Registration → Registration
+register_one w k (Registered cells) = register_at w k cells (thing cells k)
+register_one w k Refused = Refused
+register_one w k Missing = Missing
+
+abbrev pub register : (actor branch : ℕ) → List Ref → Registration → Registration
 register i b [] cells = cells
 register i b (r ∷ rs) cells = register i (suc b) rs (register_one (record { actor = i; branch = b }) r.1 cells)
 
@@ -122,12 +130,12 @@ abbrev pub owner : ℕ → Numbered Entry → Option (ℕ × Entry)
 owner k [] = None
 owner k (x ∷ xs) = if is_result k x.1.result && not x.1.marked then Some x else owner k xs
 
--- The actor is marked; a suspended one leaves its wait, and 1101 is thrown there.
+-- The actor is marked; a suspended one leaves its wait, and `operation_cancelled` is thrown there.
 abbrev pub marked : Entry → Entry
 marked e = record e { marked = true }
 
 abbrev pub cancel_by : (suspended : Bool) → (actor : ℕ) → Entry → Core → Core
-cancel_by true i e c = leave_for i (marked e) [] (Throw i 1101) c
+cancel_by true i e c = leave_for i (marked e) [] (Throw i operation_cancelled) c
 cancel_by false i e c = record c { entries = put c.entries i (marked e) }
 
 abbrev pub cancel : (actor : ℕ) → Entry → Core → Core

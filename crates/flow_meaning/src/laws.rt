@@ -1,9 +1,9 @@
 // Laws of runs.
 
-ghost use Rattle.flow_ast.specs.Decls.{ProgramTree};
+ghost use Rattle.flow_tree.specs.Decls.{ProgramTree};
 ghost use Rattle.flow_class.specs.Classes.{RawTree};
-ghost use Rattle.flow_meaning.specs.RunLaw.{RunsFollow, RunsReturn, TracesFollow, TracesReturn};
-ghost use Rattle.flow_meaning.specs.Law.{Simulates, BurstsFollow, BurstsReturn, BurstsOnce};
+ghost use Rattle.flow_meaning.specs.RunLaw.{RunsFollow, RunsReturn, TracesFollow, TracesReturn, RunsRest, TracesRest};
+ghost use Rattle.flow_meaning.specs.Law.{Simulates, BurstsFollow, BurstsReturn, BurstsOnce, KeepsOrder};
 ghost use Rattle.flow_meaning.specs.Turns.{Thrifty, WritesFirst};
 ghost use Rattle.flow_meaning.specs.Runs.{RunsOnce};
 ghost use Rattle.flow_meaning.specs.Source.{source};
@@ -13,6 +13,7 @@ ghost use Rattle.flow_meaning.specs.Class.{classes};
 pub trait TwoKinds {
     ghost use Rattle.flow_meaning.specs.Process.{Engine};
     ghost use Rattle.flow_meaning.specs.Burst.{Host};
+    ghost use Rattle.flow_meaning.specs.Orderly.{Phase};
 
     /// The actors of the first kind.
     ghost First: { Type 0 };
@@ -32,8 +33,8 @@ pub trait TwoKinds {
     /// The world around a process.
     ghost host: { Host World };
 
-    /// Which actors are related.
-    ghost related: { First → Second → Type 0 };
+    /// Which actors are related, by what they asked for last.
+    ghost related: { Phase → First → Second → Type 0 };
 }
 
 /// Where the second kind asks for what the first asks, between related actors, each burst of the first
@@ -52,6 +53,15 @@ pub fn runs_alike<K: TwoKinds>()
     ensures back { Simulates K.first K.second K.related → RunsReturn K.first K.second K.related }
     ensures traces { Simulates K.first K.second K.related → TracesFollow K.first K.second K.related }
     ensures traces_back { Simulates K.first K.second K.related → TracesReturn K.first K.second K.related }
+{}
+
+/// From a process in order, in which each unfinished actor is suspended or has exactly one thing to do, a
+/// burst that isn't stopped comes to one at rest: nothing is left to do, and each unfinished actor is
+/// suspended. So every state of a run is at rest.
+pub fn orderly_kept<K: TwoKinds>()
+    ensures bursts { KeepsOrder K.first K.host }
+    ensures runs { RunsRest K.first }
+    ensures traces { TracesRest K.first }
 {}
 
 /// A burst comes to one end.

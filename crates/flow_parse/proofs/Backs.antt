@@ -3,15 +3,15 @@ use Rattle.std.proofs.Common.{◌≡◌, ℕ, suc, Bool, true, false, List, [], 
 use Rattle.std.specs.declared.option.Option.{Option}
 use Rattle.std.specs.declared.option.Option.TheVariants.{None, Some}
 use Rattle.flow_base.specs.declared.place.Place.{Place}
-use Rattle.flow_ast.specs.declared.token.Token.{Token}
-use Rattle.flow_ast.specs.declared.token.Token.TheVariants as token
-use Rattle.flow_ast.specs.declared.token.Word.{Word}
-use Rattle.flow_ast.specs.declared.token.Word.TheVariants as word
-use Rattle.flow_ast.specs.declared.token.Sign.TheVariants as sign
-use Rattle.flow_ast.specs.Body.{Body, End, IfStmt, IfElseStmt, WhileStmt, ForStmt, LoopStmt, BreakStmt, ContinueStmt, ReturnStmt, ThrowStmt, TryStmt, ChooseStmt}
-use Rattle.flow_ast.specs.GrammarToken.{Marked, opens}
-use Rattle.flow_ast.specs.Grammar.{ExprRule, sign_at, word_at, name_at}
-use Rattle.flow_ast.specs.GrammarStmt.{Counts, BlockRule, braces, PlainRule, if_stmt, if_else_stmt, while_stmt, for_stmt, loop_stmt, break_stmt, continue_stmt, return_stmt, throw_stmt, try_stmt, choose_stmt, init_stmt, wait_stmt, call_stmt}
+use Rattle.flow_tree.specs.declared.token.Token.{Token}
+use Rattle.flow_tree.specs.declared.token.Token.TheVariants as token
+use Rattle.flow_tree.specs.declared.token.Word.{Word}
+use Rattle.flow_tree.specs.declared.token.Word.TheVariants as word
+use Rattle.flow_tree.specs.declared.token.Sign.TheVariants as sign
+use Rattle.flow_tree.specs.Body.{Body, End, IfStmt, IfElseStmt, WhileStmt, ForStmt, LoopStmt, BreakStmt, ContinueStmt, ReturnStmt, ThrowStmt, TryStmt, ChooseStmt}
+use Rattle.flow_tree.specs.GrammarToken.{Marked, opens}
+use Rattle.flow_tree.specs.Grammar.{ExprRule, sign_at, word_at, name_at}
+use Rattle.flow_tree.specs.GrammarStmt.{Counts, BlockRule, braces, PlainRule, if_stmt, if_else_stmt, while_stmt, for_stmt, loop_stmt, break_stmt, continue_stmt, return_stmt, throw_stmt, try_stmt, choose_stmt, init_stmt, wait_stmt, call_stmt}
 use Rattle.flow_parse.specs.Reading.{Tok, Then}
 use Rattle.flow_parse.specs.Parts.{Out, Test, MaybeExpr, StartPart, NextPart, BodyPart, Block, Catch, AllWhens}
 use Rattle.flow_parse.proofs.Shapes.{closed}
@@ -53,7 +53,7 @@ Form (Some word.Break) actor d c w o = Formed (Then (Tok (token.Word word.Break)
 Form (Some word.Continue) actor d c w o = Formed (Then (Tok (token.Word word.Continue)) (λ p. Tok (token.Sign sign.Semicolon))) (λ x. closed (ContinueStmt x.0 End) c) w o
 Form (Some word.Return) actor d c w o = Formed (Then (Tok (token.Word word.Return)) (λ p. Then (ExprRule 0 (suc d)) (λ e. Tok (token.Sign sign.Semicolon)))) (λ x. closed (ReturnStmt x.0 x.1.0 End) c) w o
 Form (Some word.Throw) actor d c w o = Formed (Then (Tok (token.Word word.Throw)) (λ p. MaybeExpr (suc d))) (λ x. closed (ThrowStmt x.0 x.1 End) c) w o
-Form (Some word.Try) actor d c w o = Formed (Then (Tok (token.Word word.Try)) (λ p. Then (Block actor (suc d) c) (λ o. Then Catch (λ x. Block actor (suc d) o.counts)))) (λ x. closed (TryStmt x.0 x.1.0.body x.1.1.0 x.1.1.1.body End) x.1.1.1.counts) w o
+Form (Some word.Try) actor d c w o = Formed (Then (Tok (token.Word word.Try)) (λ p. Then (Block actor (suc d) c) (λ o. Then Catch (λ x. Block actor (suc d) o.counts)))) (λ x. closed (TryStmt x.0 x.1.0.body x.1.1.0.0 x.1.1.0.1 x.1.1.1.body End) x.1.1.1.counts) w o
 Form (Some word.Choose) actor d c w o = Formed (Then (Tok (token.Word word.Choose)) (λ p. Then (Tok (token.Sign sign.OpenCurly)) (λ q. AllWhens actor (suc d) c))) (λ x. closed (ChooseStmt x.0 x.1.1.0 End) x.1.1.1) w o
 Form _ actor d c w o = Unit {0}
 
@@ -102,9 +102,9 @@ form {actor = actor} {d = d} {c = c} {c' = c'} (try_stmt {c1 = c1} {inner = inne
     let a = block_of o in
     let b = block_of h in
     record {
-      tree = (at, (record { body = inner; counts = c1; close = a.0 }, (x, record { body = handler; counts = c'; close = b.0 })));
+      tree = (at, (record { body = inner; counts = c1; close = a.0 }, ((p, x), record { body = handler; counts = c'; close = b.0 })));
       rule = tok_front (token.Word word.Try) at _ _ f (front (Block actor (suc d) c) (record { body = inner; counts = c1; close = a.0 }) _ body (word_at word.Catch p ∷ sign_at sign.OpenRound q ∷ word_at word.Error r ∷ sign_at sign.Amp s ∷ name_at x ∷ sign_at sign.CloseRound u ∷ caught) refl a.1
-          (front Catch x _ (word_at word.Catch p ∷ sign_at sign.OpenRound q ∷ word_at word.Error r ∷ sign_at sign.Amp s ∷ name_at x ∷ sign_at sign.CloseRound u ∷ []) caught refl (p, q, r, s, u, refl) b.1));
+          (front Catch (p, x) _ (word_at word.Catch p ∷ sign_at sign.OpenRound q ∷ word_at word.Error r ∷ sign_at sign.Amp s ∷ name_at x ∷ sign_at sign.CloseRound u ∷ []) caught refl (q, r, s, u, refl) b.1));
       is = refl;
     }
 form {actor = actor} {d = d} {c = c} {c' = c'} (choose_stmt {c1 = c1} {b = br} {bs = bs} at p q first more w ws f) = record {

@@ -2,15 +2,15 @@
 use Rattle.std.proofs.Common.{◌≡◌, ℕ, List, [], ◌∷◌, ◌++◌, sym, ap, subst, Bool}
 use Rattle.std.specs.declared.option.Option.{Option}
 use Rattle.std.specs.declared.option.Option.TheVariants.{None, Some}
-use Rattle.flow_ast.specs.declared.token.Token.{Token}
-use Rattle.flow_ast.specs.declared.token.Token.TheVariants as token
-use Rattle.flow_ast.specs.declared.token.Word.{Word}
-use Rattle.flow_ast.specs.declared.token.Word.TheVariants as word
-use Rattle.flow_ast.specs.Tree.{TypeTree, ExprTree}
-use Rattle.flow_ast.specs.Body.{IntoTree}
-use Rattle.flow_ast.specs.GrammarToken.{Part, Node, Marked, begin}
-use Rattle.flow_ast.specs.Grammar.{ExprRule, number, text, truth, falsehood, void, variable, call, paren, field, method, negation, minus, binary, TypeRule, int_type, bool_type, string_type, void_type, error_type, named_type, wrapped_type, FutureOf, FutureStreamOf, PromiseOf, PromiseStreamOf}
-use Rattle.flow_ast.specs.GrammarStmt.{Counts, no_state, some_state, IntoRule, declared, OperandRule, wait, wait_next}
+use Rattle.flow_tree.specs.declared.token.Token.{Token}
+use Rattle.flow_tree.specs.declared.token.Token.TheVariants as token
+use Rattle.flow_tree.specs.declared.token.Word.{Word}
+use Rattle.flow_tree.specs.declared.token.Word.TheVariants as word
+use Rattle.flow_tree.specs.Tree.{TypeTree, ExprTree}
+use Rattle.flow_tree.specs.Body.{IntoTree}
+use Rattle.flow_tree.specs.GrammarToken.{Part, Node, Marked, begin}
+use Rattle.flow_tree.specs.Grammar.{ExprRule, number, text, truth, falsehood, void, variable, call, paren, field, method, negation, minus, binary, TypeRule, int_type, bool_type, string_type, void_type, error_type, named_type, wrapped_type, FutureOf, FutureStreamOf, PromiseOf, PromiseStreamOf}
+use Rattle.flow_tree.specs.GrammarStmt.{Counts, no_state, some_state, IntoRule, declared, OperandRule, wait, wait_next}
 use Rattle.flow_parse.specs.Openers.{AsFirst, ExprToken, TypeWord, TypeToken, IntoWord, IntoToken, WaitWord, WaitToken}
 use Rattle.flow_parse.proofs.Looking.{Looks}
 

@@ -3,23 +3,23 @@ use Rattle.std.proofs.Common.{◌≡◌, ℕ, ◌+◌, ◌≤◌, ◌<◌, true,
 use Rattle.std.specs.Prelude.{Err}
 use Rattle.std.specs.declared.option.Option.TheVariants.{Some}
 use Rattle.flow_base.specs.declared.place.Place.{Place}
-use Rattle.flow_ast.specs.declared.token.Token.{Token}
-use Rattle.flow_ast.specs.declared.token.Token.TheVariants as token
-use Rattle.flow_ast.specs.declared.token.Word.TheVariants as word
-use Rattle.flow_ast.specs.declared.token.Sign.TheVariants as sign
-use Rattle.flow_ast.specs.declared.token.Spot.{Spot}
-use Rattle.flow_ast.specs.declared.token.Tokens.{Tokens}
-use Rattle.flow_ast.specs.declared.ty.Ident.{Ident}
-use Rattle.flow_ast.specs.declared.fault.Rule.TheVariants as rule
-use Rattle.flow_ast.specs.declared.fault.SourceFault.{SourceFault}
-use Rattle.flow_ast.specs.declared.fault.SourceFault.TheVariants.{Refused, AcrossWait, OutOfMemory}
-use Rattle.flow_ast.specs.Decls.{DeclTree, StructDecl, FunctionDecl, ActorDecl}
-use Rattle.flow_ast.specs.Tree.{IntType}
-use Rattle.flow_ast.specs.GrammarAnswer.{place_at}
-use Rattle.flow_ast.specs.GrammarToken.{Declaration, Node, Variable, Marked, begin, Good}
-use Rattle.flow_ast.specs.Grammar.{sign_at, word_at, name_at, node_word, TypeRule, int_type}
-use Rattle.flow_ast.specs.GrammarStmt.{StartsAt}
-use Rattle.flow_ast.specs.GrammarDecl.{ParamRule, DeclRule, record_decl, function_decl, actor_decl, DeclsRule}
+use Rattle.flow_tree.specs.declared.token.Token.{Token}
+use Rattle.flow_tree.specs.declared.token.Token.TheVariants as token
+use Rattle.flow_tree.specs.declared.token.Word.TheVariants as word
+use Rattle.flow_tree.specs.declared.token.Sign.TheVariants as sign
+use Rattle.flow_tree.specs.declared.token.Spot.{Spot}
+use Rattle.flow_tree.specs.declared.token.Tokens.{Tokens}
+use Rattle.flow_tree.specs.declared.ty.Ident.{Ident}
+use Rattle.flow_tree.specs.declared.fault.Rule.TheVariants as rule
+use Rattle.flow_tree.specs.declared.fault.SourceFault.{SourceFault}
+use Rattle.flow_tree.specs.declared.fault.SourceFault.TheVariants.{Refused, AcrossWait, OutOfMemory}
+use Rattle.flow_tree.specs.Decls.{DeclTree, StructDecl, FunctionDecl, ActorDecl}
+use Rattle.flow_tree.specs.Tree.{IntType}
+use Rattle.flow_tree.specs.GrammarAnswer.{place_at}
+use Rattle.flow_tree.specs.GrammarToken.{Declaration, Node, Variable, Marked, begin, Good}
+use Rattle.flow_tree.specs.Grammar.{sign_at, word_at, name_at, node_word, TypeRule, int_type}
+use Rattle.flow_tree.specs.GrammarStmt.{StartsAt}
+use Rattle.flow_tree.specs.GrammarDecl.{ParamRule, DeclRule, record_decl, function_decl, actor_decl, DeclsRule}
 use Rattle.flow_exprs.proofs.Goes.{nowhere}
 use Rattle.flow_parse.specs.Openers.{AsFirst, TypeToken, DeclToken}
 use Rattle.flow_parse.specs.Reading.{token_at, Named, Any}

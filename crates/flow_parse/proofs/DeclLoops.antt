@@ -3,17 +3,17 @@ use Rattle.std.proofs.Common.{◌≡◌, ℕ, zero, suc, ◌+◌, ◌≤◌, ◌
 use Rattle.std.proofs.lemmas.List.{append-nil}
 use Rattle.std.specs.declared.option.Option.TheVariants.{None, Some}
 use Rattle.flow_base.specs.declared.place.Place.{Place}
-use Rattle.flow_ast.specs.declared.token.Token.{Token}
-use Rattle.flow_ast.specs.declared.token.Token.TheVariants as token
-use Rattle.flow_ast.specs.declared.token.Sign.TheVariants as sign
-use Rattle.flow_ast.specs.declared.token.Spot.{Spot}
-use Rattle.flow_ast.specs.declared.token.Tokens.{Tokens}
-use Rattle.flow_ast.specs.declared.decl.Param.{Param}
-use Rattle.flow_ast.specs.declared.decl.Decl.{Decl}
-use Rattle.flow_ast.specs.Decls.{ParamTree, DeclTree}
-use Rattle.flow_ast.specs.DeclView.{param_of, params_of, decl_of}
-use Rattle.flow_ast.specs.GrammarToken.{Declaration, Node, spots_of}
-use Rattle.flow_ast.specs.GrammarDecl.{ParamRule, DeclRule, DeclsRule, program, IsProgram}
+use Rattle.flow_tree.specs.declared.token.Token.{Token}
+use Rattle.flow_tree.specs.declared.token.Token.TheVariants as token
+use Rattle.flow_tree.specs.declared.token.Sign.TheVariants as sign
+use Rattle.flow_tree.specs.declared.token.Spot.{Spot}
+use Rattle.flow_tree.specs.declared.token.Tokens.{Tokens}
+use Rattle.flow_tree.specs.declared.decl.Param.{Param}
+use Rattle.flow_tree.specs.declared.decl.Decl.{Decl}
+use Rattle.flow_tree.specs.Decls.{ParamTree, DeclTree}
+use Rattle.flow_tree.specs.DeclView.{param_of, params_of, decl_of}
+use Rattle.flow_tree.specs.GrammarToken.{Declaration, Node, spots_of}
+use Rattle.flow_tree.specs.GrammarDecl.{ParamRule, DeclRule, DeclsRule, program, IsProgram}
 use Rattle.flow_parse.specs.Reading.{token_at, Tok, Any, Reads}
 use Rattle.flow_parse.specs.Follow.{AtEnd}
 use Rattle.flow_parse.specs.Parts.{FieldsPart, AllFields, MoreParams, Params}

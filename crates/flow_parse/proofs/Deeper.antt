@@ -1,10 +1,10 @@
 -- Refusals of a part whose parameter is written in another way, and of a part that is a statement.
 use Rattle.std.proofs.Common.{◌≡◌, ℕ, suc, ◌+◌, ◌≤◌, ◌<◌, List, length, arith, subst}
 use Rattle.std.specs.Prelude.{Ok, Err}
-use Rattle.flow_ast.specs.declared.token.Tokens.{Tokens}
-use Rattle.flow_ast.specs.declared.fault.SourceFault.{SourceFault}
-use Rattle.flow_ast.specs.GrammarToken.{Marked}
-use Rattle.flow_ast.specs.GrammarStmt.{Counts}
+use Rattle.flow_tree.specs.declared.token.Tokens.{Tokens}
+use Rattle.flow_tree.specs.declared.fault.SourceFault.{SourceFault}
+use Rattle.flow_tree.specs.GrammarToken.{Marked}
+use Rattle.flow_tree.specs.GrammarStmt.{Counts}
 use Rattle.flow_parse.specs.Reading.{Reads}
 use Rattle.flow_parse.specs.Failing.{Fails}
 use Rattle.flow_parse.specs.Parts.{Begun}

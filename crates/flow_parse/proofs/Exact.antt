@@ -1,16 +1,16 @@
 -- Reading with what no other derivation does: the laws that make a reader's answers exact.
 use Rattle.std.proofs.Common.{◌≡◌, ℕ, zero, suc, ◌+◌, ◌-◌, ◌<◌, List, [], ◌∷◌, ◌++◌, length, drop, sym, ap, ◌∙◌, subst, arith, append_assoc, length-append}
-use Rattle.flow_ast.specs.declared.token.Spot.{Spot}
+use Rattle.flow_tree.specs.declared.token.Spot.{Spot}
 use Rattle.std.specs.declared.option.Option.{Option}
 use Rattle.std.specs.declared.option.Option.TheVariants.{None, Some}
 use Rattle.flow_base.specs.declared.place.Place.{Place}
-use Rattle.flow_ast.specs.declared.token.Token.{Token}
-use Rattle.flow_ast.specs.declared.token.Token.TheVariants as token
-use Rattle.flow_ast.specs.declared.ty.Ident.{Ident}
-use Rattle.flow_ast.specs.GrammarToken.{Part, Marked, opens}
+use Rattle.flow_tree.specs.declared.token.Token.{Token}
+use Rattle.flow_tree.specs.declared.token.Token.TheVariants as token
+use Rattle.flow_tree.specs.declared.ty.Ident.{Ident}
+use Rattle.flow_tree.specs.GrammarToken.{Part, Marked, opens}
 use Rattle.flow_parse.specs.Failing.{Sees, Never, Only}
 use Rattle.flow_parse.proofs.Looking.{Looks, first_of, Back}
-use Rattle.flow_ast.specs.Grammar.{name_at}
+use Rattle.flow_tree.specs.Grammar.{name_at}
 use Rattle.flow_parse.specs.Reading.{Opening, Tok, Named, Then, Any}
 
 pub sees_past : (n j : ℕ) (ts : List Spot) (w z : List Marked) → length w < j → Sees n j ts (w ++ z) → Sees n (j - length w) (drop (length w) ts) z

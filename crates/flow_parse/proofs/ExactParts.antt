@@ -1,10 +1,10 @@
 -- Laws by which the next token, and what begins with it, narrow a part.
 use Rattle.std.proofs.Common.{◌≡◌, ℕ, zero, suc, ◌<◌, List, [], ◌∷◌, ◌++◌, length, refl, sym, ap, ◌∙◌, subst, arith}
 use Rattle.std.specs.declared.option.Option.{Option}
-use Rattle.flow_ast.specs.declared.token.Token.{Token}
-use Rattle.flow_ast.specs.declared.token.Spot.{Spot}
-use Rattle.flow_ast.specs.GrammarToken.{Part, Marked, begin, AllInLimits}
-use Rattle.flow_ast.specs.GrammarStmt.{StartsAt}
+use Rattle.flow_tree.specs.declared.token.Token.{Token}
+use Rattle.flow_tree.specs.declared.token.Spot.{Spot}
+use Rattle.flow_tree.specs.GrammarToken.{Part, Marked, begin, AllInLimits}
+use Rattle.flow_tree.specs.GrammarStmt.{StartsAt}
 use Rattle.flow_parse.specs.Parts.{Placed, Marks}
 use Rattle.flow_parse.specs.Failing.{Sees, Never, Only}
 use Rattle.flow_parse.proofs.Looking.{Looks, first_of}

@@ -3,11 +3,11 @@ use Rattle.std.proofs.Common.{◌≡◌, ℕ, suc, ◌+◌, ◌-◌, ◌≤◌, 
 use Rattle.std.specs.declared.option.Option.{Option}
 use Rattle.std.specs.declared.option.Option.TheVariants.{Some}
 use Rattle.flow_base.specs.declared.place.Place.{Place}
-use Rattle.flow_ast.specs.declared.token.Token.{Token}
-use Rattle.flow_ast.specs.declared.token.Spot.{Spot}
-use Rattle.flow_ast.specs.GrammarStmt.{StartsAt}
-use Rattle.flow_ast.specs.GrammarToken.{Part, Marked, opens, begin, spots_of, InLimits, Keeps, Good}
-use Rattle.flow_ast.proofs.GrammarLists.{spots_append, keeps_append, length_spots}
+use Rattle.flow_tree.specs.declared.token.Token.{Token}
+use Rattle.flow_tree.specs.declared.token.Spot.{Spot}
+use Rattle.flow_tree.specs.GrammarStmt.{StartsAt}
+use Rattle.flow_tree.specs.GrammarToken.{Part, Marked, opens, begin, spots_of, InLimits, Keeps, Good}
+use Rattle.flow_tree.proofs.GrammarLists.{spots_append, keeps_append, length_spots}
 use Rattle.flow_exprs.proofs.Goes.{nowhere}
 use Rattle.flow_parse.specs.Reading.{Tok, Then, Any}
 use Rattle.flow_parse.specs.Parts.{Marks, Placed}

@@ -2,17 +2,17 @@
 use Rattle.std.proofs.Common.{ℕ, suc, Bool, true, false, List, [], ◌∷◌, ◌++◌, refl, length, arith, ◌<◌, inl, inr}
 use Rattle.std.specs.declared.option.Option.TheVariants.{None, Some}
 use Rattle.flow_base.specs.declared.place.Place.{Place}
-use Rattle.flow_ast.specs.declared.token.Token.{Token}
-use Rattle.flow_ast.specs.declared.token.Token.TheVariants as token
-use Rattle.flow_ast.specs.declared.token.Word.TheVariants as word
-use Rattle.flow_ast.specs.declared.token.Sign.TheVariants as sign
-use Rattle.flow_ast.specs.declared.ty.Ident.{Ident}
-use Rattle.flow_ast.specs.Tree.{IntType, BoolExpr, NoExprs}
-use Rattle.flow_ast.specs.Body.{IntoTree, End, BreakStmt, ModifyStmt, UpChange, DeclareStmt, NoBranches, MoreBranches}
-use Rattle.flow_ast.specs.GrammarToken.{Part, Branch, Node, Variable, Marked, opens, begin}
-use Rattle.flow_ast.specs.Grammar.{sign_at, word_at, name_at, node_word, TypeRule, int_type, ExprRule, truth, no_args, end_args}
-use Rattle.flow_ast.specs.GrammarStmt.{Counts, one_statement, begin_statement, no_state, declared, wait, plain_wait, last_name, up, change, no_init, no_step, no_expr, break_stmt, plain_stmt, block_body, braces, no_stmts, no_whens, branch}
-use Rattle.flow_ast.specs.GrammarDecl.{ParamRule, param, no_fields, more_fields, end_params, no_params, routine, DeclsRule, no_decls}
+use Rattle.flow_tree.specs.declared.token.Token.{Token}
+use Rattle.flow_tree.specs.declared.token.Token.TheVariants as token
+use Rattle.flow_tree.specs.declared.token.Word.TheVariants as word
+use Rattle.flow_tree.specs.declared.token.Sign.TheVariants as sign
+use Rattle.flow_tree.specs.declared.ty.Ident.{Ident}
+use Rattle.flow_tree.specs.Tree.{IntType, BoolExpr, NoExprs}
+use Rattle.flow_tree.specs.Body.{IntoTree, End, BreakStmt, ModifyStmt, UpChange, DeclareStmt, NoBranches, MoreBranches}
+use Rattle.flow_tree.specs.GrammarToken.{Part, Branch, Node, Variable, Marked, opens, begin}
+use Rattle.flow_tree.specs.Grammar.{sign_at, word_at, name_at, node_word, TypeRule, int_type, ExprRule, truth, no_args, end_args}
+use Rattle.flow_tree.specs.GrammarStmt.{Counts, one_statement, begin_statement, no_state, declared, wait, plain_wait, last_name, up, change, no_init, no_step, no_expr, break_stmt, plain_stmt, block_body, braces, no_stmts, no_whens, branch}
+use Rattle.flow_tree.specs.GrammarDecl.{ParamRule, param, no_fields, more_fields, end_params, no_params, routine, DeclsRule, no_decls}
 use Rattle.flow_exprs.proofs.Goes.{nowhere}
 use Rattle.flow_parse.specs.Reading.{Opening, Named, Then}
 use Rattle.flow_parse.specs.Parts.{Out, Test, Args, MoreArgs, MoreNames, MaybeExpr, StatePart, IntoPart, OperandPart, WaitingPart, ChangeRule, goes_up, ChangedRule, changes, DeclaredRule, no_value, ValuedRule, declares, Unended, Simple, Init, Assignment, StartPart, NextPart, Plain, One, BodyPart, Closing, Block, Catch, WhenPart, WhensPart, AllWhens, FieldsPart, AllFields, MoreParams, Params, Routine, Marks, Begun}
@@ -121,7 +121,7 @@ pub some_body : (actor : Bool) (d : ℕ) (c : Counts) → Inhabited (BodyPart ac
 some_body actor d c = record { marked = sign_at sign.OpenCurly nowhere ∷ sign_at sign.CloseCurly nowhere ∷ []; tree = record { body = End; counts = c; ends_if = false }; rule = block_body (braces nowhere nowhere [] no_stmts refl) }
 
 pub some_catch : Inhabited Catch
-some_catch = record { marked = word_at word.Catch nowhere ∷ sign_at sign.OpenRound nowhere ∷ word_at word.Error nowhere ∷ sign_at sign.Amp nowhere ∷ name_at name ∷ sign_at sign.CloseRound nowhere ∷ []; tree = name; rule = (nowhere, nowhere, nowhere, nowhere, nowhere, refl) }
+some_catch = record { marked = word_at word.Catch nowhere ∷ sign_at sign.OpenRound nowhere ∷ word_at word.Error nowhere ∷ sign_at sign.Amp nowhere ∷ name_at name ∷ sign_at sign.CloseRound nowhere ∷ []; tree = (nowhere, name); rule = (nowhere, nowhere, nowhere, nowhere, refl) }
 
 pub some_when : (actor : Bool) (d n : ℕ) (c : Counts) → Inhabited (WhenPart actor d n c)
 some_when actor d n c =

@@ -1,9 +1,9 @@
 -- A statement alone is also a statement before others.
 use Rattle.std.proofs.Common.{ℕ, Bool, List}
 use Rattle.flow_base.specs.declared.place.Place.{Place}
-use Rattle.flow_ast.specs.Body.{Body, End}
-use Rattle.flow_ast.specs.GrammarToken.{Marked}
-use Rattle.flow_ast.specs.GrammarStmt.{Counts, AssignRule, assign, plus, minus, up, down, InitRule, declare, declare_value, change, PlainRule, if_stmt, if_else_stmt, while_stmt, for_stmt, loop_stmt, break_stmt, continue_stmt, return_stmt, throw_stmt, try_stmt, choose_stmt, init_stmt, wait_stmt, call_stmt, StmtRule, block_stmt, plain_stmt}
+use Rattle.flow_tree.specs.Body.{Body, End}
+use Rattle.flow_tree.specs.GrammarToken.{Marked}
+use Rattle.flow_tree.specs.GrammarStmt.{Counts, AssignRule, assign, plus, minus, up, down, InitRule, declare, declare_value, change, PlainRule, if_stmt, if_else_stmt, while_stmt, for_stmt, loop_stmt, break_stmt, continue_stmt, return_stmt, throw_stmt, try_stmt, choose_stmt, init_stmt, wait_stmt, call_stmt, StmtRule, block_stmt, plain_stmt}
 use Rattle.flow_parse.specs.Parts.{put_before}
 
 lift_assign : {d : ℕ} {w : List Marked} {p : Place} {s : Body} (rest : Body) → AssignRule d w p End s → AssignRule d w p rest (put_before s rest)

@@ -1,16 +1,16 @@
 -- What a loop has read, put before what follows.
 use Rattle.std.proofs.Common.{◌≡◌, List, [], ◌∷◌, ◌++◌, map, length, suc, refl, ap}
-use Rattle.flow_ast.specs.declared.expr.Expr.{Expr}
-use Rattle.flow_ast.specs.declared.stmt.Stmt.{Stmt}
-use Rattle.flow_ast.specs.declared.stmt.When.{When}
-use Rattle.flow_ast.specs.declared.decl.Param.{Param}
-use Rattle.flow_ast.specs.declared.decl.Decl.{Decl}
-use Rattle.flow_ast.specs.Tree.{ExprTrees, NoExprs, MoreExprs}
-use Rattle.flow_ast.specs.Body.{Body, End, Branches, NoBranches}
-use Rattle.flow_ast.specs.Decls.{ParamTree, DeclTree}
-use Rattle.flow_ast.specs.View.{expr_of, exprs_of}
-use Rattle.flow_ast.specs.StmtView.{stmt_of, body_of, branch_of, branches_of}
-use Rattle.flow_ast.specs.DeclView.{param_of, params_of, decl_of}
+use Rattle.flow_tree.specs.declared.expr.Expr.{Expr}
+use Rattle.flow_tree.specs.declared.stmt.Stmt.{Stmt}
+use Rattle.flow_tree.specs.declared.stmt.When.{When}
+use Rattle.flow_tree.specs.declared.decl.Param.{Param}
+use Rattle.flow_tree.specs.declared.decl.Decl.{Decl}
+use Rattle.flow_tree.specs.Tree.{ExprTrees, NoExprs, MoreExprs}
+use Rattle.flow_tree.specs.Body.{Body, End, Branches, NoBranches}
+use Rattle.flow_tree.specs.Decls.{ParamTree, DeclTree}
+use Rattle.flow_tree.specs.View.{expr_of, exprs_of}
+use Rattle.flow_tree.specs.StmtView.{stmt_of, body_of, branch_of, branches_of}
+use Rattle.flow_tree.specs.DeclView.{param_of, params_of, decl_of}
 
 abbrev pub exprs_before : List Expr → ExprTrees → ExprTrees
 exprs_before [] ts = ts

@@ -2,14 +2,14 @@
 use Rattle.std.proofs.Common.{◌≡◌, ℕ, zero, suc, ◌<◌, refl, sym, ap, ◌∙◌, arith, ◌⊎◌, inl, inr}
 use Rattle.std.specs.Prelude.{Result, Ok, Err}
 use Rattle.flow_base.specs.declared.place.Place.{Place}
-use Rattle.flow_ast.specs.declared.token.Tokens.{Tokens}
-use Rattle.flow_ast.specs.declared.decl.Program.{Program}
-use Rattle.flow_ast.specs.declared.fault.Rule.{Rule}
-use Rattle.flow_ast.specs.declared.fault.Rule.TheVariants as rule
-use Rattle.flow_ast.specs.declared.fault.SourceFault.{SourceFault}
-use Rattle.flow_ast.specs.declared.fault.SourceFault.TheVariants.{Refused, AcrossWait, OutOfMemory}
-use Rattle.flow_ast.specs.Decls.{ProgramTree}
-use Rattle.flow_ast.specs.DeclView.{program_of}
+use Rattle.flow_tree.specs.declared.token.Tokens.{Tokens}
+use Rattle.flow_tree.specs.declared.decl.Program.{Program}
+use Rattle.flow_tree.specs.declared.fault.Rule.{Rule}
+use Rattle.flow_tree.specs.declared.fault.Rule.TheVariants as rule
+use Rattle.flow_tree.specs.declared.fault.SourceFault.{SourceFault}
+use Rattle.flow_tree.specs.declared.fault.SourceFault.TheVariants.{Refused, AcrossWait, OutOfMemory}
+use Rattle.flow_tree.specs.Decls.{ProgramTree}
+use Rattle.flow_tree.specs.DeclView.{program_of}
 use Rattle.flow_parse.specs.ParseAnswer.{FailsAtAll, LimitAnswer, ParseAnswer}
 use Rattle.flow_parse.specs.Laws.{OneAnswer}
 use Rattle.flow_parse.proofs.OneProgram.{one_program}

@@ -4,15 +4,15 @@ use Rattle.std.proofs.lemmas.List.{append-nil}
 use Rattle.std.specs.declared.option.Option.{Option}
 use Rattle.std.specs.declared.option.Option.TheVariants.{None, Some}
 use Rattle.flow_base.specs.declared.place.Place.{Place}
-use Rattle.flow_ast.specs.declared.token.Token.{Token}
-use Rattle.flow_ast.specs.declared.token.Token.TheVariants as token
-use Rattle.flow_ast.specs.declared.token.Word.TheVariants as word
-use Rattle.flow_ast.specs.declared.token.Sign.TheVariants as sign
-use Rattle.flow_ast.specs.declared.token.Spot.{Spot}
-use Rattle.flow_ast.specs.Decls.{StructDecl, FunctionDecl, ActorDecl, ProgramTree}
-use Rattle.flow_ast.specs.GrammarToken.{Declaration, Node, Variable, Marked, spots_of, Derives}
-use Rattle.flow_ast.specs.Grammar.{TypeRule}
-use Rattle.flow_ast.specs.GrammarDecl.{ParamRule, DeclRule, DeclsRule, ProgramRule, program}
+use Rattle.flow_tree.specs.declared.token.Token.{Token}
+use Rattle.flow_tree.specs.declared.token.Token.TheVariants as token
+use Rattle.flow_tree.specs.declared.token.Word.TheVariants as word
+use Rattle.flow_tree.specs.declared.token.Sign.TheVariants as sign
+use Rattle.flow_tree.specs.declared.token.Spot.{Spot}
+use Rattle.flow_tree.specs.Decls.{StructDecl, FunctionDecl, ActorDecl, ProgramTree}
+use Rattle.flow_tree.specs.GrammarToken.{Declaration, Node, Variable, Marked, spots_of, Derives}
+use Rattle.flow_tree.specs.Grammar.{TypeRule}
+use Rattle.flow_tree.specs.GrammarDecl.{ParamRule, DeclRule, DeclsRule, ProgramRule, program}
 use Rattle.flow_parse.specs.Openers.{TypeToken, DeclToken}
 use Rattle.flow_parse.specs.Reading.{Tok, Named, Then, Any}
 use Rattle.flow_parse.specs.Follow.{AtEnd}

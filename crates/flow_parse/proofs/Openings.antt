@@ -2,16 +2,16 @@
 use Rattle.std.proofs.Common.{◌≡◌, ℕ, suc, ◌+◌, ◌≤◌, ◌<◌, true, List, [], ◌∷◌, ◌++◌, length, take, drop, refl, sym, ap, subst, arith}
 use Rattle.std.specs.declared.option.Option.TheVariants.{Some}
 use Rattle.flow_base.specs.declared.place.Place.{Place}
-use Rattle.flow_ast.specs.declared.fault.Rule.TheVariants as rule
-use Rattle.flow_ast.specs.declared.fault.SourceFault.TheVariants.{Refused}
-use Rattle.flow_ast.specs.declared.token.Token.{Token}
-use Rattle.flow_ast.specs.declared.token.Token.TheVariants as token
-use Rattle.flow_ast.specs.declared.token.Word.TheVariants as word
-use Rattle.flow_ast.specs.declared.token.Spot.{Spot}
-use Rattle.flow_ast.specs.declared.token.Tokens.{Tokens}
-use Rattle.flow_ast.specs.GrammarToken.{Part, Variable, opens, AllInLimits, Good}
-use Rattle.flow_ast.specs.GrammarAnswer.{place_at}
-use Rattle.flow_ast.specs.GrammarStmt.{Counts}
+use Rattle.flow_tree.specs.declared.fault.Rule.TheVariants as rule
+use Rattle.flow_tree.specs.declared.fault.SourceFault.TheVariants.{Refused}
+use Rattle.flow_tree.specs.declared.token.Token.{Token}
+use Rattle.flow_tree.specs.declared.token.Token.TheVariants as token
+use Rattle.flow_tree.specs.declared.token.Word.TheVariants as word
+use Rattle.flow_tree.specs.declared.token.Spot.{Spot}
+use Rattle.flow_tree.specs.declared.token.Tokens.{Tokens}
+use Rattle.flow_tree.specs.GrammarToken.{Part, Variable, opens, AllInLimits, Good}
+use Rattle.flow_tree.specs.GrammarAnswer.{place_at}
+use Rattle.flow_tree.specs.GrammarStmt.{Counts}
 use Rattle.flow_exprs.proofs.Goes.{nowhere}
 use Rattle.flow_parse.specs.Failing.{Sees, Never, Fails}
 use Rattle.flow_parse.specs.Reading.{token_at, Opening, Any}

@@ -2,12 +2,12 @@
 use Rattle.std.proofs.Common.{◌≡◌, ℕ, zero, suc, ◌≤◌, List, [], ◌∷◌, ◌++◌, length, take, drop, refl, sym, ap, ◌∙◌, subst, arith, append_assoc}
 use Rattle.std.proofs.lemmas.List.{append-nil, take-append-drop}
 use Rattle.flow_base.specs.declared.place.Place.{Place}
-use Rattle.flow_ast.specs.declared.token.Tokens.{Tokens}
-use Rattle.flow_ast.specs.declared.token.Spot.{Spot}
-use Rattle.flow_ast.specs.Decls.{DeclTree, ProgramTree}
-use Rattle.flow_ast.specs.GrammarToken.{Marked, spots_of, Keeps, Good}
-use Rattle.flow_ast.specs.GrammarDecl.{DeclsRule, ProgramRule, program}
-use Rattle.flow_ast.specs.GrammarAnswer.{place_at}
+use Rattle.flow_tree.specs.declared.token.Tokens.{Tokens}
+use Rattle.flow_tree.specs.declared.token.Spot.{Spot}
+use Rattle.flow_tree.specs.Decls.{DeclTree, ProgramTree}
+use Rattle.flow_tree.specs.GrammarToken.{Marked, spots_of, Keeps, Good}
+use Rattle.flow_tree.specs.GrammarDecl.{DeclsRule, ProgramRule, program}
+use Rattle.flow_tree.specs.GrammarAnswer.{place_at}
 use Rattle.flow_parse.specs.Follow.{AtEnd}
 use Rattle.flow_parse.specs.Failing.{Sees, Never, Stops}
 use Rattle.flow_parse.specs.ParseAnswer.{GoodTo, begun, whole, FailsBy, FailsLimit}

@@ -1,12 +1,12 @@
 -- What the readers of types and expressions refuse, as the part that stops there.
 use Rattle.std.proofs.Common.{ℕ, ◌≤◌, ◌<◌, List, [], ◌∷◌, ◌++◌, drop, sym, subst, arith}
 use Rattle.flow_base.specs.declared.place.Place.{Place}
-use Rattle.flow_ast.specs.declared.token.Tokens.{Tokens}
-use Rattle.flow_ast.specs.declared.token.Spot.{Spot}
-use Rattle.flow_ast.specs.Tree.{TypeTree, ExprTree, ExprTrees}
-use Rattle.flow_ast.specs.GrammarToken.{Part, Declaration, Statement, Node, Variable, Branch, Marked, begin, AllInLimits, Keeps, Good}
-use Rattle.flow_ast.specs.Grammar.{ExprRule, number, text, truth, falsehood, void, variable, call, paren, field, method, negation, minus, binary, ArgsRule, no_args, some_args, MoreArgsRule, end_args, more_args, TypeRule, int_type, bool_type, string_type, void_type, error_type, named_type, wrapped_type}
-use Rattle.flow_ast.specs.GrammarAnswer.{IsMissing, IsTooDeep}
+use Rattle.flow_tree.specs.declared.token.Tokens.{Tokens}
+use Rattle.flow_tree.specs.declared.token.Spot.{Spot}
+use Rattle.flow_tree.specs.Tree.{TypeTree, ExprTree, ExprTrees}
+use Rattle.flow_tree.specs.GrammarToken.{Part, Declaration, Statement, Node, Variable, Branch, Marked, begin, AllInLimits, Keeps, Good}
+use Rattle.flow_tree.specs.Grammar.{ExprRule, number, text, truth, falsehood, void, variable, call, paren, field, method, negation, minus, binary, ArgsRule, no_args, some_args, MoreArgsRule, end_args, more_args, TypeRule, int_type, bool_type, string_type, void_type, error_type, named_type, wrapped_type}
+use Rattle.flow_tree.specs.GrammarAnswer.{IsMissing, IsTooDeep}
 use Rattle.flow_parse.specs.Reading.{Any}
 use Rattle.flow_parse.specs.Follow.{ExprEnds}
 use Rattle.flow_parse.specs.Failing.{Stops}

@@ -1,13 +1,13 @@
 -- What the readers of types and expressions answer is exact.
 use Rattle.std.proofs.Common.{◌≡◌, ℕ, zero, suc, ◌-◌, ◌≤◌, ◌<◌, List, [], ◌∷◌, ◌++◌, length, take, drop, refl, sym, ap, ◌∙◌, subst, arith, append_assoc, ◌⊎◌, inl, inr}
 use Rattle.std.proofs.lemmas.List.{take-append-drop}
-use Rattle.flow_ast.specs.declared.token.Spot.{Spot}
-use Rattle.flow_ast.specs.declared.token.Tokens.{Tokens}
-use Rattle.flow_ast.specs.GrammarToken.{Part, Declaration, Statement, Node, Variable, Branch, Marked, spots_of, InLimits, AllInLimits, Keeps, Derives, Good}
-use Rattle.flow_ast.specs.GrammarAnswer.{ReadsAll, TooDeep, IsRead, IsMissing, IsTooDeep}
+use Rattle.flow_tree.specs.declared.token.Spot.{Spot}
+use Rattle.flow_tree.specs.declared.token.Tokens.{Tokens}
+use Rattle.flow_tree.specs.GrammarToken.{Part, Declaration, Statement, Node, Variable, Branch, Marked, spots_of, InLimits, AllInLimits, Keeps, Derives, Good}
+use Rattle.flow_tree.specs.GrammarAnswer.{ReadsAll, TooDeep, IsRead, IsMissing, IsTooDeep}
 use Rattle.flow_base.specs.declared.place.Place.{Place}
-use Rattle.flow_ast.specs.Tree.{ExprTree, VoidExpr}
-use Rattle.flow_ast.specs.Grammar.{ExprRule}
+use Rattle.flow_tree.specs.Tree.{ExprTree, VoidExpr}
+use Rattle.flow_tree.specs.Grammar.{ExprRule}
 use Rattle.flow_exprs.specs.declared.kind.Kind.{Kind}
 use Rattle.flow_exprs.specs.declared.kind.Kind.TheVariants as kind
 use Rattle.flow_exprs.specs.Kinds.{kind_of}

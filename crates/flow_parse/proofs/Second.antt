@@ -2,9 +2,9 @@
 use Rattle.std.proofs.Common.{◌≡◌, ℕ, zero, suc, ◌+◌, ◌-◌, ◌≤◌, ◌<◌, List, [], ◌∷◌, ◌++◌, length, take, drop, sym, ap, ◌∙◌, subst, arith}
 use Rattle.std.specs.declared.option.Option.{Option}
 use Rattle.std.specs.declared.option.Option.TheVariants.{Some}
-use Rattle.flow_ast.specs.declared.token.Token.{Token}
-use Rattle.flow_ast.specs.declared.token.Spot.{Spot}
-use Rattle.flow_ast.specs.GrammarToken.{Marked, AllInLimits, Good}
+use Rattle.flow_tree.specs.declared.token.Token.{Token}
+use Rattle.flow_tree.specs.declared.token.Spot.{Spot}
+use Rattle.flow_tree.specs.GrammarToken.{Marked, AllInLimits, Good}
 use Rattle.flow_parse.specs.Failing.{Sees, Only, Never, Stops}
 use Rattle.flow_parse.specs.Reading.{token_at}
 use Rattle.flow_parse.proofs.Looking.{Looks, first_of}

@@ -1,11 +1,11 @@
 -- Parts and trees that several proofs name.
 use Rattle.std.specs.Prelude.{◌≡◌, ℕ, Bool, false, List}
-use Rattle.flow_ast.specs.declared.ty.Ident.{Ident}
-use Rattle.flow_ast.specs.Tree.{TypeTree}
-use Rattle.flow_ast.specs.Body.{Body}
-use Rattle.flow_ast.specs.GrammarToken.{Marked}
-use Rattle.flow_ast.specs.Grammar.{TypeRule}
-use Rattle.flow_ast.specs.GrammarStmt.{Counts}
+use Rattle.flow_tree.specs.declared.ty.Ident.{Ident}
+use Rattle.flow_tree.specs.Tree.{TypeTree}
+use Rattle.flow_tree.specs.Body.{Body}
+use Rattle.flow_tree.specs.GrammarToken.{Marked}
+use Rattle.flow_tree.specs.Grammar.{TypeRule}
+use Rattle.flow_tree.specs.GrammarStmt.{Counts}
 use Rattle.flow_parse.specs.Reading.{Named, Then}
 use Rattle.flow_parse.specs.Parts.{Out, BodyPart}
 

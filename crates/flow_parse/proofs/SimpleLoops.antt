@@ -2,15 +2,15 @@
 use Rattle.std.proofs.Common.{◌≡◌, ℕ, ◌+◌, ◌≤◌, List, [], ◌∷◌, ◌++◌, length, sym, ap, ◌∙◌, subst, append_assoc}
 use Rattle.std.specs.declared.option.Option.TheVariants.{Some}
 use Rattle.flow_base.specs.declared.place.Place.{Place}
-use Rattle.flow_ast.specs.declared.fault.SourceFault.{SourceFault}
-use Rattle.flow_ast.specs.declared.token.Token.TheVariants as token
-use Rattle.flow_ast.specs.declared.token.Sign.TheVariants as sign
-use Rattle.flow_ast.specs.declared.token.Tokens.{Tokens}
-use Rattle.flow_ast.specs.declared.ty.Ident.{Ident}
-use Rattle.flow_ast.specs.declared.expr.Expr.{Expr}
-use Rattle.flow_ast.specs.View.{expr_of, exprs_of}
-use Rattle.flow_ast.specs.Grammar.{ExprRule}
-use Rattle.flow_ast.specs.GrammarAnswer.{place_at}
+use Rattle.flow_tree.specs.declared.fault.SourceFault.{SourceFault}
+use Rattle.flow_tree.specs.declared.token.Token.TheVariants as token
+use Rattle.flow_tree.specs.declared.token.Sign.TheVariants as sign
+use Rattle.flow_tree.specs.declared.token.Tokens.{Tokens}
+use Rattle.flow_tree.specs.declared.ty.Ident.{Ident}
+use Rattle.flow_tree.specs.declared.expr.Expr.{Expr}
+use Rattle.flow_tree.specs.View.{expr_of, exprs_of}
+use Rattle.flow_tree.specs.Grammar.{ExprRule}
+use Rattle.flow_tree.specs.GrammarAnswer.{place_at}
 use Rattle.flow_parse.specs.Failing.{Fails}
 use Rattle.flow_parse.specs.Reading.{token_at, Tok, Named, Any, Reads}
 use Rattle.flow_parse.specs.Follow.{ExprEnds, NotBefore}

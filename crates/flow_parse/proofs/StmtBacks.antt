@@ -5,16 +5,16 @@ use Rattle.std.proofs.lemmas.List.{append-nil}
 use Rattle.std.specs.declared.option.Option.{Option}
 use Rattle.std.specs.declared.option.Option.TheVariants.{None, Some}
 use Rattle.flow_base.specs.declared.place.Place.{Place}
-use Rattle.flow_ast.specs.declared.token.Token.{Token}
-use Rattle.flow_ast.specs.declared.token.Token.TheVariants as token
-use Rattle.flow_ast.specs.declared.token.Word.{Word}
-use Rattle.flow_ast.specs.declared.token.Word.TheVariants as word
-use Rattle.flow_ast.specs.declared.token.Sign.TheVariants as sign
-use Rattle.flow_ast.specs.Tree.{ExprTree}
-use Rattle.flow_ast.specs.Body.{WaitTree, Body, End, BlockStmt, IfStmt, IfElseStmt, WhileStmt, ForStmt, LoopStmt, BreakStmt, ContinueStmt, ReturnStmt, ThrowStmt, TryStmt, ChooseStmt, DeclareStmt, AssignStmt, ModifyStmt, CallStmt, WaitStmt, PlusChange, MinusChange, UpChange, DownChange, Branches, NoBranches, MoreBranches}
-use Rattle.flow_ast.specs.GrammarToken.{Node, Branch, Marked, opens}
-use Rattle.flow_ast.specs.Grammar.{sign_at, word_at, ExprRule}
-use Rattle.flow_ast.specs.GrammarStmt.{Counts, one_statement, begin_statement, AssignRule, assign, plus, minus, up, down, InitRule, declare, declare_value, change, InitPart, no_init, some_init, StepPart, no_step, some_step, MaybeExprRule, no_expr, some_expr, PlainRule, if_stmt, if_else_stmt, while_stmt, for_stmt, loop_stmt, break_stmt, continue_stmt, return_stmt, throw_stmt, try_stmt, choose_stmt, init_stmt, wait_stmt, call_stmt, StmtRule, block_stmt, plain_stmt, BodyRule, block_body, one_body, BlockRule, braces, StmtsRule, no_stmts, more_stmts, WhensRule, no_whens, more_whens, WhenRule, branch}
+use Rattle.flow_tree.specs.declared.token.Token.{Token}
+use Rattle.flow_tree.specs.declared.token.Token.TheVariants as token
+use Rattle.flow_tree.specs.declared.token.Word.{Word}
+use Rattle.flow_tree.specs.declared.token.Word.TheVariants as word
+use Rattle.flow_tree.specs.declared.token.Sign.TheVariants as sign
+use Rattle.flow_tree.specs.Tree.{ExprTree}
+use Rattle.flow_tree.specs.Body.{WaitTree, Body, End, BlockStmt, IfStmt, IfElseStmt, WhileStmt, ForStmt, LoopStmt, BreakStmt, ContinueStmt, ReturnStmt, ThrowStmt, TryStmt, ChooseStmt, DeclareStmt, AssignStmt, ModifyStmt, CallStmt, WaitStmt, PlusChange, MinusChange, UpChange, DownChange, Branches, NoBranches, MoreBranches}
+use Rattle.flow_tree.specs.GrammarToken.{Node, Branch, Marked, opens}
+use Rattle.flow_tree.specs.Grammar.{sign_at, word_at, ExprRule}
+use Rattle.flow_tree.specs.GrammarStmt.{Counts, one_statement, begin_statement, AssignRule, assign, plus, minus, up, down, InitRule, declare, declare_value, change, InitPart, no_init, some_init, StepPart, no_step, some_step, MaybeExprRule, no_expr, some_expr, PlainRule, if_stmt, if_else_stmt, while_stmt, for_stmt, loop_stmt, break_stmt, continue_stmt, return_stmt, throw_stmt, try_stmt, choose_stmt, init_stmt, wait_stmt, call_stmt, StmtRule, block_stmt, plain_stmt, BodyRule, block_body, one_body, BlockRule, braces, StmtsRule, no_stmts, more_stmts, WhensRule, no_whens, more_whens, WhenRule, branch}
 use Rattle.flow_parse.specs.Openers.{ExprToken, StartsWord, StmtWord, PlainToken, StmtToken, WhenToken}
 use Rattle.flow_parse.specs.Reading.{Opening, Tok, Then, Any}
 use Rattle.flow_parse.specs.Follow.{NotBefore}
@@ -338,7 +338,7 @@ alone_plain (break_stmt at p) = (BreakStmt at End, break_stmt at p, refl)
 alone_plain (continue_stmt at p) = (ContinueStmt at End, continue_stmt at p, refl)
 alone_plain (return_stmt {e = t} at p of e f) = (ReturnStmt at t End, return_stmt at p of e f, refl)
 alone_plain (throw_stmt {e = t} at p of e f) = (ThrowStmt at t End, throw_stmt at p of e f, refl)
-alone_plain (try_stmt {inner = i} {handler = j} at p q r s u x body caught b h f) = (TryStmt at i x j End, try_stmt at p q r s u x body caught b h f, refl)
+alone_plain (try_stmt {inner = i} {handler = j} at p q r s u x body caught b h f) = (TryStmt at i p x j End, try_stmt at p q r s u x body caught b h f, refl)
 alone_plain (choose_stmt {b = b} at p q first more w ws f) = (ChooseStmt at b End, choose_stmt at p q first more w ws f, refl)
 alone_plain (init_stmt at p xs i f) = let k = alone_init i in (k.0, init_stmt at p xs k.1 f, k.2)
 alone_plain (wait_stmt {w = x} at p xs w f s) = (WaitStmt at x End, wait_stmt at p xs w f s, refl)

@@ -2,16 +2,16 @@
 use Rattle.std.proofs.Common.{◌≡◌, ℕ, suc, ◌≤◌, Bool, List, [], ◌∷◌, ◌++◌, length, sym, ap, ◌∙◌, subst}
 use Rattle.flow_base.specs.declared.place.Place.{Place}
 use Rattle.std.specs.declared.option.Option.TheVariants.{Some}
-use Rattle.flow_ast.specs.declared.token.Token.TheVariants as token
-use Rattle.flow_ast.specs.declared.token.Word.TheVariants as word
-use Rattle.flow_ast.specs.declared.token.Sign.TheVariants as sign
-use Rattle.flow_ast.specs.declared.token.Spot.{Spot}
-use Rattle.flow_ast.specs.declared.token.Tokens.{Tokens}
-use Rattle.flow_ast.specs.declared.stmt.Stmt.{Stmt}
-use Rattle.flow_ast.specs.declared.stmt.When.{When}
-use Rattle.flow_ast.specs.Body.{End, Branches, MoreBranches}
-use Rattle.flow_ast.specs.StmtView.{stmt_of, body_of, branch_of, branches_of}
-use Rattle.flow_ast.specs.GrammarStmt.{Counts}
+use Rattle.flow_tree.specs.declared.token.Token.TheVariants as token
+use Rattle.flow_tree.specs.declared.token.Word.TheVariants as word
+use Rattle.flow_tree.specs.declared.token.Sign.TheVariants as sign
+use Rattle.flow_tree.specs.declared.token.Spot.{Spot}
+use Rattle.flow_tree.specs.declared.token.Tokens.{Tokens}
+use Rattle.flow_tree.specs.declared.stmt.Stmt.{Stmt}
+use Rattle.flow_tree.specs.declared.stmt.When.{When}
+use Rattle.flow_tree.specs.Body.{End, Branches, MoreBranches}
+use Rattle.flow_tree.specs.StmtView.{stmt_of, body_of, branch_of, branches_of}
+use Rattle.flow_tree.specs.GrammarStmt.{Counts}
 use Rattle.flow_parse.specs.Reading.{token_at, Tok, Any, Reads}
 use Rattle.flow_parse.specs.Follow.{NotBefore}
 use Rattle.flow_parse.specs.Parts.{NoElse, BlockOut, WhenOut, One, Closing, WhenPart, WhensPart, AllWhens}

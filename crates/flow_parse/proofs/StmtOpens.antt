@@ -4,23 +4,23 @@ use Rattle.std.proofs.Common.{◌≡◌, ℕ, suc, ◌≤◌, ◌<◌, Bool, tru
 use Rattle.std.specs.declared.option.Option.{Option}
 use Rattle.std.specs.declared.option.Option.TheVariants.{None, Some}
 use Rattle.flow_base.specs.declared.place.Place.{Place}
-use Rattle.flow_ast.specs.declared.fault.Rule.TheVariants as rule
-use Rattle.flow_ast.specs.declared.fault.SourceFault.{SourceFault}
-use Rattle.flow_ast.specs.declared.fault.SourceFault.TheVariants.{Refused}
-use Rattle.flow_ast.specs.declared.token.Token.{Token}
-use Rattle.flow_ast.specs.declared.token.Token.TheVariants as token
-use Rattle.flow_ast.specs.declared.token.Word.{Word}
-use Rattle.flow_ast.specs.declared.token.Word.TheVariants as word
-use Rattle.flow_ast.specs.declared.token.Sign.TheVariants as sign
-use Rattle.flow_ast.specs.declared.token.Spot.{Spot}
-use Rattle.flow_ast.specs.declared.token.Tokens.{Tokens}
-use Rattle.flow_ast.specs.declared.ty.Ident.{Ident}
-use Rattle.flow_ast.specs.Tree.{IntType}
-use Rattle.flow_ast.specs.Body.{IntoTree, Body, End, NoBranches, IfStmt, WhileStmt, ForStmt, LoopStmt, BreakStmt, ContinueStmt, ReturnStmt, ThrowStmt, TryStmt, DeclareStmt, ModifyStmt, WaitStmt, UpChange}
-use Rattle.flow_ast.specs.GrammarAnswer.{place_at}
-use Rattle.flow_ast.specs.GrammarToken.{Part, Statement, Node, Marked, opens, begin, AllInLimits, Good}
-use Rattle.flow_ast.specs.Grammar.{sign_at, word_at, name_at, node_word, int_type}
-use Rattle.flow_ast.specs.GrammarStmt.{Counts, StartsAt, one_statement, one_state, state_parts, no_state, some_state, declared, wait, wait_next, plain_wait, PathRule, last_name, more_names, AssignRule, assign, plus, minus, up, down, InitRule, declare, declare_value, change, no_init, no_step, no_expr, if_stmt, while_stmt, for_stmt, loop_stmt, break_stmt, continue_stmt, return_stmt, throw_stmt, try_stmt, choose_stmt, init_stmt, wait_stmt, BodyRule, block_body, one_body, braces, no_stmts, no_whens}
+use Rattle.flow_tree.specs.declared.fault.Rule.TheVariants as rule
+use Rattle.flow_tree.specs.declared.fault.SourceFault.{SourceFault}
+use Rattle.flow_tree.specs.declared.fault.SourceFault.TheVariants.{Refused}
+use Rattle.flow_tree.specs.declared.token.Token.{Token}
+use Rattle.flow_tree.specs.declared.token.Token.TheVariants as token
+use Rattle.flow_tree.specs.declared.token.Word.{Word}
+use Rattle.flow_tree.specs.declared.token.Word.TheVariants as word
+use Rattle.flow_tree.specs.declared.token.Sign.TheVariants as sign
+use Rattle.flow_tree.specs.declared.token.Spot.{Spot}
+use Rattle.flow_tree.specs.declared.token.Tokens.{Tokens}
+use Rattle.flow_tree.specs.declared.ty.Ident.{Ident}
+use Rattle.flow_tree.specs.Tree.{IntType}
+use Rattle.flow_tree.specs.Body.{IntoTree, Body, End, NoBranches, IfStmt, WhileStmt, ForStmt, LoopStmt, BreakStmt, ContinueStmt, ReturnStmt, ThrowStmt, TryStmt, DeclareStmt, ModifyStmt, WaitStmt, UpChange}
+use Rattle.flow_tree.specs.GrammarAnswer.{place_at}
+use Rattle.flow_tree.specs.GrammarToken.{Part, Statement, Node, Marked, opens, begin, AllInLimits, Good}
+use Rattle.flow_tree.specs.Grammar.{sign_at, word_at, name_at, node_word, int_type}
+use Rattle.flow_tree.specs.GrammarStmt.{Counts, StartsAt, one_statement, one_state, state_parts, no_state, some_state, declared, wait, wait_next, plain_wait, PathRule, last_name, more_names, AssignRule, assign, plus, minus, up, down, InitRule, declare, declare_value, change, no_init, no_step, no_expr, if_stmt, while_stmt, for_stmt, loop_stmt, break_stmt, continue_stmt, return_stmt, throw_stmt, try_stmt, choose_stmt, init_stmt, wait_stmt, BodyRule, block_body, one_body, braces, no_stmts, no_whens}
 use Rattle.flow_exprs.proofs.Goes.{nowhere}
 use Rattle.flow_parse.specs.Beyond.{Beyond}
 use Rattle.flow_parse.specs.Failing.{Fails}
@@ -171,7 +171,7 @@ module _ (m : ℕ) (low : m < 5) (actor : Bool) (d : ℕ) (c : Counts) where
   plain_word word.Throw p ts h = word_with word.Throw p ts _ (record { body = ThrowStmt p None End; counts = c; ends_if = false }) (p, throw_stmt p nowhere [] no_expr refl)
   plain_word word.Try p ts h =
       let b = sign_at sign.OpenCurly nowhere ∷ sign_at sign.CloseCurly nowhere ∷ [] in
-      word_with word.Try p ts _ (record { body = TryStmt p End a_name End End; counts = c; ends_if = false }) (p, try_stmt p nowhere nowhere nowhere nowhere nowhere a_name b b (braces nowhere nowhere [] no_stmts refl) (braces nowhere nowhere [] no_stmts refl) refl)
+      word_with word.Try p ts _ (record { body = TryStmt p End nowhere a_name End End; counts = c; ends_if = false }) (p, try_stmt p nowhere nowhere nowhere nowhere nowhere a_name b b (braces nowhere nowhere [] no_stmts refl) (braces nowhere nowhere [] no_stmts refl) refl)
   plain_word word.Choose p ts h =
       let x = some_when actor (suc d) 1 c in
       word_with word.Choose p ts _ _ (p, choose_stmt p nowhere nowhere x.marked [] (x.rule NoBranches) no_whens refl)

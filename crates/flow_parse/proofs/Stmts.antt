@@ -4,17 +4,17 @@ use Rattle.std.proofs.lemmas.List.{append-nil}
 use Rattle.std.specs.declared.option.Option.{Option}
 use Rattle.std.specs.declared.option.Option.TheVariants.{None, Some}
 use Rattle.flow_base.specs.declared.place.Place.{Place}
-use Rattle.flow_ast.specs.declared.token.Token.{Token}
-use Rattle.flow_ast.specs.declared.token.Token.TheVariants as token
-use Rattle.flow_ast.specs.declared.token.Word.TheVariants as word
-use Rattle.flow_ast.specs.declared.token.Sign.TheVariants as sign
-use Rattle.flow_ast.specs.declared.token.Spot.{Spot}
-use Rattle.flow_ast.specs.declared.token.Tokens.{Tokens}
-use Rattle.flow_ast.specs.Tree.{ExprTree}
-use Rattle.flow_ast.specs.Body.{Body, End, BlockStmt, WhileStmt, ForStmt, LoopStmt, BreakStmt, ContinueStmt, ReturnStmt, ThrowStmt, TryStmt, ChooseStmt, Branches, NoBranches, MoreBranches}
-use Rattle.flow_ast.specs.GrammarToken.{Node, Branch, Marked}
-use Rattle.flow_ast.specs.Grammar.{sign_at, ExprRule}
-use Rattle.flow_ast.specs.GrammarStmt.{Counts, one_statement, no_expr, some_expr, no_init, some_init, no_step, some_step, if_stmt, if_else_stmt, while_stmt, for_stmt, loop_stmt, break_stmt, continue_stmt, return_stmt, throw_stmt, try_stmt, choose_stmt, PlainRule, block_stmt, plain_stmt, BlockRule, braces, BodyRule, block_body, one_body, no_stmts, more_stmts, no_whens, more_whens, branch}
+use Rattle.flow_tree.specs.declared.token.Token.{Token}
+use Rattle.flow_tree.specs.declared.token.Token.TheVariants as token
+use Rattle.flow_tree.specs.declared.token.Word.TheVariants as word
+use Rattle.flow_tree.specs.declared.token.Sign.TheVariants as sign
+use Rattle.flow_tree.specs.declared.token.Spot.{Spot}
+use Rattle.flow_tree.specs.declared.token.Tokens.{Tokens}
+use Rattle.flow_tree.specs.Tree.{ExprTree}
+use Rattle.flow_tree.specs.Body.{Body, End, BlockStmt, WhileStmt, ForStmt, LoopStmt, BreakStmt, ContinueStmt, ReturnStmt, ThrowStmt, TryStmt, ChooseStmt, Branches, NoBranches, MoreBranches}
+use Rattle.flow_tree.specs.GrammarToken.{Node, Branch, Marked}
+use Rattle.flow_tree.specs.Grammar.{sign_at, ExprRule}
+use Rattle.flow_tree.specs.GrammarStmt.{Counts, one_statement, no_expr, some_expr, no_init, some_init, no_step, some_step, if_stmt, if_else_stmt, while_stmt, for_stmt, loop_stmt, break_stmt, continue_stmt, return_stmt, throw_stmt, try_stmt, choose_stmt, PlainRule, block_stmt, plain_stmt, BlockRule, braces, BodyRule, block_body, one_body, no_stmts, more_stmts, no_whens, more_whens, branch}
 use Rattle.flow_parse.specs.Reading.{token_at, Opening, Tok, Named, Then, Any, Reads}
 use Rattle.flow_parse.specs.Follow.{ExprEnds, Before, NotBefore}
 use Rattle.flow_parse.specs.Parts.{NoElse, Out, BlockOut, Test, MaybeExpr, Placed, Begun, Init, Assignment, StartPart, NextPart, Plain, One, BodyPart, Closing, Block, Catch, WaitingPart, WhenPart, WhensPart, AllWhens, put_before}
@@ -208,12 +208,12 @@ module _ (t : Tokens) (at : ℕ) (actor : Bool) (d : ℕ) (c : Counts) (h : at �
     forth = λ u x r. (x.0, throw_stmt x.0 r.back.0 r.back.1 r.back.2 (behind r.is r.front r.back.3));
   }) (nothing t.spots.items (Plain actor d c) NoElse at h)
 
-  pub try_left : token_at t.spots.items at ≡ Some (token.Word word.Try) → Leaves (Plain actor d c) NoElse (Then (Tok (token.Word word.Try)) (λ p. Then (Block actor (suc d) c) (λ o. Then Catch (λ x. Block actor (suc d) o.counts)))) Any (λ x. closed (TryStmt x.0 x.1.0.body x.1.1.0 x.1.1.1.body End) x.1.1.1.counts) t.spots.items at at
+  pub try_left : token_at t.spots.items at ≡ Some (token.Word word.Try) → Leaves (Plain actor d c) NoElse (Then (Tok (token.Word word.Try)) (λ p. Then (Block actor (suc d) c) (λ o. Then Catch (λ x. Block actor (suc d) o.counts)))) Any (λ x. closed (TryStmt x.0 x.1.0.body x.1.1.0.0 x.1.1.0.1 x.1.1.1.body End) x.1.1.1.counts) t.spots.items at at
   try_left e = narrow t.spots.items e (record {
     back = λ w z b r f l. let q = keyword_back z word.Try (λ h. h) r.1 l in record { tree = q.tree; rule = q.rule; is = q.is; follows = tt };
     forth = λ u x r.
         let k = r.back.back.front in
-        (x.0, try_stmt x.0 k.0 k.1 k.2 k.3 k.4 x.1.1.0 r.back.first r.back.back.rest (block_rule r.back.front) (block_rule r.back.back.back) (behind r.is r.front (glue _ r.back.is (r.back.back.is ∙ ap (λ z. z ++ r.back.back.rest) k.5))));
+        (x.0, try_stmt x.0 x.1.1.0.0 k.0 k.1 k.2 k.3 x.1.1.0.1 r.back.first r.back.back.rest (block_rule r.back.front) (block_rule r.back.back.back) (behind r.is r.front (glue _ r.back.is (r.back.back.is ∙ ap (λ z. z ++ r.back.back.rest) k.4))));
   }) (nothing t.spots.items (Plain actor d c) NoElse at h)
 
   pub choose_left : token_at t.spots.items at ≡ Some (token.Word word.Choose) → Leaves (Plain actor d c) NoElse (Then (Tok (token.Word word.Choose)) (λ p. Then (Tok (token.Sign sign.OpenCurly)) (λ q. AllWhens actor (suc d) c))) Any (λ x. closed (ChooseStmt x.0 x.1.1.0 End) x.1.1.1) t.spots.items at at
@@ -275,10 +275,10 @@ module _ (t : Tokens) (at d : ℕ) (h : at ≤ length t.spots.items) where
   pub some_expr_left : (token_at t.spots.items at ≡ Some (token.Sign sign.Semicolon) → ⊥) → Leaves (MaybeExpr d) Any (Then (ExprRule 0 d) (λ e. Tok (token.Sign sign.Semicolon))) Any (λ x. Some x.0) t.spots.items at at
   some_expr_left n = narrow t.spots.items refl (record { back = λ w z b r f l. some_expr_back z (token_at t.spots.items at) n r l; forth = λ u x r. (x.1, r.first, some_expr r.front, glue _ r.is r.back) }) (nothing t.spots.items (MaybeExpr d) Any at h)
 
-pub catch_left : (t : Tokens) (at : ℕ) → at ≤ length t.spots.items → Leaves Catch Any CatchSeq Any (λ x. x.1.1.1.1.0) t.spots.items at at
+pub catch_left : (t : Tokens) (at : ℕ) → at ≤ length t.spots.items → Leaves Catch Any CatchSeq Any (λ x. (x.0, x.1.1.1.1.0)) t.spots.items at at
 catch_left t at h = narrow t.spots.items refl (record {
   back = λ w z b r f l. catch_back z r;
-  forth = λ u x r. (x.0, x.1.0, x.1.1.0, x.1.1.1.0, x.1.1.1.1.1, behind r.is r.front (behind r.back.is r.back.front (behind r.back.back.is r.back.back.front (behind r.back.back.back.is r.back.back.back.front (behind r.back.back.back.back.is r.back.back.back.back.front r.back.back.back.back.back)))));
+  forth = λ u x r. (x.1.0, x.1.1.0, x.1.1.1.0, x.1.1.1.1.1, behind r.is r.front (behind r.back.is r.back.front (behind r.back.back.is r.back.back.front (behind r.back.back.back.is r.back.back.back.front (behind r.back.back.back.back.is r.back.back.back.back.front r.back.back.back.back.back)))));
 }) (nothing t.spots.items Catch Any at h)
 
 -- behind the body of an `if`

@@ -2,18 +2,18 @@
 -- depth none does.
 use Rattle.std.proofs.Common.{◌≡◌, ℕ, zero, suc, ◌+◌, ◌≤◌, ◌<◌, List, [], ◌∷◌, ◌++◌, length, take, drop, refl, sym, ap, subst, arith, true, false}
 use Rattle.flow_base.specs.declared.place.Place.{Place}
-use Rattle.flow_ast.specs.declared.fault.Rule.TheVariants as rule
-use Rattle.flow_ast.specs.declared.fault.SourceFault.TheVariants.{Refused}
-use Rattle.flow_ast.specs.declared.token.Token.{Token}
-use Rattle.flow_ast.specs.declared.token.Token.TheVariants as token
-use Rattle.flow_ast.specs.declared.token.Word.TheVariants as word
-use Rattle.flow_ast.specs.declared.token.Sign.TheVariants as sign
-use Rattle.flow_ast.specs.declared.token.Spot.{Spot}
-use Rattle.flow_ast.specs.declared.token.Tokens.{Tokens}
-use Rattle.flow_ast.specs.Tree.{IntType, BoolType, StringType, VoidType, ErrorType, NamedType, FutureType, FutureStreamType, PromiseType, PromiseStreamType, ExprTree, IntExpr, TextExpr, BoolExpr, VoidExpr, VarExpr, NotExpr, NegExpr, ParenExpr}
-use Rattle.flow_ast.specs.GrammarToken.{Node, Marked, opens, begin, AllInLimits, Good}
-use Rattle.flow_ast.specs.GrammarAnswer.{place_at}
-use Rattle.flow_ast.specs.Grammar.{TypeRule, int_type, bool_type, string_type, void_type, error_type, named_type, wrapped_type, FutureOf, FutureStreamOf, PromiseOf, PromiseStreamOf, ExprRule, number, text, truth, falsehood, void, variable, call, paren, field, method, negation, minus, binary}
+use Rattle.flow_tree.specs.declared.fault.Rule.TheVariants as rule
+use Rattle.flow_tree.specs.declared.fault.SourceFault.TheVariants.{Refused}
+use Rattle.flow_tree.specs.declared.token.Token.{Token}
+use Rattle.flow_tree.specs.declared.token.Token.TheVariants as token
+use Rattle.flow_tree.specs.declared.token.Word.TheVariants as word
+use Rattle.flow_tree.specs.declared.token.Sign.TheVariants as sign
+use Rattle.flow_tree.specs.declared.token.Spot.{Spot}
+use Rattle.flow_tree.specs.declared.token.Tokens.{Tokens}
+use Rattle.flow_tree.specs.Tree.{IntType, BoolType, StringType, VoidType, ErrorType, NamedType, FutureType, FutureStreamType, PromiseType, PromiseStreamType, ExprTree, IntExpr, TextExpr, BoolExpr, VoidExpr, VarExpr, NotExpr, NegExpr, ParenExpr}
+use Rattle.flow_tree.specs.GrammarToken.{Node, Marked, opens, begin, AllInLimits, Good}
+use Rattle.flow_tree.specs.GrammarAnswer.{place_at}
+use Rattle.flow_tree.specs.Grammar.{TypeRule, int_type, bool_type, string_type, void_type, error_type, named_type, wrapped_type, FutureOf, FutureStreamOf, PromiseOf, PromiseStreamOf, ExprRule, number, text, truth, falsehood, void, variable, call, paren, field, method, negation, minus, binary}
 use Rattle.flow_exprs.proofs.Goes.{nowhere}
 use Rattle.flow_parse.specs.Failing.{Sees, Fails}
 use Rattle.flow_parse.specs.Reading.{token_at}

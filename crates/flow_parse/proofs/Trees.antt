@@ -2,21 +2,21 @@
 use Rattle.std.proofs.Common.{◌≡◌, ℕ, ◌+◌, ◌-◌, ◌≤◌, ◌<◌, List, [], ◌∷◌, ◌++◌, length, drop, refl, sym, ap, ◌∙◌, subst, arith, length-append, length-drop}
 use Rattle.std.specs.Prelude.{IfOk, Result, Ok, Err}
 use Rattle.std.proofs.lemmas.List.{take-append-drop}
-use Rattle.flow_ast.specs.declared.token.Sign.TheVariants as sign
-use Rattle.flow_ast.specs.declared.token.Spot.{Spot}
-use Rattle.flow_ast.specs.declared.token.Tokens.{Tokens}
+use Rattle.flow_tree.specs.declared.token.Sign.TheVariants as sign
+use Rattle.flow_tree.specs.declared.token.Spot.{Spot}
+use Rattle.flow_tree.specs.declared.token.Tokens.{Tokens}
 use Rattle.flow_base.specs.declared.place.Place.{Place}
-use Rattle.flow_ast.specs.declared.fault.Rule.TheVariants as rule
-use Rattle.flow_ast.specs.declared.fault.SourceFault.{SourceFault}
-use Rattle.flow_ast.specs.declared.fault.SourceFault.TheVariants.{Refused, AcrossWait, OutOfMemory}
-use Rattle.flow_ast.specs.declared.ty.Ty.{Ty}
-use Rattle.flow_ast.specs.declared.expr.Expr.{Expr}
-use Rattle.flow_ast.specs.View.{type_of, expr_of}
-use Rattle.flow_ast.specs.Tree.{TypeTree, ExprTree}
-use Rattle.flow_ast.specs.GrammarToken.{Part, Node, Marked, begin, spots_of}
-use Rattle.flow_ast.specs.Grammar.{sign_at, name_at, op_sign, TypeRule, int_type, bool_type, string_type, void_type, error_type, named_type, wrapped_type, ExprRule, number, text, truth, falsehood, void, variable, call, paren, field, method, negation, minus, binary}
-use Rattle.flow_ast.specs.GrammarAnswer.{IsRead, ReaderAnswer}
-use Rattle.flow_ast.proofs.GrammarLists.{length_spots}
+use Rattle.flow_tree.specs.declared.fault.Rule.TheVariants as rule
+use Rattle.flow_tree.specs.declared.fault.SourceFault.{SourceFault}
+use Rattle.flow_tree.specs.declared.fault.SourceFault.TheVariants.{Refused, AcrossWait, OutOfMemory}
+use Rattle.flow_tree.specs.declared.ty.Ty.{Ty}
+use Rattle.flow_tree.specs.declared.expr.Expr.{Expr}
+use Rattle.flow_tree.specs.View.{type_of, expr_of}
+use Rattle.flow_tree.specs.Tree.{TypeTree, ExprTree}
+use Rattle.flow_tree.specs.GrammarToken.{Part, Node, Marked, begin, spots_of}
+use Rattle.flow_tree.specs.Grammar.{sign_at, name_at, op_sign, TypeRule, int_type, bool_type, string_type, void_type, error_type, named_type, wrapped_type, ExprRule, number, text, truth, falsehood, void, variable, call, paren, field, method, negation, minus, binary}
+use Rattle.flow_tree.specs.GrammarAnswer.{IsRead, ReaderAnswer}
+use Rattle.flow_tree.proofs.GrammarLists.{length_spots}
 use Rattle.flow_parse.specs.Reading.{Any, Reads, Answer}
 use Rattle.flow_parse.specs.Failing.{Only, StopsAt, Fails}
 use Rattle.flow_parse.proofs.Leaves.{drop_drop}

@@ -2,12 +2,12 @@
 use Rattle.std.proofs.Common.{◌≡◌, ℕ, suc, ◌+◌, ◌-◌, arith, append_assoc, length-append, List, [], ◌∷◌, ◌++◌, length, drop, sym, ap, ◌∙◌}
 use Rattle.std.proofs.lemmas.List.{append-nil}
 use Rattle.flow_base.specs.declared.place.Place.{Place}
-use Rattle.flow_ast.specs.declared.token.Tokens.{Tokens}
-use Rattle.flow_ast.specs.Tree.{TypeTree}
-use Rattle.flow_ast.specs.GrammarToken.{Marked, spots_of, Good}
-use Rattle.flow_ast.specs.Grammar.{TypeRule}
-use Rattle.flow_ast.proofs.GrammarLists.{spots_append, length_spots}
-use Rattle.flow_ast.specs.GrammarAnswer.{IsRead, IsMissing, IsTooDeep}
+use Rattle.flow_tree.specs.declared.token.Tokens.{Tokens}
+use Rattle.flow_tree.specs.Tree.{TypeTree}
+use Rattle.flow_tree.specs.GrammarToken.{Marked, spots_of, Good}
+use Rattle.flow_tree.specs.Grammar.{TypeRule}
+use Rattle.flow_tree.proofs.GrammarLists.{spots_append, length_spots}
+use Rattle.flow_tree.specs.GrammarAnswer.{IsRead, IsMissing, IsTooDeep}
 use Rattle.flow_exprs.proofs.TypeLaws.{one_type}
 use Rattle.flow_parse.specs.Reading.{Any}
 use Rattle.flow_parse.specs.Failing.{Only, Never}

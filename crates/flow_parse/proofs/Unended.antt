@@ -4,17 +4,17 @@ use Rattle.std.proofs.lemmas.List.{append-nil}
 use Rattle.std.specs.declared.option.Option.{Option}
 use Rattle.std.specs.declared.option.Option.TheVariants.{None, Some}
 use Rattle.flow_base.specs.declared.place.Place.{Place}
-use Rattle.flow_ast.specs.declared.token.Token.TheVariants as token
-use Rattle.flow_ast.specs.declared.token.Sign.TheVariants as sign
-use Rattle.flow_ast.specs.declared.token.Token.{Token}
-use Rattle.flow_ast.specs.declared.token.Spot.{Spot}
-use Rattle.flow_ast.specs.declared.token.Tokens.{Tokens}
-use Rattle.flow_ast.specs.declared.ty.Ident.{Ident}
-use Rattle.flow_ast.specs.Tree.{NamedType}
-use Rattle.flow_ast.specs.Body.{IntoTree, Body, End, DeclareStmt, WaitStmt}
-use Rattle.flow_ast.specs.GrammarToken.{Marked, spots_of}
-use Rattle.flow_ast.specs.Grammar.{sign_at, name_at, node_name, named_type, ExprRule}
-use Rattle.flow_ast.specs.GrammarStmt.{Counts, StartsAt, no_state, IntoRule, declared, plain_wait, into_wait, PathRule, AssignRule, assign, plus, minus, up, down, InitRule, declare, declare_value, change, PlainRule, init_stmt, wait_stmt, call_stmt}
+use Rattle.flow_tree.specs.declared.token.Token.TheVariants as token
+use Rattle.flow_tree.specs.declared.token.Sign.TheVariants as sign
+use Rattle.flow_tree.specs.declared.token.Token.{Token}
+use Rattle.flow_tree.specs.declared.token.Spot.{Spot}
+use Rattle.flow_tree.specs.declared.token.Tokens.{Tokens}
+use Rattle.flow_tree.specs.declared.ty.Ident.{Ident}
+use Rattle.flow_tree.specs.Tree.{NamedType}
+use Rattle.flow_tree.specs.Body.{IntoTree, Body, End, DeclareStmt, WaitStmt}
+use Rattle.flow_tree.specs.GrammarToken.{Marked, spots_of}
+use Rattle.flow_tree.specs.Grammar.{sign_at, name_at, node_name, named_type, ExprRule}
+use Rattle.flow_tree.specs.GrammarStmt.{Counts, StartsAt, no_state, IntoRule, declared, plain_wait, into_wait, PathRule, AssignRule, assign, plus, minus, up, down, InitRule, declare, declare_value, change, PlainRule, init_stmt, wait_stmt, call_stmt}
 use Rattle.flow_parse.specs.Reading.{token_at, Reads, Tok, Named, Then, Any}
 use Rattle.flow_parse.specs.Follow.{ExprEnds, Before, NotBefore}
 use Rattle.flow_parse.specs.Parts.{Out, MoreNames, Placed, IntoPart, OperandPart, WaitingPart, ChangeRule, assigns, adds, takes, goes_up, goes_down, ChangedRule, changes, calls, DeclaredRule, no_value, value, ValuedRule, declares, waits, UnendedRule, declaring, changing, waiting, Unended, Simple, Plain, Init, Assignment}

@@ -4,17 +4,17 @@ use Rattle.std.proofs.lemmas.List.{append-nil}
 use Rattle.std.specs.declared.option.Option.{Option}
 use Rattle.std.specs.declared.option.Option.TheVariants.{None, Some}
 use Rattle.flow_base.specs.declared.place.Place.{Place}
-use Rattle.flow_ast.specs.declared.token.Token.{Token}
-use Rattle.flow_ast.specs.declared.token.Token.TheVariants as token
-use Rattle.flow_ast.specs.declared.token.Word.TheVariants as word
-use Rattle.flow_ast.specs.declared.token.Sign.{Sign}
-use Rattle.flow_ast.specs.declared.token.Sign.TheVariants as sign
-use Rattle.flow_ast.specs.declared.ty.Ident.{Ident}
-use Rattle.flow_ast.specs.Tree.{TypeTree, NamedType}
-use Rattle.flow_ast.specs.Body.{IntoTree, WaitTree, Body, End, WaitStmt}
-use Rattle.flow_ast.specs.GrammarToken.{Marked}
-use Rattle.flow_ast.specs.Grammar.{sign_at, name_at, node_name, node_word, wrapper_word, TypeRule, int_type, bool_type, string_type, void_type, error_type, named_type, wrapped_type}
-use Rattle.flow_ast.specs.GrammarStmt.{Counts, StartsAt, no_state, some_state, IntoRule, declared, WaitingRule, plain_wait, into_wait, PathRule, last_name, more_names, AssignRule, assign, plus, minus, up, down, InitRule, declare, declare_value, change, PlainRule, if_stmt, if_else_stmt, while_stmt, for_stmt, loop_stmt, break_stmt, continue_stmt, return_stmt, throw_stmt, try_stmt, choose_stmt, init_stmt, wait_stmt, call_stmt}
+use Rattle.flow_tree.specs.declared.token.Token.{Token}
+use Rattle.flow_tree.specs.declared.token.Token.TheVariants as token
+use Rattle.flow_tree.specs.declared.token.Word.TheVariants as word
+use Rattle.flow_tree.specs.declared.token.Sign.{Sign}
+use Rattle.flow_tree.specs.declared.token.Sign.TheVariants as sign
+use Rattle.flow_tree.specs.declared.ty.Ident.{Ident}
+use Rattle.flow_tree.specs.Tree.{TypeTree, NamedType}
+use Rattle.flow_tree.specs.Body.{IntoTree, WaitTree, Body, End, WaitStmt}
+use Rattle.flow_tree.specs.GrammarToken.{Marked}
+use Rattle.flow_tree.specs.Grammar.{sign_at, name_at, node_name, node_word, wrapper_word, TypeRule, int_type, bool_type, string_type, void_type, error_type, named_type, wrapped_type}
+use Rattle.flow_tree.specs.GrammarStmt.{Counts, StartsAt, no_state, some_state, IntoRule, declared, WaitingRule, plain_wait, into_wait, PathRule, last_name, more_names, AssignRule, assign, plus, minus, up, down, InitRule, declare, declare_value, change, PlainRule, if_stmt, if_else_stmt, while_stmt, for_stmt, loop_stmt, break_stmt, continue_stmt, return_stmt, throw_stmt, try_stmt, choose_stmt, init_stmt, wait_stmt, call_stmt}
 use Rattle.flow_parse.specs.Openers.{AsFirst, IntoToken, WaitToken}
 use Rattle.flow_parse.specs.Reading.{Tok, Named, Then, Any}
 use Rattle.flow_parse.specs.Follow.{ExprEnds, Before}

@@ -3,14 +3,14 @@ use Rattle.std.proofs.Common.{◌≡◌, ℕ, suc, ◌+◌, ◌≤◌, ◌<◌, 
 use Rattle.std.specs.declared.option.Option.{Option}
 use Rattle.std.specs.declared.option.Option.TheVariants.{Some}
 use Rattle.flow_base.specs.declared.place.Place.{Place}
-use Rattle.flow_ast.specs.declared.token.Token.{Token}
-use Rattle.flow_ast.specs.declared.token.Token.TheVariants as token
-use Rattle.flow_ast.specs.declared.token.Word.TheVariants as word
-use Rattle.flow_ast.specs.declared.token.Sign.TheVariants as sign
-use Rattle.flow_ast.specs.declared.token.Spot.{Spot}
-use Rattle.flow_ast.specs.GrammarToken.{Part, Marked, opens, begin, spots_of}
-use Rattle.flow_ast.specs.GrammarStmt.{Counts, begin_statement, StartsAt}
-use Rattle.flow_ast.specs.Grammar.{name_at}
+use Rattle.flow_tree.specs.declared.token.Token.{Token}
+use Rattle.flow_tree.specs.declared.token.Token.TheVariants as token
+use Rattle.flow_tree.specs.declared.token.Word.TheVariants as word
+use Rattle.flow_tree.specs.declared.token.Sign.TheVariants as sign
+use Rattle.flow_tree.specs.declared.token.Spot.{Spot}
+use Rattle.flow_tree.specs.GrammarToken.{Part, Marked, opens, begin, spots_of}
+use Rattle.flow_tree.specs.GrammarStmt.{Counts, begin_statement, StartsAt}
+use Rattle.flow_tree.specs.Grammar.{name_at}
 use Rattle.flow_exprs.specs.Machine.{ident}
 use Rattle.flow_parse.specs.Openers.{AsFirst, WaitToken}
 use Rattle.flow_parse.specs.Reading.{Opening, Named, Then, Any}

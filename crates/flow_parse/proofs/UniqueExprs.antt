@@ -1,10 +1,10 @@
 -- Tokens have one meaning as an expression.
 use Rattle.std.proofs.Common.{◌≡◌, ℕ, zero, suc, ◌≤◌, ◌<◌, List, [], ◌∷◌, ◌++◌, length, take, drop, refl, sym, ap, ◌∙◌, subst, arith, length-append, ◌⊎◌, inl, inr}
 use Rattle.std.proofs.lemmas.List.{take-append-drop}
-use Rattle.flow_ast.specs.GrammarToken.{Marked, spots_of}
-use Rattle.flow_ast.proofs.GrammarLists.{length_spots}
-use Rattle.flow_ast.specs.Tree.{ExprTree}
-use Rattle.flow_ast.specs.Grammar.{ExprRule}
+use Rattle.flow_tree.specs.GrammarToken.{Marked, spots_of}
+use Rattle.flow_tree.proofs.GrammarLists.{length_spots}
+use Rattle.flow_tree.specs.Tree.{ExprTree}
+use Rattle.flow_tree.specs.Grammar.{ExprRule}
 use Rattle.flow_exprs.proofs.Outcomes.{one_tree}
 use Rattle.flow_parse.specs.Follow.{ExprEnds}
 use Rattle.flow_parse.proofs.Unique.{Uniq}

@@ -3,18 +3,18 @@ use Rattle.std.proofs.Common.{◌≡◌, ℕ, zero, suc, Bool, true, false, List
 use Rattle.std.specs.declared.option.Option.{Option}
 use Rattle.std.specs.declared.option.Option.TheVariants.{None, Some}
 use Rattle.flow_base.specs.declared.place.Place.{Place}
-use Rattle.flow_ast.specs.declared.token.Token.{Token}
-use Rattle.flow_ast.specs.declared.token.Token.TheVariants as token
-use Rattle.flow_ast.specs.declared.token.Word.TheVariants as word
-use Rattle.flow_ast.specs.declared.token.Sign.{Sign}
-use Rattle.flow_ast.specs.declared.token.Sign.TheVariants as sign
-use Rattle.flow_ast.specs.declared.token.Spot.{Spot}
-use Rattle.flow_ast.specs.declared.ty.Ident.{Ident}
-use Rattle.flow_ast.specs.Tree.{ExprTree, ExprTrees, NoExprs, MoreExprs}
-use Rattle.flow_ast.specs.Body.{IntoTree, PlusChange, MinusChange, UpChange, DownChange, Body, End, DeclareStmt, AssignStmt, ModifyStmt, CallStmt, WaitStmt}
-use Rattle.flow_ast.specs.GrammarToken.{Marked, spots_of}
-use Rattle.flow_ast.specs.Grammar.{sign_at, name_at, node_name, TypeRule, ExprRule, MoreArgsRule, end_args, more_args}
-use Rattle.flow_ast.specs.GrammarStmt.{Counts, one_state, state_parts}
+use Rattle.flow_tree.specs.declared.token.Token.{Token}
+use Rattle.flow_tree.specs.declared.token.Token.TheVariants as token
+use Rattle.flow_tree.specs.declared.token.Word.TheVariants as word
+use Rattle.flow_tree.specs.declared.token.Sign.{Sign}
+use Rattle.flow_tree.specs.declared.token.Sign.TheVariants as sign
+use Rattle.flow_tree.specs.declared.token.Spot.{Spot}
+use Rattle.flow_tree.specs.declared.ty.Ident.{Ident}
+use Rattle.flow_tree.specs.Tree.{ExprTree, ExprTrees, NoExprs, MoreExprs}
+use Rattle.flow_tree.specs.Body.{IntoTree, PlusChange, MinusChange, UpChange, DownChange, Body, End, DeclareStmt, AssignStmt, ModifyStmt, CallStmt, WaitStmt}
+use Rattle.flow_tree.specs.GrammarToken.{Marked, spots_of}
+use Rattle.flow_tree.specs.Grammar.{sign_at, name_at, node_name, TypeRule, ExprRule, MoreArgsRule, end_args, more_args}
+use Rattle.flow_tree.specs.GrammarStmt.{Counts, one_state, state_parts}
 use Rattle.flow_exprs.specs.Machine.{ident}
 use Rattle.flow_parse.specs.Openers.{AsFirst, TypeToken, WaitToken}
 use Rattle.flow_parse.specs.Reading.{Opening, Tok, Named, Then, Any}

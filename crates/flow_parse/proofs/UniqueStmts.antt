@@ -3,15 +3,15 @@ use Rattle.std.proofs.Common.{◌≡◌, ℕ, zero, suc, Bool, true, false, List
 use Rattle.std.specs.declared.option.Option.{Option}
 use Rattle.std.specs.declared.option.Option.TheVariants.{None, Some}
 use Rattle.flow_base.specs.declared.place.Place.{Place}
-use Rattle.flow_ast.specs.declared.token.Token.TheVariants as token
-use Rattle.flow_ast.specs.declared.token.Word.{Word}
-use Rattle.flow_ast.specs.declared.token.Word.TheVariants as word
-use Rattle.flow_ast.specs.declared.token.Sign.TheVariants as sign
-use Rattle.flow_ast.specs.declared.ty.Ident.{Ident}
-use Rattle.flow_ast.specs.Body.{End, BlockStmt, WhileStmt, ForStmt, LoopStmt, BreakStmt, ContinueStmt, ReturnStmt, ThrowStmt, TryStmt, ChooseStmt, NoBranches, MoreBranches}
-use Rattle.flow_ast.specs.GrammarToken.{Node, Branch, Marked}
-use Rattle.flow_ast.specs.Grammar.{sign_at, word_at, name_at, ExprRule}
-use Rattle.flow_ast.specs.GrammarStmt.{Counts, one_statement}
+use Rattle.flow_tree.specs.declared.token.Token.TheVariants as token
+use Rattle.flow_tree.specs.declared.token.Word.{Word}
+use Rattle.flow_tree.specs.declared.token.Word.TheVariants as word
+use Rattle.flow_tree.specs.declared.token.Sign.TheVariants as sign
+use Rattle.flow_tree.specs.declared.ty.Ident.{Ident}
+use Rattle.flow_tree.specs.Body.{End, BlockStmt, WhileStmt, ForStmt, LoopStmt, BreakStmt, ContinueStmt, ReturnStmt, ThrowStmt, TryStmt, ChooseStmt, NoBranches, MoreBranches}
+use Rattle.flow_tree.specs.GrammarToken.{Node, Branch, Marked}
+use Rattle.flow_tree.specs.Grammar.{sign_at, word_at, name_at, ExprRule}
+use Rattle.flow_tree.specs.GrammarStmt.{Counts, one_statement}
 use Rattle.flow_parse.specs.Openers.{StmtToken, WhenToken}
 use Rattle.flow_parse.specs.Reading.{Tok, Named, Then, Any}
 use Rattle.flow_parse.specs.Follow.{ExprEnds, Before, NotBefore}
@@ -51,19 +51,19 @@ uniq_next d c k = uniq_by (NextPart d c) Any k (λ o. elim (at_close o) [
 abbrev pub CatchSeq : List Marked → Place × (Place × (Place × (Place × (Ident × Place)))) → Type 0
 CatchSeq w x = Then (Tok (token.Word word.Catch)) (λ p. Then (Tok (token.Sign sign.OpenRound)) (λ q. Then (Tok (token.Word word.Error)) (λ r. Then (Tok (token.Sign sign.Amp)) (λ s. Then Named (λ x. Tok (token.Sign sign.CloseRound)))))) w x
 
-pub catch_back : {w : List Marked} {x : Ident} (z : List Marked) → Catch w x → Back Catch Any CatchSeq Any (λ y. y.1.1.1.1.0) w z x
+pub catch_back : {w : List Marked} {x : Place × Ident} (z : List Marked) → Catch w x → Back Catch Any CatchSeq Any (λ y. (y.0, y.1.1.1.1.0)) w z x
 catch_back {x = x} z r = record {
-  tree = (r.0, (r.1, (r.2, (r.3, (x, r.4)))));
-  rule = tok_front (token.Word word.Catch) r.0 (r.1, (r.2, (r.3, (x, r.4)))) (sign_at sign.OpenRound r.1 ∷ word_at word.Error r.2 ∷ sign_at sign.Amp r.3 ∷ name_at x ∷ sign_at sign.CloseRound r.4 ∷ []) r.5
-      (tok_front (token.Sign sign.OpenRound) r.1 (r.2, (r.3, (x, r.4))) (word_at word.Error r.2 ∷ sign_at sign.Amp r.3 ∷ name_at x ∷ sign_at sign.CloseRound r.4 ∷ []) refl
-      (tok_front (token.Word word.Error) r.2 (r.3, (x, r.4)) (sign_at sign.Amp r.3 ∷ name_at x ∷ sign_at sign.CloseRound r.4 ∷ []) refl
-      (tok_front (token.Sign sign.Amp) r.3 (x, r.4) (name_at x ∷ sign_at sign.CloseRound r.4 ∷ []) refl (front Named x r.4 (name_at x ∷ []) (sign_at sign.CloseRound r.4 ∷ []) refl refl refl))));
+  tree = (x.0, (r.0, (r.1, (r.2, (x.1, r.3)))));
+  rule = tok_front (token.Word word.Catch) x.0 (r.0, (r.1, (r.2, (x.1, r.3)))) (sign_at sign.OpenRound r.0 ∷ word_at word.Error r.1 ∷ sign_at sign.Amp r.2 ∷ name_at x.1 ∷ sign_at sign.CloseRound r.3 ∷ []) r.4
+      (tok_front (token.Sign sign.OpenRound) r.0 (r.1, (r.2, (x.1, r.3))) (word_at word.Error r.1 ∷ sign_at sign.Amp r.2 ∷ name_at x.1 ∷ sign_at sign.CloseRound r.3 ∷ []) refl
+      (tok_front (token.Word word.Error) r.1 (r.2, (x.1, r.3)) (sign_at sign.Amp r.2 ∷ name_at x.1 ∷ sign_at sign.CloseRound r.3 ∷ []) refl
+      (tok_front (token.Sign sign.Amp) r.2 (x.1, r.3) (name_at x.1 ∷ sign_at sign.CloseRound r.3 ∷ []) refl (front Named x.1 r.3 (name_at x.1 ∷ []) (sign_at sign.CloseRound r.3 ∷ []) refl refl refl))));
   is = refl;
   follows = tt;
 }
 
 uniq_catch : (k : ℕ) → Uniq k Catch Any
-uniq_catch k = narrowed Catch Any CatchSeq Any (λ y. y.1.1.1.1.0) k (λ w z b r f. catch_back z r)
+uniq_catch k = narrowed Catch Any CatchSeq Any (λ y. (y.0, y.1.1.1.1.0)) k (λ w z b r f. catch_back z r)
     (same_tok [] (token.Word word.Catch) (λ p. Then (Tok (token.Sign sign.OpenRound)) (λ q. Then (Tok (token.Word word.Error)) (λ r. Then (Tok (token.Sign sign.Amp)) (λ s. Then Named (λ x. Tok (token.Sign sign.CloseRound)))))) Any k (λ p.
     same_tok [] (token.Sign sign.OpenRound) (λ q. Then (Tok (token.Word word.Error)) (λ r. Then (Tok (token.Sign sign.Amp)) (λ s. Then Named (λ x. Tok (token.Sign sign.CloseRound))))) Any k (λ q.
     same_tok [] (token.Word word.Error) (λ r. Then (Tok (token.Sign sign.Amp)) (λ s. Then Named (λ x. Tok (token.Sign sign.CloseRound)))) Any k (λ r.
@@ -120,7 +120,7 @@ module _ (k : ℕ) (all : AllUniq k) (actor : Bool) (d : ℕ) (c : Counts) where
       (seq_tok [] (token.Word word.Return) (λ p. Then (ExprRule 0 (suc d)) (λ e. Tok (token.Sign sign.Semicolon))) Any k (λ p. seq (ExprRule 0 (suc d)) ExprEnds (λ e. Tok (token.Sign sign.Semicolon)) Any k (λ a b v z r f. ends_is a (sign_at sign.Semicolon b) v [] z r tt) (uniq_expr (suc d) k) (λ e. uniq_opening [] (token.Sign sign.Semicolon) k)))
   by_word word.Throw h = at_narrow (Plain actor d c) NoElse (Then (Tok (token.Word word.Throw)) (λ p. MaybeExpr (suc d))) Any (λ x. closed (ThrowStmt x.0 x.1 End) c) (suc k) (Some (token.Word word.Throw))
       (λ w z b r f l. let q = keyword_back z word.Throw (λ h. h) r.1 l in record { tree = q.tree; rule = q.rule; is = q.is; follows = tt }) (seq_tok [] (token.Word word.Throw) (λ p. MaybeExpr (suc d)) Any k (λ p. uniq_maybe (suc d) k))
-  by_word word.Try h = at_narrow (Plain actor d c) NoElse (Then (Tok (token.Word word.Try)) (λ p. Then (Block actor (suc d) c) (λ o. Then Catch (λ x. Block actor (suc d) o.counts)))) Any (λ x. closed (TryStmt x.0 x.1.0.body x.1.1.0 x.1.1.1.body End) x.1.1.1.counts) (suc k) (Some (token.Word word.Try))
+  by_word word.Try h = at_narrow (Plain actor d c) NoElse (Then (Tok (token.Word word.Try)) (λ p. Then (Block actor (suc d) c) (λ o. Then Catch (λ x. Block actor (suc d) o.counts)))) Any (λ x. closed (TryStmt x.0 x.1.0.body x.1.1.0.0 x.1.1.0.1 x.1.1.1.body End) x.1.1.1.counts) (suc k) (Some (token.Word word.Try))
       (λ w z b r f l. let q = keyword_back z word.Try (λ h. h) r.1 l in record { tree = q.tree; rule = q.rule; is = q.is; follows = tt })
       (seq_tok [] (token.Word word.Try) (λ p. Then (Block actor (suc d) c) (λ o. Then Catch (λ x. Block actor (suc d) o.counts))) Any k (λ p. seq (Block actor (suc d) c) Any (λ o. Then Catch (λ x. Block actor (suc d) o.counts)) Any k (λ a b v z r f. tt) (all.block actor (suc d) c) (λ o. seq Catch Any (λ x. Block actor (suc d) o.counts) Any k (λ a b v z r f. tt) (uniq_catch k) (λ x. all.block actor (suc d) o.counts))))
   by_word word.Choose h = at_narrow (Plain actor d c) NoElse (Then (Tok (token.Word word.Choose)) (λ p. Then (Tok (token.Sign sign.OpenCurly)) (λ q. AllWhens actor (suc d) c))) Any (λ x. closed (ChooseStmt x.0 x.1.1.0 End) x.1.1.1) (suc k) (Some (token.Word word.Choose))

@@ -3,13 +3,13 @@ use Rattle.std.proofs.Common.{◌≡◌, ℕ, zero, suc, List, [], ◌∷◌, �
 use Rattle.std.specs.declared.option.Option.{Option}
 use Rattle.std.specs.declared.option.Option.TheVariants.{None, Some}
 use Rattle.flow_base.specs.declared.place.Place.{Place}
-use Rattle.flow_ast.specs.declared.token.Token.{Token}
-use Rattle.flow_ast.specs.declared.token.Token.TheVariants as token
-use Rattle.flow_ast.specs.declared.token.Word.TheVariants as word
-use Rattle.flow_ast.specs.declared.token.Sign.TheVariants as sign
-use Rattle.flow_ast.specs.Tree.{TypeTree, IntType, BoolType, StringType, VoidType, ErrorType, NamedType, FutureType, FutureStreamType, PromiseType, PromiseStreamType}
-use Rattle.flow_ast.specs.GrammarToken.{Node, Marked, opens}
-use Rattle.flow_ast.specs.Grammar.{sign_at, node_word, Wrapper, FutureOf, FutureStreamOf, PromiseOf, PromiseStreamOf, wrapper_word, TypeRule, int_type, bool_type, string_type, void_type, error_type, named_type, wrapped_type}
+use Rattle.flow_tree.specs.declared.token.Token.{Token}
+use Rattle.flow_tree.specs.declared.token.Token.TheVariants as token
+use Rattle.flow_tree.specs.declared.token.Word.TheVariants as word
+use Rattle.flow_tree.specs.declared.token.Sign.TheVariants as sign
+use Rattle.flow_tree.specs.Tree.{TypeTree, IntType, BoolType, StringType, VoidType, ErrorType, NamedType, FutureType, FutureStreamType, PromiseType, PromiseStreamType}
+use Rattle.flow_tree.specs.GrammarToken.{Node, Marked, opens}
+use Rattle.flow_tree.specs.Grammar.{sign_at, node_word, Wrapper, FutureOf, FutureStreamOf, PromiseOf, PromiseStreamOf, wrapper_word, TypeRule, int_type, bool_type, string_type, void_type, error_type, named_type, wrapped_type}
 use Rattle.flow_parse.specs.Openers.{TypeToken}
 use Rattle.flow_parse.specs.Reading.{Opening, Tok, Then, Any}
 use Rattle.flow_parse.proofs.Looking.{Looks}

@@ -3,18 +3,18 @@ use Rattle.std.proofs.Common.{◌≡◌, ℕ, suc, ◌+◌, ◌≤◌, ◌<◌, 
 use Rattle.std.specs.declared.option.Option.{Option}
 use Rattle.std.specs.declared.option.Option.TheVariants.{None, Some}
 use Rattle.flow_base.specs.declared.place.Place.{Place}
-use Rattle.flow_ast.specs.declared.token.Token.{Token}
-use Rattle.flow_ast.specs.declared.token.Token.TheVariants as token
-use Rattle.flow_ast.specs.declared.token.Word.TheVariants as word
-use Rattle.flow_ast.specs.declared.token.Sign.TheVariants as sign
-use Rattle.flow_ast.specs.declared.token.Spot.{Spot}
-use Rattle.flow_ast.specs.declared.token.Tokens.{Tokens}
-use Rattle.flow_ast.specs.declared.ty.Ident.{Ident}
-use Rattle.flow_ast.specs.Tree.{ExprTrees, NoExprs, MoreExprs}
-use Rattle.flow_ast.specs.Body.{IntoTree, PlusChange, MinusChange, UpChange, DownChange, Body, End, DeclareStmt, AssignStmt, ModifyStmt, CallStmt}
-use Rattle.flow_ast.specs.GrammarToken.{Marked}
-use Rattle.flow_ast.specs.Grammar.{sign_at, name_at, TypeRule, ExprRule, no_args, some_args, end_args, more_args}
-use Rattle.flow_ast.specs.GrammarStmt.{Counts, one_state, state_parts, StateRule, no_state, some_state, declared, wait, wait_next, PathRule, last_name, more_names}
+use Rattle.flow_tree.specs.declared.token.Token.{Token}
+use Rattle.flow_tree.specs.declared.token.Token.TheVariants as token
+use Rattle.flow_tree.specs.declared.token.Word.TheVariants as word
+use Rattle.flow_tree.specs.declared.token.Sign.TheVariants as sign
+use Rattle.flow_tree.specs.declared.token.Spot.{Spot}
+use Rattle.flow_tree.specs.declared.token.Tokens.{Tokens}
+use Rattle.flow_tree.specs.declared.ty.Ident.{Ident}
+use Rattle.flow_tree.specs.Tree.{ExprTrees, NoExprs, MoreExprs}
+use Rattle.flow_tree.specs.Body.{IntoTree, PlusChange, MinusChange, UpChange, DownChange, Body, End, DeclareStmt, AssignStmt, ModifyStmt, CallStmt}
+use Rattle.flow_tree.specs.GrammarToken.{Marked}
+use Rattle.flow_tree.specs.Grammar.{sign_at, name_at, TypeRule, ExprRule, no_args, some_args, end_args, more_args}
+use Rattle.flow_tree.specs.GrammarStmt.{Counts, one_state, state_parts, StateRule, no_state, some_state, declared, wait, wait_next, PathRule, last_name, more_names}
 use Rattle.flow_parse.specs.Openers.{TypeToken}
 use Rattle.flow_parse.specs.Reading.{token_at, Opening, Tok, Named, Then, Any, Reads}
 use Rattle.flow_parse.specs.Follow.{ExprEnds, Before, NotBefore}

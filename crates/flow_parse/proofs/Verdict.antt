@@ -2,12 +2,12 @@
 use Rattle.std.proofs.Common.{◌≡◌, ℕ, zero, suc, ◌≤◌, ◌<◌, List, [], ◌∷◌, length, take, drop, refl, sym, ap, ◌∙◌, subst, arith, ◌⊎◌, inl, inr}
 use Rattle.std.proofs.lemmas.List.{take-append-drop}
 use Rattle.flow_base.specs.declared.place.Place.{Place}
-use Rattle.flow_ast.specs.declared.token.Tokens.{Tokens}
-use Rattle.flow_ast.specs.declared.token.Spot.{Spot}
-use Rattle.flow_ast.specs.Decls.{ProgramTree}
-use Rattle.flow_ast.specs.GrammarToken.{Part, Declaration, Statement, Node, Variable, Branch, Marked, spots_of, InLimits, AllInLimits, Keeps, Derives, Good}
-use Rattle.flow_ast.specs.GrammarDecl.{ProgramRule, IsProgram}
-use Rattle.flow_ast.specs.GrammarAnswer.{place_at}
+use Rattle.flow_tree.specs.declared.token.Tokens.{Tokens}
+use Rattle.flow_tree.specs.declared.token.Spot.{Spot}
+use Rattle.flow_tree.specs.Decls.{ProgramTree}
+use Rattle.flow_tree.specs.GrammarToken.{Part, Declaration, Statement, Node, Variable, Branch, Marked, spots_of, InLimits, AllInLimits, Keeps, Derives, Good}
+use Rattle.flow_tree.specs.GrammarDecl.{ProgramRule, IsProgram}
+use Rattle.flow_tree.specs.GrammarAnswer.{place_at}
 use Rattle.flow_parse.specs.ParseAnswer.{GoodTo, begun, whole, FailsBy, FailsLimit}
 
 -- fewer limits are kept too

@@ -3,13 +3,13 @@
 -- stands what may follow it.
 use Rattle.std.specs.Prelude.{◌≡◌, ℕ, zero, suc, ◌+◌, ◌≤◌, ◌<◌, List, [], ◌∷◌, ◌++◌, take, drop, length}
 use Rattle.flow_base.specs.declared.place.Place.{Place}
-use Rattle.flow_ast.specs.declared.token.Spot.{Spot}
-use Rattle.flow_ast.specs.declared.token.Tokens.{Tokens}
-use Rattle.flow_ast.specs.declared.fault.Rule.TheVariants.{S, L, K}
-use Rattle.flow_ast.specs.declared.fault.SourceFault.{SourceFault}
-use Rattle.flow_ast.specs.declared.fault.SourceFault.TheVariants.{Refused, AcrossWait, OutOfMemory}
-use Rattle.flow_ast.specs.GrammarToken.{Marked, AllInLimits, Good}
-use Rattle.flow_ast.specs.GrammarAnswer.{place_at}
+use Rattle.flow_tree.specs.declared.token.Spot.{Spot}
+use Rattle.flow_tree.specs.declared.token.Tokens.{Tokens}
+use Rattle.flow_tree.specs.declared.fault.Rule.TheVariants.{S, L, K}
+use Rattle.flow_tree.specs.declared.fault.SourceFault.{SourceFault}
+use Rattle.flow_tree.specs.declared.fault.SourceFault.TheVariants.{Refused, AcrossWait, OutOfMemory}
+use Rattle.flow_tree.specs.GrammarToken.{Marked, AllInLimits, Good}
+use Rattle.flow_tree.specs.GrammarAnswer.{place_at}
 
 -- the first j of these tokens, the end counting as one, are those of a marked list, and what begins
 -- with them keeps the limits L3 to Ln

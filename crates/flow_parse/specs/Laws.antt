@@ -1,15 +1,15 @@
 -- Laws of the grammar of programs.
 use Rattle.std.specs.Prelude.{◌≡◌, ℕ, List, Result, Ok, Err}
 use Rattle.flow_base.specs.declared.place.Place.{Place}
-use Rattle.flow_ast.specs.declared.token.Spot.{Spot}
-use Rattle.flow_ast.specs.declared.token.Tokens.{Tokens}
-use Rattle.flow_ast.specs.declared.decl.Program.{Program}
-use Rattle.flow_ast.specs.declared.fault.SourceFault.{SourceFault}
-use Rattle.flow_ast.specs.declared.fault.SourceFault.TheVariants.{OutOfMemory}
-use Rattle.flow_ast.specs.Decls.{ProgramTree}
-use Rattle.flow_ast.specs.DeclView.{program_of}
-use Rattle.flow_ast.specs.GrammarToken.{Derives}
-use Rattle.flow_ast.specs.GrammarDecl.{ProgramRule}
+use Rattle.flow_tree.specs.declared.token.Spot.{Spot}
+use Rattle.flow_tree.specs.declared.token.Tokens.{Tokens}
+use Rattle.flow_tree.specs.declared.decl.Program.{Program}
+use Rattle.flow_tree.specs.declared.fault.SourceFault.{SourceFault}
+use Rattle.flow_tree.specs.declared.fault.SourceFault.TheVariants.{OutOfMemory}
+use Rattle.flow_tree.specs.Decls.{ProgramTree}
+use Rattle.flow_tree.specs.DeclView.{program_of}
+use Rattle.flow_tree.specs.GrammarToken.{Derives}
+use Rattle.flow_tree.specs.GrammarDecl.{ProgramRule}
 use Rattle.flow_parse.specs.ParseAnswer.{ParseAnswer}
 
 -- tokens are derived as one program at most, whatever limits it keeps

@@ -3,17 +3,17 @@ use Rattle.std.specs.Prelude.{◌≡◌, ℕ, suc, Bool, true, false, List, [], 
 use Rattle.std.specs.declared.option.Option.{Option}
 use Rattle.std.specs.declared.option.Option.TheVariants.{None, Some}
 use Rattle.flow_base.specs.declared.place.Place.{Place}
-use Rattle.flow_ast.specs.declared.token.Token.TheVariants as token
-use Rattle.flow_ast.specs.declared.token.Word.TheVariants as word
-use Rattle.flow_ast.specs.declared.token.Sign.TheVariants as sign
-use Rattle.flow_ast.specs.declared.ty.Ident.{Ident}
-use Rattle.flow_ast.specs.Tree.{TypeTree, ExprTree, ExprTrees}
-use Rattle.flow_ast.specs.Body.{IntoTree, WaitTree, PlusChange, MinusChange, UpChange, DownChange, Body, End, BlockStmt, IfStmt, IfElseStmt, WhileStmt, ForStmt, LoopStmt, BreakStmt, ContinueStmt, ReturnStmt, ThrowStmt, TryStmt, ChooseStmt, DeclareStmt, AssignStmt, ModifyStmt, CallStmt, WaitStmt, Branches, MoreBranches}
-use Rattle.flow_ast.specs.Decls.{ParamTree, RecordTree, RoutineTree, StructDecl, FunctionDecl, ActorDecl}
-use Rattle.flow_ast.specs.GrammarToken.{Part, Marked, begin}
-use Rattle.flow_ast.specs.Grammar.{sign_at, word_at, name_at, node_name, ExprRule, ArgsRule, MoreArgsRule}
-use Rattle.flow_ast.specs.GrammarStmt.{Counts, StartsAt, begin_statement, StateRule, IntoRule, OperandRule, WaitingRule, PathRule, AssignRule, InitRule, InitPart, StepPart, MaybeExprRule, PlainRule, StmtRule, BodyRule, StmtsRule, WhensRule, WhenRule}
-use Rattle.flow_ast.specs.GrammarDecl.{FieldsRule, MoreParamsRule, ParamsRule, RoutineRule, DeclRule}
+use Rattle.flow_tree.specs.declared.token.Token.TheVariants as token
+use Rattle.flow_tree.specs.declared.token.Word.TheVariants as word
+use Rattle.flow_tree.specs.declared.token.Sign.TheVariants as sign
+use Rattle.flow_tree.specs.declared.ty.Ident.{Ident}
+use Rattle.flow_tree.specs.Tree.{TypeTree, ExprTree, ExprTrees}
+use Rattle.flow_tree.specs.Body.{IntoTree, WaitTree, PlusChange, MinusChange, UpChange, DownChange, Body, End, BlockStmt, IfStmt, IfElseStmt, WhileStmt, ForStmt, LoopStmt, BreakStmt, ContinueStmt, ReturnStmt, ThrowStmt, TryStmt, ChooseStmt, DeclareStmt, AssignStmt, ModifyStmt, CallStmt, WaitStmt, Branches, MoreBranches}
+use Rattle.flow_tree.specs.Decls.{ParamTree, RecordTree, RoutineTree, StructDecl, FunctionDecl, ActorDecl}
+use Rattle.flow_tree.specs.GrammarToken.{Part, Marked, begin}
+use Rattle.flow_tree.specs.Grammar.{sign_at, word_at, name_at, node_name, ExprRule, ArgsRule, MoreArgsRule}
+use Rattle.flow_tree.specs.GrammarStmt.{Counts, StartsAt, begin_statement, StateRule, IntoRule, OperandRule, WaitingRule, PathRule, AssignRule, InitRule, InitPart, StepPart, MaybeExprRule, PlainRule, StmtRule, BodyRule, StmtsRule, WhensRule, WhenRule}
+use Rattle.flow_tree.specs.GrammarDecl.{FieldsRule, MoreParamsRule, ParamsRule, RoutineRule, DeclRule}
 use Rattle.flow_parse.specs.Follow.{NotBefore}
 
 -- a statement, or a body: its tree, the counts behind it, and whether it ends in an `if` that has no
@@ -141,8 +141,8 @@ abbrev pub Block : Bool → ℕ → Counts → List Marked → BlockOut → Type
 Block actor d c w o = (p : Place) × (xs : List Marked) × StmtsRule actor d c o.counts xs o.body × (w ≡ sign_at sign.OpenCurly p ∷ (xs ++ sign_at sign.CloseCurly o.close ∷ []))
 
 -- "catch" "(" "Error" "&" name ")"
-abbrev pub Catch : List Marked → Ident → Type 0
-Catch w x = (p q r s u : Place) × (w ≡ word_at word.Catch p ∷ sign_at sign.OpenRound q ∷ word_at word.Error r ∷ sign_at sign.Amp s ∷ name_at x ∷ sign_at sign.CloseRound u ∷ [])
+abbrev pub Catch : List Marked → Place × Ident → Type 0
+Catch w x = (q r s u : Place) × (w ≡ word_at word.Catch x.0 ∷ sign_at sign.OpenRound q ∷ word_at word.Error r ∷ sign_at sign.Amp s ∷ name_at x.1 ∷ sign_at sign.CloseRound u ∷ [])
 
 pub record WhenOut : Type 0 where
   pub at : Place
@@ -206,7 +206,7 @@ put_before (BreakStmt at _) rest = BreakStmt at rest
 put_before (ContinueStmt at _) rest = ContinueStmt at rest
 put_before (ReturnStmt at e _) rest = ReturnStmt at e rest
 put_before (ThrowStmt at e _) rest = ThrowStmt at e rest
-put_before (TryStmt at b x h _) rest = TryStmt at b x h rest
+put_before (TryStmt at b q x h _) rest = TryStmt at b q x h rest
 put_before (ChooseStmt at bs _) rest = ChooseStmt at bs rest
 put_before (DeclareStmt at i e _) rest = DeclareStmt at i e rest
 put_before (AssignStmt at xs e _) rest = AssignStmt at xs e rest

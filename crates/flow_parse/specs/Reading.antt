@@ -4,13 +4,13 @@ use Rattle.std.specs.Prelude.{◌≡◌, ℕ, ◌≤◌, List, [], ◌∷◌, �
 use Rattle.std.specs.Option.{option_map}
 use Rattle.std.specs.declared.option.Option.{Option}
 use Rattle.flow_base.specs.declared.place.Place.{Place}
-use Rattle.flow_ast.specs.declared.token.Token.{Token}
-use Rattle.flow_ast.specs.declared.token.Spot.{Spot}
-use Rattle.flow_ast.specs.declared.token.Tokens.{Tokens}
-use Rattle.flow_ast.specs.declared.ty.Ident.{Ident}
-use Rattle.flow_ast.specs.declared.fault.SourceFault.{SourceFault}
-use Rattle.flow_ast.specs.GrammarToken.{Part, Marked, opens, spots_of, Keeps}
-use Rattle.flow_ast.specs.Grammar.{name_at}
+use Rattle.flow_tree.specs.declared.token.Token.{Token}
+use Rattle.flow_tree.specs.declared.token.Spot.{Spot}
+use Rattle.flow_tree.specs.declared.token.Tokens.{Tokens}
+use Rattle.flow_tree.specs.declared.ty.Ident.{Ident}
+use Rattle.flow_tree.specs.declared.fault.SourceFault.{SourceFault}
+use Rattle.flow_tree.specs.GrammarToken.{Part, Marked, opens, spots_of, Keeps}
+use Rattle.flow_tree.specs.Grammar.{name_at}
 use Rattle.flow_parse.specs.Failing.{Only, Fails}
 
 abbrev pub token_at : List Spot → ℕ → Option Token

@@ -1,9 +1,9 @@
 -- What the readers give, seen as plain data.
 use Rattle.std.specs.Prelude.{◌≡◌}
-use Rattle.flow_ast.specs.declared.stmt.Stmt.{Stmt}
-use Rattle.flow_ast.specs.Body.{IntoTree, WaitTree, Body, End, Branches}
-use Rattle.flow_ast.specs.StmtView.{into_of, waiting_of, stmt_of, body_of, branches_of, simple_of}
-use Rattle.flow_ast.specs.GrammarStmt.{Counts}
+use Rattle.flow_tree.specs.declared.stmt.Stmt.{Stmt}
+use Rattle.flow_tree.specs.Body.{IntoTree, WaitTree, Body, End, Branches}
+use Rattle.flow_tree.specs.StmtView.{into_of, waiting_of, stmt_of, body_of, branches_of, simple_of}
+use Rattle.flow_tree.specs.GrammarStmt.{Counts}
 use Rattle.flow_parse.specs.declared.simple.Counts as code
 use Rattle.flow_parse.specs.declared.simple.ReadInto.{ReadInto}
 use Rattle.flow_parse.specs.declared.simple.ReadStmt.{ReadStmt}
@@ -14,7 +14,7 @@ use Rattle.flow_parse.specs.declared.stmt.ReadWhen.{ReadWhen}
 use Rattle.flow_parse.specs.declared.stmt.ReadWhens.{ReadWhens}
 use Rattle.flow_parse.specs.declared.stmt.ReadPart.{ReadPart}
 use Rattle.flow_parse.specs.declared.decl.ReadRoutine.{ReadRoutine}
-use Rattle.flow_ast.specs.DeclView.{params_of}
+use Rattle.flow_tree.specs.DeclView.{params_of}
 use Rattle.flow_parse.specs.Parts.{RoutineOut, Out, BlockOut, WhenOut, put_before}
 
 abbrev pub counts_of : code.Counts → Counts

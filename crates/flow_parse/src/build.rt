@@ -2,15 +2,15 @@
 
 ghost use Rattle.std.specs.Prelude.{◌≡◌, map};
 ghost use Rattle.std.specs.Option.{option_map};
-ghost use Rattle.flow_ast.specs.View.{expr_of, exprs_of};
-ghost use Rattle.flow_ast.specs.StmtView.{into_of, waiting_of, change_of, stmt_of, body_of, branch_of, branches_of, simple_of};
+ghost use Rattle.flow_tree.specs.View.{expr_of, exprs_of};
+ghost use Rattle.flow_tree.specs.StmtView.{into_of, waiting_of, change_of, stmt_of, body_of, branch_of, branches_of, simple_of};
 ghost use Rattle.flow_parse.specs.Views.{Stands};
-ghost use Rattle.flow_ast.specs.Body.{Body, End, Branches, BlockStmt, IfStmt, IfElseStmt, WhileStmt, ForStmt, LoopStmt, BreakStmt, ContinueStmt, ReturnStmt, ThrowStmt, TryStmt, ChooseStmt, DeclareStmt, AssignStmt, ModifyStmt, CallStmt, WaitStmt, MoreBranches};
+ghost use Rattle.flow_tree.specs.Body.{Body, End, Branches, BlockStmt, IfStmt, IfElseStmt, WhileStmt, ForStmt, LoopStmt, BreakStmt, ContinueStmt, ReturnStmt, ThrowStmt, TryStmt, ChooseStmt, DeclareStmt, AssignStmt, ModifyStmt, CallStmt, WaitStmt, MoreBranches};
 
-use flow_ast::expr::Expr;
-use flow_ast::stmt::{Change, Into, Stmt, StmtKind, Target, Waiting, When};
-use flow_ast::ty::Ident;
 use flow_base::place::Place;
+use flow_tree::expr::Expr;
+use flow_tree::stmt::{Change, Into, Stmt, StmtKind, Target, Waiting, When};
+use flow_tree::ty::Ident;
 
 /// A block as a statement.
 pub fn block(at: Place, body: Vec<Stmt>) -> Stmt
@@ -129,13 +129,19 @@ pub fn throw_stmt(at: Place, error: Option<Expr>) -> Stmt
 }
 
 /// A `try` with its `catch`.
-pub fn try_stmt(at: Place, body: Vec<Stmt>, error: Ident, handler: Vec<Stmt>) -> Stmt
-    ensures is { (rest : Body) → stmt_of result rest ≡ TryStmt at (body_of body.items) error (body_of handler.items) rest }
+pub fn try_stmt(
+    at: Place,
+    body: Vec<Stmt>,
+    catch_at: Place,
+    error: Ident,
+    handler: Vec<Stmt>,
+) -> Stmt
+    ensures is { (rest : Body) → stmt_of result rest ≡ TryStmt at (body_of body.items) catch_at error (body_of handler.items) rest }
     ensures stands { Stands result }
 {
     Stmt {
         at,
-        kind: StmtKind::Try(body, error, handler),
+        kind: StmtKind::Try(body, catch_at, error, handler),
     }
 }
 

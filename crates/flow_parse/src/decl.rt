@@ -1,24 +1,25 @@
 // Declarations.
 
 ghost use Rattle.std.specs.Prelude.{◌≡◌, ◌↔◌, ℕ, ◌+◌, ◌<◌, ◌≤◌, length, IfOk, IsTrue, Some};
-ghost use Rattle.flow_ast.specs.declared.token.Word.TheVariants as word;
-ghost use Rattle.flow_ast.specs.declared.token.Token.TheVariants as token;
-ghost use Rattle.flow_ast.specs.DeclView.{param_of, params_of, record_of, function_of, actor_of, decl_of};
-ghost use Rattle.flow_ast.specs.GrammarDecl.{ParamRule, DeclRule};
+ghost use Rattle.flow_tree.specs.declared.token.Word.TheVariants as word;
+ghost use Rattle.flow_tree.specs.declared.token.Token.TheVariants as token;
+ghost use Rattle.flow_tree.specs.DeclView.{param_of, params_of, record_of, function_of, actor_of, decl_of};
+ghost use Rattle.flow_tree.specs.GrammarDecl.{ParamRule, DeclRule};
 ghost use Rattle.flow_parse.specs.Reading.{token_at, Any, Answer};
 ghost use Rattle.flow_parse.specs.Openers.{AsFirst, DeclToken};
 ghost use Rattle.flow_parse.specs.Parts.{AllFields, Params, Routine, Record, Function, Actor};
 ghost use Rattle.flow_parse.specs.Views.{routine_out};
 
-use crate::simple::{Counts, VARIABLES};
+use crate::simple::Counts;
 use crate::stmt::block;
 use crate::token::{begins_type, is_sign, is_word, name, place, refused, sign, ty, word};
-use flow_ast::decl::{ActorDecl, Decl, FunctionDecl, Param, RecordDecl};
-use flow_ast::fault::{Rule, SourceFault};
-use flow_ast::stmt::Stmt;
-use flow_ast::token::{Sign, Tokens, Word};
-use flow_ast::ty::Ident;
 use flow_base::place::Place;
+use flow_tree::decl::{ActorDecl, Decl, FunctionDecl, Param, RecordDecl};
+use flow_tree::fault::{Rule, SourceFault};
+use flow_tree::limits::VARIABLES;
+use flow_tree::stmt::Stmt;
+use flow_tree::token::{Sign, Tokens, Word};
+use flow_tree::ty::Ident;
 use std::alloc::Global;
 
 // A parameter or a field, the one of this number in its declaration.
@@ -119,7 +120,7 @@ pub struct ReadRoutine {
 
 // How many parameters there are.
 fn count(params: &Vec<Param>) -> u32
-    requires { length params.now.items ≤ 1000 }
+    requires { length params.now.items ≤ VARIABLES }
     ensures { result ≡ length params.now.items }
 {
     params.len() as u32

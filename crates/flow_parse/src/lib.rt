@@ -1,4 +1,4 @@
-//! Programs, read from tokens by the grammar of `flow_ast`.
+//! Programs, read from tokens by the grammar of `flow_tree`.
 #![tactic(auto)]
 
 pub mod build;

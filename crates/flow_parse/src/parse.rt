@@ -4,16 +4,11 @@ ghost use Rattle.flow_parse.specs.ParseAnswer.{ParseAnswer};
 
 use crate::decl::{begins_decl, decl};
 use crate::token::refused;
-use flow_ast::decl::Program;
-use flow_ast::fault::{Rule, SourceFault};
-use flow_ast::token::Tokens;
+use flow_tree::decl::Program;
+use flow_tree::fault::{Rule, SourceFault};
+use flow_tree::limits::{DECLARATIONS, TOKENS};
+use flow_tree::token::Tokens;
 use std::alloc::Global;
-
-/// The greatest number of tokens.
-const TOKENS: usize = 200000;
-
-/// The greatest number of declarations.
-const DECLARATIONS: u32 = 4096;
 
 /// The program that these tokens are, by the grammar and within its limits. More than 200,000 tokens
 /// are refused with L2 at token 200,001. Otherwise the first token with which no program begins whose

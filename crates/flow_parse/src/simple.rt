@@ -2,13 +2,13 @@
 
 ghost use Rattle.std.specs.Prelude.{◌≡◌, ℕ, ◌+◌, ◌<◌, ◌≤◌, length, IfOk, Some, None, false};
 ghost use Rattle.std.specs.Bool.{OnTrue};
-ghost use Rattle.flow_ast.specs.declared.token.Word.TheVariants as word;
-ghost use Rattle.flow_ast.specs.declared.token.Sign.TheVariants as sign;
-ghost use Rattle.flow_ast.specs.declared.token.Token.TheVariants as token;
-ghost use Rattle.flow_ast.specs.View.{expr_of, exprs_of};
-ghost use Rattle.flow_ast.specs.StmtView.{into_of, stmt_of};
-ghost use Rattle.flow_ast.specs.Tree.{NamedType};
-ghost use Rattle.flow_ast.specs.Body.{End};
+ghost use Rattle.flow_tree.specs.declared.token.Word.TheVariants as word;
+ghost use Rattle.flow_tree.specs.declared.token.Sign.TheVariants as sign;
+ghost use Rattle.flow_tree.specs.declared.token.Token.TheVariants as token;
+ghost use Rattle.flow_tree.specs.View.{expr_of, exprs_of};
+ghost use Rattle.flow_tree.specs.StmtView.{into_of, stmt_of};
+ghost use Rattle.flow_tree.specs.Tree.{NamedType};
+ghost use Rattle.flow_tree.specs.Body.{End};
 ghost use Rattle.flow_parse.specs.Reading.{token_at, Any, Answer};
 ghost use Rattle.flow_parse.specs.Follow.{ExprEnds, Before, NotBefore};
 ghost use Rattle.flow_parse.specs.Parts.{Test, StatePart, IntoPart, OperandPart, WaitingPart, MoreNames, Args, ChangeRule, ChangedRule, DeclaredRule, ValuedRule, Unended, Init, Simple};
@@ -18,17 +18,14 @@ use crate::build;
 use crate::token::{
     begins_wait, expr, is_sign, is_word, name, place, read_name, refused, sign, ty,
 };
-use flow_ast::expr::Expr;
-use flow_ast::fault::{Rule, SourceFault};
-use flow_ast::stmt::{Change, Into, Stmt, Waiting};
-use flow_ast::token::{Sign, Tokens, Word};
-use flow_ast::ty::{Ident, Ty};
 use flow_base::place::Place;
+use flow_tree::expr::Expr;
+use flow_tree::fault::{Rule, SourceFault};
+use flow_tree::limits::{DEPTH, VARIABLES};
+use flow_tree::stmt::{Change, Into, Stmt, Waiting};
+use flow_tree::token::{Sign, Tokens, Word};
+use flow_tree::ty::{Ident, Ty};
 use std::alloc::Global;
-
-/// The greatest number of parameters and state variables of an actor, of parameters of a function, and
-/// of fields of a record.
-pub const VARIABLES: u32 = 1000;
 
 /// How many statements, and how many parameters and state variables, have begun in a routine.
 #[derive(Clone, Copy, Debug)]
@@ -101,7 +98,7 @@ pub fn into(
     counts: Counts,
 ) -> Result<ReadInto, SourceFault>
     requires within { at ≤ length tokens.now.spots.items }
-    requires shallow { depth ≤ 64 }
+    requires shallow { depth ≤ DEPTH }
     ensures reads { Answer (IntoPart actor depth (counts_of counts)) Any into_out (λ r. r.to) tokens.now at result }
     ensures moves { IfOk result (λ r. (at < r.to) × (r.to ≤ length tokens.now.spots.items)) }
 {
@@ -162,7 +159,7 @@ pub fn operand(
     depth: u32,
 ) -> Result<(bool, Expr, usize), SourceFault>
     requires within { at ≤ length tokens.now.spots.items }
-    requires shallow { depth ≤ 64 }
+    requires shallow { depth ≤ DEPTH }
     ensures reads { Answer (OperandPart depth) Any (λ r. (r.0, expr_of r.1)) (λ r. r.2) tokens.now at result }
     ensures moves { IfOk result (λ r. (at < r.2) × (r.2 ≤ length tokens.now.spots.items)) }
 {
@@ -214,7 +211,7 @@ pub fn change(
     depth: u32,
 ) -> Result<(Stmt, usize), SourceFault>
     requires within { at ≤ length tokens.now.spots.items }
-    requires shallow { depth ≤ 64 }
+    requires shallow { depth ≤ DEPTH }
     ensures reads { Answer (ChangeRule depth place path.items) ExprEnds (λ r. stmt_of r.0 End) (λ r. r.1) tokens.now at result }
     ensures stands { IfOk result (λ r. Stands r.0) }
     ensures moves { IfOk result (λ r. (at < r.1) × (r.1 ≤ length tokens.now.spots.items)) }
@@ -248,7 +245,7 @@ fn changed(
     depth: u32,
 ) -> Result<(Stmt, usize), SourceFault>
     requires within { at ≤ length tokens.now.spots.items }
-    requires shallow { depth ≤ 64 }
+    requires shallow { depth ≤ DEPTH }
     ensures reads { Answer (ChangedRule depth place path.items) ExprEnds (λ r. stmt_of r.0 End) (λ r. r.1) tokens.now at result }
     ensures stands { IfOk result (λ r. Stands r.0) }
     ensures moves { IfOk result (λ r. (at < r.1) × (r.1 ≤ length tokens.now.spots.items)) }
@@ -270,7 +267,7 @@ pub fn declared(
     depth: u32,
 ) -> Result<(Stmt, usize), SourceFault>
     requires within { at ≤ length tokens.now.spots.items }
-    requires shallow { depth ≤ 64 }
+    requires shallow { depth ≤ DEPTH }
     ensures reads { Answer (DeclaredRule depth place (into_of into)) (Before (token.Sign sign.Semicolon)) (λ r. stmt_of r.0 End) (λ r. r.1) tokens.now at result }
     ensures stands { IfOk result (λ r. Stands r.0) }
     ensures moves { IfOk result (λ r. (at ≤ r.1) × (r.1 ≤ length tokens.now.spots.items)) }
@@ -292,7 +289,7 @@ fn valued(
     depth: u32,
 ) -> Result<(Stmt, usize), SourceFault>
     requires within { at ≤ length tokens.now.spots.items }
-    requires shallow { depth ≤ 64 }
+    requires shallow { depth ≤ DEPTH }
     ensures reads { Answer (ValuedRule depth place (into_of into)) (Before (token.Sign sign.Semicolon)) (λ r. stmt_of r.0 End) (λ r. r.1) tokens.now at result }
     ensures stands { IfOk result (λ r. Stands r.0) }
     ensures moves { IfOk result (λ r. (at ≤ r.1) × (r.1 ≤ length tokens.now.spots.items)) }
@@ -330,7 +327,7 @@ pub fn init(
     counts: Counts,
 ) -> Result<ReadStmt, SourceFault>
     requires within { at ≤ length tokens.now.spots.items }
-    requires shallow { depth ≤ 64 }
+    requires shallow { depth ≤ DEPTH }
     ensures reads { Answer (Init actor depth (counts_of counts)) (Before (token.Sign sign.Semicolon)) stmt_out (λ r. r.to) tokens.now at result }
     ensures stands { IfOk result (λ r. Stands r.stmt) }
     ensures closed { IfOk result (λ r. r.ends_if ≡ false) }
@@ -369,7 +366,7 @@ fn unended(
     counts: Counts,
 ) -> Result<ReadStmt, SourceFault>
     requires within { at ≤ length tokens.now.spots.items }
-    requires shallow { depth ≤ 64 }
+    requires shallow { depth ≤ DEPTH }
     ensures reads { Answer (Unended actor depth (counts_of counts)) (Before (token.Sign sign.Semicolon)) stmt_out (λ r. r.to) tokens.now at result }
     ensures stands { IfOk result (λ r. Stands r.stmt) }
     ensures closed { IfOk result (λ r. r.ends_if ≡ false) }
@@ -428,7 +425,7 @@ pub fn simple(
     counts: Counts,
 ) -> Result<ReadStmt, SourceFault>
     requires within { at ≤ length tokens.now.spots.items }
-    requires shallow { depth ≤ 64 }
+    requires shallow { depth ≤ DEPTH }
     ensures reads { Answer (Simple actor depth (counts_of counts)) Any stmt_out (λ r. r.to) tokens.now at result }
     ensures stands { IfOk result (λ r. Stands r.stmt) }
     ensures closed { IfOk result (λ r. r.ends_if ≡ false) }
@@ -449,7 +446,7 @@ pub fn waiting(
     counts: Counts,
 ) -> Result<ReadWaiting, SourceFault>
     requires within { at ≤ length tokens.now.spots.items }
-    requires shallow { depth ≤ 64 }
+    requires shallow { depth ≤ DEPTH }
     ensures reads { Answer (WaitingPart actor depth (counts_of counts)) Any waiting_out (λ r. r.to) tokens.now at result }
     ensures moves { IfOk result (λ r. (at < r.to) × (r.to ≤ length tokens.now.spots.items)) }
 {

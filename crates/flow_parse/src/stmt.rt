@@ -3,14 +3,14 @@
 ghost use Rattle.std.specs.Prelude.{◌≡◌, ◌↔◌, ℕ, ◌+◌, ◌<◌, ◌≤◌, length, IfOk, IfErr, IsTrue, Some, None, true};
 ghost use Rattle.std.specs.Bool.{OnTrue};
 ghost use Rattle.std.specs.Option.{option_map};
-ghost use Rattle.flow_ast.specs.declared.token.Word.TheVariants as word;
-ghost use Rattle.flow_ast.specs.declared.token.Sign.TheVariants as sign;
-ghost use Rattle.flow_ast.specs.declared.token.Token.TheVariants as token;
-ghost use Rattle.flow_ast.specs.View.{expr_of};
-ghost use Rattle.flow_ast.specs.StmtView.{stmt_of};
-ghost use Rattle.flow_ast.specs.Body.{End};
-ghost use Rattle.flow_ast.specs.GrammarStmt.{one_statement};
-ghost use Rattle.flow_ast.specs.GrammarAnswer.{place_at};
+ghost use Rattle.flow_tree.specs.declared.token.Word.TheVariants as word;
+ghost use Rattle.flow_tree.specs.declared.token.Sign.TheVariants as sign;
+ghost use Rattle.flow_tree.specs.declared.token.Token.TheVariants as token;
+ghost use Rattle.flow_tree.specs.View.{expr_of};
+ghost use Rattle.flow_tree.specs.StmtView.{stmt_of};
+ghost use Rattle.flow_tree.specs.Body.{End};
+ghost use Rattle.flow_tree.specs.GrammarStmt.{one_statement};
+ghost use Rattle.flow_tree.specs.GrammarAnswer.{place_at};
 ghost use Rattle.flow_parse.specs.Reading.{token_at, Any, Answer};
 ghost use Rattle.flow_parse.specs.Follow.{ExprEnds, NotBefore};
 ghost use Rattle.flow_parse.specs.Openers.{AsFirst, IntoToken, StmtWord, StmtToken};
@@ -21,22 +21,16 @@ ghost use Rattle.flow_parse.specs.Views.{counts_of, stmt_out, body_out, block_ou
 use crate::build;
 use crate::simple::{Counts, ReadStmt, change, ended, init, more_names, simple, test, waiting};
 use crate::token::{
-    DEPTH, begins_type, expr, is_name, is_sign, is_type_word, is_word, name, place, refused, sign,
-    word,
+    begins_type, expr, is_name, is_sign, is_type_word, is_word, name, place, refused, sign, word,
 };
-use flow_ast::expr::Expr;
-use flow_ast::fault::{Rule, SourceFault};
-use flow_ast::stmt::{Stmt, Waiting, When};
-use flow_ast::token::{Sign, Token, Tokens, Word};
-use flow_ast::ty::Ident;
 use flow_base::place::Place;
+use flow_tree::expr::Expr;
+use flow_tree::fault::{Rule, SourceFault};
+use flow_tree::limits::{BRANCHES, DEPTH, STATEMENTS};
+use flow_tree::stmt::{Stmt, Waiting, When};
+use flow_tree::token::{Sign, Token, Tokens, Word};
+use flow_tree::ty::Ident;
 use std::alloc::Global;
-
-/// The greatest number of statements of a function or an actor.
-const STATEMENTS: u32 = 10000;
-
-/// The greatest number of branches of a `choose`.
-const BRANCHES: u32 = 64;
 
 /// A body that was read.
 #[derive(Drop, Debug)]
@@ -127,7 +121,7 @@ fn begins_stmt(tokens: &Tokens, at: usize) -> bool
 
 // One more statement, which begins here: L4 where it is one too many, then L5 where it is too deep.
 fn begin(tokens: &Tokens, at: usize, depth: u32, counts: Counts) -> Result<Counts, SourceFault>
-    ensures within { IfOk result (λ c. (depth ≤ 64) × (counts.statements < 10000)) }
+    ensures within { IfOk result (λ c. (depth ≤ DEPTH) × (counts.statements < STATEMENTS)) }
     ensures one { IfOk result (λ c. counts_of c ≡ one_statement (counts_of counts)) }
     ensures beyond { IfErr result (λ e. Beyond (counts_of counts) depth (place_at tokens.now at) e) }
 {
@@ -272,7 +266,7 @@ fn plain(
     counts: Counts,
 ) -> Result<ReadStmt, SourceFault>
     requires within { at ≤ length tokens.now.spots.items }
-    requires shallow { depth ≤ 64 }
+    requires shallow { depth ≤ DEPTH }
     ensures reads { Answer (Plain actor depth (counts_of counts)) NoElse stmt_out (λ r. r.to) tokens.now at result }
     ensures stands { IfOk result (λ r. Stands r.stmt) }
     ensures moves { IfOk result (λ r. (at < r.to) × (r.to ≤ length tokens.now.spots.items)) }
@@ -358,7 +352,7 @@ fn if_stmt(
     counts: Counts,
 ) -> Result<ReadStmt, SourceFault>
     requires within { at ≤ length tokens.now.spots.items }
-    requires shallow { depth ≤ 64 }
+    requires shallow { depth ≤ DEPTH }
     requires here { token_at tokens.now.spots.items at ≡ Some (token.Word word.If) }
     ensures reads { Answer (Plain actor depth (counts_of counts)) NoElse stmt_out (λ r. r.to) tokens.now at result }
     ensures stands { IfOk result (λ r. Stands r.stmt) }
@@ -394,7 +388,7 @@ fn while_stmt(
     counts: Counts,
 ) -> Result<ReadStmt, SourceFault>
     requires within { at ≤ length tokens.now.spots.items }
-    requires shallow { depth ≤ 64 }
+    requires shallow { depth ≤ DEPTH }
     requires here { token_at tokens.now.spots.items at ≡ Some (token.Word word.While) }
     ensures reads { Answer (Plain actor depth (counts_of counts)) NoElse stmt_out (λ r. r.to) tokens.now at result }
     ensures stands { IfOk result (λ r. Stands r.stmt) }
@@ -421,7 +415,7 @@ fn loop_stmt(
     counts: Counts,
 ) -> Result<ReadStmt, SourceFault>
     requires within { at ≤ length tokens.now.spots.items }
-    requires shallow { depth ≤ 64 }
+    requires shallow { depth ≤ DEPTH }
     requires here { token_at tokens.now.spots.items at ≡ Some (token.Word word.Loop) }
     ensures reads { Answer (Plain actor depth (counts_of counts)) NoElse stmt_out (λ r. r.to) tokens.now at result }
     ensures stands { IfOk result (λ r. Stands r.stmt) }
@@ -521,7 +515,7 @@ fn assignment(
     depth: u32,
 ) -> Result<(Stmt, usize), SourceFault>
     requires within { at ≤ length tokens.now.spots.items }
-    requires shallow { depth ≤ 64 }
+    requires shallow { depth ≤ DEPTH }
     ensures reads { Answer (Assignment depth) ExprEnds (λ r. stmt_of r.0 End) (λ r. r.1) tokens.now at result }
     ensures moves { IfOk result (λ r. (at < r.1) × (r.1 ≤ length tokens.now.spots.items)) }
 {
@@ -560,7 +554,7 @@ fn for_stmt(
     counts: Counts,
 ) -> Result<ReadStmt, SourceFault>
     requires within { at ≤ length tokens.now.spots.items }
-    requires shallow { depth ≤ 64 }
+    requires shallow { depth ≤ DEPTH }
     requires here { token_at tokens.now.spots.items at ≡ Some (token.Word word.For) }
     ensures reads { Answer (Plain actor depth (counts_of counts)) NoElse stmt_out (λ r. r.to) tokens.now at result }
     ensures stands { IfOk result (λ r. Stands r.stmt) }
@@ -589,7 +583,7 @@ fn return_stmt(
     counts: Counts,
 ) -> Result<ReadStmt, SourceFault>
     requires within { at ≤ length tokens.now.spots.items }
-    requires shallow { depth ≤ 64 }
+    requires shallow { depth ≤ DEPTH }
     requires here { token_at tokens.now.spots.items at ≡ Some (token.Word word.Return) }
     ensures reads { Answer (Plain actor depth (counts_of counts)) NoElse stmt_out (λ r. r.to) tokens.now at result }
     ensures stands { IfOk result (λ r. Stands r.stmt) }
@@ -610,7 +604,7 @@ fn throw_stmt(
     counts: Counts,
 ) -> Result<ReadStmt, SourceFault>
     requires within { at ≤ length tokens.now.spots.items }
-    requires shallow { depth ≤ 64 }
+    requires shallow { depth ≤ DEPTH }
     requires here { token_at tokens.now.spots.items at ≡ Some (token.Word word.Throw) }
     ensures reads { Answer (Plain actor depth (counts_of counts)) NoElse stmt_out (λ r. r.to) tokens.now at result }
     ensures stands { IfOk result (λ r. Stands r.stmt) }
@@ -622,18 +616,19 @@ fn throw_stmt(
 }
 
 // `"catch" "(" "Error" "&" name ")"`.
-fn catch(alloc: Global, tokens: &Tokens, at: usize) -> Result<(Ident, usize), SourceFault>
+fn catch(alloc: Global, tokens: &Tokens, at: usize) -> Result<(Place, Ident, usize), SourceFault>
     requires within { at ≤ length tokens.now.spots.items }
-    ensures reads { Answer Catch Any (λ r. r.0) (λ r. r.1) tokens.now at result }
-    ensures moves { IfOk result (λ r. (at < r.1) × (r.1 ≤ length tokens.now.spots.items)) }
+    ensures reads { Answer Catch Any (λ r. (r.0, r.1)) (λ r. r.2) tokens.now at result }
+    ensures moves { IfOk result (λ r. (at < r.2) × (r.2 ≤ length tokens.now.spots.items)) }
 {
+    let here = place(tokens, at);
     let at = word(tokens, at, Word::Catch)?;
     let at = sign(tokens, at, Sign::OpenRound)?;
     let at = word(tokens, at, Word::Error)?;
     let at = sign(tokens, at, Sign::Amp)?;
     let (error, at) = name(alloc, tokens, at)?;
     let to = sign(tokens, at, Sign::CloseRound)?;
-    Ok((error, to))
+    Ok((here, error, to))
 }
 
 #[cycle(stmt)]
@@ -646,7 +641,7 @@ fn try_stmt(
     counts: Counts,
 ) -> Result<ReadStmt, SourceFault>
     requires within { at ≤ length tokens.now.spots.items }
-    requires shallow { depth ≤ 64 }
+    requires shallow { depth ≤ DEPTH }
     requires here { token_at tokens.now.spots.items at ≡ Some (token.Word word.Try) }
     ensures reads { Answer (Plain actor depth (counts_of counts)) NoElse stmt_out (λ r. r.to) tokens.now at result }
     ensures stands { IfOk result (λ r. Stands r.stmt) }
@@ -654,9 +649,9 @@ fn try_stmt(
 {
     let here = place(tokens, at);
     let inner = block(alloc, tokens, at + 1, actor, depth + 1, counts)?;
-    let (error, at) = catch(alloc, tokens, inner.to)?;
+    let (catch_at, error, at) = catch(alloc, tokens, inner.to)?;
     let handler = block(alloc, tokens, at, actor, depth + 1, inner.counts)?;
-    let stmt = build::try_stmt(here, inner.body, error, handler.body);
+    let stmt = build::try_stmt(here, inner.body, catch_at, error, handler.body);
     Ok(ended(stmt, handler.to, handler.counts))
 }
 
@@ -670,7 +665,7 @@ fn choose(
     counts: Counts,
 ) -> Result<ReadStmt, SourceFault>
     requires within { at ≤ length tokens.now.spots.items }
-    requires shallow { depth ≤ 64 }
+    requires shallow { depth ≤ DEPTH }
     requires here { token_at tokens.now.spots.items at ≡ Some (token.Word word.Choose) }
     ensures reads { Answer (Plain actor depth (counts_of counts)) NoElse stmt_out (λ r. r.to) tokens.now at result }
     ensures stands { IfOk result (λ r. Stands r.stmt) }
@@ -732,7 +727,7 @@ fn when(
     requires within { at ≤ length tokens.now.spots.items }
     requires shallow { depth ≤ 65 }
     ensures reads { Answer (WhenPart actor depth number (counts_of counts)) (NotBefore (token.Word word.Else)) when_out (λ r. r.to) tokens.now at result }
-    ensures few { IfOk result (λ r. number ≤ 64) }
+    ensures few { IfOk result (λ r. number ≤ BRANCHES) }
     ensures moves { IfOk result (λ r. (at < r.to) × (r.to ≤ length tokens.now.spots.items)) }
 {
     if !is_word(tokens, at, Word::When) {

@@ -2,27 +2,25 @@
 
 ghost use Rattle.std.specs.Prelude.{◌≡◌, ◌↔◌, ℕ, ◌+◌, ◌<◌, ◌≤◌, length, IfOk, IsTrue, OnSome, Some};
 ghost use Rattle.std.specs.Bool.{OnTrue};
-ghost use Rattle.flow_ast.specs.GrammarAnswer.{place_at};
-ghost use Rattle.flow_ast.specs.View.{type_of, expr_of};
-ghost use Rattle.flow_ast.specs.Grammar.{TypeRule, ExprRule};
+ghost use Rattle.flow_tree.specs.GrammarAnswer.{place_at};
+ghost use Rattle.flow_tree.specs.View.{type_of, expr_of};
+ghost use Rattle.flow_tree.specs.Grammar.{TypeRule, ExprRule};
 ghost use Rattle.flow_parse.specs.Reading.{token_at, Tok, Named, Any, Answer};
 ghost use Rattle.flow_parse.specs.Openers.{AsFirst, NameToken, ExprToken, TypeToken, TypeWord, WaitToken};
 ghost use Rattle.flow_exprs.specs.Answer.{ident_of, ident_at};
 ghost use Rattle.flow_parse.specs.Follow.{ExprEnds};
 
-use flow_ast::expr::Expr;
-use flow_ast::fault::{Rule, SourceFault};
-use flow_ast::token::{Sign, Token, Tokens, Word};
-use flow_ast::ty::{Ident, Ty};
 use flow_base::memory::NoMemory;
 use flow_base::place::Place;
 use flow_exprs::expr::parse_expr;
 use flow_exprs::kind::{self, Kind};
 use flow_exprs::ty::parse_type;
+use flow_tree::expr::Expr;
+use flow_tree::fault::{Rule, SourceFault};
+use flow_tree::limits::DEPTH;
+use flow_tree::token::{Sign, Token, Tokens, Word};
+use flow_tree::ty::{Ident, Ty};
 use std::alloc::Global;
-
-/// The greatest depth of a node.
-pub const DEPTH: u32 = 64;
 
 /// The place of this token, or of the end.
 pub fn place(tokens: &Tokens, k: usize) -> Place
@@ -168,7 +166,7 @@ pub fn name(alloc: Global, tokens: &Tokens, at: usize) -> Result<(Ident, usize),
 /// A type of this depth, and the number of the token after it.
 pub fn ty(alloc: Global, tokens: &Tokens, at: usize, depth: u32) -> Result<(Ty, usize), SourceFault>
     requires within { at ≤ length tokens.now.spots.items }
-    requires shallow { depth ≤ 64 }
+    requires shallow { depth ≤ DEPTH }
     ensures reads { Answer (TypeRule depth) Any (λ r. type_of r.0) (λ r. r.1) tokens.now at result }
     ensures moves { IfOk result (λ r. (at < r.1) × (r.1 ≤ length tokens.now.spots.items)) }
 {
@@ -204,7 +202,7 @@ pub fn begins_expr(tokens: &Tokens, at: usize) -> bool
     match kind::at(&tokens.spots, at) {
         Some(Kind::Leaf) | Some(Kind::Name) | Some(Kind::Void) | Some(Kind::Open) => true,
         Some(Kind::Not) => true,
-        Some(Kind::Op(op)) => op == flow_ast::expr::Op::Sub,
+        Some(Kind::Op(op)) => op == flow_tree::expr::Op::Sub,
         _ => false,
     }
 }

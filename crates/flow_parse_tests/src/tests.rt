@@ -1,13 +1,13 @@
 // Texts and what they are read as.
 
-use flow_ast::decl::Decl;
-use flow_ast::fault::{Rule, SourceFault};
-use flow_ast::stmt::StmtKind;
-use flow_ast::token::{Sign, Spot, Token, Tokens, Word};
 use flow_base::memory::NoMemory;
 use flow_base::name::Name;
 use flow_base::place::Place;
 use flow_parse::parse::parse;
+use flow_tree::decl::Decl;
+use flow_tree::fault::{Rule, SourceFault};
+use flow_tree::stmt::StmtKind;
+use flow_tree::token::{Sign, Spot, Token, Tokens, Word};
 use std::alloc::Global;
 use std::test::Fail;
 

@@ -3,15 +3,15 @@ use Rattle.std.proofs.Common.{◌≡◌, ℕ, ◌<◌, List, [], ◌∷◌, ◌+
 use Rattle.std.proofs.lemmas.List.{length-map}
 use Rattle.std.specs.Prelude.{codes}
 use Rattle.flow_base.specs.declared.place.Place.{Place}
-use Rattle.flow_ast.specs.declared.token.Word.TheVariants as word
-use Rattle.flow_ast.specs.declared.token.Sign.TheVariants as sign
-use Rattle.flow_ast.specs.Tree.{TypeTree}
-use Rattle.flow_ast.specs.Decls.{ParamTree, RecordTree, RoutineTree, DeclTree, StructDecl, FunctionDecl, ActorDecl}
-use Rattle.flow_ast.specs.GrammarToken.{Declaration, Node, Variable, Marked, begin}
-use Rattle.flow_ast.specs.Grammar.{sign_at, word_at, name_at}
-use Rattle.flow_ast.specs.GrammarStmt.{StmtsRule}
-use Rattle.flow_ast.specs.GrammarDecl.{ParamRule, param, FieldsRule, no_fields, more_fields, MoreParamsRule, end_params, more_params, ParamsRule, no_params, some_params, RecordRule, fields, RoutineRule, routine, DeclRule, record_decl, function_decl, actor_decl, DeclsRule, no_decls, more_decls}
-use Rattle.flow_ast.specs.Canon.{type_text, named_text, line, fields_text, more_params_text, params_text, routine_text, decl_text, decls_text, body_text, first_place, bare_ident, bare_param, bare_record, bare_routine, bare_decl}
+use Rattle.flow_tree.specs.declared.token.Word.TheVariants as word
+use Rattle.flow_tree.specs.declared.token.Sign.TheVariants as sign
+use Rattle.flow_tree.specs.Tree.{TypeTree}
+use Rattle.flow_tree.specs.Decls.{ParamTree, RecordTree, RoutineTree, DeclTree, StructDecl, FunctionDecl, ActorDecl}
+use Rattle.flow_tree.specs.GrammarToken.{Declaration, Node, Variable, Marked, begin}
+use Rattle.flow_tree.specs.Grammar.{sign_at, word_at, name_at}
+use Rattle.flow_tree.specs.GrammarStmt.{StmtsRule}
+use Rattle.flow_tree.specs.GrammarDecl.{ParamRule, param, FieldsRule, no_fields, more_fields, MoreParamsRule, end_params, more_params, ParamsRule, no_params, some_params, RecordRule, fields, RoutineRule, routine, DeclRule, record_decl, function_decl, actor_decl, DeclsRule, no_decls, more_decls}
+use Rattle.flow_tree.specs.Canon.{type_text, named_text, line, fields_text, more_params_text, params_text, routine_text, decl_text, decls_text, body_text, first_place, bare_ident, bare_param, bare_record, bare_routine, bare_decl}
 use Rattle.flow_show.proofs.Going.{Piece, Any, nothing, both, as_rule, begun, begin_some, behind, spaced, lined, under, blank}
 use Rattle.flow_show.proofs.TokenPieces.{Apart, name_piece, word_piece, sign_piece, Ends, comma_ends, space_ends}
 use Rattle.flow_show.proofs.Valid.{AllValid, valid_head, valid_tail, valid_left, valid_right, valid_begun}

@@ -3,12 +3,12 @@ use Rattle.std.proofs.Common.{◌≡◌, ℕ, zero, suc, ◌<◌, List, [], ◌�
 use Rattle.std.proofs.Math.Seq.{take-append_seam, drop-append_seam}
 use Rattle.std.proofs.lemmas.List.{append-nil}
 use Rattle.flow_base.specs.declared.place.Place.{Place}
-use Rattle.flow_ast.specs.declared.token.Token.{Token}
-use Rattle.flow_ast.specs.Spelling.{IsBounded, is_blank}
-use Rattle.flow_ast.specs.Lexing.{place_after, TokenAt, Reads, here, gap, token}
-use Rattle.flow_ast.specs.GrammarToken.{Part, Marked, opens, begin, spots_of}
-use Rattle.flow_ast.specs.Canon.{indent, line}
-use Rattle.flow_ast.proofs.GrammarLists.{spots_append, spots_begin}
+use Rattle.flow_tree.specs.declared.token.Token.{Token}
+use Rattle.flow_tree.specs.Spelling.{IsBounded, is_blank}
+use Rattle.flow_tree.specs.Lexing.{place_after, TokenAt, Reads, here, gap, token}
+use Rattle.flow_tree.specs.GrammarToken.{Part, Marked, opens, begin, spots_of}
+use Rattle.flow_tree.specs.Canon.{indent, line}
+use Rattle.flow_tree.proofs.GrammarLists.{spots_append, spots_begin}
 use Rattle.flow_lex.proofs.Reading.{reads_on}
 
 -- the parts that begin with tokens, in order

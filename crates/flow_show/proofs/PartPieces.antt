@@ -5,15 +5,15 @@ use Rattle.std.specs.Option.{option_map}
 use Rattle.std.specs.declared.option.Option.{Option}
 use Rattle.std.specs.declared.option.Option.TheVariants.{None, Some}
 use Rattle.flow_base.specs.declared.place.Place.{Place}
-use Rattle.flow_ast.specs.declared.token.Word.TheVariants as word
-use Rattle.flow_ast.specs.declared.token.Sign.TheVariants as sign
-use Rattle.flow_ast.specs.declared.ty.Ident.{Ident}
-use Rattle.flow_ast.specs.Tree.{TypeTree, ExprTree}
-use Rattle.flow_ast.specs.Body.{IntoTree, WaitTree, PlusChange, MinusChange, UpChange, DownChange, Body, End, DeclareStmt, AssignStmt, ModifyStmt}
-use Rattle.flow_ast.specs.GrammarToken.{Statement, Node, Marked, begin}
-use Rattle.flow_ast.specs.Grammar.{name_at, TypeRule}
-use Rattle.flow_ast.specs.GrammarStmt.{Counts, state_parts, begin_statement, StartsAt, StateRule, no_state, some_state, IntoRule, declared, OperandRule, wait, wait_next, WaitingRule, plain_wait, into_wait, PathRule, last_name, more_names, AssignRule, assign, plus, minus, up, down, InitRule, declare, declare_value, change, InitPart, no_init, some_init, StepPart, no_step, some_step, MaybeExprRule, no_expr, some_expr}
-use Rattle.flow_ast.specs.Canon.{type_text, expr_text, path_text, into_text, waiting_text, maybe_text, part_text, first_place, bare_ident, bare_expr, bare_into, bare_wait, bare_body}
+use Rattle.flow_tree.specs.declared.token.Word.TheVariants as word
+use Rattle.flow_tree.specs.declared.token.Sign.TheVariants as sign
+use Rattle.flow_tree.specs.declared.ty.Ident.{Ident}
+use Rattle.flow_tree.specs.Tree.{TypeTree, ExprTree}
+use Rattle.flow_tree.specs.Body.{IntoTree, WaitTree, PlusChange, MinusChange, UpChange, DownChange, Body, End, DeclareStmt, AssignStmt, ModifyStmt}
+use Rattle.flow_tree.specs.GrammarToken.{Statement, Node, Marked, begin}
+use Rattle.flow_tree.specs.Grammar.{name_at, TypeRule}
+use Rattle.flow_tree.specs.GrammarStmt.{Counts, state_parts, begin_statement, StartsAt, StateRule, no_state, some_state, IntoRule, declared, OperandRule, wait, wait_next, WaitingRule, plain_wait, into_wait, PathRule, last_name, more_names, AssignRule, assign, plus, minus, up, down, InitRule, declare, declare_value, change, InitPart, no_init, some_init, StepPart, no_step, some_step, MaybeExprRule, no_expr, some_expr}
+use Rattle.flow_tree.specs.Canon.{type_text, expr_text, path_text, into_text, waiting_text, maybe_text, part_text, first_place, bare_ident, bare_expr, bare_into, bare_wait, bare_body}
 use Rattle.flow_show.proofs.Going.{Piece, Gap, nothing, both, as_rule, begun, begin_some, behind, spaced, under}
 use Rattle.flow_show.proofs.TokenPieces.{Apart, name_piece, word_piece, sign_piece, open_round_ends, dot_ends, plus_plus_ends, minus_minus_ends, space_ends}
 use Rattle.flow_show.proofs.Valid.{AllValid, valid_head, valid_tail, valid_left, valid_right, valid_begun}

@@ -2,11 +2,11 @@
 use Rattle.std.proofs.Common.{◌≡◌, ℕ, List, [], ◌∷◌, ◌++◌, refl, sym, ap, ◌∙◌, subst}
 use Rattle.std.proofs.lemmas.List.{append-nil}
 use Rattle.flow_base.specs.declared.place.Place.{Place}
-use Rattle.flow_ast.specs.Decls.{ProgramTree}
-use Rattle.flow_ast.specs.Lexing.{place_after, Reads, Lexes}
-use Rattle.flow_ast.specs.GrammarToken.{Part, Marked, spots_of, AllInLimits, Keeps}
-use Rattle.flow_ast.specs.GrammarDecl.{ProgramRule, program}
-use Rattle.flow_ast.specs.Canon.{decls_text, bare, first_place}
+use Rattle.flow_tree.specs.Decls.{ProgramTree}
+use Rattle.flow_tree.specs.Lexing.{place_after, Reads, Lexes}
+use Rattle.flow_tree.specs.GrammarToken.{Part, Marked, spots_of, AllInLimits, Keeps}
+use Rattle.flow_tree.specs.GrammarDecl.{ProgramRule, program}
+use Rattle.flow_tree.specs.Canon.{decls_text, bare, first_place}
 use Rattle.flow_show.specs.Laws.{IsReadBack, RoundTrip, OneText, TwiceIsOnce}
 use Rattle.flow_show.proofs.Going.{all_parts}
 use Rattle.flow_show.proofs.Valid.{AllValid, valid_reads, valid_marks}

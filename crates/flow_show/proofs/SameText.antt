@@ -4,13 +4,13 @@ use Rattle.std.specs.Prelude.{codes, if◌then◌else◌}
 use Rattle.std.specs.Option.{option_map}
 use Rattle.std.specs.declared.option.Option.{Option}
 use Rattle.std.specs.declared.option.Option.TheVariants.{None, Some}
-use Rattle.flow_ast.specs.declared.ty.Ident.{Ident}
-use Rattle.flow_ast.specs.Spelling.{sign_bytes}
-use Rattle.flow_ast.specs.Grammar.{op_sign}
-use Rattle.flow_ast.specs.Tree.{ExprTree, ExprTrees, IntExpr, TextExpr, BoolExpr, VoidExpr, VarExpr, CallExpr, FieldExpr, MethodExpr, NotExpr, NegExpr, BinaryExpr, ParenExpr, NoExprs, MoreExprs}
-use Rattle.flow_ast.specs.Body.{IntoTree, WaitTree, ChangeTree, PlusChange, MinusChange, UpChange, DownChange, Body, End, BlockStmt, IfStmt, IfElseStmt, WhileStmt, ForStmt, LoopStmt, BreakStmt, ContinueStmt, ReturnStmt, ThrowStmt, TryStmt, ChooseStmt, DeclareStmt, AssignStmt, ModifyStmt, CallStmt, WaitStmt, Branches, NoBranches, MoreBranches}
-use Rattle.flow_ast.specs.Decls.{ParamTree, RoutineTree, DeclTree, StructDecl, FunctionDecl, ActorDecl, ProgramTree}
-use Rattle.flow_ast.specs.Canon.{type_text, minus_gap, expr_text, args_text, more_args_text, path_text, named_text, into_text, into_part, waiting_text, maybe_text, declare_text, assign_text, change_text, modify_text, call_text, part_text, line, body_text, branches_text, fields_text, more_params_text, params_text, routine_text, decl_text, decls_text, Canon, bare_ident, bare_expr, bare_exprs, bare_into, bare_wait, bare_change, bare_body, bare_branches, bare_param, bare_routine, bare_decl, bare}
+use Rattle.flow_tree.specs.declared.ty.Ident.{Ident}
+use Rattle.flow_tree.specs.Spelling.{sign_bytes}
+use Rattle.flow_tree.specs.Grammar.{op_sign}
+use Rattle.flow_tree.specs.Tree.{ExprTree, ExprTrees, IntExpr, TextExpr, BoolExpr, VoidExpr, VarExpr, CallExpr, FieldExpr, MethodExpr, NotExpr, NegExpr, BinaryExpr, ParenExpr, NoExprs, MoreExprs}
+use Rattle.flow_tree.specs.Body.{IntoTree, WaitTree, ChangeTree, PlusChange, MinusChange, UpChange, DownChange, Body, End, BlockStmt, IfStmt, IfElseStmt, WhileStmt, ForStmt, LoopStmt, BreakStmt, ContinueStmt, ReturnStmt, ThrowStmt, TryStmt, ChooseStmt, DeclareStmt, AssignStmt, ModifyStmt, CallStmt, WaitStmt, Branches, NoBranches, MoreBranches}
+use Rattle.flow_tree.specs.Decls.{ParamTree, RoutineTree, DeclTree, StructDecl, FunctionDecl, ActorDecl, ProgramTree}
+use Rattle.flow_tree.specs.Canon.{type_text, minus_gap, expr_text, args_text, more_args_text, path_text, named_text, into_text, into_part, waiting_text, maybe_text, declare_text, assign_text, change_text, modify_text, call_text, part_text, line, body_text, branches_text, fields_text, more_params_text, params_text, routine_text, decl_text, decls_text, Canon, bare_ident, bare_expr, bare_exprs, bare_into, bare_wait, bare_change, bare_body, bare_branches, bare_param, bare_routine, bare_decl, bare}
 
 gap_same : (e : ExprTree) → minus_gap e ≡ minus_gap (bare_expr e)
 gap_same (NegExpr e) = refl
@@ -96,7 +96,7 @@ mutual
   body_same k (ContinueStmt at rest) = ap (λ b. line k (codes "continue;") ++ b) (body_same k rest)
   body_same k (ReturnStmt at e rest) = λ i. line k (codes "return " ++ expr_same e i ++ codes ";") ++ body_same k rest i
   body_same k (ThrowStmt at e rest) = λ i. line k (codes "throw" ++ maybe_same (codes " ") e i ++ codes ";") ++ body_same k rest i
-  body_same k (TryStmt at inner x handler rest) = λ i. line k (codes "try {") ++ body_same (suc k) inner i ++ line k (codes "} catch (Error& " ++ x.name ++ codes ") {") ++ body_same (suc k) handler i ++ line k (codes "}") ++ body_same k rest i
+  body_same k (TryStmt at inner p x handler rest) = λ i. line k (codes "try {") ++ body_same (suc k) inner i ++ line k (codes "} catch (Error& " ++ x.name ++ codes ") {") ++ body_same (suc k) handler i ++ line k (codes "}") ++ body_same k rest i
   body_same k (ChooseStmt at branches rest) = λ i. line k (codes "choose {") ++ branches_same (suc k) branches i ++ line k (codes "}") ++ body_same k rest i
   body_same k (DeclareStmt at v e rest) = λ i. line k (declare_same v e i ++ codes ";") ++ body_same k rest i
   body_same k (AssignStmt at xs e rest) = λ i. line k (assign_same xs e i ++ codes ";") ++ body_same k rest i

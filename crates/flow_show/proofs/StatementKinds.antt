@@ -5,21 +5,21 @@ use Rattle.std.specs.declared.option.Option.{Option}
 use Rattle.std.specs.declared.alloc.Global.{Global}
 use Rattle.std.specs.declared.vec.Vec.{Vec}
 use Rattle.flow_base.specs.declared.place.Place.{Place}
-use Rattle.flow_ast.specs.declared.ty.Ident.{Ident}
-use Rattle.flow_ast.specs.declared.expr.Expr.{Expr}
-use Rattle.flow_ast.specs.declared.stmt.Into.{Into}
-use Rattle.flow_ast.specs.declared.stmt.Target.{Target}
-use Rattle.flow_ast.specs.declared.stmt.Waiting.{Waiting}
-use Rattle.flow_ast.specs.declared.stmt.When.{When}
-use Rattle.flow_ast.specs.declared.stmt.Stmt.{Stmt, fold_out-Stmt}
-use Rattle.flow_ast.specs.declared.stmt.StmtKind.{StmtKind, fold-roll-StmtKind}
-use Rattle.flow_ast.specs.declared.stmt.StmtKind.TheOpen as layer
-use Rattle.flow_ast.specs.declared.stmt.StmtKind.TheVariants as kind
-use Rattle.flow_ast.specs.View.{expr_of, exprs_of}
-use Rattle.flow_ast.specs.StmtView.{into_of, waiting_of, kind_of, kind_step, stmt_of, stmt_step, branch_step, body_of, branches_of}
-use Rattle.flow_ast.specs.Canon.{body_text}
+use Rattle.flow_tree.specs.declared.ty.Ident.{Ident}
+use Rattle.flow_tree.specs.declared.expr.Expr.{Expr}
+use Rattle.flow_tree.specs.declared.stmt.Into.{Into}
+use Rattle.flow_tree.specs.declared.stmt.Target.{Target}
+use Rattle.flow_tree.specs.declared.stmt.Waiting.{Waiting}
+use Rattle.flow_tree.specs.declared.stmt.When.{When}
+use Rattle.flow_tree.specs.declared.stmt.Stmt.{Stmt, fold_out-Stmt}
+use Rattle.flow_tree.specs.declared.stmt.StmtKind.{StmtKind, fold-roll-StmtKind}
+use Rattle.flow_tree.specs.declared.stmt.StmtKind.TheOpen as layer
+use Rattle.flow_tree.specs.declared.stmt.StmtKind.TheVariants as kind
+use Rattle.flow_tree.specs.View.{expr_of, exprs_of}
+use Rattle.flow_tree.specs.StmtView.{into_of, waiting_of, kind_of, kind_step, stmt_of, stmt_step, branch_step, body_of, branches_of}
+use Rattle.flow_tree.specs.Canon.{body_text}
 use Rattle.flow_show.specs.Lines.{PutsBefore}
-use Rattle.flow_ast.specs.Body.{Body, Branches, TryStmt, ChooseStmt, DeclareStmt, AssignStmt, CallStmt, WaitStmt}
+use Rattle.flow_tree.specs.Body.{Body, Branches, TryStmt, ChooseStmt, DeclareStmt, AssignStmt, CallStmt, WaitStmt}
 
 -- a kind of statement is the function that puts it before a body, at a place
 abbrev Puts : Type 0
@@ -31,8 +31,8 @@ stmt_is s = fold_out-Stmt Puts (Body → Body) (Branches → Branches) kind_step
 pub kind_declare : (i : Into) (e : Option Expr) → kind_of (kind.Declare i e) ≡ (λ at rest. DeclareStmt at (into_of i) (option_map expr_of e) rest)
 kind_declare i e = ap kind_of (sym (kind.rolls-Declare i e)) ∙ fold-roll-StmtKind Puts (Body → Body) (Branches → Branches) kind_step stmt_step branch_step (layer.Declare i e)
 
-pub kind_try : (b : Vec Stmt Global) (x : Ident) (h : Vec Stmt Global) → kind_of (kind.Try b x h) ≡ (λ at rest. TryStmt at (body_of b.items) x (body_of h.items) rest)
-kind_try b x h = ap kind_of (sym (kind.rolls-Try b x h)) ∙ fold-roll-StmtKind Puts (Body → Body) (Branches → Branches) kind_step stmt_step branch_step (layer.Try b x h)
+pub kind_try : (b : Vec Stmt Global) (p : Place) (x : Ident) (h : Vec Stmt Global) → kind_of (kind.Try b p x h) ≡ (λ at rest. TryStmt at (body_of b.items) p x (body_of h.items) rest)
+kind_try b p x h = ap kind_of (sym (kind.rolls-Try b p x h)) ∙ fold-roll-StmtKind Puts (Body → Body) (Branches → Branches) kind_step stmt_step branch_step (layer.Try b p x h)
 
 pub kind_choose : (bs : Vec When Global) → kind_of (kind.Choose bs) ≡ (λ at rest. ChooseStmt at (branches_of bs.items) rest)
 kind_choose bs = ap kind_of (sym (kind.rolls-Choose bs)) ∙ fold-roll-StmtKind Puts (Body → Body) (Branches → Branches) kind_step stmt_step branch_step (layer.Choose bs)

@@ -4,14 +4,14 @@ use Rattle.std.specs.Prelude.{codes}
 use Rattle.std.specs.declared.option.Option.{Option}
 use Rattle.std.specs.declared.option.Option.TheVariants.{None, Some}
 use Rattle.flow_base.specs.declared.place.Place.{Place}
-use Rattle.flow_ast.specs.declared.token.Word.TheVariants as word
-use Rattle.flow_ast.specs.declared.token.Sign.TheVariants as sign
-use Rattle.flow_ast.specs.Tree.{ExprTree}
-use Rattle.flow_ast.specs.Body.{Body, End, BlockStmt, IfStmt, IfElseStmt, WhileStmt, ForStmt, LoopStmt, BreakStmt, ContinueStmt, ReturnStmt, ThrowStmt, TryStmt, ChooseStmt, CallStmt, WaitStmt, Branches, MoreBranches}
-use Rattle.flow_ast.specs.GrammarToken.{Node, Branch, Marked}
-use Rattle.flow_ast.specs.Grammar.{sign_at}
-use Rattle.flow_ast.specs.GrammarStmt.{Counts, begin_statement, StartsAt, assign, plus, minus, up, down, InitRule, declare, declare_value, change, PlainRule, if_stmt, if_else_stmt, while_stmt, for_stmt, loop_stmt, break_stmt, continue_stmt, return_stmt, throw_stmt, try_stmt, choose_stmt, init_stmt, wait_stmt, call_stmt, StmtRule, block_stmt, plain_stmt, BlockRule, braces, BodyRule, block_body, one_body, StmtsRule, no_stmts, more_stmts, WhensRule, no_whens, more_whens, WhenRule, branch}
-use Rattle.flow_ast.specs.Canon.{expr_text, args_text, path_text, waiting_text, maybe_text, part_text, line, indent, body_text, branches_text, first_place, bare_ident, bare_body, bare_branches}
+use Rattle.flow_tree.specs.declared.token.Word.TheVariants as word
+use Rattle.flow_tree.specs.declared.token.Sign.TheVariants as sign
+use Rattle.flow_tree.specs.Tree.{ExprTree}
+use Rattle.flow_tree.specs.Body.{Body, End, BlockStmt, IfStmt, IfElseStmt, WhileStmt, ForStmt, LoopStmt, BreakStmt, ContinueStmt, ReturnStmt, ThrowStmt, TryStmt, ChooseStmt, CallStmt, WaitStmt, Branches, MoreBranches}
+use Rattle.flow_tree.specs.GrammarToken.{Node, Branch, Marked}
+use Rattle.flow_tree.specs.Grammar.{sign_at}
+use Rattle.flow_tree.specs.GrammarStmt.{Counts, begin_statement, StartsAt, assign, plus, minus, up, down, InitRule, declare, declare_value, change, PlainRule, if_stmt, if_else_stmt, while_stmt, for_stmt, loop_stmt, break_stmt, continue_stmt, return_stmt, throw_stmt, try_stmt, choose_stmt, init_stmt, wait_stmt, call_stmt, StmtRule, block_stmt, plain_stmt, BlockRule, braces, BodyRule, block_body, one_body, StmtsRule, no_stmts, more_stmts, WhensRule, no_whens, more_whens, WhenRule, branch}
+use Rattle.flow_tree.specs.Canon.{expr_text, args_text, path_text, waiting_text, maybe_text, part_text, line, indent, body_text, branches_text, first_place, bare_ident, bare_body, bare_branches}
 use Rattle.flow_show.proofs.Going.{Piece, Any, all_parts, parts_cat, nothing, both, as_rule, behind, spaced, lined, under, blank, indent_gap, no_gap, reparted}
 use Rattle.flow_show.proofs.TokenPieces.{Apart, name_piece, word_piece, sign_piece, open_round_ends, close_round_ends, open_curly_ends, close_curly_ends, semicolon_ends, space_ends}
 use Rattle.flow_show.proofs.Valid.{AllValid, valid_head, valid_tail, valid_left, valid_right}
@@ -321,10 +321,10 @@ mutual
             (λ y. record {
               marked = _;
               at = y.0;
-              make = λ r. TryStmt y.0 y.1.0.tree (record { name = x.name; at = y.1.1.1.1.1.1.0 }) y.1.1.1.1.1.1.1.1.tree r;
+              make = λ r. TryStmt y.0 y.1.0.tree y.1.1.0 (record { name = x.name; at = y.1.1.1.1.1.1.0 }) y.1.1.1.1.1.1.1.1.tree r;
               ends = false;
               rule = λ r. try_stmt y.0 y.1.1.0 y.1.1.1.0 y.1.1.1.1.0 y.1.1.1.1.1.0 y.1.1.1.1.1.1.1.0 (record { name = x.name; at = y.1.1.1.1.1.1.0 }) y.1.0.marked y.1.1.1.1.1.1.1.1.marked y.1.0.rule y.1.1.1.1.1.1.1.1.rule refl;
-              like = λ r h. λ i. TryStmt first_place (y.1.0.like i) (bare_ident x) (y.1.1.1.1.1.1.1.1.like i) (h i);
+              like = λ r h. λ i. TryStmt first_place (y.1.0.like i) first_place (bare_ident x) (y.1.1.1.1.1.1.1.1.like i) (h i);
               some = omega arith;
             })
             (λ y. refl) e (with_catch k x.name (body_text (suc k) b1) (body_text (suc k) b2));

@@ -2,26 +2,17 @@
 use Rattle.std.proofs.Common.{◌≡◌, ℕ, suc, ◌+◌, ◌<◌, ◌≤◌, List, [], ◌∷◌, ◌++◌, length, take, drop, get_or, refl, sym, ap, ap₂, ◌∙◌, arith, append_assoc}
 use Rattle.std.proofs.lemmas.List.{append-nil, take_more, drop_more, drop_all}
 use Rattle.std.specs.Prelude.{codes}
-use Rattle.flow_ast.specs.declared.ty.Ident.{Ident}
-use Rattle.flow_ast.specs.declared.expr.Expr.{Expr}
-use Rattle.flow_ast.specs.declared.stmt.Stmt.{Stmt}
-use Rattle.flow_ast.specs.declared.stmt.When.{When}
-use Rattle.flow_ast.specs.declared.decl.Param.{Param}
-use Rattle.flow_ast.specs.Decls.{RoutineTree}
-use Rattle.flow_ast.specs.View.{type_of, expr_of, exprs_of}
-use Rattle.flow_ast.specs.StmtView.{stmt_of, body_of, branch_of, branches_of}
-use Rattle.flow_ast.specs.DeclView.{params_of}
-use Rattle.flow_ast.specs.Canon.{quoted, indent, line, path_text, more_args_text, expr_text, named_text, fields_text, more_params_text, params_text, routine_text, body_text, branches_text, byte_text, inside_text}
-use Rattle.flow_trace.specs.Quote.{spelled_text, quoted as quoted_line}
+use Rattle.flow_tree.specs.declared.ty.Ident.{Ident}
+use Rattle.flow_tree.specs.declared.expr.Expr.{Expr}
+use Rattle.flow_tree.specs.declared.stmt.Stmt.{Stmt}
+use Rattle.flow_tree.specs.declared.stmt.When.{When}
+use Rattle.flow_tree.specs.declared.decl.Param.{Param}
+use Rattle.flow_tree.specs.Decls.{RoutineTree}
+use Rattle.flow_tree.specs.View.{type_of, expr_of, exprs_of}
+use Rattle.flow_tree.specs.StmtView.{stmt_of, body_of, branch_of, branches_of}
+use Rattle.flow_tree.specs.DeclView.{params_of}
+use Rattle.flow_tree.specs.Canon.{indent, line, path_text, more_args_text, expr_text, named_text, fields_text, more_params_text, params_text, routine_text, body_text, branches_text}
 use Rattle.flow_show.specs.Lines.{PutsBefore, PutsBranch, more_names_text, behind_result}
-
-same_inside : (t : List ℕ) → spelled_text t ≡ inside_text t
-same_inside [] = refl
-same_inside (b ∷ bs) = ap (λ l. byte_text b ++ l) (same_inside bs)
-
--- texts in quotes are spelled as in a trace
-pub same_quoted : (t : List ℕ) → quoted_line t ≡ quoted t
-same_quoted t = ap (λ l. 34 ∷ (l ++ 34 ∷ [])) (same_inside t)
 
 pub indent_more : (k : ℕ) → indent (k + 1) ≡ indent k ++ codes "    "
 indent_more k = let e : k + 1 ≡ suc k = omega arith in ap indent e

@@ -6,14 +6,14 @@ use Rattle.std.specs.Prelude.{◌&&◌, ◌||◌, eqb, nat_lt}
 use Rattle.std.specs.List.{list_all, prefix_len}
 use Rattle.flow_base.specs.declared.place.Place.{Place}
 use Rattle.flow_base.specs.Names.{letter, digit, name_byte, is_name_text}
-use Rattle.flow_ast.specs.declared.token.Token.TheVariants as token
-use Rattle.flow_ast.specs.declared.token.Token.TheVariants.{Name, Number, Text}
-use Rattle.flow_ast.specs.declared.token.Word as words
-use Rattle.flow_ast.specs.declared.token.Sign as signs
-use Rattle.flow_ast.specs.declared.token.Sign.TheVariants.{OpenRound, CloseRound, OpenCurly, CloseCurly, Less, Greater, Comma, Semicolon, Dot, Equal, NotEqual, LessEqual, GreaterEqual, AndAnd, OrOr, Not, Minus, PlusAssign, MinusAssign, PlusPlus, MinusMinus}
-use Rattle.flow_ast.specs.Spelling.{word_bytes, sign_bytes, begins_gap}
-use Rattle.flow_ast.specs.Lexing.{TokenAt}
-use Rattle.flow_ast.specs.GrammarToken.{Part, opens}
+use Rattle.flow_tree.specs.declared.token.Token.TheVariants as token
+use Rattle.flow_tree.specs.declared.token.Token.TheVariants.{Name, Number, Text}
+use Rattle.flow_tree.specs.declared.token.Word as words
+use Rattle.flow_tree.specs.declared.token.Sign as signs
+use Rattle.flow_tree.specs.declared.token.Sign.TheVariants.{OpenRound, CloseRound, OpenCurly, CloseCurly, Less, Greater, Comma, Semicolon, Dot, Equal, NotEqual, LessEqual, GreaterEqual, AndAnd, OrOr, Not, Minus, PlusAssign, MinusAssign, PlusPlus, MinusMinus}
+use Rattle.flow_tree.specs.Spelling.{word_bytes, sign_bytes, begins_gap}
+use Rattle.flow_tree.specs.Lexing.{TokenAt}
+use Rattle.flow_tree.specs.GrammarToken.{Part, opens}
 use Rattle.flow_lex.specs.Next.{sign_byte}
 use Rattle.flow_lex.proofs.Bytes.{and_left, and_right, both as both_true, true_false, word_is_name}
 use Rattle.flow_lex.proofs.Longest.{FoundName, finds_name}

@@ -1,14 +1,14 @@
 -- Tokens that some text has: valid names, numbers in range, short texts.
 use Rattle.std.proofs.Common.{◌≡◌, ℕ, ℤ, pos, ◌^◌, ◌≤◌, ◌<◌, List, [], ◌∷◌, ◌++◌, length, take, sym, ap, ◌∙◌, subst, arith, true}
-use Rattle.flow_ast.specs.declared.token.Spot.{Spot}
-use Rattle.flow_ast.specs.declared.token.Token.{Token}
-use Rattle.flow_ast.specs.declared.token.Token.TheVariants as token
-use Rattle.flow_ast.specs.declared.token.Token.TheVariants.{Name, Number, Text}
+use Rattle.flow_tree.specs.declared.token.Spot.{Spot}
+use Rattle.flow_tree.specs.declared.token.Token.{Token}
+use Rattle.flow_tree.specs.declared.token.Token.TheVariants as token
+use Rattle.flow_tree.specs.declared.token.Token.TheVariants.{Name, Number, Text}
 use Rattle.std.specs.Str.Parse.{digits_value}
 use Rattle.flow_base.specs.Names.{is_name_text}
-use Rattle.flow_ast.specs.Spelling.{Spells, IsBounded}
-use Rattle.flow_ast.specs.Lexing.{Reads, here, gap, token as and_token}
-use Rattle.flow_ast.specs.GrammarToken.{Part, Marked, begin, spots_of}
+use Rattle.flow_tree.specs.Spelling.{Spells, IsBounded}
+use Rattle.flow_tree.specs.Lexing.{Reads, here, gap, token as and_token}
+use Rattle.flow_tree.specs.GrammarToken.{Part, Marked, begin, spots_of}
 use Rattle.flow_show.proofs.TokenPieces.{IsNameToken}
 use Rattle.flow_show.proofs.ValuePieces.{Bytes, inside_bytes}
 

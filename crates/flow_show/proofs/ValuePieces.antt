@@ -1,5 +1,6 @@
 -- Numbers and quoted texts as pieces of a text.
 use Rattle.std.proofs.Common.{◌≡◌, ℕ, pos, zero, suc, ◌+◌, ◌/◌, ◌%◌, ◌^◌, ◌≤◌, ◌<◌, List, [], ◌∷◌, ◌++◌, length, take, get_or, refl, sym, ap, ◌∙◌, subst, arith, append_assoc, length-append, Bool, true, false, decimal, Some}
+use Rattle.flow_base.specs.Quote.{hex_digit, spelled_byte, spelled_text, quoted}
 use Rattle.std.proofs.Math.Seq.{take-append_seam}
 use Rattle.std.proofs.lemmas.Bool.Decides.{nat_tests}
 use Rattle.std.proofs.lemmas.Fmt.{decimal_is_IsNumeral, first_decimal, decimal_by_steps}
@@ -9,11 +10,10 @@ use Rattle.std.specs.Str.Parse.{AllDigits, digits_value}
 use Rattle.std.specs.List.{list_all, prefix_len}
 use Rattle.flow_base.specs.declared.place.Place.{Place}
 use Rattle.flow_base.specs.Names.{digit, name_byte}
-use Rattle.flow_ast.specs.declared.token.Token.TheVariants.{Number, Text}
-use Rattle.flow_ast.specs.Spelling.{plain_byte, escaped, hex_value, Piece as Spelled, itself, escape, code, Inside, empty, piece, begins_gap, IsLongest}
-use Rattle.flow_ast.specs.Lexing.{TokenAt}
-use Rattle.flow_ast.specs.GrammarToken.{Part, opens}
-use Rattle.flow_ast.specs.Canon.{hex_digit, byte_text, inside_text, quoted}
+use Rattle.flow_tree.specs.declared.token.Token.TheVariants.{Number, Text}
+use Rattle.flow_tree.specs.Spelling.{plain_byte, escaped, hex_value, Piece as Spelled, itself, escape, code, Inside, empty, piece, begins_gap, IsLongest}
+use Rattle.flow_tree.specs.Lexing.{TokenAt}
+use Rattle.flow_tree.specs.GrammarToken.{Part, opens}
 use Rattle.flow_lex.specs.Next.{FoundNumber}
 use Rattle.flow_lex.proofs.Bytes.{and_left, and_right, both as both_true}
 use Rattle.flow_lex.proofs.Numbers.{finds_zero, finds_number}
@@ -130,7 +130,7 @@ is_other b c h e = grind (arith, nat_tests)
 printable_plain : (b : ℕ) → (b ≡ 34 → ⊥) → (b ≡ 92 → ⊥) → (nat_le 32 b && nat_le b 126) ≡ true → plain_byte b ≡ true
 printable_plain b q s h = grind (arith, nat_tests)
 
-byte_piece : (b : ℕ) → b < 256 → Spelled (byte_text b) b
+byte_piece : (b : ℕ) → b < 256 → Spelled (spelled_byte b) b
 byte_piece b lt =
     either (b == 10) _ _ b (λ h. escape 110 (ap Some (is_equal b 10 h)) refl) (λ h.
     either (b == 9) _ _ b (λ h. escape 116 (ap Some (is_equal b 9 h)) refl) (λ h.
@@ -139,19 +139,19 @@ byte_piece b lt =
     either (nat_le 32 b && nat_le b 126) _ _ b (λ h. itself (printable_plain b (is_other b 34 quote) (is_other b 92 slash) h) refl) (λ h.
     code (hex_digit (b / 16)) (hex_digit (b % 16)) (b / 16) (b % 16) (hex_back (b / 16) (omega arith)) (hex_back (b % 16) (omega arith)) refl (omega arith))))))
 
-pub inside_of : {t : List ℕ} → Bytes t → Inside (inside_text t) t
+pub inside_of : {t : List ℕ} → Bytes t → Inside (spelled_text t) t
 inside_of none = empty
-inside_of (more {b} {bs} lt rest) = piece (byte_text b) (inside_text bs) b (byte_piece b lt) refl (inside_of rest)
+inside_of (more {b} {bs} lt rest) = piece (spelled_byte b) (spelled_text bs) b (byte_piece b lt) refl (inside_of rest)
 
-quoted_size : (t : List ℕ) → length (quoted t) ≡ length (inside_text t) + 2
-quoted_size t = omega (arith, length-append (inside_text t) (34 ∷ []))
+quoted_size : (t : List ℕ) → length (quoted t) ≡ length (spelled_text t) + 2
+quoted_size t = omega (arith, length-append (spelled_text t) (34 ∷ []))
 
 quoted_found : (t rest : List ℕ) → Bytes t → TokenAt (quoted t ++ rest) (Text t) (length (quoted t))
 quoted_found t rest small = record {
-  apart = gap ((inside_text t ++ 34 ∷ []) ++ rest);
+  apart = gap ((spelled_text t ++ 34 ∷ []) ++ rest);
   within = omega (arith, length-append (quoted t) rest);
-  spelled = (inside_text t, take-append_seam (quoted t) rest, inside_of small);
-  longest = subst (λ n. Longest n) (sym (quoted_size t)) (text_longest (quoted t ++ rest) (inside_text t) t rest (ap (λ x. 34 ∷ x) (append_assoc (inside_text t) (34 ∷ []) rest)) (inside_of small));
+  spelled = (spelled_text t, take-append_seam (quoted t) rest, inside_of small);
+  longest = subst (λ n. Longest n) (sym (quoted_size t)) (text_longest (quoted t ++ rest) (spelled_text t) t rest (ap (λ x. 34 ∷ x) (append_assoc (spelled_text t) (34 ∷ []) rest)) (inside_of small));
 }
   where
     Longest : ℕ → Type 0

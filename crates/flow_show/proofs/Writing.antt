@@ -4,9 +4,9 @@ use Rattle.std.specs.Io.KnownBytes.{Appends}
 use Rattle.std.proofs.KnownBytes.{Appends-trans}
 use Rattle.std.proofs.lemmas.List.{append-nil, take-append-drop, take_more, drop_more, take_rest}
 use Rattle.flow_base.specs.Bytes.{AppendsPart}
-use Rattle.flow_ast.specs.declared.decl.Decl.{Decl}
-use Rattle.flow_ast.specs.DeclView.{decl_of}
-use Rattle.flow_ast.specs.Canon.{decl_text, decls_text}
+use Rattle.flow_tree.specs.declared.decl.Decl.{Decl}
+use Rattle.flow_tree.specs.DeclView.{decl_of}
+use Rattle.flow_tree.specs.Canon.{decl_text, decls_text}
 
 -- a part of what follows was written
 pub part_behind : (a b c : Option (List ℕ)) (all done piece rest : List ℕ) → all ≡ done ++ (piece ++ rest) → Appends a b done → AppendsPart b c piece → AppendsPart a c all

@@ -1,12 +1,12 @@
 -- What holds of every canonical text.
 use Rattle.std.specs.Prelude.{◌≡◌, ℕ, List}
 use Rattle.flow_base.specs.declared.place.Place.{Place}
-use Rattle.flow_ast.specs.declared.token.Spot.{Spot}
-use Rattle.flow_ast.specs.Decls.{ProgramTree}
-use Rattle.flow_ast.specs.Lexing.{Lexes}
-use Rattle.flow_ast.specs.GrammarToken.{Derives}
-use Rattle.flow_ast.specs.GrammarDecl.{ProgramRule}
-use Rattle.flow_ast.specs.Canon.{Canon, bare}
+use Rattle.flow_tree.specs.declared.token.Spot.{Spot}
+use Rattle.flow_tree.specs.Decls.{ProgramTree}
+use Rattle.flow_tree.specs.Lexing.{Lexes}
+use Rattle.flow_tree.specs.GrammarToken.{Derives}
+use Rattle.flow_tree.specs.GrammarDecl.{ProgramRule}
+use Rattle.flow_tree.specs.Canon.{Canon, bare}
 
 -- equal programs have one text, places aside
 abbrev pub OneText : Type 0

@@ -2,10 +2,10 @@
 use Rattle.std.specs.Prelude.{◌≡◌, ℕ, suc, List, [], ◌∷◌, ◌++◌, codes}
 use Rattle.std.specs.declared.option.Option.{Option}
 use Rattle.std.specs.declared.option.Option.TheVariants.{None, Some}
-use Rattle.flow_ast.specs.declared.ty.Ident.{Ident}
-use Rattle.flow_ast.specs.Body.{Body, Branches}
-use Rattle.flow_ast.specs.Decls.{ParamTree}
-use Rattle.flow_ast.specs.Canon.{line, body_text, branches_text, params_text}
+use Rattle.flow_tree.specs.declared.ty.Ident.{Ident}
+use Rattle.flow_tree.specs.Body.{Body, Branches}
+use Rattle.flow_tree.specs.Decls.{ParamTree}
+use Rattle.flow_tree.specs.Canon.{line, body_text, branches_text, params_text}
 
 -- The text grows by a statement at this level: with the text of any body behind it, it is what it was,
 -- with the text of the body that the statement and these make.

@@ -1,18 +1,18 @@
 // The texts of declarations.
 
 ghost use Rattle.std.specs.Prelude.{◌≡◌, ◌++◌, codes, IfOk};
-ghost use Rattle.flow_ast.specs.View.{type_of};
-ghost use Rattle.flow_ast.specs.StmtView.{body_of};
-ghost use Rattle.flow_ast.specs.DeclView.{params_of, record_of, function_of, actor_of, decl_of};
-ghost use Rattle.flow_ast.specs.Decls.{StructDecl};
+ghost use Rattle.flow_tree.specs.View.{type_of};
+ghost use Rattle.flow_tree.specs.StmtView.{body_of};
+ghost use Rattle.flow_tree.specs.DeclView.{params_of, record_of, function_of, actor_of, decl_of};
+ghost use Rattle.flow_tree.specs.Decls.{StructDecl};
 ghost use Rattle.flow_show.specs.Lines.{behind_result};
-ghost use Rattle.flow_ast.specs.Canon.{type_text, fields_text, more_params_text, params_text, routine_text, decl_text};
+ghost use Rattle.flow_tree.specs.Canon.{type_text, fields_text, more_params_text, params_text, routine_text, decl_text};
 
 use crate::source::Source;
-use flow_ast::decl::{ActorDecl, Decl, FunctionDecl, Param, RecordDecl};
-use flow_ast::stmt::Stmt;
-use flow_ast::ty::Ident;
 use flow_base::memory::NoMemory;
+use flow_tree::decl::{ActorDecl, Decl, FunctionDecl, Param, RecordDecl};
+use flow_tree::stmt::Stmt;
+use flow_tree::ty::Ident;
 
 impl Source {
     fn put_fields(&mut self, fields: &[Param]) -> Result<(), NoMemory>

@@ -1,15 +1,15 @@
 // The texts of types and expressions.
 
 ghost use Rattle.std.specs.Prelude.{◌≡◌, ◌++◌, codes, IfOk};
-ghost use Rattle.flow_ast.specs.View.{type_of, expr_of, exprs_of};
-ghost use Rattle.flow_ast.specs.Grammar.{op_sign};
-ghost use Rattle.flow_ast.specs.Canon.{type_text, bool_text, minus_gap, expr_text, args_text, more_args_text};
+ghost use Rattle.flow_tree.specs.View.{type_of, expr_of, exprs_of};
+ghost use Rattle.flow_tree.specs.Grammar.{op_sign};
+ghost use Rattle.flow_tree.specs.Canon.{type_text, bool_text, minus_gap, expr_text, args_text, more_args_text};
 
 use crate::source::Source;
-use flow_ast::expr::{Expr, Op};
-use flow_ast::token::Sign;
-use flow_ast::ty::Ty;
 use flow_base::memory::NoMemory;
+use flow_tree::expr::{Expr, Op};
+use flow_tree::token::Sign;
+use flow_tree::ty::Ty;
 use itoa::Buffer;
 
 // The sign between two operands.

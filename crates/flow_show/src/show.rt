@@ -4,15 +4,15 @@ ghost use Rattle.std.specs.Prelude.{◌≡◌, ◌<◌, ◌≤◌, length, IfOk,
 ghost use Rattle.std.specs.Io.KnownBytes.{Appends};
 ghost use Rattle.flow_base.specs.Bytes.{AppendsPart};
 ghost use Rattle.flow_base.specs.Faults.{HasCause};
-ghost use Rattle.flow_ast.specs.DeclView.{decl_of, program_of};
-ghost use Rattle.flow_ast.specs.Canon.{decl_text, decls_text, Canon};
+ghost use Rattle.flow_tree.specs.DeclView.{decl_of, program_of};
+ghost use Rattle.flow_tree.specs.Canon.{decl_text, decls_text, Canon};
 
 use crate::source::Source;
-use flow_ast::decl::{Decl, Program};
 use flow_base::fault::OutFault;
 use flow_base::memory::NoMemory;
 use flow_base::output::write_whole;
 use flow_base::sink::Sink;
+use flow_tree::decl::{Decl, Program};
 use std::alloc::Global;
 
 /// The canonical text of a program.
@@ -30,9 +30,9 @@ pub fn show(alloc: Global, program: &Program) -> Result<Vec<u8>, NoMemory>
 /// What was written is always a first part of the text. `Failed` comes only where the sink's count
 /// rose. One declaration at a time is held in memory.
 pub fn show_lines<S: Sink>(alloc: Global, program: &Program, out: &mut S) -> Result<(), OutFault>
-    ensures whole { OnOk result (Appends (S.written out.old) (S.written out.new) (Canon (program_of program.now))) }
-    ensures part { AppendsPart (S.written out.old) (S.written out.new) (Canon (program_of program.now)) }
-    ensures cause { HasCause (S.faults out.old) (S.faults out.new) result }
+    ensures whole { OnOk result (Appends (S.seen out.old).written (S.seen out.new).written (Canon (program_of program.now))) }
+    ensures part { AppendsPart (S.seen out.old).written (S.seen out.new).written (Canon (program_of program.now)) }
+    ensures cause { HasCause (S.seen out.old).faults (S.seen out.new).faults result }
 {
     for decl in &program.decls {
         let Ok(text) = show_decl(alloc, decl) else {
@@ -69,9 +69,9 @@ fn line_length(text: &[u8]) -> usize
 /// Writes a text, each line of it by one call where the sink takes it whole. What was written is
 /// always a first part of the text. `Failed` comes only where the sink's count rose.
 pub fn write_lines<S: Sink>(out: &mut S, text: &[u8]) -> Result<(), OutFault>
-    ensures whole { OnOk result (Appends (S.written out.old) (S.written out.new) text.now) }
-    ensures part { AppendsPart (S.written out.old) (S.written out.new) text.now }
-    ensures cause { HasCause (S.faults out.old) (S.faults out.new) result }
+    ensures whole { OnOk result (Appends (S.seen out.old).written (S.seen out.new).written text.now) }
+    ensures part { AppendsPart (S.seen out.old).written (S.seen out.new).written text.now }
+    ensures cause { HasCause (S.seen out.old).faults (S.seen out.new).faults result }
 {
     let mut rest = text;
     while !rest.is_empty() {

@@ -1,7 +1,8 @@
 // A text that grows at its end.
 
 ghost use Rattle.std.specs.Prelude.{◌≡◌, suc, [], ◌++◌, codes, IfOk};
-ghost use Rattle.flow_ast.specs.Canon.{quoted, indent};
+ghost use Rattle.flow_base.specs.Quote.{quoted};
+ghost use Rattle.flow_tree.specs.Canon.{indent};
 
 use flow_base::memory::NoMemory;
 use flow_trace::quote::quote;
@@ -50,7 +51,6 @@ impl Source {
     }
 
     /// A text in quotes.
-    #[tactic(auto, using(crate::proofs::Texts::same_quoted))]
     pub fn put_quoted(&mut self, text: &[u8]) -> Result<(), NoMemory>
         ensures { IfOk result (λ _. self.new ≡ self.old ++ quoted text.now) }
     {

@@ -2,17 +2,17 @@
 
 ghost use Rattle.std.specs.Prelude.{◌≡◌, suc, ◌++◌, ◌∷◌, [], codes, map, IfOk, if◌then◌else◌};
 ghost use Rattle.std.specs.Option.{option_map};
-ghost use Rattle.flow_ast.specs.View.{type_of, expr_of, exprs_of};
-ghost use Rattle.flow_ast.specs.StmtView.{into_of, waiting_of, change_of, kind_of, stmt_of, body_of, branch_of, branches_of, simple_of, else_of};
-ghost use Rattle.flow_ast.specs.Canon.{line, expr_text, named_text, into_text, into_part, waiting_text, maybe_text, path_text, declare_text, assign_text, change_text, modify_text, call_text, part_text, body_text, branches_text};
-ghost use Rattle.flow_ast.specs.Body.{End};
+ghost use Rattle.flow_tree.specs.View.{type_of, expr_of, exprs_of};
+ghost use Rattle.flow_tree.specs.StmtView.{into_of, waiting_of, change_of, kind_of, stmt_of, body_of, branch_of, branches_of, simple_of, else_of};
+ghost use Rattle.flow_tree.specs.Canon.{line, expr_text, named_text, into_text, into_part, waiting_text, maybe_text, path_text, declare_text, assign_text, change_text, modify_text, call_text, part_text, body_text, branches_text};
+ghost use Rattle.flow_tree.specs.Body.{End};
 ghost use Rattle.flow_show.specs.Lines.{PutsBefore, PutsBranch, else_text, handler_text, more_names_text};
 
 use crate::source::Source;
-use flow_ast::expr::Expr;
-use flow_ast::stmt::{Change, Into, Stmt, StmtKind, Target, Waiting, When};
-use flow_ast::ty::{Ident, Ty};
 use flow_base::memory::NoMemory;
+use flow_tree::expr::Expr;
+use flow_tree::stmt::{Change, Into, Stmt, StmtKind, Target, Waiting, When};
+use flow_tree::ty::{Ident, Ty};
 
 // One level further in. No tree that memory holds has so many levels that there is none.
 fn inner(level: usize) -> Result<usize, NoMemory>
@@ -393,7 +393,7 @@ impl Source {
                 self.put_throw(level, error)?;
                 Ok(())
             }
-            StmtKind::Try(body, error, handler) => {
+            StmtKind::Try(body, _, error, handler) => {
                 self.put_line(level, b"try {")?;
                 self.put_deeper(level, body)?;
                 self.put_handler(level, error, handler)?;

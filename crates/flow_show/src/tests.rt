@@ -3,16 +3,16 @@
 ghost use Rattle.flow_base.specs.Names.{IsName};
 
 use crate::show::{show, show_lines};
-use flow_ast::decl::{ActorDecl, Decl, FunctionDecl, Param, Program, RecordDecl};
-use flow_ast::expr::{Expr, Op};
-use flow_ast::stmt::{Change, Into, Stmt, StmtKind, Target, Waiting, When};
-use flow_ast::ty::{Ident, Ty};
 use flow_base::fault::OutFault;
 use flow_base::mem_sink::MemSink;
 use flow_base::memory::NoMemory;
 use flow_base::name::Name;
 use flow_base::place::Place;
 use flow_base::text::Text;
+use flow_tree::decl::{ActorDecl, Decl, FunctionDecl, Param, Program, RecordDecl};
+use flow_tree::expr::{Expr, Op};
+use flow_tree::stmt::{Change, Into, Stmt, StmtKind, Target, Waiting, When};
+use flow_tree::ty::{Ident, Ty};
 use std::alloc::Global;
 use std::process::Abort;
 use std::test::Fail;
@@ -339,6 +339,7 @@ fn writes_bodies(rt: HostRuntime) -> Result<(), NoMemory> {
         alloc,
         StmtKind::Try(
             stmts(alloc, [send(alloc)?])?,
+            START,
             ident(alloc, b"e")?,
             stmts(alloc, [StmtKind::Throw(None)])?,
         ),

@@ -1,60 +1,72 @@
 -- What was decided, from what was read.
-use Rattle.std.proofs.Common.{◌≡◌, ℕ, ◌≤◌, List, [], ◌∷◌, ◌++◌, map, length, get_or, refl, sym, ap, ap₂, ◌∙◌, subst, arith, rules, true, append_assoc, inl, inr, Ok, Err, Option, None, Some, Vec, Global}
+use Rattle.std.proofs.Common.{◌≡◌, ◌≢◌, ℕ, ◌+◌, ◌≤◌, List, [], ◌∷◌, ◌++◌, ◌⊎◌, Bool, true≢false, map, length, get_or, refl, sym, ap, ap₂, ◌∙◌, subst, arith, rules, true, false, append_assoc, inl, inr, Ok, Err, Option, None, Some, Vec, Global}
 use Rattle.std.specs.Prelude.{MatchOption, bytes_eq}
+use Rattle.std.specs.Io.KnownBytes.{Consumes}
+use Rattle.std.specs.Prelude.{Decides}
 use Rattle.std.proofs.lemmas.Slice.Eq.{bytes_eq-Decides}
 use Rattle.std.proofs.lemmas.List.{append-nil}
-use Rattle.flow_base.specs.Faults.{Rose}
+use Rattle.flow_tree.specs.declared.limits.TheConstants.{PROGRAM_BYTES}
+use Rattle.flow_base.specs.Faults.{Counts, next_count}
+use Rattle.flow_base.specs.Seen.{FilesSeen, MovesOnly, ReadsWithin, opened, unopened}
 use Rattle.flow_base.specs.Asked.{AsksOnce}
 use Rattle.flow_base.specs.declared.fault.OutFault.{OutFault}
 use Rattle.flow_base.specs.declared.fault.OutFault.TheVariants as fault
 use Rattle.flow_base.specs.declared.fault.OutFault.TheVariants.{Failed}
-use Rattle.flow_ast.specs.declared.decl.Program.{Program}
-use Rattle.flow_ast.specs.declared.fault.SourceFault.{SourceFault}
-use Rattle.flow_ast.specs.declared.fault.SourceFault.TheVariants as source
-use Rattle.flow_ast.specs.DeclView.{program_of}
+use Rattle.flow_tree.specs.declared.decl.Program.{Program}
+use Rattle.flow_tree.specs.declared.fault.SourceFault.{SourceFault}
+use Rattle.flow_tree.specs.declared.fault.SourceFault.TheVariants as source
+use Rattle.flow_tree.specs.DeclView.{program_of}
 use Rattle.flow_top.specs.declared.outcome.Outcome.{Outcome}
 use Rattle.flow_top.specs.declared.outcome.Outcome.TheVariants.{Formatted}
 use Rattle.flow_top.specs.Words.{AreFormat, AreRun, NameProgram, of_run}
 use Rattle.flow_top.specs.Source.{Verdict}
 use Rattle.flow_top.specs.Form.{PrintsOnly}
-use Rattle.flow_top.specs.Run.{IsText, HasProgram, HasPrints, refused, formatted, none, program, both, Loaded, is_accepted, is_refused, is_unread, is_starved, Decided, due, read_fault, no_memory, outcome_of, refusal_outcome_of}
+use Rattle.flow_top.specs.Run.{IsText, HasProgram, HasPrints, AsksNames, refused, formatted, none, program, both, Loaded, is_accepted, is_refused, is_unread, unasked, starved, Decided, due, read_fault, no_memory, outcome_of, refusal_outcome_of}
 
-pub two_names : (asked asked' asked'' : List (List ℕ)) (p w : List ℕ) → asked' ≡ asked ++ p ∷ [] → asked'' ≡ asked' ++ w ∷ [] → asked'' ≡ asked ++ p ∷ (w ∷ [])
-two_names asked asked' asked'' p w e f = f ∙ ap (λ l. l ++ w ∷ []) e ∙ append_assoc asked (p ∷ []) (w ∷ [])
+-- one name was asked for, or none
+pub asks : {before after : FilesSeen} {name : List ℕ} → after.asked ≡ before.asked ++ name ∷ [] → ReadsWithin (PROGRAM_BYTES + 1) name before after
+    → AsksNames before after (name ∷ [])
+asks e within = record { asked = e; within = (within, tt) }
 
-pub rose_later : (a b c : ℕ) → a ≤ b → Rose b c → Rose a c
-rose_later a b c le r = omega arith
+pub asks_none : {before after : FilesSeen} → after.asked ≡ before.asked → AsksNames before after []
+asks_none e = record { asked = e ∙ sym (append-nil _); within = tt }
 
 -- the program couldn't be read, or it isn't accepted
-pub unread : (T : Type 0) {content : List ℕ → Option (List ℕ)} {asked asked' : List (List ℕ)} {f f' : ℕ} {name : List ℕ} {outcome : Outcome} (fault : OutFault)
-    → outcome ≡ outcome_of fault → AsksOnce {T = T} asked asked' name (Err fault) → (fault ≡ Failed → Rose f f') → Loaded content asked asked' f f' name (Err outcome)
-unread T {content = k} {asked = a} {asked' = a'} {f = f} {f' = f'} {name = n} Failed o e r = subst (λ x. Loaded k a a' f f' n (Err x)) (sym o) (is_unread e (r refl))
-unread T {content = k} {asked = a} {asked' = a'} {f = f} {f' = f'} {name = n} fault.OutOfMemory o e r = subst (λ x. Loaded k a a' f f' n (Err x)) (sym o) (is_starved e)
+pub unread : (T : Type 0) {before after : FilesSeen} {name : List ℕ} {outcome : Outcome} (fault : OutFault) → outcome ≡ outcome_of fault
+    → AsksOnce {T = T} before.asked after.asked name (Err fault) → ReadsWithin (PROGRAM_BYTES + 1) name before after
+    → Counts {T = T} before.faults after.faults (Err fault) → Loaded name before after (Err outcome)
+unread T {before = b} {after = a} {name = n} Failed o e within counted = subst (λ x. Loaded n b a (Err x)) (sym o) (is_unread (asks e within) counted)
+unread T {before = b} {after = a} {name = n} fault.OutOfMemory o (inl e) within counted = subst (λ x. Loaded n b a (Err x)) (sym o) (unasked (asks_none e) counted)
+unread T {before = b} {after = a} {name = n} fault.OutOfMemory o (inr e) within counted = subst (λ x. Loaded n b a (Err x)) (sym o) (starved (asks e within) counted)
 
-pub judged : {content : List ℕ → Option (List ℕ)} {asked asked' : List (List ℕ)} {f f' : ℕ} {name : List ℕ} {outcome : Outcome} (text : List ℕ) (fault : SourceFault)
-    → outcome ≡ refusal_outcome_of fault → IsText content name text → Verdict text (Err fault) → asked' ≡ asked ++ name ∷ [] → Loaded content asked asked' f f' name (Err outcome)
-judged {content = k} {asked = a} {asked' = a'} {f = f} {f' = f'} {name = n} text (source.Refused rule at) o is v e = subst (λ x. Loaded k a a' f f' n (Err x)) (sym o) (is_refused text rule at is v e)
-judged text (source.AcrossWait at declared wait) o is v e = absurd v
-judged {content = k} {asked = a} {asked' = a'} {f = f} {f' = f'} {name = n} text source.OutOfMemory o is v e = subst (λ x. Loaded k a a' f f' n (Err x)) (sym o) (is_starved (inr e))
+pub judged : {before after : FilesSeen} {name : List ℕ} {outcome : Outcome} (text : List ℕ) (fault : SourceFault) → outcome ≡ refusal_outcome_of fault
+    → IsText before.content name text → Verdict text (Err fault) → AsksNames before after (name ∷ []) → after.faults ≡ before.faults
+    → Loaded name before after (Err outcome)
+judged {before = b} {after = a} {name = n} text (source.Refused rule at) o is v asked same = subst (λ x. Loaded n b a (Err x)) (sym o) (is_refused text rule at is v asked same)
+judged text (source.AcrossWait at declared wait) o is v asked same = absurd v
+judged {before = b} {after = a} {name = n} text source.OutOfMemory o is v asked same = subst (λ x. Loaded n b a (Err x)) (sym o) (starved asked same)
 
 -- then the command goes no further
-pub without_program : {outcome : Outcome} {words : List (List ℕ)} {content : List ℕ → Option (List ℕ)} {asked asked' : List (List ℕ)} {f f' : ℕ} {name : List ℕ}
-    → NameProgram words name → Loaded content asked asked' f f' name (Err outcome) → Decided words content asked asked' f f' outcome
-without_program {name = name} named (is_refused text rule at is why e) = due _ _ (refused name text rule at named is why) e
-without_program {name = name} named (is_unread e r) = read_fault (name ∷ []) (program name named) e r
-without_program named (is_starved (inl e)) = no_memory [] none (e ∙ sym (append-nil _))
-without_program {name = name} named (is_starved (inr e)) = no_memory (name ∷ []) (program name named) e
+pub without_program : {outcome : Outcome} {words : List (List ℕ)} {before after : FilesSeen} {name : List ℕ}
+    → NameProgram words name → Loaded name before after (Err outcome) → Decided words before after outcome
+without_program {name = name} named (is_refused text rule at is why asked same) = due _ _ (refused name text rule at named is why) asked same
+without_program {name = name} named (is_unread asked counted) = read_fault (name ∷ []) (program name named) asked counted
+without_program named (unasked asked same) = no_memory [] none asked same
+without_program {name = name} named (starved asked same) = no_memory (name ∷ []) (program name named) asked same
 
-pub formats : {words : List (List ℕ)} {content : List ℕ → Option (List ℕ)} {asked asked' : List (List ℕ)} {f f' : ℕ} {name : List ℕ} {p : Program}
-    → AreFormat words name → Loaded content asked asked' f f' name (Ok p) → Decided words content asked asked' f f' (Formatted p)
-formats {name = name} {p = p} are (is_accepted q has e) = due _ _ (formatted name p are has) e
+pub formats : {words : List (List ℕ)} {before after : FilesSeen} {name : List ℕ} {p : Program}
+    → AreFormat words name → Loaded name before after (Ok p) → Decided words before after (Formatted p)
+formats {name = name} {p = p} are (is_accepted q has asked same) = due _ _ (formatted name p are has) asked same
 
 -- what an accepted program comes to by its form
-pub has_program : {content : List ℕ → Option (List ℕ)} {asked asked' : List (List ℕ)} {f f' : ℕ} {name : List ℕ} {p : Program} → Loaded content asked asked' f f' name (Ok p) → HasProgram content name p
-has_program (is_accepted q has e) = has
+pub has_program : {before after : FilesSeen} {name : List ℕ} {p : Program} → Loaded name before after (Ok p) → HasProgram before.content name p
+has_program (is_accepted q has asked same) = has
 
-pub was_asked : {content : List ℕ → Option (List ℕ)} {asked asked' : List (List ℕ)} {f f' : ℕ} {name : List ℕ} {p : Program} → Loaded content asked asked' f f' name (Ok p) → asked' ≡ asked ++ name ∷ []
-was_asked (is_accepted q has e) = e
+pub was_asked : {before after : FilesSeen} {name : List ℕ} {p : Program} → Loaded name before after (Ok p) → AsksNames before after (name ∷ [])
+was_asked (is_accepted q has asked same) = asked
+
+pub no_fault : {before after : FilesSeen} {name : List ℕ} {p : Program} → Loaded name before after (Ok p) → after.faults ≡ before.faults
+no_fault (is_accepted q has asked same) = same
 
 -- what the form of a program says
 abbrev FormIs : Program → Option (Vec (List ℕ) Global) → Type 0
@@ -66,16 +78,79 @@ form_none p o e h = subst (FormIs p) e h
 pub form_some : {content : List ℕ → Option (List ℕ)} {name : List ℕ} (p : Program) (o : Option (Vec (List ℕ) Global)) (v : Vec (List ℕ) Global) → HasProgram content name p → o ≡ Some v → FormIs p o → HasPrints content name v.items
 form_some p o v has e h = record { program = p; has = has; form = subst (FormIs p) e h }
 
+-- two names are equal, or they are apart
+equal_or_apart : (r : Bool) (a b : List ℕ) → Decides r (a ≡ b) → (a ≡ b) ⊎ (a ≢ b)
+equal_or_apart true a b d = inl (d.0 refl)
+equal_or_apart false a b d = inr (λ e. true≢false (sym (d.1 e)))
+
+-- where the position of a name stays, what was read of it stays
+kept : {n : ℕ} (name : List ℕ) (before mid after : FilesSeen) → after.left name ≡ mid.left name → ReadsWithin n name before mid → ReadsWithin n name before after
+kept name before mid after e (opened bytes short read) = opened bytes short (subst (λ left. Consumes (before.content name) left bytes) (sym e) read)
+kept name before mid after e (unopened same) = unopened (e ∙ same)
+
+-- a name that was read twice
+again : {n : ℕ} (name : List ℕ) (before mid after : FilesSeen) → mid.content ≡ before.content
+    → ReadsWithin n name before mid → ReadsWithin n name mid after → ReadsWithin n name before after
+again name before mid after content first (opened bytes short read) = opened bytes short (subst (λ k. Consumes (k name) (after.left name) bytes) content read)
+again name before mid after content first (unopened same) = kept name before mid after same first
+
+-- a reading that another one follows
+first_by : {n : ℕ} (name other : List ℕ) (before mid after : FilesSeen) → (name ≡ other) ⊎ (name ≢ other) → mid.content ≡ before.content → MovesOnly other mid after
+    → ReadsWithin n name before mid → ReadsWithin n other mid after → ReadsWithin n name before after
+first_by {n} name other before mid after (inl same) content moves first second =
+    again name before mid after content first (subst (λ k. ReadsWithin n k mid after) (sym same) second)
+first_by name other before mid after (inr apart) content moves first second = kept name before mid after (moves name apart) first
+
+-- a reading that follows another one
+second_by : {n : ℕ} (name other : List ℕ) (before mid after : FilesSeen) → (other ≡ name) ⊎ (other ≢ name) → mid.content ≡ before.content → MovesOnly name before mid
+    → ReadsWithin n name before mid → ReadsWithin n other mid after → ReadsWithin n other before after
+second_by {n} name other before mid after (inl same) content moves first second =
+    again other before mid after content (subst (λ k. ReadsWithin n k before mid) (sym same) first) second
+second_by name other before mid after (inr apart) content moves first (opened bytes short read) =
+    opened bytes short (subst (λ k. Consumes (k other) (after.left other) bytes) content read)
+second_by name other before mid after (inr apart) content moves first (unopened same) = unopened (same ∙ moves other apart)
+
+-- The world's file is read after the program's: what is known in between.
+pub record Between (name world : List ℕ) (before mid after : FilesSeen) : Type 0 where
+  pub content : mid.content ≡ before.content
+  pub asked : AsksNames before mid (name ∷ [])
+  pub others : MovesOnly name before mid
+  pub others_then : MovesOnly world mid after
+  pub within_then : ReadsWithin 1 world mid after
+
+wider : {name : List ℕ} {before after : FilesSeen} → ReadsWithin 1 name before after → ReadsWithin (PROGRAM_BYTES + 1) name before after
+wider (opened bytes short read) = opened bytes (omega (arith, short)) read
+wider (unopened same) = unopened same
+
+first_within : (name world : List ℕ) (before mid after : FilesSeen) → Between name world before mid after → ReadsWithin (PROGRAM_BYTES + 1) name before after
+first_within name world before mid after b =
+    first_by name world before mid after (equal_or_apart _ name world (bytes_eq-Decides name world)) b.content b.others_then b.asked.within.0 (wider b.within_then)
+
+second_within : (name world : List ℕ) (before mid after : FilesSeen) → Between name world before mid after → ReadsWithin (PROGRAM_BYTES + 1) world before after
+second_within name world before mid after b =
+    second_by name world before mid after (equal_or_apart _ world name (bytes_eq-Decides world name)) b.content b.others b.asked.within.0 (wider b.within_then)
+
+pub asks_first : (name world : List ℕ) (before mid after : FilesSeen) → Between name world before mid after → after.asked ≡ mid.asked
+    → AsksNames before after (name ∷ [])
+asks_first name world before mid after b e = asks (e ∙ b.asked.asked) (first_within name world before mid after b)
+
+pub asks_both : (name world : List ℕ) (before mid after : FilesSeen) → Between name world before mid after → after.asked ≡ mid.asked ++ world ∷ []
+    → AsksNames before after (name ∷ (world ∷ []))
+asks_both name world before mid after b e = record {
+  asked = e ∙ ap (λ l. l ++ world ∷ []) b.asked.asked ∙ append_assoc before.asked (name ∷ []) (world ∷ []);
+  within = (first_within name world before mid after b, (second_within name world before mid after b, tt));
+}
+
 -- a fault at the world
-pub world_fault : (T : Type 0) {words : List (List ℕ)} {content : List ℕ → Option (List ℕ)} {asked asked' asked'' : List (List ℕ)} {f f' f'' : ℕ} {name world : List ℕ} {outcome : Outcome} (texts : List (List ℕ)) (fault : OutFault)
-    → outcome ≡ outcome_of fault → AreRun words name world → HasPrints content name texts → asked' ≡ asked ++ name ∷ [] → f ≤ f' → AsksOnce {T = T} asked' asked'' world (Err fault) → (fault ≡ Failed → Rose f' f'')
-    → Decided words content asked asked'' f f'' outcome
-world_fault T {words = ws} {content = k} {asked = a} {asked' = a'} {asked'' = a''} {f = f} {f' = f'} {f'' = f''} {name = n} {world = w} texts Failed o are has e le q r =
-    subst (λ x. Decided ws k a a'' f f'' x) (sym o) (read_fault (n ∷ (w ∷ [])) (both n w texts are has) (two_names a a' a'' n w e q) (rose_later f f' f'' le (r refl)))
-world_fault T {words = ws} {content = k} {asked = a} {asked'' = a''} {f = f} {f'' = f''} {name = n} {world = w} texts fault.OutOfMemory o are has e le (inl q) r =
-    subst (λ x. Decided ws k a a'' f f'' x) (sym o) (no_memory (n ∷ []) (program n (of_run w are)) (q ∙ e))
-world_fault T {words = ws} {content = k} {asked = a} {asked' = a'} {asked'' = a''} {f = f} {f'' = f''} {name = n} {world = w} texts fault.OutOfMemory o are has e le (inr q) r =
-    subst (λ x. Decided ws k a a'' f f'' x) (sym o) (no_memory (n ∷ (w ∷ [])) (both n w texts are has) (two_names a a' a'' n w e q))
+pub world_fault : (T : Type 0) (name world : List ℕ) (before mid after : FilesSeen) {words : List (List ℕ)} {outcome : Outcome} (texts : List (List ℕ)) (fault : OutFault)
+    → outcome ≡ outcome_of fault → AreRun words name world → HasPrints before.content name texts → Between name world before mid after → mid.faults ≡ before.faults
+    → AsksOnce {T = T} mid.asked after.asked world (Err fault) → Counts {T = T} mid.faults after.faults (Err fault) → Decided words before after outcome
+world_fault T n w before mid after {words} texts Failed o are has b same asked counted =
+    subst (λ x. Decided words before after x) (sym o) (read_fault (n ∷ (w ∷ [])) (both n w texts are has) (asks_both n w before mid after b asked) (counted ∙ ap next_count same))
+world_fault T n w before mid after {words} texts fault.OutOfMemory o are has b same (inl e) counted =
+    subst (λ x. Decided words before after x) (sym o) (no_memory (n ∷ []) (program n (of_run w are)) (asks_first n w before mid after b e) (counted ∙ same))
+world_fault T n w before mid after {words} texts fault.OutOfMemory o are has b same (inr e) counted =
+    subst (λ x. Decided words before after x) (sym o) (no_memory (n ∷ (w ∷ [])) (both n w texts are has) (asks_both n w before mid after b e) (counted ∙ same))
 
 -- two words, and three
 pub two : {X : Type 0} (f : X → List ℕ) (xs : List X) (x y : X) (a b : List ℕ) → length xs ≡ 2 → x ≡ get_or xs 0 x → y ≡ get_or xs 1 y → a ≡ f x → b ≡ f y → map f xs ≡ a ∷ (b ∷ [])

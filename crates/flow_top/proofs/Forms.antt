@@ -2,15 +2,15 @@
 use Rattle.std.proofs.Common.{◌≡◌, ℕ, List, [], ◌∷◌, ◌++◌, length, refl, sym, ap, ◌∙◌}
 use Rattle.std.specs.declared.option.Option.TheVariants.{None, Some}
 use Rattle.flow_base.specs.declared.place.Place.{Place}
-use Rattle.flow_ast.specs.declared.expr.Expr.{Expr}
-use Rattle.flow_ast.specs.declared.stmt.Stmt.{Stmt, fold_out-Stmt}
-use Rattle.flow_ast.specs.declared.stmt.StmtKind.{StmtKind-F, fold_out-StmtKind}
-use Rattle.flow_ast.specs.declared.stmt.StmtKind.TheOpen.{Block, If, While, For, Loop, Break, Continue, Return, Throw, Try, Choose, Declare, Assign, Modify, Call, Wait}
-use Rattle.flow_ast.specs.Tree.{ExprTree, NoExprs, MoreExprs}
-use Rattle.flow_ast.specs.View.{exprs_of}
-use Rattle.flow_ast.specs.Body.{Body, Branches, End, ReturnStmt}
-use Rattle.flow_ast.specs.StmtView.{kind_step, stmt_step, branch_step, stmt_of, body_of}
-use Rattle.flow_ast.specs.Canon.{bare_exprs, bare_body}
+use Rattle.flow_tree.specs.declared.expr.Expr.{Expr}
+use Rattle.flow_tree.specs.declared.stmt.Stmt.{Stmt, fold_out-Stmt}
+use Rattle.flow_tree.specs.declared.stmt.StmtKind.{StmtKind-F, fold_out-StmtKind}
+use Rattle.flow_tree.specs.declared.stmt.StmtKind.TheOpen.{Block, If, While, For, Loop, Break, Continue, Return, Throw, Try, Choose, Declare, Assign, Modify, Call, Wait}
+use Rattle.flow_tree.specs.Tree.{ExprTree, NoExprs, MoreExprs}
+use Rattle.flow_tree.specs.View.{exprs_of}
+use Rattle.flow_tree.specs.Body.{Body, Branches, End, ReturnStmt}
+use Rattle.flow_tree.specs.StmtView.{kind_step, stmt_step, branch_step, stmt_of, body_of}
+use Rattle.flow_tree.specs.Canon.{bare_exprs, bare_body}
 use Rattle.flow_top.specs.Form.{print, ending, prints}
 
 -- a kind of statement is the function that puts it before a body, at a place
@@ -39,7 +39,7 @@ no_end Break at rest e = cc
 no_end Continue at rest e = cc
 no_end (Return v) at rest e = cc
 no_end (Throw v) at rest e = cc
-no_end (Try fs x hs) at rest e = cc
+no_end (Try fs q x hs) at rest e = cc
 no_end (Choose bs) at rest e = cc
 no_end (Declare i v) at rest e = cc
 no_end (Assign t v) at rest e = cc
@@ -59,7 +59,7 @@ behind_return Break at p v rest b e = cc
 behind_return Continue at p v rest b e = cc
 behind_return (Return w) at p v rest b e = cc
 behind_return (Throw w) at p v rest b e = cc
-behind_return (Try fs x hs) at p v rest b e = cc
+behind_return (Try fs q x hs) at p v rest b e = cc
 behind_return (Choose bs) at p v rest b e = cc
 behind_return (Declare i w) at p v rest b e = cc
 behind_return (Assign t w) at p v rest b e = cc

@@ -1,19 +1,20 @@
 -- The verdict on a text, by how far it was read.
 use Rattle.std.proofs.Common.{ℕ, ◌≤◌, List, length, Result, Ok, Err}
-use Rattle.flow_ast.specs.declared.token.Tokens.{Tokens}
-use Rattle.flow_ast.specs.declared.decl.Program.{Program}
-use Rattle.flow_ast.specs.declared.fault.SourceFault.{SourceFault}
-use Rattle.flow_ast.specs.declared.fault.SourceFault.TheVariants.{Refused, AcrossWait, OutOfMemory}
-use Rattle.flow_ast.specs.Lexing.{Lexes, Lexed}
+use Rattle.flow_tree.specs.declared.limits.TheConstants.{PROGRAM_BYTES}
+use Rattle.flow_tree.specs.declared.token.Tokens.{Tokens}
+use Rattle.flow_tree.specs.declared.decl.Program.{Program}
+use Rattle.flow_tree.specs.declared.fault.SourceFault.{SourceFault}
+use Rattle.flow_tree.specs.declared.fault.SourceFault.TheVariants.{Refused, AcrossWait, OutOfMemory}
+use Rattle.flow_tree.specs.Lexing.{Lexes, Lexed}
 use Rattle.flow_parse.specs.ParseAnswer.{ParseAnswer}
 use Rattle.flow_top.specs.Source.{no_tokens, no_program, Verdict}
 
-pub without_tokens : (text : List ℕ) (fault : SourceFault) → length text ≤ 1048576 → Lexed text (Err fault) → Verdict text (Err fault)
+pub without_tokens : (text : List ℕ) (fault : SourceFault) → length text ≤ PROGRAM_BYTES → Lexed text (Err fault) → Verdict text (Err fault)
 without_tokens text (Refused rule at) short l = no_tokens short l
 without_tokens text (AcrossWait at declared wait) short l = l
 without_tokens text OutOfMemory short l = l
 
-pub by_tokens : (text : List ℕ) (tokens : Tokens) (answer : Result Program SourceFault) → length text ≤ 1048576 → Lexes text tokens.spots.items tokens.end → ParseAnswer tokens answer → Verdict text answer
+pub by_tokens : (text : List ℕ) (tokens : Tokens) (answer : Result Program SourceFault) → length text ≤ PROGRAM_BYTES → Lexes text tokens.spots.items tokens.end → ParseAnswer tokens answer → Verdict text answer
 by_tokens text tokens (Ok p) short l a = record { tokens = tokens; has = record { short = short; lexes = l }; parsed = a }
 by_tokens text tokens (Err (Refused rule at)) short l a = no_program tokens (record { short = short; lexes = l }) a
 by_tokens text tokens (Err (AcrossWait at declared wait)) short l a = a

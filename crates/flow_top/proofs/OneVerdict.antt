@@ -3,16 +3,16 @@ use Rattle.std.proofs.Common.{◌≡◌, ℕ, zero, suc, ◌≤◌, ◌<◌, Lis
 use Rattle.std.specs.Prelude.{slice_get, unwrap_or}
 use Rattle.std.specs.Option.{option_map}
 use Rattle.flow_base.specs.declared.place.Place.{Place}
-use Rattle.flow_ast.specs.declared.token.Tokens.{Tokens}
-use Rattle.flow_ast.specs.declared.decl.Program.{Program}
-use Rattle.flow_ast.specs.declared.fault.Rule.{Rule}
-use Rattle.flow_ast.specs.declared.fault.Rule.TheVariants.{S, L, K}
-use Rattle.flow_ast.specs.declared.fault.SourceFault.TheVariants.{Refused}
-use Rattle.flow_ast.specs.Decls.{ProgramTree}
-use Rattle.flow_ast.specs.DeclView.{program_of}
-use Rattle.flow_ast.specs.GrammarToken.{Derives, Good}
-use Rattle.flow_ast.specs.GrammarDecl.{ProgramRule}
-use Rattle.flow_ast.specs.GrammarAnswer.{place_at}
+use Rattle.flow_tree.specs.declared.token.Tokens.{Tokens}
+use Rattle.flow_tree.specs.declared.decl.Program.{Program}
+use Rattle.flow_tree.specs.declared.fault.Rule.{Rule}
+use Rattle.flow_tree.specs.declared.fault.Rule.TheVariants.{S, L, K}
+use Rattle.flow_tree.specs.declared.fault.SourceFault.TheVariants.{Refused}
+use Rattle.flow_tree.specs.Decls.{ProgramTree}
+use Rattle.flow_tree.specs.DeclView.{program_of}
+use Rattle.flow_tree.specs.GrammarToken.{Derives, Good}
+use Rattle.flow_tree.specs.GrammarDecl.{ProgramRule}
+use Rattle.flow_tree.specs.GrammarAnswer.{place_at}
 use Rattle.flow_lex.proofs.Once.{reads_once}
 use Rattle.flow_parse.specs.Laws.{OneProgram, told}
 use Rattle.flow_parse.specs.ParseAnswer.{GoodTo, begun, whole, FailsBy, FailsLimit, LimitAnswer, ParseAnswer}

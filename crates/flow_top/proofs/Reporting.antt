@@ -5,6 +5,7 @@ use Rattle.std.proofs.KnownBytes.{Appends-trans}
 use Rattle.std.proofs.lemmas.List.{append-nil, take-append-drop, take_more, drop_more}
 use Rattle.flow_base.specs.Bytes.{AppendsPart}
 use Rattle.flow_base.specs.Faults.{Rose}
+use Rattle.flow_base.specs.Seen.{SinkSeen}
 use Rattle.flow_base.specs.declared.fault.OutFault.{OutFault}
 use Rattle.flow_base.specs.declared.fault.OutFault.TheVariants.{Failed, OutOfMemory}
 use Rattle.flow_trace.specs.Bytes.{Bytes}
@@ -42,9 +43,10 @@ line_part a b c lines i d piece lt e p q =
 pub whole_part : (a b : Option (List ℕ)) (text : List ℕ) → Appends a b text → AppendsPart a b text
 whole_part a b text p = (text, [], sym (append-nil text), p)
 
-pub told_fault : (outcome : Outcome) (a b : Option (List ℕ)) (f f' : ℕ) (fault : OutFault) → AppendsPart a b (text_of outcome) → (fault ≡ Failed → Rose f f') → Reported outcome a b f f' (fault_status_of fault)
-told_fault outcome a b f f' Failed p r = write_fault p (r refl)
-told_fault outcome a b f f' OutOfMemory p r = no_memory p
+pub told_fault : (outcome : Outcome) (before after : SinkSeen) (fault : OutFault) → AppendsPart before.written after.written (text_of outcome)
+    → (fault ≡ Failed → Rose before.faults after.faults) → Reported outcome before after (fault_status_of fault)
+told_fault outcome before after Failed p r = write_fault p (r refl)
+told_fault outcome before after OutOfMemory p r = no_memory p
 
 pub rose_after : (a b c : ℕ) → a ≤ b → Rose b c → Rose a c
 rose_after a b c le r = omega arith

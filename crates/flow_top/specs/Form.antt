@@ -1,10 +1,10 @@
 -- The form of program that is run so far: one actor that prints texts and returns.
 use Rattle.std.specs.Prelude.{◌≡◌, ℕ, List, [], ◌∷◌, codes}
-use Rattle.flow_ast.specs.declared.ty.Ident.{Ident}
-use Rattle.flow_ast.specs.Tree.{IntType, VoidType, TextExpr, VoidExpr, NoExprs, MoreExprs}
-use Rattle.flow_ast.specs.Body.{Body, End, ReturnStmt, CallStmt}
-use Rattle.flow_ast.specs.Decls.{ParamTree, RoutineTree, DeclTree, ActorDecl, ProgramTree}
-use Rattle.flow_ast.specs.Canon.{first_place, bare}
+use Rattle.flow_tree.specs.declared.ty.Ident.{Ident}
+use Rattle.flow_tree.specs.Tree.{IntType, VoidType, TextExpr, VoidExpr, NoExprs, MoreExprs}
+use Rattle.flow_tree.specs.Body.{Body, End, ReturnStmt, CallStmt}
+use Rattle.flow_tree.specs.Decls.{ParamTree, RoutineTree, DeclTree, ActorDecl, ProgramTree}
+use Rattle.flow_tree.specs.Canon.{first_place, bare}
 
 -- a name, places aside
 abbrev pub named : List ℕ → Ident

@@ -1,9 +1,9 @@
 -- What holds of the verdict on any text.
 use Rattle.std.specs.Prelude.{◌≡◌, ℕ, List}
 use Rattle.flow_base.specs.declared.place.Place.{Place}
-use Rattle.flow_ast.specs.declared.decl.Program.{Program}
-use Rattle.flow_ast.specs.declared.fault.Rule.{Rule}
-use Rattle.flow_ast.specs.DeclView.{program_of}
+use Rattle.flow_tree.specs.declared.decl.Program.{Program}
+use Rattle.flow_tree.specs.declared.fault.Rule.{Rule}
+use Rattle.flow_tree.specs.DeclView.{program_of}
 use Rattle.flow_top.specs.Source.{IsRefused, IsAccepted}
 
 -- a text is one program at most, it is refused by one rule at one place at most, and never both

@@ -1,10 +1,10 @@
 -- The line that tells why a program text is refused, and its status.
 use Rattle.std.specs.Prelude.{ℕ, List, [], ◌++◌, ◌==◌, codes, decimal, if◌then◌else◌}
 use Rattle.flow_base.specs.declared.place.Place.{Place}
-use Rattle.flow_ast.specs.declared.fault.Rule.{Rule}
-use Rattle.flow_ast.specs.declared.fault.Rule.TheVariants.{S, L, K}
-use Rattle.flow_ast.specs.declared.fault.SourceFault.{SourceFault}
-use Rattle.flow_ast.specs.declared.fault.SourceFault.TheVariants.{Refused, AcrossWait, OutOfMemory}
+use Rattle.flow_tree.specs.declared.fault.Rule.{Rule}
+use Rattle.flow_tree.specs.declared.fault.Rule.TheVariants.{S, L, K}
+use Rattle.flow_tree.specs.declared.fault.SourceFault.{SourceFault}
+use Rattle.flow_tree.specs.declared.fault.SourceFault.TheVariants.{Refused, AcrossWait, OutOfMemory}
 
 -- a place by its line and its column
 abbrev pub place_text : Place → List ℕ

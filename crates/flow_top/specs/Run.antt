@@ -1,21 +1,23 @@
 -- What a command line comes to, and what is written and answered then.
-use Rattle.std.specs.Prelude.{◌≡◌, ℕ, ◌<◌, List, [], ◌∷◌, ◌++◌, map, length, codes, ◌⊎◌, Result, Ok, Err}
+use Rattle.std.specs.Prelude.{◌≡◌, ℕ, ◌+◌, ◌<◌, List, [], ◌∷◌, ◌++◌, map, length, codes, Result, Ok, Err}
 use Rattle.std.specs.Io.KnownBytes.{Appends}
 use Rattle.std.specs.declared.option.Option.{Option}
 use Rattle.std.specs.declared.vec.Vec.{Vec}
 use Rattle.std.specs.declared.alloc.Global.{Global}
+use Rattle.flow_tree.specs.declared.limits.TheConstants.{PROGRAM_BYTES}
 use Rattle.flow_base.specs.Bytes.{AreFirst, AppendsPart}
-use Rattle.flow_base.specs.Faults.{Rose}
+use Rattle.flow_base.specs.Faults.{Rose, next_count}
+use Rattle.flow_base.specs.Seen.{FilesSeen, SinkSeen, ReadsWithin}
 use Rattle.flow_base.specs.declared.fault.OutFault.{OutFault}
 use Rattle.flow_base.specs.declared.fault.OutFault.TheVariants as fault
 use Rattle.flow_base.specs.declared.ids.ActorId.{ActorId}
-use Rattle.flow_ast.specs.declared.decl.Program.{Program}
-use Rattle.flow_ast.specs.declared.fault.SourceFault.{SourceFault}
-use Rattle.flow_ast.specs.declared.fault.SourceFault.TheVariants as source
-use Rattle.flow_ast.specs.declared.fault.Rule.{Rule}
+use Rattle.flow_tree.specs.declared.decl.Program.{Program}
+use Rattle.flow_tree.specs.declared.fault.SourceFault.{SourceFault}
+use Rattle.flow_tree.specs.declared.fault.SourceFault.TheVariants as source
+use Rattle.flow_tree.specs.declared.fault.Rule.{Rule}
 use Rattle.flow_base.specs.declared.place.Place.{Place}
-use Rattle.flow_ast.specs.DeclView.{program_of}
-use Rattle.flow_ast.specs.Canon.{Canon}
+use Rattle.flow_tree.specs.DeclView.{program_of}
+use Rattle.flow_tree.specs.Canon.{Canon}
 use Rattle.flow_trace.specs.Bytes.{Bytes}
 use Rattle.flow_trace.specs.declared.line.Line.{Line}
 use Rattle.flow_trace.specs.declared.line.Line.TheVariants.{Head, Boot, Start, PrintText, Finish, EndIdle}
@@ -79,7 +81,7 @@ fault_status_of fault.OutOfMemory = 7
 -- The text of a program by its file's content: as much of it as tells a text within the limit from a
 -- longer one; where the content isn't told, bytes that were read.
 abbrev pub IsText : (List ℕ → Option (List ℕ)) → List ℕ → List ℕ → Type 0
-IsText content name text = AreFirst 1048577 (content name) text
+IsText content name text = AreFirst (PROGRAM_BYTES + 1) (content name) text
 
 -- the file of this name has this program
 pub record HasProgram (content : List ℕ → Option (List ℕ)) (name : List ℕ) (p : Program) : Type 0 where
@@ -113,6 +115,16 @@ pub data Due (words : List (List ℕ)) (content : List ℕ → Option (List ℕ)
   ran : (name world : List ℕ) (texts : Vec (List ℕ) Global) → AreRun words name world → HasPrints content name texts.items
       → AreFirst 1 (content world) [] → Due words content (Ran texts) (name ∷ (world ∷ []))
 
+-- each of these files was read to one byte past its limit at most
+abbrev pub AllWithin : List (List ℕ) → FilesSeen → FilesSeen → Type 0
+AllWithin [] before after = Unit {0}
+AllWithin (name ∷ names) before after = ReadsWithin (PROGRAM_BYTES + 1) name before after × AllWithin names before after
+
+-- These names were asked for, in their order, and of each file one byte past its limit was read at most.
+pub record AsksNames (before after : FilesSeen) (names : List (List ℕ)) : Type 0 where
+  pub asked : after.asked ≡ before.asked ++ names
+  pub within : AllWithin names before after
+
 -- The names asked for where a call failed or there was no memory: the program's, and then the world's
 -- only where the program is one that is run.
 pub data AskedSome (words : List (List ℕ)) (content : List ℕ → Option (List ℕ)) : List (List ℕ) → Type 0 where
@@ -120,30 +132,35 @@ pub data AskedSome (words : List (List ℕ)) (content : List ℕ → Option (Lis
   program : (name : List ℕ) → NameProgram words name → AskedSome words content (name ∷ [])
   both : (name world : List ℕ) (texts : List (List ℕ)) → AreRun words name world → HasPrints content name texts → AskedSome words content (name ∷ (world ∷ []))
 
--- What reading and judging the program of this name came to, with the name asked for.
-pub data Loaded (content : List ℕ → Option (List ℕ)) (asked asked' : List (List ℕ)) (faults faults' : ℕ) (name : List ℕ) : Result Program Outcome → Type 0 where
-  is_accepted : (p : Program) → HasProgram content name p → asked' ≡ asked ++ name ∷ [] → Loaded content asked asked' faults faults' name (Ok p)
-  is_refused : (text : List ℕ) (rule : Rule) (at : Place) → IsText content name text → IsRefused text rule at → asked' ≡ asked ++ name ∷ []
-      → Loaded content asked asked' faults faults' name (Err (Refused (source.Refused rule at)))
-  is_unread : asked' ≡ asked ++ name ∷ [] → Rose faults faults' → Loaded content asked asked' faults faults' name (Err ReadFault)
-  is_starved : (asked' ≡ asked) ⊎ (asked' ≡ asked ++ name ∷ []) → Loaded content asked asked' faults faults' name (Err OutOfMemory)
+-- What reading and judging the program of this name came to: a call of the files failed exactly where it is unread.
+pub data Loaded (name : List ℕ) (before after : FilesSeen) : Result Program Outcome → Type 0 where
+  is_accepted : (p : Program) → HasProgram before.content name p → AsksNames before after (name ∷ []) → after.faults ≡ before.faults
+      → Loaded name before after (Ok p)
+  is_refused : (text : List ℕ) (rule : Rule) (at : Place) → IsText before.content name text → IsRefused text rule at
+      → AsksNames before after (name ∷ []) → after.faults ≡ before.faults → Loaded name before after (Err (Refused (source.Refused rule at)))
+  is_unread : AsksNames before after (name ∷ []) → after.faults ≡ next_count before.faults → Loaded name before after (Err ReadFault)
+  unasked : AsksNames before after [] → after.faults ≡ before.faults → Loaded name before after (Err OutOfMemory)
+  starved : AsksNames before after (name ∷ []) → after.faults ≡ before.faults → Loaded name before after (Err OutOfMemory)
 
--- What was decided: what is due; or a fault of the files, which their count then shows; or want of memory.
-pub data Decided (words : List (List ℕ)) (content : List ℕ → Option (List ℕ)) (asked asked' : List (List ℕ)) (faults faults' : ℕ) : Outcome → Type 0 where
-  due : (outcome : Outcome) (names : List (List ℕ)) → Due words content outcome names → asked' ≡ asked ++ names → Decided words content asked asked' faults faults' outcome
-  read_fault : (names : List (List ℕ)) → AskedSome words content names → asked' ≡ asked ++ names → Rose faults faults' → Decided words content asked asked' faults faults' ReadFault
-  no_memory : (names : List (List ℕ)) → AskedSome words content names → asked' ≡ asked ++ names → Decided words content asked asked' faults faults' OutOfMemory
+-- What was decided: what is due, and no call of the files failed; or a read fault, where one call failed; or
+-- want of memory.
+pub data Decided (words : List (List ℕ)) (before after : FilesSeen) : Outcome → Type 0 where
+  due : (outcome : Outcome) (names : List (List ℕ)) → Due words before.content outcome names → AsksNames before after names
+      → after.faults ≡ before.faults → Decided words before after outcome
+  read_fault : (names : List (List ℕ)) → AskedSome words before.content names → AsksNames before after names
+      → after.faults ≡ next_count before.faults → Decided words before after ReadFault
+  no_memory : (names : List (List ℕ)) → AskedSome words before.content names → AsksNames before after names
+      → after.faults ≡ before.faults → Decided words before after OutOfMemory
 
--- What was told of an outcome: its whole text, with its status; or a first part of it, with status 6
--- where the sink failed, which its count then shows, or 7 where there was no memory.
-pub data Reported (outcome : Outcome) (written written' : Option (List ℕ)) (faults faults' : ℕ) : ℕ → Type 0 where
-  whole : Appends written written' (text_of outcome) → Reported outcome written written' faults faults' (status_of outcome)
-  write_fault : AppendsPart written written' (text_of outcome) → Rose faults faults' → Reported outcome written written' faults faults' 6
-  no_memory : AppendsPart written written' (text_of outcome) → Reported outcome written written' faults faults' 7
+-- What was told of an outcome: its whole text, which was handed on, with its status; or a first part of it, with
+-- status 6 where the sink failed, which its count then shows, or 7 where there was no memory.
+pub data Reported (outcome : Outcome) (before after : SinkSeen) : ℕ → Type 0 where
+  whole : Appends before.written after.written (text_of outcome) → after.handed ≡ after.written → Reported outcome before after (status_of outcome)
+  write_fault : AppendsPart before.written after.written (text_of outcome) → Rose before.faults after.faults → Reported outcome before after 6
+  no_memory : AppendsPart before.written after.written (text_of outcome) → Reported outcome before after 7
 
--- The answer to a command line: an outcome was decided, and it was told.
-pub record Answers (words : List (List ℕ)) (content : List ℕ → Option (List ℕ)) (asked asked' : List (List ℕ)) (files files' : ℕ)
-    (written written' : Option (List ℕ)) (sink sink' status : ℕ) : Type 0 where
+-- The answer to a command line over files and a sink: an outcome was decided, and it was told.
+pub record Answers (words : List (List ℕ)) (files files' : FilesSeen) (sink sink' : SinkSeen) (status : ℕ) : Type 0 where
   pub outcome : Outcome
-  pub decided : Decided words content asked asked' files files' outcome
-  pub reported : Reported outcome written written' sink sink' status
+  pub decided : Decided words files files' outcome
+  pub reported : Reported outcome sink sink' status

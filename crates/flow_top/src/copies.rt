@@ -1,7 +1,6 @@
 // Copies of trees, seen by the text that they are written as.
 
 use crate::samples::{CALLS_A_FUNCTION, HELLO, REQUEST_SERVER};
-use crate::source::PROGRAM_LIMIT;
 use flow_ast::decl::{ActorDecl, Decl, FunctionDecl, Param, Program, RecordDecl, Slot};
 use flow_ast::fault::SourceFault;
 use flow_ast::stmt::Stmt;
@@ -10,6 +9,7 @@ use flow_base::memory::NoMemory;
 use flow_lex::lex::lex;
 use flow_parse::parse::parse;
 use flow_show::show::show;
+use flow_tree::limits::PROGRAM_BYTES;
 use std::alloc::Global;
 
 // Each parameter, copied by way of a slot.
@@ -97,7 +97,7 @@ fn is_written_so(alloc: Global, program: &Program, text: &[u8]) -> Result<bool, 
 
 // The tokens of a text within the limit of its bytes, copied.
 fn copied_tokens(alloc: Global, text: &[u8]) -> Result<Tokens, SourceFault> {
-    let tokens = lex(alloc, &text[..text.len().min(PROGRAM_LIMIT)])?;
+    let tokens = lex(alloc, &text[..text.len().min(PROGRAM_BYTES)])?;
     Ok(tokens.copy(alloc)?)
 }
 

@@ -1,19 +1,21 @@
 // What the words and the files come to.
 
-ghost use Rattle.std.specs.Prelude.{◌≡◌, ℕ, ◌≤◌, List, map, string_bytes};
+ghost use Rattle.std.specs.Prelude.{◌≡◌, ℕ, List, map, string_bytes};
+ghost use Rattle.flow_base.specs.Seen.{MovesOnly};
 ghost use Rattle.flow_top.specs.Words.{AreFormat, AreRun};
 ghost use Rattle.flow_top.specs.Run.{Decided, Loaded, outcome_of, refusal_outcome_of};
 
 use crate::command::{Command, command_of};
 use crate::form::printed_texts;
 use crate::outcome::Outcome;
-use crate::source::{PROGRAM_LIMIT, read_program};
+use crate::source::read_program;
 use flow_ast::decl::Program;
 use flow_ast::fault::SourceFault;
 use flow_base::fault::OutFault;
 use flow_base::files::Files;
 use flow_base::input::read_file;
 use flow_base::text::Text;
+use flow_tree::limits::PROGRAM_BYTES;
 use std::alloc::Global;
 
 // What a fault of the files comes to.
@@ -38,11 +40,11 @@ fn refusal_outcome(fault: SourceFault) -> Outcome
 
 // The program of the file of this name, or what the command comes to without it.
 fn load<F: Files>(alloc: Global, name: &str, files: &mut F) -> Result<Program, Outcome>
-    ensures content { F.content files.new ≡ F.content files.old }
-    ensures kept { F.faults files.old ≤ F.faults files.new }
-    ensures loaded { Loaded (F.content files.old) (F.asked files.old) (F.asked files.new) (F.faults files.old) (F.faults files.new) name.now result }
+    ensures content { (F.seen files.new).content ≡ (F.seen files.old).content }
+    ensures others { MovesOnly name.now (F.seen files.old) (F.seen files.new) }
+    ensures loaded { Loaded name.now (F.seen files.old) (F.seen files.new) result }
 {
-    let bytes = match read_file(alloc, files, name, PROGRAM_LIMIT) {
+    let bytes = match read_file(alloc, files, name, PROGRAM_BYTES) {
         Ok(bytes) => bytes,
         Err(fault) => return Err(fault_outcome(fault)),
     };
@@ -54,7 +56,7 @@ fn load<F: Files>(alloc: Global, name: &str, files: &mut F) -> Result<Program, O
 
 // What `format` on this program comes to.
 fn format<F: Files>(alloc: Global, name: &str, files: &mut F) -> Outcome
-    ensures { (words : List (List ℕ)) → AreFormat words name.now → Decided words (F.content files.old) (F.asked files.old) (F.asked files.new) (F.faults files.old) (F.faults files.new) result }
+    ensures { (words : List (List ℕ)) → AreFormat words name.now → Decided words (F.seen files.old) (F.seen files.new) result }
 {
     match load(alloc, name, files) {
         Ok(program) => Outcome::Formatted(program),
@@ -65,7 +67,7 @@ fn format<F: Files>(alloc: Global, name: &str, files: &mut F) -> Outcome
 // What `run` on this program and this world comes to. The world is read only where the program is one
 // that is run.
 fn run<F: Files>(alloc: Global, name: &str, world: &str, files: &mut F) -> Outcome
-    ensures { (words : List (List ℕ)) → AreRun words name.now world.now → Decided words (F.content files.old) (F.asked files.old) (F.asked files.new) (F.faults files.old) (F.faults files.new) result }
+    ensures { (words : List (List ℕ)) → AreRun words name.now world.now → Decided words (F.seen files.old) (F.seen files.new) result }
 {
     let program = match load(alloc, name, files) {
         Ok(program) => program,
@@ -89,7 +91,7 @@ fn run<F: Files>(alloc: Global, name: &str, world: &str, files: &mut F) -> Outco
 
 /// What the command line comes to.
 pub fn decide<F: Files>(alloc: Global, words: &[String], files: &mut F) -> Outcome
-    ensures { Decided (map string_bytes words.now) (F.content files.old) (F.asked files.old) (F.asked files.new) (F.faults files.old) (F.faults files.new) result }
+    ensures { Decided (map string_bytes words.now) (F.seen files.old) (F.seen files.new) result }
 {
     match command_of(words) {
         None => Outcome::Usage,

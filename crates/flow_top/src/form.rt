@@ -1,13 +1,13 @@
 // The form of program that is run so far: one actor that prints texts and returns.
 
 ghost use Rattle.std.specs.Prelude.{◌≡◌, ℕ, List, [], ◌∷◌, map, codes, length, ◌<◌, IfOk, IfSome, MatchOption, IsTrue, ◌↔◌};
-ghost use Rattle.flow_ast.specs.Tree.{IntType, VoidType, TextExpr, VoidExpr, NoExprs, MoreExprs};
-ghost use Rattle.flow_ast.specs.Body.{Body, End};
-ghost use Rattle.flow_ast.specs.Decls.{RoutineTree};
-ghost use Rattle.flow_ast.specs.View.{type_of, expr_of, exprs_of};
-ghost use Rattle.flow_ast.specs.StmtView.{stmt_of, body_of};
-ghost use Rattle.flow_ast.specs.DeclView.{param_of, params_of, actor_of, decl_of, program_of};
-ghost use Rattle.flow_ast.specs.Canon.{bare_ident, bare_expr, bare_exprs, bare_body, bare_param, bare_routine, bare_decl};
+ghost use Rattle.flow_tree.specs.Tree.{IntType, VoidType, TextExpr, VoidExpr, NoExprs, MoreExprs};
+ghost use Rattle.flow_tree.specs.Body.{Body, End};
+ghost use Rattle.flow_tree.specs.Decls.{RoutineTree};
+ghost use Rattle.flow_tree.specs.View.{type_of, expr_of, exprs_of};
+ghost use Rattle.flow_tree.specs.StmtView.{stmt_of, body_of};
+ghost use Rattle.flow_tree.specs.DeclView.{param_of, params_of, actor_of, decl_of, program_of};
+ghost use Rattle.flow_tree.specs.Canon.{bare_ident, bare_expr, bare_exprs, bare_body, bare_param, bare_routine, bare_decl};
 ghost use Rattle.flow_top.specs.Form.{named, print, ending, prints, parameter, main_of, one_actor, PrintsOnly};
 
 use flow_ast::decl::{ActorDecl, Decl, Param, Program};

@@ -39,17 +39,16 @@ impl<'a> Files for RealFiles<'a> {
     ghost use Rattle.std.specs.Prelude.{◌<◌, ℕ, map, string_bytes, length, None, List, [], slice_get};
     ghost use Rattle.std.specs.Option.{option_map_or};
 
-    ghost content = { λ s name. None };
-
-    ghost left = { λ s name. None };
+    ghost seen = { λ s. record {
+      content = λ name. None;
+      left = λ name. None;
+      asked = map string_bytes s.asked.items;
+      faults = s.faults;
+    } };
 
     ghost is_open = { λ s k. k < length s.names.items };
 
     ghost name_of = { λ s k. option_map_or string_bytes (slice_get s.names.items k) [] };
-
-    ghost asked = { λ s. map string_bytes s.asked.items };
-
-    ghost faults = { λ s. s.faults };
 
     fn open_file(&mut self, name: &str) -> Result<FileNo, OutFault> {
         let alloc = self.rt.alloc();
@@ -110,9 +109,7 @@ impl<'a> StandardOutput<'a> {
 impl<'a> Sink for StandardOutput<'a> {
     ghost use Rattle.std.specs.Prelude.{None};
 
-    ghost written = { λ s. None };
-
-    ghost faults = { λ s. s.faults };
+    ghost seen = { λ s. record { written = None; handed = None; faults = s.faults } };
 
     fn write(&mut self, piece: &[u8]) -> Result<usize, OutFault> {
         let Ok(count) = io::writer(self.rt).write(piece) else {

@@ -1,7 +1,7 @@
 // The line that tells why a program text is refused.
 
 ghost use Rattle.std.specs.Prelude.{◌≡◌, ◌++◌, codes, decimal, IfOk};
-ghost use Rattle.flow_ast.specs.declared.fault.SourceFault.TheVariants.{Refused, AcrossWait};
+ghost use Rattle.flow_tree.specs.declared.fault.SourceFault.TheVariants.{Refused, AcrossWait};
 ghost use Rattle.flow_top.specs.Refusal.{place_text, rule_text, where_text, refusal_text, refusal_status};
 
 use flow_ast::fault::{Rule, SourceFault};

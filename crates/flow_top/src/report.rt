@@ -43,9 +43,9 @@ fn trace_lines(alloc: Global, texts: Vec<Text>) -> Result<Vec<Line>, NoMemory>
 
 // Writes the lines, each by one call where the sink takes it whole.
 fn put_lines<S: Sink>(alloc: Global, lines: &[Line], out: &mut S) -> Result<(), OutFault>
-    ensures whole { OnOk result (Appends (S.written out.old) (S.written out.new) (bytes_of lines.now)) }
-    ensures part { AppendsPart (S.written out.old) (S.written out.new) (bytes_of lines.now) }
-    ensures cause { HasCause (S.faults out.old) (S.faults out.new) result }
+    ensures whole { OnOk result (Appends (S.seen out.old).written (S.seen out.new).written (bytes_of lines.now)) }
+    ensures part { AppendsPart (S.seen out.old).written (S.seen out.new).written (bytes_of lines.now) }
+    ensures cause { HasCause (S.seen out.old).faults (S.seen out.new).faults result }
 {
     let Ok(mut buffer) = LineBuf::new(alloc) else {
         return Err(OutFault::OutOfMemory);
@@ -59,9 +59,9 @@ fn put_lines<S: Sink>(alloc: Global, lines: &[Line], out: &mut S) -> Result<(), 
 
 // Writes the trace of the texts.
 fn put_trace<S: Sink>(alloc: Global, texts: Vec<Text>, out: &mut S) -> Result<(), OutFault>
-    ensures whole { OnOk result (Appends (S.written out.old) (S.written out.new) (bytes_of (trace_of texts.items))) }
-    ensures part { AppendsPart (S.written out.old) (S.written out.new) (bytes_of (trace_of texts.items)) }
-    ensures cause { HasCause (S.faults out.old) (S.faults out.new) result }
+    ensures whole { OnOk result (Appends (S.seen out.old).written (S.seen out.new).written (bytes_of (trace_of texts.items))) }
+    ensures part { AppendsPart (S.seen out.old).written (S.seen out.new).written (bytes_of (trace_of texts.items)) }
+    ensures cause { HasCause (S.seen out.old).faults (S.seen out.new).faults result }
 {
     let Ok(lines) = trace_lines(alloc, texts) else {
         return Err(OutFault::OutOfMemory);
@@ -71,9 +71,9 @@ fn put_trace<S: Sink>(alloc: Global, texts: Vec<Text>, out: &mut S) -> Result<()
 
 // Writes the line of a refusal.
 fn put_refusal<S: Sink>(alloc: Global, fault: &SourceFault, out: &mut S) -> Result<(), OutFault>
-    ensures whole { OnOk result (Appends (S.written out.old) (S.written out.new) (refusal_text fault.now)) }
-    ensures part { AppendsPart (S.written out.old) (S.written out.new) (refusal_text fault.now) }
-    ensures cause { HasCause (S.faults out.old) (S.faults out.new) result }
+    ensures whole { OnOk result (Appends (S.seen out.old).written (S.seen out.new).written (refusal_text fault.now)) }
+    ensures part { AppendsPart (S.seen out.old).written (S.seen out.new).written (refusal_text fault.now) }
+    ensures cause { HasCause (S.seen out.old).faults (S.seen out.new).faults result }
 {
     let Ok(line) = refusal_line(alloc, fault) else {
         return Err(OutFault::OutOfMemory);
@@ -83,9 +83,9 @@ fn put_refusal<S: Sink>(alloc: Global, fault: &SourceFault, out: &mut S) -> Resu
 
 // Writes the text of an outcome.
 fn put<S: Sink>(alloc: Global, outcome: Outcome, out: &mut S) -> Result<(), OutFault>
-    ensures whole { OnOk result (Appends (S.written out.old) (S.written out.new) (text_of outcome)) }
-    ensures part { AppendsPart (S.written out.old) (S.written out.new) (text_of outcome) }
-    ensures cause { HasCause (S.faults out.old) (S.faults out.new) result }
+    ensures whole { OnOk result (Appends (S.seen out.old).written (S.seen out.new).written (text_of outcome)) }
+    ensures part { AppendsPart (S.seen out.old).written (S.seen out.new).written (text_of outcome) }
+    ensures cause { HasCause (S.seen out.old).faults (S.seen out.new).faults result }
 {
     match outcome {
         Outcome::Usage => write_whole(out, b"usage\n"),
@@ -126,7 +126,7 @@ fn fault_status(fault: OutFault) -> u8
 /// Writes the text of an outcome and flushes it, and gives the status: the outcome's own, or 6 or 7
 /// where the sink failed or there was no memory on the way.
 pub fn report<S: Sink>(alloc: Global, outcome: Outcome, out: &mut S) -> u8
-    ensures { Reported outcome (S.written out.old) (S.written out.new) (S.faults out.old) (S.faults out.new) result }
+    ensures { Reported outcome (S.seen out.old) (S.seen out.new) result }
 {
     let told = status(&outcome);
     if let Err(fault) = put(alloc, outcome, out) {

@@ -7,10 +7,8 @@ use flow_ast::fault::{Rule, SourceFault};
 use flow_base::place::Place;
 use flow_lex::lex::lex;
 use flow_parse::parse::parse;
+use flow_tree::limits::PROGRAM_BYTES;
 use std::alloc::Global;
-
-/// The greatest number of bytes of a program text.
-pub const PROGRAM_LIMIT: usize = 1048576;
 
 // The place where a text begins.
 const START: Place = Place {
@@ -24,7 +22,7 @@ const START: Place = Place {
 pub fn read_program(alloc: Global, bytes: &[u8]) -> Result<Program, SourceFault>
     ensures { Verdict bytes.now result }
 {
-    if bytes.len() > PROGRAM_LIMIT {
+    if bytes.len() > PROGRAM_BYTES {
         return Err(SourceFault::Refused {
             rule: Rule::L(1),
             at: START,

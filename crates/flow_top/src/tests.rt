@@ -2,10 +2,10 @@
 // formats' own pages.
 
 use crate::samples::{EXAMPLES, INSIDES};
-use crate::source::PROGRAM_LIMIT;
 use crate::top::flow_main;
 use flow_base::mem_files::MemFiles;
 use flow_base::mem_sink::MemSink;
+use flow_tree::limits::PROGRAM_BYTES;
 use std::alloc::{AllocError, Global};
 
 // The two files `p` and `w` with these bytes, of which the listed calls fail.
@@ -256,7 +256,7 @@ fn limit_of_depth(rt: HostRuntime) -> Result<(), AllocError> {
 #[test]
 fn limit_of_bytes(rt: HostRuntime) -> Result<(), AllocError> {
     let alloc = rt.alloc();
-    let most = repeated(alloc, b" ", PROGRAM_LIMIT)?;
+    let most = repeated(alloc, b" ", PROGRAM_BYTES)?;
     assert_eq!(rt; most.len(), 1048576);
     assert!(rt; formats(alloc, &most, 0, b"")?);
     let longer = joined(alloc, &most, b"#", b"")?;

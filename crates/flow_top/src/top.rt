@@ -19,8 +19,8 @@ pub fn flow_main<F: Files, S: Sink>(
     files: &mut F,
     out: &mut S,
 ) -> u8
-    ensures { Answers (map string_bytes words.now) (F.content files.old) (F.asked files.old) (F.asked files.new) (F.faults files.old) (F.faults files.new)
-        (S.written out.old) (S.written out.new) (S.faults out.old) (S.faults out.new) result }
+    ensures { let given = map string_bytes words.now in
+        Answers given (F.seen files.old) (F.seen files.new) (S.seen out.old) (S.seen out.new) result }
 {
     let outcome = decide(alloc, words, files);
     report(alloc, outcome, out)

@@ -1,8 +1,8 @@
 -- What is printed piece by piece.
 use Rattle.std.proofs.Common.{◌≡◌, ℕ, ◌+◌, ◌<◌, List, [], ◌∷◌, ◌++◌, length, get_or, take, sym, ap, ◌∙◌, refl, append_assoc, append-nil}
+use Rattle.flow_base.specs.Quote.{spelled_byte, spelled_text}
 use Rattle.std.proofs.lemmas.Grind.{take_at_read}
 use Rattle.flow_trace.specs.Bytes.{spaced, joined}
-use Rattle.flow_trace.specs.Quote.{spelled_byte, spelled_text}
 
 spelled_text-append : (xs ys : List ℕ) → spelled_text (xs ++ ys) ≡ spelled_text xs ++ spelled_text ys
 spelled_text-append [] ys = refl

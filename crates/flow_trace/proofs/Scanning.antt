@@ -1,5 +1,6 @@
 -- What is scanned of the fields of a printed line.
 use Rattle.std.proofs.Common.{◌≡◌, ℕ, suc, ◌+◌, ◌*◌, ◌/◌, ◌%◌, ◌^◌, ◌<◌, ℤ, pos, negsuc, List, [], ◌∷◌, ◌++◌, Bool, true, false, not, ◌&&◌, map, sym, ap, ◌∙◌, refl, arith, decimal, append_assoc, append-nil}
+use Rattle.flow_base.specs.Quote.{hex_digit, is_printable, spelled_byte, spelled_text, quoted}
 use Rattle.std.specs.Fmt.{signed_decimal}
 use lib.Dec.{leb}
 use Rattle.std.specs.Bool.{◌==◌}
@@ -11,7 +12,6 @@ use Rattle.std.proofs.lemmas.List.Folds.{list_all-append}
 use Rattle.std.proofs.lemmas.List.Sums.{fold-append}
 use Rattle.flow_base.specs.Names.{is_name_text, letter, digit as is_digit, name_byte}
 use Rattle.flow_trace.specs.Bytes.{Field, word, name, number, integer, text, spelled, spaced, joined, IsField}
-use Rattle.flow_trace.specs.Quote.{hex_digit, is_printable, spelled_byte, spelled_text, quoted}
 use Rattle.flow_trace.specs.Reading.{number_step, number_in}
 use Rattle.flow_trace.specs.Scan.{WordState, ScanState, no_word, hex_value, step, scan, scan_start, words_in}
 use Rattle.flow_trace.specs.declared.scan.Mode.TheVariants.{Bare, Quoted}

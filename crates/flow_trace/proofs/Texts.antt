@@ -1,6 +1,7 @@
 -- Each text has one spelling in quotes, and is read back from it.
 use Rattle.std.proofs.Common.{◌≡◌, ℕ, List, [], ap, sym, ◌∙◌, Some, None, unwrap_or}
-use Rattle.flow_trace.specs.Quote.{quoted, IsText, OneSpellingOfTexts}
+use Rattle.flow_base.specs.Quote.{quoted}
+use Rattle.flow_trace.specs.Quote.{IsText, OneSpellingOfTexts}
 use Rattle.flow_trace.specs.Reading.{text_in, text_at}
 use Rattle.flow_trace.proofs.ReadBack.{text_known}
 use Rattle.flow_trace.proofs.Scanning.{words_read, quoted_word}

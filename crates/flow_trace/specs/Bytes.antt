@@ -1,5 +1,6 @@
 -- The bytes of each line of a trace.
 use Rattle.std.specs.Prelude.{◌≡◌, ℕ, ◌^◌, ◌<◌, ◌⊎◌, ℤ, Bool, List, [], ◌∷◌, ◌++◌, Some, None, map, codes, decimal, if◌then◌else◌}
+use Rattle.flow_base.specs.Quote.{quoted}
 use Rattle.std.specs.List.{AllByRecursion}
 use Rattle.std.specs.Fmt.{signed_decimal}
 use lib.Signed.{mag}
@@ -8,7 +9,7 @@ use Rattle.flow_base.specs.declared.ids.ActorId.{ActorId}
 use Rattle.flow_base.specs.declared.ids.CellId.{CellId}
 use Rattle.flow_base.specs.declared.ids.ErrorCode.{ErrorCode}
 use Rattle.flow_base.specs.declared.ids.ProcId.{ProcId}
-use Rattle.flow_trace.specs.Quote.{quoted, IsText}
+use Rattle.flow_trace.specs.Quote.{IsText}
 use Rattle.flow_trace.specs.declared.line.Line.{Line}
 use Rattle.flow_trace.specs.declared.line.Line.TheVariants.{Head, Boot, Kill, Stop, Cut, Heal, DiskFail, Timer, Arrival, Read, Write, Sync, Size, Start, Wait, Take, Throw, Catch, Fail, Finish, Cancel, Broken, PrintInt, PrintBool, PrintText, Send, LostCut, LostDraw, Discard, Kept, Frame, Callback, EndIdle, EndBound, EndSpent, EndStop}
 

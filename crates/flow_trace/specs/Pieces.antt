@@ -1,7 +1,7 @@
 -- The pieces that a line is printed from.
 use Rattle.std.specs.Prelude.{ℕ, ◌+◌, ◌*◌, List, [], ◌∷◌, ◌++◌, length, decimal}
+use Rattle.flow_base.specs.Quote.{quoted}
 use Rattle.std.specs.Fmt.{signed_decimal}
-use Rattle.flow_trace.specs.Quote.{quoted}
 use Rattle.flow_trace.specs.declared.pieces.Piece.{Piece}
 use Rattle.flow_trace.specs.declared.pieces.Piece.TheVariants.{Absent, Word, Number, Integer, Quoted}
 use Rattle.flow_trace.specs.declared.pieces.Pieces.{Pieces}

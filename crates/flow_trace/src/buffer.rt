@@ -1,10 +1,10 @@
 // A buffer with room for every line.
 
 ghost use Rattle.std.specs.Prelude.{◌≡◌, ◌≤◌, ◌<◌, ◌+◌, ◌*◌, ℕ, ℤ, List, [], ◌∷◌, ◌++◌, length, decimal, IfOk};
+ghost use Rattle.flow_base.specs.Quote.{quoted};
 ghost use Rattle.std.specs.Fmt.{signed_decimal};
 ghost use Rattle.flow_trace.specs.Bytes.{Bytes, IsLine, spaced, joined};
 ghost use Rattle.flow_trace.specs.Pieces.{words_of, piece_words, room_of, piece_room};
-ghost use Rattle.flow_trace.specs.Quote.{quoted};
 
 use crate::line::Line;
 use crate::pieces::{Piece, Pieces, line_pieces};

@@ -1,9 +1,9 @@
 // The pieces that a line is printed from.
 
 ghost use Rattle.std.specs.Prelude.{◌≡◌, ◌≤◌, ◌<◌, ◌^◌, ◌+◌, ℕ, List, [], ◌∷◌, ◌++◌, map, length, codes, decimal};
+ghost use Rattle.flow_base.specs.Quote.{quoted};
 ghost use Rattle.flow_trace.specs.Bytes.{fields, spelled, outcome, truth, text, IsField, IsLine};
 ghost use Rattle.flow_base.specs.Names.{IsName};
-ghost use Rattle.flow_trace.specs.Quote.{quoted};
 ghost use Rattle.flow_trace.specs.Pieces.{words_of, piece_words, room_of, piece_room};
 ghost use Rattle.flow_trace.specs.declared.pieces.Piece.TheVariants.{Absent, Word, Number, Integer, Quoted};
 

@@ -1,7 +1,7 @@
 // Texts in quotes.
 
 ghost use Rattle.std.specs.Prelude.{◌≡◌, ◌≤◌, ◌<◌, ◌+◌, ℕ, List, [], ◌∷◌, ◌++◌, length, take, IfOk};
-ghost use Rattle.flow_trace.specs.Quote.{hex_digit, spelled_byte, quoted};
+ghost use Rattle.flow_base.specs.Quote.{hex_digit, spelled_byte, quoted};
 
 use flow_base::memory::NoMemory;
 use std::alloc::Global;

@@ -1,7 +1,8 @@
 // Reading a text in quotes.
 
 ghost use Rattle.std.specs.Prelude.{◌≡◌, ℕ, List, IfOk, Err};
-ghost use Rattle.flow_trace.specs.Quote.{quoted, IsText, OneSpellingOfTexts};
+ghost use Rattle.flow_base.specs.Quote.{quoted};
+ghost use Rattle.flow_trace.specs.Quote.{IsText, OneSpellingOfTexts};
 ghost use Rattle.flow_trace.specs.Reading.{text_in};
 ghost use Rattle.flow_trace.specs.declared.fault.LineFault.TheVariants.{Form};
 

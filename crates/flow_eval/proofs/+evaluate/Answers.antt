@@ -1,9 +1,9 @@
 use Rattle.std.proofs.Common.{◌≡◌, ◌<◌, map, length, arith, ap, ◌∙◌, sym, slice_get, Some, None}
 use Rattle.std.proofs.lemmas.Result.{err_from_is_err_and}
 use Rattle.std.specs.Option.{option_map, option_copied}
-use Rattle.flow_ast.specs.DeclView.{function_of}
-use Rattle.flow_ast.specs.View.{expr_of}
-use Rattle.flow_ast.specs.StmtView.{body_of, simple_of, else_of, change_of}
+use Rattle.flow_tree.specs.DeclView.{function_of}
+use Rattle.flow_tree.specs.View.{expr_of}
+use Rattle.flow_tree.specs.StmtView.{body_of, simple_of, else_of, change_of}
 use Rattle.flow_value.specs.declared.value.Value.TheVariants.{Error, rolls-Error}
 use Rattle.flow_value.specs.declared.value.Value.TheOpen as layer
 use Rattle.flow_value.specs.declared.value.Value.TheFolds.{fold-roll-Value}
@@ -55,7 +55,7 @@ statements::run_kind-returns-in-Loop-clause-gives g t c =
 pub statements::run_kind-returns-in-Try-clause-gives : goal.statements::run_kind-returns-in-Try-clause-gives
 statements::run_kind-returns-in-Try-clause-gives g t c =
     settled (try_run (exec (setting_of g.C.CellView.content c.args.setting.now) (run_function (setting_of g.C.CellView.content c.args.setting.now) c.args.nest) (body_of c.in-Try.body.items) (option_copied c.args.caught)) c.in-Try.error.name (exec (setting_of g.C.CellView.content c.args.setting.now) (run_function (setting_of g.C.CellView.content c.args.setting.now) c.args.nest) (body_of c.in-Try.handler.items) (Some c.in-Try.error.name)) (map var_of c.args.locals.now.items) c.args.turns.now.left) _ _ c.run_try.result _ _ c.run_try.ensures.gives
-    (comes_try (setting_of g.C.CellView.content c.args.setting.now) (run_function (setting_of g.C.CellView.content c.args.setting.now) c.args.nest) (option_copied c.args.caught) (map var_of c.args.locals.now.items) c.args.turns.now.left c.args.at c.args.kind.now c.in-Try.body c.in-Try.error c.in-Try.handler c.in-Try.is)
+    (comes_try (setting_of g.C.CellView.content c.args.setting.now) (run_function (setting_of g.C.CellView.content c.args.setting.now) c.args.nest) (option_copied c.args.caught) (map var_of c.args.locals.now.items) c.args.turns.now.left c.args.at c.args.kind.now c.in-Try.body c.in-Try.field-1 c.in-Try.error c.in-Try.handler c.in-Try.is)
 
 pub statements::run_loop-returns-in_err-run_turn-clause-gives : goal.statements::run_loop-returns-in_err-run_turn-clause-gives
 statements::run_loop-returns-in_err-run_turn-clause-gives g t c =

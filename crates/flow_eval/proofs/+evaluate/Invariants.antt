@@ -1,7 +1,7 @@
 use Rattle.std.proofs.Common.{◌≡◌, ◌+◌, ◌*◌, ◌≤◌, map, drop}
 use Rattle.std.specs.Option.{option_map, option_copied}
-use Rattle.flow_ast.specs.View.{expr_of, exprs_of}
-use Rattle.flow_ast.specs.StmtView.{change_of, body_of, simple_of}
+use Rattle.flow_tree.specs.View.{expr_of, exprs_of}
+use Rattle.flow_tree.specs.StmtView.{change_of, body_of, simple_of}
 use Rattle.flow_value.specs.View.{value_of}
 use Rattle.flow_eval.specs.Eval.{eval_all}
 use Rattle.flow_eval.specs.Functions.{run_function, exec, loop_run, turn_run}

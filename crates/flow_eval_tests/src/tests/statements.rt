@@ -88,7 +88,7 @@ fn catching(alloc: Global) -> Result<StmtKind, NoMemory> {
     let code = Expr::Method(of, ident(alloc, b"code")?, Vec::new(alloc));
     let sum = binary(alloc, Op::Add, var(alloc, b"s")?, code)?;
     let handler = body(alloc, [StmtKind::Return(sum)])?;
-    Ok(StmtKind::Try(tried, ident(alloc, b"e")?, handler))
+    Ok(StmtKind::Try(tried, START, ident(alloc, b"e")?, handler))
 }
 
 // A function of `n` with these statements after `int s;`.

@@ -1,5 +1,5 @@
 use Rattle.std.proofs.Common.{◌≡◌, map, drop}
-use Rattle.flow_ast.specs.View.{type_of, exprs_of}
+use Rattle.flow_tree.specs.View.{type_of, exprs_of}
 use Rattle.flow_ast.specs.Typing.{types_in}
 use Rattle.flow_ast.specs.TypingView.{scope_of}
 use Rattle.flow_ast.proofs.TypingArgs.{before}

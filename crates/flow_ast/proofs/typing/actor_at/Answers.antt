@@ -1,8 +1,8 @@
 use Rattle.std.proofs.Common.{ap, ◌∙◌}
 use Rattle.std.specs.Option.{option_map}
 use Rattle.std.specs.Str.{bytes_eq}
-use Rattle.flow_ast.specs.DeclView.{actor_of}
-use Rattle.flow_ast.specs.Decls.{RoutineTree}
+use Rattle.flow_tree.specs.DeclView.{actor_of}
+use Rattle.flow_tree.specs.Decls.{RoutineTree}
 use Rattle.flow_ast.proofs.TypingScope.{map-find}
 use Rattle.flow_ast.proofs.typing.actor_at.Goals as goal
 

@@ -1,5 +1,5 @@
 use Rattle.std.proofs.Common.{sym}
-use Rattle.flow_ast.specs.View.{type_of}
+use Rattle.flow_tree.specs.View.{type_of}
 use Rattle.flow_ast.proofs.TypingLists.{uneven}
 use Rattle.flow_ast.proofs.typing.fit.Goals as goal
 

@@ -1,5 +1,5 @@
 use Rattle.std.proofs.Common.{◌≡◌, map, drop}
-use Rattle.flow_ast.specs.View.{type_of}
+use Rattle.flow_tree.specs.View.{type_of}
 use Rattle.flow_ast.specs.Typing.{same_types}
 use Rattle.flow_ast.proofs.typing.fit.Given as goal
 

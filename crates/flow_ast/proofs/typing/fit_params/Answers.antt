@@ -1,7 +1,7 @@
 use Rattle.std.proofs.Common.{ap, sym, ◌∙◌, map}
-use Rattle.flow_ast.specs.View.{type_of}
-use Rattle.flow_ast.specs.DeclView.{param_of}
-use Rattle.flow_ast.specs.Decls.{ParamTree}
+use Rattle.flow_tree.specs.View.{type_of}
+use Rattle.flow_tree.specs.DeclView.{param_of}
+use Rattle.flow_tree.specs.Decls.{ParamTree}
 use Rattle.flow_ast.specs.Typing.{same_types}
 use Rattle.flow_ast.proofs.TypingScope.{map-two}
 use Rattle.flow_ast.proofs.typing.fit_params.Goals as goal

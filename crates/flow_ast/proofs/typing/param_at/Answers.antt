@@ -1,8 +1,8 @@
 use Rattle.std.proofs.Common.{ap, ◌∙◌}
 use Rattle.std.specs.Option.{option_map}
 use Rattle.std.specs.Str.{bytes_eq}
-use Rattle.flow_ast.specs.DeclView.{param_of}
-use Rattle.flow_ast.specs.Decls.{ParamTree}
+use Rattle.flow_tree.specs.DeclView.{param_of}
+use Rattle.flow_tree.specs.Decls.{ParamTree}
 use Rattle.flow_ast.proofs.TypingScope.{map-find}
 use Rattle.flow_ast.proofs.typing.param_at.Goals as goal
 

@@ -4,10 +4,13 @@ use Rattle.flow_base.proofs.output.write_whole.Given as goal
 
 -- the rest is what was not yet written of the piece
 abbrev pub invariant-loop-rest : goal.invariant-loop-rest
-invariant-loop-rest g l = record {
-  written : (done : List ℕ) × (l.fn.piece ≡ done ++ l.rest) × Appends (g.S.Sink.written l.initial.out) (g.S.Sink.written l.out) done;
-  kept : g.S.Sink.faults l.initial.out ≤ g.S.Sink.faults l.out;
-}
+invariant-loop-rest g l =
+    let before = g.S.Sink.seen l.initial.out in
+    let after = g.S.Sink.seen l.out in
+    record {
+      written : (done : List ℕ) × (l.fn.piece ≡ done ++ l.rest) × Appends before.written after.written done;
+      kept : before.faults ≤ after.faults;
+    }
 
 abbrev pub decreases-loop-rest : goal.decreases-loop-rest
 decreases-loop-rest g l = length l.rest

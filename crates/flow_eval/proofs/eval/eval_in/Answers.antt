@@ -1,5 +1,5 @@
 use Rattle.std.proofs.Common.{sym, subst}
-use Rattle.flow_ast.specs.View.{expr_of}
+use Rattle.flow_tree.specs.View.{expr_of}
 use Rattle.flow_eval.specs.Functions.{Eval}
 use Rattle.flow_eval.specs.Meaning.{Means, setting_with}
 use Rattle.flow_eval.specs.WellTyped.{HasMeaning}

@@ -1,5 +1,5 @@
 use Rattle.std.proofs.Common.{◌≡◌, map, drop}
-use Rattle.flow_ast.specs.DeclView.{function_of}
+use Rattle.flow_tree.specs.DeclView.{function_of}
 use Rattle.flow_ast.specs.Typing.{routine_named}
 use Rattle.flow_eval.proofs.evaluate.function_place.Given as goal
 

@@ -1,6 +1,6 @@
 use Rattle.std.proofs.Common.{◌≡◌, map, drop}
 use Rattle.std.specs.Vec.Iter.{into_iter_items}
-use Rattle.flow_ast.specs.DeclView.{param_of}
+use Rattle.flow_tree.specs.DeclView.{param_of}
 use Rattle.flow_value.specs.View.{value_of}
 use Rattle.flow_eval.specs.Functions.{entered}
 use Rattle.flow_eval.specs.Variables.{var_of}

@@ -1,6 +1,6 @@
 use Rattle.std.proofs.Common.{ℕ, List, map, position, ap₂, sym, ◌∙◌}
 use Rattle.std.specs.Str.{bytes_eq}
-use Rattle.flow_ast.specs.DeclView.{record_of}
+use Rattle.flow_tree.specs.DeclView.{record_of}
 use Rattle.flow_value.specs.Values.{ValueTree}
 use Rattle.flow_value.specs.View.{value_of}
 use Rattle.flow_eval.specs.Variables.{var_of}

@@ -1,5 +1,5 @@
 use Rattle.std.proofs.Common.{◌<◌, length, arith, map}
-use Rattle.flow_ast.specs.DeclView.{record_of}
+use Rattle.flow_tree.specs.DeclView.{record_of}
 use Rattle.flow_value.specs.View.{value_of}
 use Rattle.flow_eval.proofs.Lookups.{put_back_at}
 use Rattle.flow_eval.proofs.locals.put_place.Goals as goal

@@ -1,5 +1,5 @@
 use Rattle.std.proofs.Common.{◌≡◌, map, drop, Some}
-use Rattle.flow_ast.specs.DeclView.{record_of}
+use Rattle.flow_tree.specs.DeclView.{record_of}
 use Rattle.flow_value.specs.View.{value_of}
 use Rattle.flow_eval.specs.Functions.{read_in}
 use Rattle.flow_eval.proofs.locals.read_in.Given as goal

@@ -1,5 +1,5 @@
 use Rattle.std.proofs.Common.{◌≡◌, ◌-◌, ◌^◌, ◌≤◌, min, drop}
-use Rattle.flow_eval.specs.Predefined.{digits_from}
+use Rattle.flow_base.specs.Names.{digits_from}
 use Rattle.flow_eval.proofs.predefined.capped_number.Given as goal
 
 abbrev pub invariant-loop-digit : goal.invariant-loop-digit

@@ -1,7 +1,7 @@
 use Rattle.std.proofs.Common.{◌<◌, length, map, position, ap, sym, ◌∙◌, arith}
 use Rattle.std.specs.Str.{bytes_eq}
-use Rattle.flow_ast.specs.DeclView.{param_of}
-use Rattle.flow_ast.specs.Decls.{ParamTree}
+use Rattle.flow_tree.specs.DeclView.{param_of}
+use Rattle.flow_tree.specs.Decls.{ParamTree}
 use Rattle.flow_eval.proofs.Lookups.{place_there}
 use Rattle.flow_eval.proofs.records.declared_place.Goals as goal
 

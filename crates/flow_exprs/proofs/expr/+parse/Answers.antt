@@ -1,9 +1,9 @@
 use Rattle.std.proofs.Common.{◌≡◌, ◌+◌, max, refl, sym, ap, ◌∙◌, subst, arith}
 use Rattle.std.proofs.lemmas.Result.{err_from_is_err_and}
-use Rattle.flow_ast.specs.declared.expr.Op.TheVariants.{Sub}
-use Rattle.flow_ast.specs.Tree.{NotExpr, NegExpr, BinaryExpr, ParenExpr, FieldExpr, MethodExpr, CallExpr, VarExpr}
-use Rattle.flow_ast.specs.Grammar.{level}
-use Rattle.flow_ast.specs.View.{expr_of, exprs_of}
+use Rattle.flow_tree.specs.declared.expr.Op.TheVariants.{Sub}
+use Rattle.flow_tree.specs.Tree.{NotExpr, NegExpr, BinaryExpr, ParenExpr, FieldExpr, MethodExpr, CallExpr, VarExpr}
+use Rattle.flow_tree.specs.Grammar.{level}
+use Rattle.flow_tree.specs.View.{expr_of, exprs_of}
 use Rattle.flow_exprs.specs.declared.kind.Kind.TheVariants as kind
 use Rattle.flow_exprs.specs.Answer.{Reads, ReadsArgs, Refuses}
 use Rattle.flow_exprs.proofs.ExprSteps.{not_true, too_deep, at_the_end, op_is, name_reads, call_reads, call_refused, bracket_reads, bracket_refused, bracket_open, not_reads, minus_reads, not_refused, minus_refused, dot_deep, dot_short, field_goes, method_goes, method_refused, right_deep, right_goes, right_refused, goes_on, goes_refused, Args, args_begin, args_none, args_more_is, args_end_is, args_bad, exprs_push, reads_is, goes_is, signs_refused, others_refused}

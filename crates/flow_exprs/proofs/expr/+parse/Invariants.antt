@@ -1,5 +1,5 @@
 use Rattle.std.proofs.Common.{◌+◌, ◌*◌, ◌-◌, length}
-use Rattle.flow_ast.specs.View.{expr_of, exprs_of}
+use Rattle.flow_tree.specs.View.{expr_of, exprs_of}
 use Rattle.flow_exprs.specs.Answer.{Reads}
 use Rattle.flow_exprs.proofs.ExprSteps.{Args}
 use Rattle.flow_exprs.proofs.expr.+parse.Given as goal

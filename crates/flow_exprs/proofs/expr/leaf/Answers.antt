@@ -1,6 +1,6 @@
 use Rattle.std.proofs.Common.{sym, ap, ◌∙◌}
 use Rattle.std.specs.Option.{option_map}
-use Rattle.flow_ast.specs.View.{expr_of}
+use Rattle.flow_tree.specs.View.{expr_of}
 use Rattle.flow_exprs.specs.declared.kind.Kind.TheVariants.{Leaf}
 use Rattle.flow_exprs.proofs.ExprSteps.{too_deep, leaf_reads}
 use Rattle.flow_exprs.proofs.expr.leaf.Goals as goal

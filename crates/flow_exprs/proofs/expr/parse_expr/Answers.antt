@@ -1,5 +1,5 @@
 use Rattle.std.proofs.Common.{subst}
-use Rattle.flow_ast.specs.View.{expr_of}
+use Rattle.flow_tree.specs.View.{expr_of}
 use Rattle.flow_exprs.specs.Answer.{Reads, Refuses}
 use Rattle.flow_exprs.proofs.Outcomes.{ended_reads}
 use Rattle.flow_exprs.proofs.ExprSteps.{top_ends, refusal_answer}

@@ -1,6 +1,6 @@
 use Rattle.std.proofs.Common.{refl, sym}
 use Rattle.std.proofs.lemmas.Result.{err_from_is_err_and}
-use Rattle.flow_ast.specs.View.{type_of}
+use Rattle.flow_tree.specs.View.{type_of}
 use Rattle.flow_exprs.proofs.ExprSteps.{not_true}
 use Rattle.flow_exprs.proofs.TypeSteps.{type_at_end, other_type, argument_deep, argument_open, argument_refused, argument_unclosed, argument_reads}
 use Rattle.flow_exprs.proofs.ty.+types.Goals as goal

@@ -1,5 +1,5 @@
 use Rattle.std.proofs.Common.{subst}
-use Rattle.flow_ast.specs.View.{type_of}
+use Rattle.flow_tree.specs.View.{type_of}
 use Rattle.flow_exprs.specs.TypeAnswer.{ReadsType, RefusesType}
 use Rattle.flow_exprs.proofs.TypeLaws.{ended_type}
 use Rattle.flow_exprs.proofs.TypeSteps.{bottom_ends, type_refusal}

@@ -1,6 +1,6 @@
 use Rattle.std.proofs.Common.{sym, ap, ◌∙◌}
 use Rattle.std.specs.Option.{option_map}
-use Rattle.flow_ast.specs.View.{type_of}
+use Rattle.flow_tree.specs.View.{type_of}
 use Rattle.flow_exprs.proofs.TypeSteps.{plain_deep, plain_reads}
 use Rattle.flow_exprs.proofs.ty.plain.Goals as goal
 

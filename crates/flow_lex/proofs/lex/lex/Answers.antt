@@ -1,5 +1,5 @@
 use Rattle.std.proofs.Common.{[], ◌∷◌, refl, ap, subst, sym, ◌∙◌, ◌++◌, take, length, cond, is_ok, arith}
-use Rattle.flow_ast.specs.Lexing.{Reads, here}
+use Rattle.flow_tree.specs.Lexing.{Reads, here}
 use Rattle.flow_lex.proofs.Reading.{read_gap, read_token, has_room, read_whole}
 use Rattle.flow_lex.proofs.lex.lex.Goals as goal
 

@@ -1,5 +1,5 @@
 use Rattle.std.proofs.Common.{◌≡◌, ℕ, List, [], length}
-use Rattle.flow_ast.specs.Lexing.{Reads, place_after}
+use Rattle.flow_tree.specs.Lexing.{Reads, place_after}
 use Rattle.flow_lex.proofs.lex.lex.Given as goal
 
 abbrev pub invariant-loop-rest : goal.invariant-loop-rest

@@ -1,5 +1,5 @@
 use Rattle.std.proofs.Common.{◌≤◌, ◌-◌, length, take}
-use Rattle.flow_ast.specs.Spelling.{Inside}
+use Rattle.flow_tree.specs.Spelling.{Inside}
 use Rattle.flow_lex.proofs.quoted.inside.Given as goal
 
 abbrev pub invariant-loop-b : goal.invariant-loop-b

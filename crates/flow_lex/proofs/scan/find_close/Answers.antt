@@ -1,5 +1,5 @@
 use Rattle.std.proofs.Common.{ap, sym, ◌∙◌, arith}
-use Rattle.flow_ast.specs.Spelling.{begins_close}
+use Rattle.flow_tree.specs.Spelling.{begins_close}
 use Rattle.flow_lex.proofs.Places.{close_step, close_here, close_none, close_within}
 use Rattle.flow_lex.proofs.scan.find_close.Goals as goal
 

@@ -1,6 +1,6 @@
 use Rattle.std.proofs.Common.{◌≡◌, ◌+◌, drop}
 use Rattle.std.specs.Option.{option_map}
-use Rattle.flow_ast.specs.Spelling.{close_position}
+use Rattle.flow_tree.specs.Spelling.{close_position}
 use Rattle.flow_lex.proofs.scan.find_close.Given as goal
 
 abbrev pub invariant-loop-at : goal.invariant-loop-at

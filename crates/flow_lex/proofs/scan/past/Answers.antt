@@ -1,6 +1,6 @@
 use Rattle.std.proofs.Common.{ap, ◌∙◌, ◌++◌, ◌≤◌, length, arith}
 use Rattle.std.proofs.lemmas.List.{take_all}
-use Rattle.flow_ast.specs.Lexing.{place_after}
+use Rattle.flow_tree.specs.Lexing.{place_after}
 use Rattle.flow_lex.proofs.Places.{past_step}
 use Rattle.flow_lex.proofs.scan.past.Goals as goal
 

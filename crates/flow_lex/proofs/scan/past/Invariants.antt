@@ -1,5 +1,5 @@
 use Rattle.std.proofs.Common.{◌≡◌, ◌+◌, ◌≤◌, ◌++◌, List, ℕ, take}
-use Rattle.flow_ast.specs.Lexing.{place_after}
+use Rattle.flow_tree.specs.Lexing.{place_after}
 use Rattle.flow_lex.proofs.scan.past.Given as goal
 
 abbrev pub invariant-loop-b : goal.invariant-loop-b

@@ -1,5 +1,5 @@
-use Rattle.flow_ast.specs.declared.token.Word as words
-use Rattle.flow_ast.specs.Spelling.{word_bytes}
+use Rattle.flow_tree.specs.declared.token.Word as words
+use Rattle.flow_tree.specs.Spelling.{word_bytes}
 use Rattle.std.proofs.Common.{◌≡◌, take, refl, ◌∙◌, sym, ap, subst, length, arith}
 use Rattle.flow_lex.proofs.Tables.{word_found, word_missing}
 use Rattle.flow_lex.proofs.Longest.{FoundName, finds_name}

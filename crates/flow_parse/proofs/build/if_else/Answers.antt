@@ -1,10 +1,10 @@
 use Rattle.std.proofs.Common.{ap, ◌∙◌}
 use Rattle.std.specs.declared.option.Option.TheVariants.{Some}
 use Rattle.flow_base.specs.declared.place.Place.{Place}
-use Rattle.flow_ast.specs.declared.stmt.Stmt.{fold-roll-Stmt}
-use Rattle.flow_ast.specs.declared.stmt.StmtKind.TheVariants as kind
-use Rattle.flow_ast.specs.StmtView.{kind_step, stmt_step, branch_step}
-use Rattle.flow_ast.specs.Body.{Body, Branches}
+use Rattle.flow_tree.specs.declared.stmt.Stmt.{fold-roll-Stmt}
+use Rattle.flow_tree.specs.declared.stmt.StmtKind.TheVariants as kind
+use Rattle.flow_tree.specs.StmtView.{kind_step, stmt_step, branch_step}
+use Rattle.flow_tree.specs.Body.{Body, Branches}
 use Rattle.flow_parse.proofs.OtherBody.{kind_if_else}
 use Rattle.flow_parse.proofs.build.if_else.Goals as goal
 

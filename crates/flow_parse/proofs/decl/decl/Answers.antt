@@ -1,6 +1,6 @@
 use Rattle.std.proofs.Common.{refl}
 use Rattle.std.proofs.lemmas.Result.{err_from_is_err_and}
-use Rattle.flow_ast.specs.GrammarDecl.{DeclRule}
+use Rattle.flow_tree.specs.GrammarDecl.{DeclRule}
 use Rattle.flow_parse.specs.Reading.{Any, token_at}
 use Rattle.flow_parse.proofs.Looking.{not_true}
 use Rattle.flow_parse.proofs.Leaves.{nothing, narrow, become, fails}

@@ -1,7 +1,7 @@
 use Rattle.std.proofs.lemmas.Result.{err_from_is_err_and}
 use Rattle.std.proofs.Common.{arith, refl, ap, ◌∙◌, ◌++◌, ◌∷◌, [], ◌+◌, suc, ◌≡◌}
-use Rattle.flow_ast.specs.declared.token.Token.TheVariants as token
-use Rattle.flow_ast.specs.declared.token.Sign.TheVariants as sign
+use Rattle.flow_tree.specs.declared.token.Token.TheVariants as token
+use Rattle.flow_tree.specs.declared.token.Sign.TheVariants as sign
 use Rattle.flow_parse.proofs.Leaves.{then_reads, first_fails, tok_reads}
 use Rattle.flow_parse.proofs.Decls.{field_link, semicolon_link, fields_left, more_fields_left}
 use Rattle.flow_parse.proofs.Looking.{not_true}

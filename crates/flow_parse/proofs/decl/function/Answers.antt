@@ -1,5 +1,5 @@
 use Rattle.std.proofs.lemmas.Result.{err_from_is_err_and}
-use Rattle.flow_ast.specs.Grammar.{TypeRule}
+use Rattle.flow_tree.specs.Grammar.{TypeRule}
 use Rattle.flow_parse.specs.Openers.{TypeToken}
 use Rattle.flow_parse.specs.Reading.{Any}
 use Rattle.flow_parse.proofs.Begins.{type_starts}

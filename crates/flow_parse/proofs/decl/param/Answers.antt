@@ -1,6 +1,6 @@
 use Rattle.std.proofs.lemmas.Result.{err_from_is_err_and}
 use Rattle.std.proofs.Common.{arith, refl}
-use Rattle.flow_ast.specs.GrammarToken.{Variable}
+use Rattle.flow_tree.specs.GrammarToken.{Variable}
 use Rattle.flow_parse.specs.Reading.{Any}
 use Rattle.flow_parse.proofs.Looking.{not_true}
 use Rattle.flow_parse.proofs.Leaves.{nothing, then_reads, done, fails, first_fails, marks_reads}

@@ -1,8 +1,8 @@
 use Rattle.std.proofs.lemmas.Result.{err_from_is_err_and}
 use Rattle.std.proofs.Common.{arith, refl, sym, ap, subst, ◌∙◌, ◌++◌, ◌∷◌, [], ◌+◌, suc, ◌≡◌, length, length-append}
-use Rattle.flow_ast.specs.declared.token.Token.TheVariants as token
-use Rattle.flow_ast.specs.declared.token.Sign.TheVariants as sign
-use Rattle.flow_ast.specs.DeclView.{params_of}
+use Rattle.flow_tree.specs.declared.token.Token.TheVariants as token
+use Rattle.flow_tree.specs.declared.token.Sign.TheVariants as sign
+use Rattle.flow_tree.specs.DeclView.{params_of}
 use Rattle.flow_parse.specs.Reading.{Any, Reads}
 use Rattle.flow_parse.specs.Parts.{Params}
 use Rattle.flow_parse.proofs.Leaves.{then_reads, fails, first_fails, done, tok_reads}

@@ -1,6 +1,6 @@
 use Rattle.std.proofs.Common.{◌≡◌, ◌≤◌, ◌<◌, length, arith, refl, sym, ap, ◌+◌, suc, inl}
 use Rattle.std.proofs.lemmas.Result.{err_from_is_err_and}
-use Rattle.flow_ast.specs.GrammarDecl.{DeclsRule}
+use Rattle.flow_tree.specs.GrammarDecl.{DeclsRule}
 use Rattle.flow_parse.specs.Follow.{AtEnd}
 use Rattle.flow_parse.proofs.Looking.{not_true}
 use Rattle.flow_parse.proofs.Leaves.{nothing, means}

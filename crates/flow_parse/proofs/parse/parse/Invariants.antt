@@ -1,5 +1,5 @@
 use Rattle.std.proofs.Common.{◌-◌, ◌≤◌, length}
-use Rattle.flow_ast.specs.GrammarDecl.{DeclsRule}
+use Rattle.flow_tree.specs.GrammarDecl.{DeclsRule}
 use Rattle.flow_parse.specs.Follow.{AtEnd}
 use Rattle.flow_parse.proofs.Leaves.{Leaves}
 use Rattle.flow_parse.proofs.DeclLoops.{decls_before}

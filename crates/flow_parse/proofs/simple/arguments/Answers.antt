@@ -1,8 +1,8 @@
 use Rattle.std.proofs.Common.{arith, refl, sym, ap, subst, ◌∙◌, ◌++◌, ◌∷◌, [], ◌+◌}
 use Rattle.std.proofs.lemmas.Result.{err_from_is_err_and}
-use Rattle.flow_ast.specs.declared.token.Token.TheVariants as token
-use Rattle.flow_ast.specs.declared.token.Sign.TheVariants as sign
-use Rattle.flow_ast.specs.View.{exprs_of}
+use Rattle.flow_tree.specs.declared.token.Token.TheVariants as token
+use Rattle.flow_tree.specs.declared.token.Sign.TheVariants as sign
+use Rattle.flow_tree.specs.View.{exprs_of}
 use Rattle.flow_parse.specs.Reading.{Any, Reads}
 use Rattle.flow_parse.specs.Parts.{Args}
 use Rattle.flow_parse.proofs.Looking.{not_true}

@@ -1,9 +1,9 @@
 use Rattle.std.proofs.Common.{refl, suc, ◌+◌}
 use Rattle.std.proofs.lemmas.Result.{err_from_is_err_and}
-use Rattle.flow_ast.specs.declared.token.Token.TheVariants as token
-use Rattle.flow_ast.specs.declared.token.Sign.TheVariants as sign
-use Rattle.flow_ast.specs.Body.{End}
-use Rattle.flow_ast.specs.Grammar.{ExprRule}
+use Rattle.flow_tree.specs.declared.token.Token.TheVariants as token
+use Rattle.flow_tree.specs.declared.token.Sign.TheVariants as sign
+use Rattle.flow_tree.specs.Body.{End}
+use Rattle.flow_tree.specs.Grammar.{ExprRule}
 use Rattle.flow_parse.specs.Follow.{ExprEnds}
 use Rattle.flow_parse.proofs.Looking.{not_true}
 use Rattle.flow_parse.proofs.Leaves.{then_reads, done, tok_reads, deeper, first_fails, fails}

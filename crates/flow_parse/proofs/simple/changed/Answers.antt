@@ -1,9 +1,9 @@
 use Rattle.std.proofs.Common.{refl, suc, ◌+◌}
 use Rattle.std.proofs.lemmas.Result.{err_from_is_err_and}
-use Rattle.flow_ast.specs.declared.token.Token.TheVariants as token
-use Rattle.flow_ast.specs.declared.token.Sign.TheVariants as sign
-use Rattle.flow_ast.specs.Body.{End}
-use Rattle.flow_ast.specs.StmtView.{stmt_of}
+use Rattle.flow_tree.specs.declared.token.Token.TheVariants as token
+use Rattle.flow_tree.specs.declared.token.Sign.TheVariants as sign
+use Rattle.flow_tree.specs.Body.{End}
+use Rattle.flow_tree.specs.StmtView.{stmt_of}
 use Rattle.flow_parse.specs.Reading.{Any}
 use Rattle.flow_parse.specs.Parts.{Args}
 use Rattle.flow_parse.proofs.Looking.{not_true}

@@ -1,7 +1,7 @@
 use Rattle.std.proofs.Common.{arith, refl, ap, ◌∙◌, ◌++◌, ◌∷◌, []}
 use Rattle.std.proofs.lemmas.Result.{err_from_is_err_and}
-use Rattle.flow_ast.specs.declared.token.Token.TheVariants as token
-use Rattle.flow_ast.specs.declared.token.Sign.TheVariants as sign
+use Rattle.flow_tree.specs.declared.token.Token.TheVariants as token
+use Rattle.flow_tree.specs.declared.token.Sign.TheVariants as sign
 use Rattle.flow_parse.specs.Follow.{NotBefore}
 use Rattle.flow_parse.specs.Parts.{MoreNames}
 use Rattle.flow_parse.proofs.Looking.{not_true}

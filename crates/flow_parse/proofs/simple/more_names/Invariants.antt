@@ -1,7 +1,7 @@
 use Rattle.std.proofs.Common.{◌≡◌, ◌-◌, ◌≤◌, List, [], ◌∷◌, ◌++◌, length}
-use Rattle.flow_ast.specs.declared.token.Token.TheVariants as token
-use Rattle.flow_ast.specs.declared.token.Sign.TheVariants as sign
-use Rattle.flow_ast.specs.declared.ty.Ident.{Ident}
+use Rattle.flow_tree.specs.declared.token.Token.TheVariants as token
+use Rattle.flow_tree.specs.declared.token.Sign.TheVariants as sign
+use Rattle.flow_tree.specs.declared.ty.Ident.{Ident}
 use Rattle.flow_parse.specs.Follow.{NotBefore}
 use Rattle.flow_parse.specs.Parts.{MoreNames}
 use Rattle.flow_parse.proofs.Leaves.{Leaves}

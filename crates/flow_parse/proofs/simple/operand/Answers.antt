@@ -1,7 +1,7 @@
 use Rattle.std.proofs.Common.{refl, suc, ◌+◌, inl, inr}
 use Rattle.std.proofs.lemmas.Result.{err_from_is_err_and}
-use Rattle.flow_ast.specs.declared.token.Token.TheVariants as token
-use Rattle.flow_ast.specs.declared.token.Word.TheVariants as word
+use Rattle.flow_tree.specs.declared.token.Token.TheVariants as token
+use Rattle.flow_tree.specs.declared.token.Word.TheVariants as word
 use Rattle.flow_parse.specs.Reading.{token_at, Any}
 use Rattle.flow_parse.specs.Parts.{Test, OperandPart}
 use Rattle.flow_parse.proofs.Looking.{not_true}

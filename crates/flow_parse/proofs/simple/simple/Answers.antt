@@ -1,7 +1,7 @@
 use Rattle.std.proofs.Common.{subst}
 use Rattle.std.proofs.lemmas.Result.{err_from_is_err_and}
-use Rattle.flow_ast.specs.Body.{End}
-use Rattle.flow_ast.specs.StmtView.{stmt_of}
+use Rattle.flow_tree.specs.Body.{End}
+use Rattle.flow_tree.specs.StmtView.{stmt_of}
 use Rattle.flow_parse.specs.Reading.{Any, Reads}
 use Rattle.flow_parse.specs.Parts.{Simple}
 use Rattle.flow_parse.specs.Views.{counts_of}

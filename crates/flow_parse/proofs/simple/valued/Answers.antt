@@ -1,10 +1,10 @@
 use Rattle.std.proofs.Common.{refl, ◌+◌}
 use Rattle.std.proofs.lemmas.Result.{err_from_is_err_and}
-use Rattle.flow_ast.specs.declared.token.Token.TheVariants as token
-use Rattle.flow_ast.specs.declared.token.Sign.TheVariants as sign
-use Rattle.flow_ast.specs.Body.{End}
-use Rattle.flow_ast.specs.Grammar.{ExprRule}
-use Rattle.flow_ast.specs.StmtView.{into_of}
+use Rattle.flow_tree.specs.declared.token.Token.TheVariants as token
+use Rattle.flow_tree.specs.declared.token.Sign.TheVariants as sign
+use Rattle.flow_tree.specs.Body.{End}
+use Rattle.flow_tree.specs.Grammar.{ExprRule}
+use Rattle.flow_tree.specs.StmtView.{into_of}
 use Rattle.flow_parse.specs.Follow.{ExprEnds}
 use Rattle.flow_parse.proofs.Looking.{not_true}
 use Rattle.flow_parse.proofs.Leaves.{then_reads, done, tok_reads, deeper, fails}

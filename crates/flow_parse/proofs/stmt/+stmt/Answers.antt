@@ -1,15 +1,15 @@
 use Rattle.std.proofs.Common.{arith, refl, sym, ap, subst, ◌∷◌, [], ◌+◌, suc, ◌≡◌}
 use Rattle.std.proofs.lemmas.Result.{err_from_is_err_and}
-use Rattle.flow_ast.specs.declared.fault.Rule.TheVariants as rule
-use Rattle.flow_ast.specs.declared.fault.SourceFault.TheVariants.{Refused}
-use Rattle.flow_ast.specs.declared.token.Token.TheVariants as token
-use Rattle.flow_ast.specs.declared.token.Word.TheVariants as word
-use Rattle.flow_ast.specs.declared.token.Sign.TheVariants as sign
-use Rattle.flow_ast.specs.Body.{End}
-use Rattle.flow_ast.specs.StmtView.{stmt_of, body_of}
-use Rattle.flow_ast.specs.GrammarToken.{Node, Branch}
-use Rattle.flow_ast.specs.GrammarAnswer.{place_at}
-use Rattle.flow_ast.specs.GrammarStmt.{one_statement}
+use Rattle.flow_tree.specs.declared.fault.Rule.TheVariants as rule
+use Rattle.flow_tree.specs.declared.fault.SourceFault.TheVariants.{Refused}
+use Rattle.flow_tree.specs.declared.token.Token.TheVariants as token
+use Rattle.flow_tree.specs.declared.token.Word.TheVariants as word
+use Rattle.flow_tree.specs.declared.token.Sign.TheVariants as sign
+use Rattle.flow_tree.specs.Body.{End}
+use Rattle.flow_tree.specs.StmtView.{stmt_of, body_of}
+use Rattle.flow_tree.specs.GrammarToken.{Node, Branch}
+use Rattle.flow_tree.specs.GrammarAnswer.{place_at}
+use Rattle.flow_tree.specs.GrammarStmt.{one_statement}
 use Rattle.flow_parse.specs.Openers.{StmtToken}
 use Rattle.flow_parse.specs.Reading.{token_at, Tok, Any, Reads, Answer}
 use Rattle.flow_parse.specs.Parts.{NoElse, Test, MaybeExpr, StartPart, NextPart, Placed, Plain, One, BodyPart, Closing, Block, AllWhens}
@@ -502,8 +502,8 @@ try_stmt-returns-in_err-inner-clause-reads h c =
     let p = err_from_is_err_and c.from_residual.result c.from_residual.ensures.1 in
     rw (p.1, p.2) (first_fails t (try_inner a (suc d) k) l1 e (deeper_fails (λ i. Block a i k) Any t (c.args.at + 1) d e c.in_err-inner.ensures.reads))
 
-pub try_stmt-returns-in_err-error-clause-reads : goal.try_stmt-returns-in_err-error-clause-reads
-try_stmt-returns-in_err-error-clause-reads h c =
+pub try_stmt-returns-in_err-catch_at-clause-reads : goal.try_stmt-returns-in_err-catch_at-clause-reads
+try_stmt-returns-in_err-catch_at-clause-reads h c =
     let t = c.args.tokens.now in
     let s = t.spots.items in
     let a = c.args.actor in
@@ -512,9 +512,9 @@ try_stmt-returns-in_err-error-clause-reads h c =
     let l1 = then_reads s (try_word a (suc d) k) (try_left t c.args.at a d k c.requires.within c.requires.here) (tok_reads t c.args.at (token.Word word.Try) c.requires.here) in
     let l2 = then_reads s (try_inner a (suc d) k) l1 (deeper (λ i. Block a i k) d c.in_ok-inner.ensures.reads) in
     let k1 = counts_of c.in_ok-inner.inner.counts in
-    let e = c.in_err-error.field-0.0 in
-    let p = err_from_is_err_and c.from_residual-in_err-error.result c.from_residual-in_err-error.ensures.1 in
-    rw (p.1, p.2) (first_fails t (caught_link a (suc d) k1) l2 e c.in_err-error.ensures.reads)
+    let e = c.in_err-catch_at.field-0.0 in
+    let p = err_from_is_err_and c.from_residual-in_err-catch_at.result c.from_residual-in_err-catch_at.ensures.1 in
+    rw (p.1, p.2) (first_fails t (caught_link a (suc d) k1) l2 e c.in_err-catch_at.ensures.reads)
 
 pub try_stmt-returns-in_err-handler-clause-reads : goal.try_stmt-returns-in_err-handler-clause-reads
 try_stmt-returns-in_err-handler-clause-reads h c =
@@ -526,10 +526,10 @@ try_stmt-returns-in_err-handler-clause-reads h c =
     let l1 = then_reads s (try_word a (suc d) k) (try_left t c.args.at a d k c.requires.within c.requires.here) (tok_reads t c.args.at (token.Word word.Try) c.requires.here) in
     let l2 = then_reads s (try_inner a (suc d) k) l1 (deeper (λ i. Block a i k) d c.in_ok-inner.ensures.reads) in
     let k1 = counts_of c.in_ok-inner.inner.counts in
-    let l3 = then_reads s (caught_link a (suc d) k1) l2 c.in_ok-error.ensures.reads in
+    let l3 = then_reads s (caught_link a (suc d) k1) l2 c.in_ok-catch_at.ensures.reads in
     let e = c.in_err-handler.field-0.0 in
     let p = err_from_is_err_and c.from_residual-in_err-handler.result c.from_residual-in_err-handler.ensures.1 in
-    rw (p.1, p.2) (fails t l3 e (deeper_fails (λ i. Block a i k1) Any t c.in_ok-error.at d e c.in_err-handler.ensures.reads))
+    rw (p.1, p.2) (fails t l3 e (deeper_fails (λ i. Block a i k1) Any t c.in_ok-catch_at.at d e c.in_err-handler.ensures.reads))
 
 pub try_stmt-returns-clause-reads : goal.try_stmt-returns-clause-reads
 try_stmt-returns-clause-reads h c =
@@ -541,7 +541,7 @@ try_stmt-returns-clause-reads h c =
     let l1 = then_reads s (try_word a (suc d) k) (try_left t c.args.at a d k c.requires.within c.requires.here) (tok_reads t c.args.at (token.Word word.Try) c.requires.here) in
     let l2 = then_reads s (try_inner a (suc d) k) l1 (deeper (λ i. Block a i k) d c.in_ok-inner.ensures.reads) in
     let k1 = counts_of c.in_ok-inner.inner.counts in
-    let l3 = then_reads s (caught_link a (suc d) k1) l2 c.in_ok-error.ensures.reads in
+    let l3 = then_reads s (caught_link a (suc d) k1) l2 c.in_ok-catch_at.ensures.reads in
     rw (c.ended.ensures.is, c.try_stmt-stmt.ensures.is End, c.place-here.ensures) (done s l3 (deeper (λ i. Block a i k1) d c.in_ok-handler.ensures.reads))
 
 pub when-returns-then-not-is_word-clause-reads : goal.when-returns-then-not-is_word-clause-reads

@@ -1,6 +1,6 @@
 use Rattle.std.proofs.lemmas.Result.{err_from_is_err_and}
-use Rattle.flow_ast.specs.Body.{End}
-use Rattle.flow_ast.specs.StmtView.{stmt_of}
+use Rattle.flow_tree.specs.Body.{End}
+use Rattle.flow_tree.specs.StmtView.{stmt_of}
 use Rattle.flow_parse.proofs.Leaves.{then_reads, first_fails, answer_done}
 use Rattle.flow_parse.proofs.Unended.{assignment_left, assigned_link, path_change_link}
 use Rattle.flow_parse.proofs.stmt.assignment.Goals as goal

@@ -76,4 +76,4 @@ returns-clause-reads c =
     let l3 = then_reads s catch_error l2 c.in_ok-at-3.ensures.reads in
     let l4 = then_reads s catch_amp l3 c.in_ok-at-4.ensures.reads in
     let l5 = then_reads s catch_name l4 c.in_ok-error.ensures.reads in
-    done s l5 c.in_ok-to.ensures.reads
+    rw c.place-here.ensures (done s l5 c.in_ok-to.ensures.reads)

@@ -1,7 +1,7 @@
 use Rattle.std.proofs.lemmas.Result.{err_from_is_err_and}
-use Rattle.flow_ast.specs.declared.token.Token.TheVariants as token
-use Rattle.flow_ast.specs.declared.token.Word.TheVariants as word
-use Rattle.flow_ast.specs.Body.{End}
+use Rattle.flow_tree.specs.declared.token.Token.TheVariants as token
+use Rattle.flow_tree.specs.declared.token.Word.TheVariants as word
+use Rattle.flow_tree.specs.Body.{End}
 use Rattle.flow_parse.specs.Views.{counts_of}
 use Rattle.flow_parse.proofs.Leaves.{then_reads, done, fails, tok_reads}
 use Rattle.flow_parse.proofs.Stmts.{continue_left, semicolon_link}

@@ -1,9 +1,9 @@
 use Rattle.std.proofs.Common.{suc, ◌+◌}
 use Rattle.std.proofs.lemmas.Result.{err_from_is_err_and}
-use Rattle.flow_ast.specs.declared.token.Token.TheVariants as token
-use Rattle.flow_ast.specs.declared.token.Word.TheVariants as word
-use Rattle.flow_ast.specs.Body.{End}
-use Rattle.flow_ast.specs.Grammar.{ExprRule}
+use Rattle.flow_tree.specs.declared.token.Token.TheVariants as token
+use Rattle.flow_tree.specs.declared.token.Word.TheVariants as word
+use Rattle.flow_tree.specs.Body.{End}
+use Rattle.flow_tree.specs.Grammar.{ExprRule}
 use Rattle.flow_parse.specs.Follow.{ExprEnds}
 use Rattle.flow_parse.specs.Views.{counts_of}
 use Rattle.flow_parse.proofs.Leaves.{then_reads, done, fails, first_fails, tok_reads, deeper}

@@ -1,5 +1,5 @@
 use Rattle.std.proofs.Common.{refl, arith}
-use Rattle.flow_ast.specs.Grammar.{ExprRule}
+use Rattle.flow_tree.specs.Grammar.{ExprRule}
 use Rattle.flow_parse.specs.Openers.{ExprToken}
 use Rattle.flow_parse.specs.Follow.{ExprEnds}
 use Rattle.flow_parse.specs.Reading.{token_at}

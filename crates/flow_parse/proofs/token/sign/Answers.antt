@@ -1,5 +1,5 @@
 use Rattle.std.proofs.Common.{refl}
-use Rattle.flow_ast.specs.declared.token.Token.TheVariants as token
+use Rattle.flow_tree.specs.declared.token.Token.TheVariants as token
 use Rattle.flow_parse.proofs.Looking.{not_true}
 use Rattle.flow_parse.proofs.Leaves.{tok_reads, tok_fails}
 use Rattle.flow_parse.proofs.token.sign.Goals as goal

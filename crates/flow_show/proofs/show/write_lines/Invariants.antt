@@ -5,8 +5,8 @@ use Rattle.flow_show.proofs.show.write_lines.Given as goal
 -- the rest is what was not yet written of the text
 abbrev pub invariant-loop-rest : goal.invariant-loop-rest
 invariant-loop-rest g l = record {
-  written : (done : List ℕ) × (l.fn.text ≡ done ++ l.rest) × Appends (g.S.Sink.written l.initial.out) (g.S.Sink.written l.out) done;
-  kept : g.S.Sink.faults l.initial.out ≤ g.S.Sink.faults l.out;
+  written : (done : List ℕ) × (l.fn.text ≡ done ++ l.rest) × Appends ((g.S.Sink.seen l.initial.out).written) ((g.S.Sink.seen l.out).written) done;
+  kept : (g.S.Sink.seen l.initial.out).faults ≤ (g.S.Sink.seen l.out).faults;
 }
 
 abbrev pub decreases-loop-rest : goal.decreases-loop-rest

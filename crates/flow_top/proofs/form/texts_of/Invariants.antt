@@ -1,6 +1,6 @@
 use Rattle.std.proofs.Common.{◌≡◌, length}
-use Rattle.flow_ast.specs.StmtView.{body_of}
-use Rattle.flow_ast.specs.Canon.{bare_body}
+use Rattle.flow_tree.specs.StmtView.{body_of}
+use Rattle.flow_tree.specs.Canon.{bare_body}
 use Rattle.flow_top.specs.Form.{prints}
 use Rattle.flow_top.proofs.form.texts_of.Given as goal
 

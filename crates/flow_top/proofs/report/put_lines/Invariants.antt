@@ -5,6 +5,6 @@ use Rattle.flow_top.proofs.report.put_lines.Given as goal
 
 abbrev pub invariant-loop-line : goal.invariant-loop-line
 invariant-loop-line g l = record {
-  written : Appends (g.S.Sink.written l.initial.out) (g.S.Sink.written l.out) (bytes_of (take l.line-index l.lines));
-  kept : g.S.Sink.faults l.initial.out ≤ g.S.Sink.faults l.out;
+  written : Appends (g.S.Sink.seen l.initial.out).written (g.S.Sink.seen l.out).written (bytes_of (take l.line-index l.lines));
+  kept : (g.S.Sink.seen l.initial.out).faults ≤ (g.S.Sink.seen l.out).faults;
 }

@@ -1,5 +1,5 @@
 use Rattle.std.proofs.Common.{◌≡◌, ◌∷◌, take}
-use Rattle.flow_trace.specs.Quote.{spelled_text}
+use Rattle.flow_base.specs.Quote.{spelled_text}
 use Rattle.flow_trace.proofs.quote.quote.Given as goal
 
 abbrev pub invariant-loop-byte : goal.invariant-loop-byte

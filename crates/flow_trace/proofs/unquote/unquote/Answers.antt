@@ -1,8 +1,8 @@
 use Rattle.std.proofs.Common.{rules, ◌≡◌, sym, ap, ◌∙◌, not, true}
+use Rattle.flow_base.specs.Quote.{quoted}
 use Rattle.std.specs.Str.{bytes_eq}
 use Rattle.std.proofs.lemmas.Bool.{false≢true}
 use Rattle.std.proofs.lemmas.Slice.Eq.{bytes_eq-Decides}
-use Rattle.flow_trace.specs.Quote.{quoted}
 use Rattle.flow_trace.proofs.Texts.{no_text, same_text, other_text}
 use Rattle.flow_trace.proofs.unquote.unquote.Goals as goal
 

@@ -1,6 +1,6 @@
 use Rattle.std.proofs.Common.{◌≡◌, ◌++◌, ◌+◌, ◌*◌, take}
-use Rattle.flow_ast.specs.View.{exprs_of}
-use Rattle.flow_ast.specs.Canon.{more_args_text}
+use Rattle.flow_tree.specs.View.{exprs_of}
+use Rattle.flow_tree.specs.Canon.{more_args_text}
 use Rattle.flow_show.proofs.source.Source.+expr.Given as goal
 
 abbrev pub invariant-put_more_args-loop-arg : goal.invariant-put_more_args-loop-arg

@@ -1,9 +1,9 @@
 use Rattle.std.proofs.Common.{suc, ◌++◌, refl, ap, ap₂, ◌∙◌}
 use Rattle.std.specs.Prelude.{codes}
-use Rattle.flow_ast.specs.View.{exprs_of}
-use Rattle.flow_ast.specs.StmtView.{body_of, branches_of}
-use Rattle.flow_ast.specs.Canon.{line, call_text, body_text, branches_text}
-use Rattle.flow_ast.proofs.Views.{kind_modify}
+use Rattle.flow_tree.specs.View.{exprs_of}
+use Rattle.flow_tree.specs.StmtView.{body_of, branches_of}
+use Rattle.flow_tree.specs.Canon.{line, call_text, body_text, branches_text}
+use Rattle.flow_tree.proofs.Views.{kind_modify}
 use Rattle.flow_show.proofs.StatementKinds.{puts_kind, kind_declare, kind_assign, kind_call, kind_wait, kind_try, kind_choose}
 use Rattle.flow_show.proofs.Texts.{three, five}
 use Rattle.flow_show.proofs.source.Source.+stmt.Goals as goal
@@ -36,7 +36,7 @@ put_stmt-returns-in_ok-put_call_line-in-Call t c =
 pub put_stmt-returns-in_ok-put_handler-in-Try : goal.put_stmt-returns-in_ok-put_handler-in-Try
 put_stmt-returns-in_ok-put_handler-in-Try t c =
     let k = c.args.level in
-    puts_kind k c.args.stmt.now _ _ _ _ _ c.in-Try.is (kind_try c.in-Try.body c.in-Try.error c.in-Try.handler) (λ at rest. refl)
+    puts_kind k c.args.stmt.now _ _ _ _ _ c.in-Try.is (kind_try c.in-Try.body c.in-Try.field-1 c.in-Try.error c.in-Try.handler) (λ at rest. refl)
     (five c.args.self.now _ _ _ (line k (codes "try {")) _ _ _ _ c.in_ok-put_line-in-Try.ensures c.in_ok-put_deeper-in-Try.ensures c.in_ok-put_handler-in-Try.ensures
     ∙ ap₂ (λ b h. c.args.self.now ++ (line k (codes "try {") ++ body_text (suc k) (body_of b) ++ line k (codes "} catch (Error& " ++ c.in-Try.error.name ++ codes ") {") ++ body_text (suc k) (body_of h) ++ line k (codes "}")))
     c.deref-in-Try.ensures.value c.deref-in-Try-2.ensures.value)

@@ -1,6 +1,6 @@
 use Rattle.std.proofs.Common.{◌≡◌, ◌++◌, ◌+◌, ◌*◌, drop}
-use Rattle.flow_ast.specs.StmtView.{body_of, branches_of}
-use Rattle.flow_ast.specs.Canon.{body_text, branches_text}
+use Rattle.flow_tree.specs.StmtView.{body_of, branches_of}
+use Rattle.flow_tree.specs.Canon.{body_text, branches_text}
 use Rattle.flow_show.proofs.source.Source.+stmt.Given as goal
 
 abbrev pub invariant-put_body-loop-stmt : goal.invariant-put_body-loop-stmt

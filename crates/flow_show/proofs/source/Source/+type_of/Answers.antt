@@ -1,4 +1,4 @@
-use Rattle.flow_ast.proofs.Views.{type_future_stream}
+use Rattle.flow_tree.proofs.Views.{type_future_stream}
 use Rattle.flow_show.proofs.source.Source.+type_of.Goals as goal
 
 pub put_type-returns-in-FutureStream : goal.put_type-returns-in-FutureStream

@@ -1,4 +1,4 @@
-use Rattle.flow_ast.specs.DeclView.{actor_of}
+use Rattle.flow_tree.specs.DeclView.{actor_of}
 use Rattle.flow_show.proofs.Texts.{whole_routine, actor_result}
 use Rattle.flow_show.proofs.source.Source.put_actor.Goals as goal
 

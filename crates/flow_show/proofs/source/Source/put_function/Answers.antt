@@ -1,4 +1,4 @@
-use Rattle.flow_ast.specs.DeclView.{function_of}
+use Rattle.flow_tree.specs.DeclView.{function_of}
 use Rattle.flow_show.proofs.Texts.{whole_routine}
 use Rattle.flow_show.proofs.source.Source.put_function.Goals as goal
 

@@ -1,5 +1,5 @@
 use Rattle.std.proofs.Common.{◌≡◌, ◌++◌}
-use Rattle.flow_ast.specs.Canon.{indent}
+use Rattle.flow_tree.specs.Canon.{indent}
 use Rattle.flow_show.proofs.source.Source.put_indent.Given as goal
 
 abbrev pub invariant-loop-done : goal.invariant-loop-done

@@ -1,8 +1,8 @@
 use Rattle.std.proofs.Common.{[], ◌∷◌, ◌++◌, ◌∙◌}
 use Rattle.std.specs.Prelude.{codes}
-use Rattle.flow_ast.specs.DeclView.{params_of}
-use Rattle.flow_ast.specs.StmtView.{body_of}
-use Rattle.flow_ast.specs.Canon.{params_text, body_text}
+use Rattle.flow_tree.specs.DeclView.{params_of}
+use Rattle.flow_tree.specs.StmtView.{body_of}
+use Rattle.flow_tree.specs.Canon.{params_text, body_text}
 use Rattle.flow_show.proofs.Texts.{seven}
 use Rattle.flow_show.proofs.source.Source.put_routine.Goals as goal
 

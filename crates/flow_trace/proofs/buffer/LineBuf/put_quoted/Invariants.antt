@@ -1,5 +1,5 @@
 use Rattle.std.proofs.Common.{◌≡◌, ◌≤◌, ◌+◌, ◌*◌, ◌++◌, length, take}
-use Rattle.flow_trace.specs.Quote.{spelled_text}
+use Rattle.flow_base.specs.Quote.{spelled_text}
 use Rattle.flow_trace.proofs.buffer.LineBuf.put_quoted.Given as goal
 
 abbrev pub invariant-loop-byte : goal.invariant-loop-byte

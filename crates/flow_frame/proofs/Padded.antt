@@ -1,0 +1,43 @@
+-- Places of which the last hold nothing.
+use Rattle.std.proofs.Common.{◌≡◌, ℕ, zero, suc, ◌<◌, ◌≤◌, List, [], ◌∷◌, ◌++◌, length, get_or, set, Option, None, refl, ap, arith}
+use Rattle.flow_frame.specs.Frames.{padded}
+
+module _ {T : Type 0} where
+  pub length_padded : (n : ℕ) (xs : List (Option T)) → length (padded n xs) ≡ n
+  length_padded zero xs = refl
+  length_padded (suc n) [] = omega (arith, length_padded n [])
+  length_padded (suc n) (x ∷ xs) = omega (arith, length_padded n xs)
+
+  pub at_padded : (n : ℕ) (xs : List (Option T)) (k : ℕ) → k < n → get_or (padded n xs) k None ≡ get_or xs k None
+  at_padded zero xs k h = absurd (omega arith)
+  at_padded (suc n) [] zero h = refl
+  at_padded (suc n) [] (suc k) h = at_padded n [] k (omega arith)
+  at_padded (suc n) (x ∷ xs) zero h = refl
+  at_padded (suc n) (x ∷ xs) (suc k) h = at_padded n xs k (omega arith)
+
+  pub set_padded : (n : ℕ) (xs : List (Option T)) (k : ℕ) (v : Option T) → k < length xs → padded n (set xs k v) ≡ set (padded n xs) k v
+  set_padded zero xs k v h = refl
+  set_padded (suc n) [] k v h = absurd (omega arith)
+  set_padded (suc n) (x ∷ xs) zero v h = refl
+  set_padded (suc n) (x ∷ xs) (suc k) v h = ap (λ r. x ∷ r) (set_padded n xs k v (omega arith))
+
+  -- one more that holds nothing
+  pub more_padded : (n : ℕ) (xs : List (Option T)) → padded n (xs ++ None ∷ []) ≡ padded n xs
+  more_padded zero xs = refl
+  more_padded (suc n) [] = refl
+  more_padded (suc n) (x ∷ xs) = ap (λ r. x ∷ r) (more_padded n xs)
+
+  -- nothing put where nothing stood
+  pub unset_padded : (n : ℕ) (xs : List (Option T)) (k : ℕ) → length xs ≤ k → set (padded n xs) k None ≡ padded n xs
+  unset_padded zero xs k h = refl
+  unset_padded (suc n) [] zero h = refl
+  unset_padded (suc n) [] (suc k) h = ap (λ r. None ∷ r) (unset_padded n [] k (omega arith))
+  unset_padded (suc n) (x ∷ xs) zero h = absurd (omega arith)
+  unset_padded (suc n) (x ∷ xs) (suc k) h = ap (λ r. x ∷ r) (unset_padded n xs k (omega arith))
+
+  pub past_padded : (n : ℕ) (xs : List (Option T)) (k : ℕ) → length xs ≤ k → get_or (padded n xs) k None ≡ None
+  past_padded zero xs k h = refl
+  past_padded (suc n) [] zero h = refl
+  past_padded (suc n) [] (suc k) h = past_padded n [] k (omega arith)
+  past_padded (suc n) (x ∷ xs) zero h = absurd (omega arith)
+  past_padded (suc n) (x ∷ xs) (suc k) h = past_padded n xs k (omega arith)

@@ -1,0 +1,9 @@
+use Rattle.std.proofs.Common.{◌≡◌, ℕ}
+use Rattle.flow_frame.specs.Frames.{padded}
+use Rattle.flow_frame.proofs.frame.cut.Given as goal
+
+abbrev pub invariant-loop-filled : goal.invariant-loop-filled
+invariant-loop-filled g l = (places : ℕ) → padded places l.filled.items ≡ padded places l.initial.filled.items
+
+abbrev pub decreases-loop-filled : goal.decreases-loop-filled
+decreases-loop-filled g l = goal.left-loop-filled g l

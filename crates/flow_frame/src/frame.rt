@@ -1,0 +1,189 @@
+// One frame.
+
+ghost use Rattle.std.specs.Prelude.{◌≡◌, ℕ, ◌<◌, ◌≤◌, length, OnOk, OnErr, IfOk, option_copied, slice_index_or, None};
+ghost use Rattle.flow_frame.specs.Frames.{padded, fresh, in_state, with_place, with_callback, first_held, other_held};
+
+use crate::held::Held;
+use flow_base::memory::NoMemory;
+use std::alloc::Global;
+use std::marker::Model;
+use std::mem;
+
+/// A frame. Only the places up to the last filled one, or a few more, stand in memory.
+#[derive(Drop)]
+pub(crate) struct Frame<T> {
+    class: u32,
+    state: u32,
+    block: u32,
+    instruction: u32,
+    places: u32,
+    filled: Vec<Option<T>>,
+    callbacks: Vec<Held>,
+}
+
+impl<T> Model for Frame<T> {
+    ghost use Rattle.flow_frame.specs.Frames.{FrameTree, padded, frame_code};
+
+    ghost Value = { FrameTree T };
+
+    ghost coded = { frame_code T.code };
+
+    ghost view = { λ f. record {
+      class = f.class;
+      state = f.state;
+      block = f.block;
+      instruction = f.instruction;
+      places = padded f.places f.filled.items;
+      callbacks = f.callbacks.items;
+    } };
+}
+
+#[tactic(auto, using(crate::proofs::Padded::more_padded))]
+// Makes room for a place, with nothing in it or in those before it that had no room.
+fn reach<T: Drop>(filled: &mut Vec<Option<T>>, place: usize) -> Result<(), NoMemory>
+    ensures same { (places : ℕ) → padded places filled.new.items ≡ padded places filled.old.items }
+    ensures ok { OnOk result (place < length filled.new.items) }
+{
+    while filled.len() <= place {
+        filled.push(None)?;
+    }
+    Ok(())
+}
+
+#[tactic(auto, using(crate::proofs::Padded::more_padded))]
+// Gives up the room behind the last filled place.
+fn cut<T: Drop>(filled: &mut Vec<Option<T>>)
+    ensures same { (places : ℕ) → padded places filled.new.items ≡ padded places filled.old.items }
+{
+    while let Some(None) = filled.last() {
+        filled.pop();
+    }
+    filled.shrink_to_fit();
+}
+
+impl<T> Frame<T> {
+    /// A frame that begins: in state 0, at block 0 and instruction 0, with so many empty places and no callback.
+    pub(crate) fn new(alloc: Global, class: u32, places: u32) -> Frame<T>
+        ensures { result ≡ fresh class places }
+    {
+        Frame {
+            class,
+            state: 0,
+            block: 0,
+            instruction: 0,
+            places,
+            filled: Vec::new(alloc),
+            callbacks: Vec::new(alloc),
+        }
+    }
+
+    #[tactic(auto, using(crate::proofs::Padded::at_padded, crate::proofs::Padded::length_padded))]
+    /// What a place holds.
+    pub(crate) fn place(&self, place: u32) -> Option<&T>
+        requires { place < length self.now.places }
+        ensures { option_copied result ≡ slice_index_or self.now.places place None }
+    {
+        match self.filled.get(place as usize) {
+            Some(Some(value)) => Some(value),
+            _ => None,
+        }
+    }
+
+    #[tactic(auto, using(crate::proofs::Padded::at_padded, crate::proofs::Padded::length_padded, crate::proofs::Padded::set_padded, crate::proofs::Padded::past_padded, crate::proofs::Padded::unset_padded))]
+    /// Has a place hold something or nothing, and gives what it held. Where there is no memory, nothing changes.
+    pub(crate) fn set_place(&mut self, place: u32, value: Option<T>) -> Result<Option<T>, NoMemory>
+    where
+        T: Drop,
+        requires { place < length self.old.places }
+        ensures old { IfOk result (λ old. old ≡ slice_index_or self.old.places place None) }
+        ensures ok { OnOk result (self.new ≡ with_place self.old place value) }
+        ensures err { OnErr result (self.new ≡ self.old) }
+    {
+        let place = place as usize;
+        if place >= self.filled.len() {
+            if value.is_none() {
+                return Ok(None);
+            }
+            reach(&mut self.filled, place)?;
+        }
+        Ok(mem::replace(&mut self.filled[place], value))
+    }
+
+    pub(crate) fn class(&self) -> u32
+        ensures { result ≡ self.now.class }
+    {
+        self.class
+    }
+
+    #[tactic(auto, using(crate::proofs::Padded::length_padded))]
+    /// How many places it has.
+    pub(crate) fn places(&self) -> u32
+        ensures { result ≡ length self.now.places }
+    {
+        self.places
+    }
+
+    pub(crate) fn state(&self) -> u32
+        ensures { result ≡ self.now.state }
+    {
+        self.state
+    }
+
+    /// Puts it into a state. In one other than 0 it stands at block 0 and instruction 0, and gives up the room
+    /// behind its last filled place.
+    pub(crate) fn set_state(&mut self, state: u32)
+    where
+        T: Drop,
+        ensures { self.new ≡ in_state state self.old }
+    {
+        self.state = state;
+        if state == 0 {
+            return;
+        }
+        self.block = 0;
+        self.instruction = 0;
+        cut(&mut self.filled);
+    }
+
+    /// The block and the instruction at which it stands.
+    pub(crate) fn at(&self) -> (u32, u32)
+        ensures { result ≡ (self.now.block, self.now.instruction) }
+    {
+        (self.block, self.instruction)
+    }
+
+    pub(crate) fn set_at(&mut self, at: (u32, u32))
+        ensures { self.new ≡ record self.old { block = at.0; instruction = at.1 } }
+    {
+        let (block, instruction) = at;
+        self.block = block;
+        self.instruction = instruction;
+    }
+
+    /// Its callbacks, the first first.
+    pub(crate) fn callbacks(&self) -> &[Held]
+        ensures { result.now ≡ self.now.callbacks }
+    {
+        &self.callbacks
+    }
+
+    /// Adds a callback behind the others. Where there is no memory, nothing changes.
+    pub(crate) fn add_callback(&mut self, held: Held) -> Result<(), NoMemory>
+        ensures ok { OnOk result (self.new ≡ with_callback self.old held) }
+        ensures err { OnErr result (self.new ≡ self.old) }
+    {
+        self.callbacks.push(held)?;
+        Ok(())
+    }
+
+    /// Takes the first callback, if there is one.
+    pub(crate) fn take_callback(&mut self) -> Option<Held>
+        ensures first { result ≡ first_held self.old.callbacks }
+        ensures rest { self.new ≡ record self.old { callbacks = other_held self.old.callbacks } }
+    {
+        if self.callbacks.is_empty() {
+            return None;
+        }
+        Some(self.callbacks.remove(0))
+    }
+}

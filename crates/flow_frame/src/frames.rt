@@ -1,0 +1,205 @@
+// Frames by number.
+
+ghost use Rattle.std.specs.Prelude.{◌≡◌, ◌<◌, length, IsSome, OnOk, OnErr, IfOk, option_copied, option_map, slice_index_or, Some, None, true, []};
+ghost use Rattle.std.specs.Option.{ForSome};
+ghost use Rattle.flow_numbered.specs.Numbered.{thing, added, removed, next_above, with_thing};
+ghost use Rattle.flow_frame.specs.Frames.{fresh, in_state, with_place, with_callback, first_held, other_held, all_empty};
+
+use crate::frame::Frame;
+use crate::held::Held;
+use flow_base::ids::ActorId;
+use flow_base::memory::NoMemory;
+use flow_numbered::numbered::Numbered;
+use std::alloc::Global;
+use std::marker::Model;
+
+/// The frames of unfinished actors. Contracts see the list of numbers and frames, by rising number, and the greatest
+/// number that was ever entered, 0 at first.
+#[derive(Drop)]
+pub struct Frames<T> {
+    frames: Numbered<Frame<T>>,
+    alloc: Global,
+}
+
+impl<T> Model for Frames<T> {
+    ghost use Rattle.flow_numbered.specs.Numbered.{Store, store_code};
+    ghost use Rattle.flow_frame.specs.Frames.{FrameTree, frame_code};
+
+    ghost Value = { Store (FrameTree T) };
+
+    ghost coded = { store_code (frame_code T.code) };
+
+    ghost view = { λ s. s.frames };
+}
+
+impl<T> Frames<T> {
+    /// No frame, and no number entered.
+    pub fn new(alloc: Global) -> Result<Frames<T>, NoMemory>
+        ensures { IfOk result (λ s. s ≡ record { things = []; greatest = 0 }) }
+    {
+        Ok(Frames {
+            frames: Numbered::new(alloc),
+            alloc,
+        })
+    }
+
+    /// A frame of a class for an actor above all that were entered: in state 0, at block 0 and instruction 0, with
+    /// so many empty places and no callback. Where there is no memory, nothing changes.
+    pub fn enter(&mut self, actor: ActorId, class: u32, places: u32) -> Result<(), NoMemory>
+    where
+        T: Drop,
+        requires { self.old.greatest < actor.0 }
+        ensures ok { OnOk result (self.new ≡ record {
+          things = added self.old.things actor.0 (fresh class places);
+          greatest = actor.0;
+        }) }
+        ensures err { OnErr result (self.new ≡ self.old) }
+    {
+        self.frames
+            .insert(actor.0, Frame::new(self.alloc, class, places))
+    }
+
+    // The frame of an actor.
+    fn frame(&self, actor: ActorId) -> &Frame<T>
+        requires { IsSome (thing self.now.things actor.0) }
+        ensures { thing self.now.things actor.0 ≡ Some result.now }
+    {
+        self.frames.get(actor.0).unwrap()
+    }
+
+    /// What a place of a frame holds: `None` where it is empty.
+    pub fn slot(&self, actor: ActorId, place: u32) -> Option<&T>
+        requires there { IsSome (thing self.now.things actor.0) }
+        requires place { ForSome (thing self.now.things actor.0) (λ f. place < length f.places) }
+        ensures { ForSome (thing self.now.things actor.0) (λ f. option_copied result ≡ slice_index_or f.places place None) }
+    {
+        self.frame(actor).place(place)
+    }
+
+    #[tactic(auto, using(flow_numbered::proofs::Things::with_same))]
+    /// Has a place of a frame hold something or nothing, and gives what it held: `None` where it was empty. Where
+    /// there is no memory, nothing changes.
+    pub fn set_slot(
+        &mut self,
+        actor: ActorId,
+        place: u32,
+        value: Option<T>,
+    ) -> Result<Option<T>, NoMemory>
+    where
+        T: Drop,
+        requires there { IsSome (thing self.old.things actor.0) }
+        requires place { ForSome (thing self.old.things actor.0) (λ f. place < length f.places) }
+        ensures old { ForSome (thing self.old.things actor.0) (λ f. IfOk result (λ old. old ≡ slice_index_or f.places place None)) }
+        ensures ok { ForSome (thing self.old.things actor.0) (λ f. OnOk result (self.new ≡ with_thing self.old actor.0 (with_place f place value))) }
+        ensures err { OnErr result (self.new ≡ self.old) }
+    {
+        self.frames.get_mut(actor.0).set_place(place, value)
+    }
+
+    /// The class that the frame was entered with.
+    pub fn class(&self, actor: ActorId) -> u32
+        requires { IsSome (thing self.now.things actor.0) }
+        ensures { ForSome (thing self.now.things actor.0) (λ f. result ≡ f.class) }
+    {
+        self.frame(actor).class()
+    }
+
+    /// The count of places that the frame was entered with.
+    pub fn places(&self, actor: ActorId) -> u32
+        requires { IsSome (thing self.now.things actor.0) }
+        ensures { ForSome (thing self.now.things actor.0) (λ f. result ≡ length f.places) }
+    {
+        self.frame(actor).places()
+    }
+
+    /// The least number above this one that a frame has, in constant time where a frame has this one.
+    pub fn next_actor(&self, after: ActorId) -> Option<ActorId>
+        ensures { option_map (λ a. a.0) result ≡ next_above self.now.things after.0 }
+    {
+        self.frames.next_above(after.0).map(ActorId)
+    }
+
+    /// The state of a frame: 0 while its actor runs.
+    pub fn state(&self, actor: ActorId) -> u32
+        requires { IsSome (thing self.now.things actor.0) }
+        ensures { ForSome (thing self.now.things actor.0) (λ f. result ≡ f.state) }
+    {
+        self.frame(actor).state()
+    }
+
+    /// Puts a frame into a state. In one other than 0 it stands at block 0 and instruction 0, and gives up the room
+    /// behind its last filled place.
+    pub fn set_state(&mut self, actor: ActorId, state: u32)
+    where
+        T: Drop,
+        requires { IsSome (thing self.old.things actor.0) }
+        ensures { ForSome (thing self.old.things actor.0) (λ f. self.new ≡ with_thing self.old actor.0 (in_state state f)) }
+    {
+        self.frames.get_mut(actor.0).set_state(state);
+    }
+
+    /// The block and the instruction at which a frame stands.
+    pub fn at(&self, actor: ActorId) -> (u32, u32)
+        requires { IsSome (thing self.now.things actor.0) }
+        ensures { ForSome (thing self.now.things actor.0) (λ f. result ≡ (f.block, f.instruction)) }
+    {
+        self.frame(actor).at()
+    }
+
+    /// Puts a frame in state 0 at a block and an instruction.
+    pub fn set_at(&mut self, actor: ActorId, at: (u32, u32))
+        requires there { IsSome (thing self.old.things actor.0) }
+        requires state { ForSome (thing self.old.things actor.0) (λ f. f.state ≡ 0) }
+        ensures { ForSome (thing self.old.things actor.0) (λ f. self.new ≡ with_thing self.old actor.0 (record f { block = at.0; instruction = at.1 })) }
+    {
+        self.frames.get_mut(actor.0).set_at(at);
+    }
+
+    /// The callbacks of a frame, the first first.
+    pub fn callbacks(&self, actor: ActorId) -> &[Held]
+        requires { IsSome (thing self.now.things actor.0) }
+        ensures { ForSome (thing self.now.things actor.0) (λ f. result.now ≡ f.callbacks) }
+    {
+        self.frame(actor).callbacks()
+    }
+
+    #[tactic(auto, using(flow_numbered::proofs::Things::with_same))]
+    /// Adds a callback behind the others of a frame. Where there is no memory, nothing changes.
+    pub fn add_callback(&mut self, actor: ActorId, held: Held) -> Result<(), NoMemory>
+        requires { IsSome (thing self.old.things actor.0) }
+        ensures ok { ForSome (thing self.old.things actor.0) (λ f. OnOk result (self.new ≡ with_thing self.old actor.0 (with_callback f held))) }
+        ensures err { OnErr result (self.new ≡ self.old) }
+    {
+        self.frames.get_mut(actor.0).add_callback(held)
+    }
+
+    /// Takes the first callback of a frame: `None` where there is none.
+    pub fn take_callback(&mut self, actor: ActorId) -> Option<Held>
+        requires { IsSome (thing self.old.things actor.0) }
+        ensures first { ForSome (thing self.old.things actor.0) (λ f. result ≡ first_held f.callbacks) }
+        ensures rest { ForSome (thing self.old.things actor.0) (λ f. self.new ≡ with_thing self.old actor.0 (record f { callbacks = other_held f.callbacks })) }
+    {
+        self.frames.get_mut(actor.0).take_callback()
+    }
+
+    /// Removes a frame whose places are empty and that has no callback.
+    pub fn close(&mut self, actor: ActorId)
+    where
+        T: Drop,
+        requires there { IsSome (thing self.old.things actor.0) }
+        requires places { ForSome (thing self.old.things actor.0) (λ f. all_empty f.places ≡ true) }
+        requires callbacks { ForSome (thing self.old.things actor.0) (λ f. f.callbacks ≡ []) }
+        ensures { self.new ≡ record self.old { things = removed self.old.things actor.0 } }
+    {
+        self.frames.remove(actor.0);
+    }
+
+    /// Removes all frames. The greatest number stays.
+    pub fn clear(&mut self)
+    where
+        T: Drop,
+        ensures { self.new ≡ record self.old { things = [] } }
+    {
+        self.frames.clear();
+    }
+}

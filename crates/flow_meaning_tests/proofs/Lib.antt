@@ -1,0 +1,10 @@
+pub mod RowTerms
+pub mod RowsPlain
+pub mod RowsWaits
+pub mod RowsCancel
+pub mod RowsStreams
+pub mod RowsWorld
+pub mod RowsViews
+pub mod RowsOrder
+mod CarriedExamples
+mod CarriedMore

@@ -1,0 +1,90 @@
+-- The links between processes: which are cut, and the packets on their way.
+use Rattle.std.specs.Prelude.{ℕ, suc, ◌+◌, ◌-◌, ◌*◌, ◌/◌, ◌%◌, Bool, true, false, List, [], ◌∷◌, min, max, nat_lt, slice_set, slice_index_or, if◌then◌else◌}
+use Rattle.std.specs.List.{fold}
+use Rattle.std.specs.Ordering.{nat_cmp}
+use Rattle.std.specs.BTreeMap.{insert_entry}
+use Rattle.flow_draw.specs.Words.{Drawn, word_at}
+use Rattle.flow_base.specs.declared.ids.ProcId.{ProcId}
+use Rattle.flow_simnet.specs.declared.packet.Fate.{Fate}
+use Rattle.flow_simnet.specs.declared.packet.Fate.TheVariants.{Cut, Drawn as LostDraw, At}
+use Rattle.flow_simnet.specs.declared.packet.Letter.{Letter}
+use Rattle.flow_simnet.specs.declared.packet.Packet.{Packet}
+
+-- How many processes there are; the permille of packets that are lost; the range of delays, its first number and the one past its last; how many
+-- packets were sent; for each link whether it is cut; and the packets on their way, by number.
+pub record Links : Type 0 where
+  pub processes : ℕ
+  pub latency : ℕ × ℕ
+  pub loss : ℕ
+  pub sent : ℕ
+  pub cuts : List Bool
+  pub on_way : List (ℕ × Letter)
+
+-- the place of the link of two processes, of which there are up to 64: the link is the same in both directions
+abbrev pub link : ℕ → ℕ → ℕ
+link p q = min p q * 64 + max p q
+
+abbrev pub is_cut : List Bool → ℕ → ℕ → Bool
+is_cut cuts p q = slice_index_or cuts (link p q) false
+
+abbrev pub cut : List Bool → ℕ → ℕ → List Bool
+cut cuts p q = slice_set cuts (link p q) true
+
+abbrev pub healed : List Bool → ℕ → ℕ → List Bool
+healed cuts p q = slice_set cuts (link p q) false
+
+-- what a word gives in a range: the first number of the range, and as many more as the remainder by its width says
+abbrev pub draw_in : ℕ × ℕ → ℕ → ℕ
+draw_in range word = range.0 + word % (range.1 - range.0)
+
+-- What becomes of a packet by the words that are drawn for it: over a cut link it is lost without a draw; else a word
+-- below the permille loses it; else the next word gives its delay.
+abbrev pub fate_by : (cut : Bool) → (loss : ℕ) → (latency : ℕ × ℕ) → (now : ℕ) → (ℕ → ℕ) → Fate
+fate_by cut loss latency now word =
+    if cut then Cut
+    else if nat_lt (draw_in (0, 1000) (word 0)) loss then LostDraw
+    else At (now + draw_in latency (word 1))
+
+abbrev pub fate : Links → (now from to : ℕ) → (ℕ → ℕ) → Fate
+fate net now p q word = fate_by (is_cut net.cuts p q) net.loss net.latency now word
+
+-- how many words a fate takes
+abbrev pub words_of : Fate → ℕ
+words_of Cut = 0
+words_of LostDraw = 1
+words_of (At time) = 2
+
+-- a packet that isn't lost is on its way
+abbrev pub put_on_way : Fate → ℕ → Letter → List (ℕ × Letter) → List (ℕ × Letter)
+put_on_way Cut number letter on_way = on_way
+put_on_way LostDraw number letter on_way = on_way
+put_on_way (At time) number letter on_way = insert_entry nat_cmp on_way number letter
+
+-- the word that is drawn so many words from now
+abbrev pub word_in : Drawn → ℕ → ℕ
+word_in d k = word_at d.seed d.listed (d.used + k)
+
+-- the net after a packet of this fate was sent
+abbrev pub with_sent : Links → Fate → Letter → Links
+with_sent net f letter = record net { sent = suc net.sent; on_way = put_on_way f (suc net.sent) letter net.on_way }
+
+-- a letter with its number
+abbrev pub numbered : ℕ → Letter → Packet
+numbered n l = record { number = n; from = l.from; to = l.to; port = l.port; text = l.text }
+
+-- the cut links from a place on, each with the lesser process first
+abbrev pub cut_links : ℕ → List Bool → List (ProcId × ProcId)
+cut_links place [] = []
+cut_links place (b ∷ bs) =
+    if b then (record { 0 = place / 64 }, record { 0 = place % 64 }) ∷ cut_links (suc place) bs else cut_links (suc place) bs
+
+-- these links cut
+abbrev pub all_cut : List Bool → List (ProcId × ProcId) → List Bool
+all_cut cuts links = fold (λ cs l. cut cs l.0.0 l.1.0) cuts links
+
+-- these packets on their way
+abbrev pub letter_of : Packet → Letter
+letter_of p = record { from = p.from; to = p.to; port = p.port; text = p.text }
+
+abbrev pub all_on_way : List (ℕ × Letter) → List Packet → List (ℕ × Letter)
+all_on_way on_way ps = fold (λ es p. insert_entry nat_cmp es p.number (letter_of p)) on_way ps

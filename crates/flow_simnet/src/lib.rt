@@ -1,0 +1,11 @@
+//! The links of a simulated world: packets are numbered, lost over cut links or by a drawn word, and else
+//! come after a drawn delay.
+#![tactic(auto)]
+
+mod net;
+mod packet;
+#[cfg(test)]
+mod tests;
+
+pub use net::Net;
+pub use packet::{Fate, NetState, Packet, Sent};

@@ -1,0 +1,4 @@
+pub mod Filled
+pub mod Numbering
+pub mod Placing
+pub mod Taking

@@ -1,0 +1,10 @@
+//! The pending events of a simulated world: each has a time and a number, and the one with the least
+//! time, and at one time with the least number, comes next.
+#![tactic(auto)]
+
+mod moment;
+#[cfg(test)]
+mod tests;
+mod timers;
+
+pub use timers::Timers;

@@ -1,0 +1,14 @@
+pub mod Tree
+pub mod Body
+pub mod Decls
+pub mod View
+pub mod StmtView
+pub mod DeclView
+pub mod Spelling
+pub mod Lexing
+pub mod GrammarToken
+pub mod Grammar
+pub mod GrammarAnswer
+pub mod GrammarStmt
+pub mod GrammarDecl
+pub mod Canon

@@ -1,0 +1,42 @@
+-- Types and expressions as plain data: the mirror through which contracts see the trees of the code.
+use Rattle.std.specs.Prelude.{ℕ, ℤ, Bool, List, [], ◌∷◌}
+use Rattle.flow_tree.specs.declared.expr.Op.{Op}
+use Rattle.flow_tree.specs.declared.ty.Ident.{Ident}
+
+-- a type as it is written; a named type is a record's
+pub data TypeTree : Type 0 where
+  IntType : TypeTree
+  BoolType : TypeTree
+  StringType : TypeTree
+  VoidType : TypeTree
+  ErrorType : TypeTree
+  NamedType : List ℕ → TypeTree
+  FutureType : TypeTree → TypeTree
+  FutureStreamType : TypeTree → TypeTree
+  PromiseType : TypeTree → TypeTree
+  PromiseStreamType : TypeTree → TypeTree
+
+-- an expression, and the arguments of a call in order
+mutual
+  pub data ExprTree : Type 0 where
+    IntExpr : ℤ → ExprTree
+    TextExpr : List ℕ → ExprTree
+    BoolExpr : Bool → ExprTree
+    VoidExpr : ExprTree
+    VarExpr : Ident → ExprTree
+    CallExpr : Ident → ExprTrees → ExprTree
+    FieldExpr : ExprTree → Ident → ExprTree
+    MethodExpr : ExprTree → Ident → ExprTrees → ExprTree
+    NotExpr : ExprTree → ExprTree
+    NegExpr : ExprTree → ExprTree
+    BinaryExpr : Op → ExprTree → ExprTree → ExprTree
+    ParenExpr : ExprTree → ExprTree
+
+  pub data ExprTrees : Type 0 where
+    NoExprs : ExprTrees
+    MoreExprs : ExprTree → ExprTrees → ExprTrees
+
+-- a list of expressions as arguments
+abbrev pub exprs_of_list : List ExprTree → ExprTrees
+exprs_of_list [] = NoExprs
+exprs_of_list (e ∷ es) = MoreExprs e (exprs_of_list es)
