@@ -13,8 +13,20 @@ fn packets_out_of_order(rt: HostRuntime) -> Result<(), Fail> {
     let b = Text::new(alloc, b"b")?;
     let first = net.send(0, ProcId(0), ProcId(1), 7, a, &mut draws)?;
     let second = net.send(0, ProcId(0), ProcId(1), 7, b, &mut draws)?;
-    assert_eq!(rt; first, Sent { number: 1, fate: Fate::At(3) });
-    assert_eq!(rt; second, Sent { number: 2, fate: Fate::At(2) });
+    assert_eq!(rt;
+        first,
+        Sent {
+            number: 1,
+            fate: Fate::At(3)
+        }
+    );
+    assert_eq!(rt;
+        second,
+        Sent {
+            number: 2,
+            fate: Fate::At(2)
+        }
+    );
     assert_eq!(rt; draws.used(), 4);
     let packet = net.arrive(2).unwrap();
     assert_eq!(rt; packet.number, 2);
@@ -53,7 +65,13 @@ fn a_healed_link_draws_again(rt: HostRuntime) -> Result<(), Fail> {
     net.heal(ProcId(1), ProcId(2));
     let empty = Text::new(alloc, b"")?;
     let sent = net.send(5, ProcId(2), ProcId(1), 7, empty, &mut draws)?;
-    assert_eq!(rt; sent, Sent { number: 1, fate: Fate::At(6) });
+    assert_eq!(rt;
+        sent,
+        Sent {
+            number: 1,
+            fate: Fate::At(6)
+        }
+    );
     assert_eq!(rt; draws.used(), 2);
     Ok(())
 }
