@@ -2,13 +2,13 @@
 
 ghost use Rattle.std.specs.Prelude.{◌≡◌, ℕ, ◌+◌, ◌^◌, ◌<◌, ◌≤◌, pos, ◌+ℤ◌, ◌≤ℤ◌, ◌<ℤ◌, IfOk};
 ghost use Rattle.flow_base.specs.Faults.{HasCause};
-ghost use Rattle.flow_simdisk.specs.Asks.{IsAllowed};
+ghost use Rattle.flow_machine.specs.Requests.{IsAllowed};
 
 use flow_base::fault::OutFault;
 use flow_base::ids::{CellId, ProcId};
 use flow_base::memory::NoMemory;
 use flow_base::text::Text;
-use flow_simdisk::ask::DiskAsk;
+use flow_simdisk::DiskAsk;
 use flow_trace::line::Line;
 
 /// The world around a process, as the process sees it while it runs. The count of faults never falls; at 2^64 - 1 it
