@@ -1,5 +1,5 @@
 -- The map that tells the actor of each result, as notes come, change and go.
-use Rattle.std.proofs.Common.{◌≡◌, ◌≢◌, ℕ, ◌<◌, ◌≤◌, nat_eq, Bool, true, false, List, [], ◌∷◌, Option, Some, None, refl, sym, ap, ◌∙◌, subst, arith, if◌then◌else◌}
+use Rattle.std.proofs.Common.{◌≡◌, ◌≢◌, ℕ, ◌<◌, ◌≤◌, nat_eq, Bool, true, false, List, [], ◌∷◌, Option, Some, None, unwrap_or, refl, sym, ap, ◌∙◌, subst, arith, if◌then◌else◌}
 use Rattle.std.proofs.lemmas.Bool.Decides.{nat_tests}
 use Rattle.flow_base.specs.declared.ids.CellId.{CellId}
 use Rattle.flow_numbered.specs.Numbered.{Numbered, thing, added, put, removed, IsRising}
@@ -196,3 +196,23 @@ module _ (o : ℕ → Option ℕ) (xs : Numbered Note) (h : IsTold o xs) (most :
       told : (j : ℕ) (x : Note) (c : CellId) (t : Bool) → nat_eq j i ≡ t → (if nat_eq j i then None else thing xs j) ≡ Some x → x.result ≡ Some c → p c.0 ≡ Some j
       told j x c true g e mine = let bad = rw g at e in absurd (cc (bad))
       told j x c false g e mine = is c.0 ∙ spared n.result refl c.0 j (h.told j x c (rw g at e) mine) g
+
+pub owners_same : (cell : Option CellId) (i : ℕ) (o p : ℕ → Option ℕ) (k : ℕ) → o k ≡ p k → owners_with cell i o k ≡ owners_with cell i p k
+owners_same None i o p k e = e
+owners_same (Some c) i o p k e = ap (λ q. if nat_eq c.0 k then Some i else q) e
+
+-- the owner that the map tells, where it is noted
+module _ (o : ℕ → Option ℕ) (xs : Numbered Note) (h : IsTold o xs) (most : ℕ) (rising : IsRising 0 xs most) (k : ℕ) where
+  pub owner_noted : (n : ℕ) (x : Note) → n ≡ unwrap_or (o k) 0 → thing xs n ≡ Some x → owner k xs ≡ Some n
+  owner_noted n x e there = told_owner o xs h most rising k ∙ by_case (o k) refl e
+    where
+      by_case : (p : Option ℕ) → o k ≡ p → n ≡ unwrap_or p 0 → o k ≡ Some n
+      by_case (Some a) f g = f ∙ ap Some (sym g)
+      by_case None f g = let r = above 0 xs most n x rising there in absurd (omega (arith, r.0, g))
+
+  pub owner_none : (n : ℕ) → n ≡ unwrap_or (o k) 0 → thing xs n ≡ None → owner k xs ≡ None
+  owner_none n e there = told_owner o xs h most rising k ∙ by_case (o k) refl e
+    where
+      by_case : (p : Option ℕ) → o k ≡ p → n ≡ unwrap_or p 0 → o k ≡ None
+      by_case None f g = f
+      by_case (Some a) f g = let noted = h.noted k a f in absurd (cc (noted.1, ap (thing xs) g, there))

@@ -66,11 +66,15 @@ Lost = HeapTree × Dropped
 abbrev pub put_cell : ℕ → CellTree Outcome → HeapTree → HeapTree
 put_cell k c h = record h { cells = with_thing h.cells k c }
 
+abbrev pub freed_cell : ℕ → HeapTree → Option (CellTree Outcome) → HeapTree
+freed_cell k h None = h
+freed_cell k h (Some c) = dropping (content c.content) (record h { cells = without h.cells k })
+
 abbrev pub cell_lost : ℕ → CellTree Outcome → HeapTree → Loss → Lost
 cell_lost k c h loss.Kept = (put_cell k c h, Nothing)
 cell_lost k c h loss.LastPromise = (put_cell k c h, broken_if_not (is_some c.content))
 cell_lost k c h loss.LastFuture = (put_cell k c h, cancel_owner h.actors.things (owner k h.actors.things))
-cell_lost k c h loss.Gone = (dropping (content c.content) (record h { cells = without h.cells k }), Freed)
+cell_lost k c h loss.Gone = (freed_cell k h (Some c), Freed)
 
 abbrev pub cell_less : Side → CellTree Outcome → CellTree Outcome
 cell_less s c = record c { references = released s c.references }
@@ -84,16 +88,22 @@ drop_cell s k h (Some c) = cell_lost k (cell_less s c) h (loss s (released s c.r
 abbrev pub put_stream : ℕ → StreamTree Value → HeapTree → HeapTree
 put_stream k s h = record h { streams = with_thing h.streams k s }
 
+abbrev pub freed_stream : ℕ → HeapTree → Option (StreamTree Value) → HeapTree
+freed_stream k h None = h
+freed_stream k h (Some s) = dropping s.queue (record h { streams = without h.streams k })
+
+abbrev pub without_port : ℕ → HeapTree → HeapTree
+without_port k h = record h { ports = without_number h.ports k }
+
 abbrev pub unheard : ℕ → StreamTree Value → HeapTree → (port : Bool) → Lost
 unheard k s h false = (put_stream k s h, Nothing)
-unheard k s h true =
-    (dropping s.queue (record h { streams = without h.streams k; ports = without_number h.ports k }), PortFreed)
+unheard k s h true = (freed_stream k (without_port k h) (Some s), PortFreed)
 
 abbrev pub stream_lost : ℕ → StreamTree Value → HeapTree → Loss → Lost
 stream_lost k s h loss.Kept = (put_stream k s h, Nothing)
 stream_lost k s h loss.LastPromise = (put_stream k s h, broken_if_not (is_some s.end))
 stream_lost k s h loss.LastFuture = unheard k s h (has_number h.ports k)
-stream_lost k s h loss.Gone = (dropping s.queue (record h { streams = without h.streams k }), Freed)
+stream_lost k s h loss.Gone = (freed_stream k h (Some s), Freed)
 
 abbrev pub stream_less : Side → StreamTree Value → StreamTree Value
 stream_less d s = record s { references = released d s.references }
@@ -108,6 +118,9 @@ dropped kind.Promise k h = drop_cell Promise k h (thing h.cells.things k)
 dropped kind.Future k h = drop_cell Future k h (thing h.cells.things k)
 dropped kind.PromiseStream k h = drop_stream Promise k h (thing h.streams.things k)
 dropped kind.FutureStream k h = drop_stream Future k h (thing h.streams.things k)
+
+abbrev pub one_promise : Counts
+one_promise = record { promises = 1; futures = 0 }
 
 -- what the loss of a reference leaves, where the side counts
 abbrev pub loss_of : Side → Counts → Option Loss

@@ -125,11 +125,15 @@ impl Actors {
         disown(&mut self.owners, note.result);
     }
 
-    /// The actor whose result a cell is.
+    /// The actor whose result a cell is. No actor has the number 0.
     pub(crate) fn owner(&self, cell: CellId) -> Option<u64>
         ensures { result ≡ owner cell.0 self.now.things }
     {
-        self.owners.get(&cell.0).copied()
+        let owner = self.owners.get(&cell.0).copied().unwrap_or(0);
+        match self.notes.get(owner) {
+            Some(_) => Some(owner),
+            None => None,
+        }
     }
 
     /// The greatest number that an actor ever had, 0 at first.

@@ -1,13 +1,13 @@
 // What the loss of a reference does to a heap.
 
-ghost use Rattle.std.specs.Prelude.{◌≡◌, ◌<◌, ℕ, true, false, OnOk, IfOk, None, Some, IsSome};
+ghost use Rattle.std.specs.Prelude.{◌≡◌, ◌<◌, ℕ, [], true, false, OnOk, IfOk, None, Some, IsSome};
 ghost use Rattle.std.specs.Option.{ForSome, is_some};
 ghost use Rattle.flow_value.specs.View.{value_of};
 ghost use Rattle.flow_value.specs.Values.{refs_of};
 ghost use Rattle.flow_numbered.specs.Numbered.{thing, with_thing};
-ghost use Rattle.flow_cell.specs.Cells.{count_of};
+ghost use Rattle.flow_cell.specs.Cells.{no_counts};
 ghost use Rattle.flow_cancel.specs.Heap.{HeapTree, has_number, owner};
-ghost use Rattle.flow_cancel.specs.Dropping.{drops, refs_in, dropping, drop_cell, drop_stream, may_drop_cell, may_drop_stream, cancel_owner, broken_if_not, loss_of};
+ghost use Rattle.flow_cancel.specs.Dropping.{drops, refs_in, dropping, drop_cell, freed_cell, freed_stream, without_port, one_promise, drop_stream, may_drop_cell, may_drop_stream, cancel_owner, broken_if_not, loss_of};
 
 use crate::heap::Heap;
 use crate::task::{Dropped, Task};
@@ -17,6 +17,7 @@ use flow_cell::counts::{Loss, References, Side};
 use flow_value::value::{Outcome, Value};
 use std::collections::VecDeque;
 
+#[tactic(auto, using(crate::proofs::Drops::fields_last))]
 /// Pushes drops of the references of a value on top of tasks, that of the first on top.
 pub(crate) fn push_drops(tasks: &mut VecDeque<Task>, value: &Value) -> Result<(), NoMemory>
     ensures { OnOk result (tasks.new.items ≡ drops (refs_of (value_of value.now)) tasks.old.items) }
@@ -36,6 +37,7 @@ pub(crate) fn push_drops(tasks: &mut VecDeque<Task>, value: &Value) -> Result<()
     }
 }
 
+#[tactic(auto, using(crate::proofs::Drops::drops_last))]
 /// Pushes drops of the references of values on top of tasks, that of the first on top.
 pub(crate) fn push_all_drops(
     tasks: &mut VecDeque<Task>,
@@ -105,12 +107,25 @@ impl Heap {
         Dropped::Cancel(actor)
     }
 
-    // A single result goes, and what it held is dropped.
-    fn free_cell(&mut self, cell: CellId) -> Result<Dropped, NoMemory> {
-        if let Some(Outcome::Value(value)) = self.cells.remove(cell) {
-            push_drops(&mut self.tasks, &value)?;
+    // A single result without a reference and without a waiter goes, and what it held is dropped.
+    fn free_cell(&mut self, cell: CellId) -> Result<(), NoMemory>
+        requires there { IsSome (thing self.old.cells.things cell.0) }
+        requires references { ForSome (thing self.old.cells.things cell.0) (λ c. c.references ≡ no_counts) }
+        requires waiters { ForSome (thing self.old.cells.things cell.0) (λ c. c.waiters ≡ []) }
+        ensures { OnOk result (self.new ≡ freed_cell cell.0 self.old (thing self.old.cells.things cell.0)) }
+    {
+        match self.cells.remove(cell) {
+            Some(Outcome::Value(value)) => push_drops(&mut self.tasks, &value),
+            _ => Ok(()),
         }
-        Ok(Dropped::Freed)
+    }
+
+    // Whether a single result is set.
+    fn is_set(&self, cell: CellId) -> bool
+        requires { IsSome (thing self.now.cells.things cell.0) }
+        ensures { ForSome (thing self.now.cells.things cell.0) (λ c. result ≡ is_some c.content) }
+    {
+        self.cells.content(cell).is_some()
     }
 
     /// A single result loses a reference of a side.
@@ -120,26 +135,37 @@ impl Heap {
     {
         match self.cells.release(cell, side) {
             Loss::Kept => Ok(Dropped::Nothing),
-            Loss::LastPromise => Ok(broken_if_not(self.cells.content(cell).is_some())),
+            Loss::LastPromise => Ok(broken_if_not(self.is_set(cell))),
             Loss::LastFuture => Ok(self.cancel_owner(cell)),
-            Loss::Gone => self.free_cell(cell),
+            Loss::Gone => {
+                self.free_cell(cell)?;
+                Ok(Dropped::Freed)
+            }
         }
     }
 
-    // A stream goes, and its elements are dropped.
-    fn free_stream(&mut self, cell: CellId) -> Result<(), NoMemory> {
+    // A stream without a reference and without a waiter goes, and its elements are dropped.
+    fn free_stream(&mut self, cell: CellId) -> Result<(), NoMemory>
+        requires there { IsSome (thing self.old.streams.things cell.0) }
+        requires references { ForSome (thing self.old.streams.things cell.0) (λ s. s.references ≡ no_counts) }
+        requires waiter { ForSome (thing self.old.streams.things cell.0) (λ s. s.waiter ≡ None) }
+        ensures { OnOk result (self.new ≡ freed_stream cell.0 self.old (thing self.old.streams.things cell.0)) }
+    {
         let queue = self.streams.remove(cell);
         push_all_drops(&mut self.tasks, queue)
     }
 
-    // A stream has lost its last future: one of a port goes, and its port.
-    fn unheard(&mut self, cell: CellId) -> Result<Dropped, NoMemory> {
-        if !self.ports.remove(&cell.0) {
-            return Ok(Dropped::Nothing);
-        }
+    // The stream of a port, which is its one promise, goes and its port too.
+    fn free_port(&mut self, cell: CellId) -> Result<(), NoMemory>
+        requires there { IsSome (thing self.old.streams.things cell.0) }
+        requires references { ForSome (thing self.old.streams.things cell.0) (λ s. s.references ≡ one_promise) }
+        requires waiter { ForSome (thing self.old.streams.things cell.0) (λ s. s.waiter ≡ None) }
+        ensures { OnOk result (self.new ≡ freed_stream cell.0 (without_port cell.0 self.old) (thing self.old.streams.things cell.0)) }
+    {
+        self.ports.remove(&cell.0);
         self.streams.release(cell, Side::Promise);
         self.free_stream(cell)?;
-        Ok(Dropped::PortFreed)
+        Ok(())
     }
 
     /// A stream loses a reference of a side.
@@ -150,7 +176,13 @@ impl Heap {
         match self.streams.release(cell, side) {
             Loss::Kept => Ok(Dropped::Nothing),
             Loss::LastPromise => Ok(broken_if_not(self.streams.ended(cell))),
-            Loss::LastFuture => self.unheard(cell),
+            Loss::LastFuture => {
+                if !self.is_port(cell) {
+                    return Ok(Dropped::Nothing);
+                }
+                self.free_port(cell)?;
+                Ok(Dropped::PortFreed)
+            }
             Loss::Gone => {
                 self.free_stream(cell)?;
                 Ok(Dropped::Freed)

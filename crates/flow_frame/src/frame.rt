@@ -1,6 +1,7 @@
 // One frame.
 
-ghost use Rattle.std.specs.Prelude.{◌≡◌, ℕ, ◌<◌, ◌≤◌, length, OnOk, OnErr, IfOk, option_copied, slice_index_or, None, []};
+ghost use Rattle.std.specs.Prelude.{◌≡◌, ℕ, ◌<◌, ◌≤◌, length, OnOk, OnErr, IfOk, option_copied, slice_index_or, None, [], is_none, take};
+ghost use Rattle.std.specs.List.{list_all};
 ghost use Rattle.flow_frame.specs.Frames.{padded, fresh, in_state, with_place, with_callback, first_held, other_held, all_empty};
 
 use crate::held::Held;
@@ -61,20 +62,11 @@ fn cut<T: Drop>(filled: &mut Vec<Option<T>>)
     filled.shrink_to_fit();
 }
 
-#[tactic(auto, using(crate::proofs::Padded::clear_padded, crate::proofs::Padded::full_padded))]
-// Whether so many places, of which the first are these, are empty.
-fn are_empty<T>(filled: &[Option<T>], places: u32) -> bool
-    ensures { result ≡ all_empty (padded places filled.now) }
+// Whether the first so many of these are empty.
+fn are_empty<T>(filled: &[Option<T>], most: usize) -> bool
+    ensures { result ≡ list_all is_none (take most filled.now) }
 {
-    for (place, value) in filled.iter().enumerate() {
-        if place >= places as usize {
-            return true;
-        }
-        if value.is_some() {
-            return false;
-        }
-    }
-    true
+    filled.iter().take(most).all(|value| value.is_none())
 }
 
 impl<T> Frame<T> {
@@ -139,11 +131,12 @@ impl<T> Frame<T> {
         self.places
     }
 
+    #[tactic(auto, using(crate::proofs::Padded::empty_padded))]
     /// Whether every place is empty.
     pub(crate) fn is_empty(&self) -> bool
         ensures { result ≡ all_empty self.now.places }
     {
-        are_empty(&self.filled, self.places)
+        are_empty(&self.filled, self.places as usize)
     }
 
     pub(crate) fn state(&self) -> u32

@@ -1,5 +1,5 @@
 -- What a process may ask of its disk.
-use Rattle.std.specs.Prelude.{ℕ, ◌+◌, ◌≤◌, List, length}
+use Rattle.std.specs.Prelude.{ℕ, ◌+◌, ◌^◌, ◌≤◌, ℤ, pos, ◌+ℤ◌, ◌≤ℤ◌, List, length}
 use Rattle.flow_simdisk.specs.declared.ask.DiskAsk.{DiskAsk}
 use Rattle.flow_simdisk.specs.declared.ask.DiskAsk.TheVariants.{Read, Write, Sync, Size}
 
@@ -15,3 +15,7 @@ IsAllowed (Read file offset count) = IsFile file × (offset ≤ furthest) × (co
 IsAllowed (Write file offset text) = IsFile file × (offset + length text ≤ furthest)
 IsAllowed (Sync file) = IsFile file
 IsAllowed (Size file) = IsFile file
+
+-- a range of so many numbers from the first on may be drawn from
+abbrev pub IsRange : ℤ → ℕ → Type 0
+IsRange lo n = (1 ≤ n) × (n ≤ 2 ^ 32) × ((lo +ℤ pos n) ≤ℤ pos (2 ^ 63))

@@ -1,12 +1,12 @@
 // Call statements: messages, sends, cancelling, and calls of functions.
 
 use crate::call::{Call, Step};
-use crate::effects::{int_at, take_text, within};
+use crate::effects::{int_at, take_text};
 use crate::host::RunFault;
-use crate::machine::Machine;
+use crate::process::Process;
 use flow_ast::predefined::{Method, Predefined, predefined_call, predefined_method};
-use flow_base::errors::{ALREADY_SET, BAD_ARGUMENT};
-use flow_base::ids::{ActorId, CellId, ProcId};
+use flow_base::errors::ALREADY_SET;
+use flow_base::ids::{ActorId, CellId};
 use flow_cancel::task::Task;
 use flow_trace::line::Line;
 use flow_value::value::{Kind, Outcome, Value};
@@ -37,7 +37,16 @@ fn sent(method: Method, args: Vec<Value>) -> Result<Outcome, RunFault> {
     }
 }
 
-impl Machine {
+/// A text that is sent to a port of a process.
+fn send_to(actor: ActorId, args: Vec<Value>) -> Result<Step, RunFault> {
+    let mut args = args;
+    let process = int_at(&args, 0)?;
+    let port = int_at(&args, 1)?;
+    let text = take_text(&mut args, 2)?;
+    Ok(Some(Call::SendTo(actor, process, port, text)))
+}
+
+impl Process {
     // A value is printed.
     fn print(&mut self, actor: ActorId, args: Vec<Value>) -> Result<Step, RunFault> {
         let Some(value) = first(args) else {
@@ -46,22 +55,6 @@ impl Machine {
         let line = print_line(actor, value)?;
         self.heap.push(Task::Run(actor))?;
         Ok(Some(Call::Line(line)))
-    }
-
-    // A text is sent to a port of one of the processes.
-    fn send_to(&mut self, actor: ActorId, args: Vec<Value>) -> Result<Step, RunFault> {
-        let mut args = args;
-        let process = int_at(&args, 0)?;
-        let port = int_at(&args, 1)?;
-        let text = take_text(&mut args, 2)?;
-        let last = i64::from(self.processes) - 1;
-        match (within(process, last), u16::try_from(port)) {
-            (Some(process), Ok(port)) => {
-                self.heap.push(Task::Run(actor))?;
-                Ok(Some(Call::Packet(ProcId(process as u8), port, text)))
-            }
-            _ => self.throw(actor, BAD_ARGUMENT),
-        }
     }
 
     /// A call statement of a predefined name.
@@ -73,7 +66,7 @@ impl Machine {
     ) -> Result<Step, RunFault> {
         match call {
             Predefined::Trace => self.print(actor, args),
-            Predefined::SendTo => self.send_to(actor, args),
+            Predefined::SendTo => send_to(actor, args),
             _ => Err(RunFault::Astray),
         }
     }
@@ -105,14 +98,16 @@ impl Machine {
         outcome: Outcome,
     ) -> Result<Step, RunFault> {
         if self.is_complete(kind, cell)? {
-            return self.throw(actor, ALREADY_SET);
+            self.throw(actor, ALREADY_SET)?;
+            return Ok(None);
         }
         if !self.turn() {
             return Ok(None);
         }
         self.hold_outcome(&outcome)?;
         self.heap.push(Task::Run(actor))?;
-        self.fill(kind, cell, outcome)
+        self.fill(kind, cell, outcome)?;
+        Ok(None)
     }
 
     /// A call statement on a reference.

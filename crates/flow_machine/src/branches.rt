@@ -2,7 +2,7 @@
 
 use crate::call::{Call, Step};
 use crate::host::RunFault;
-use crate::machine::Machine;
+use crate::process::Process;
 use flow_base::errors::{OPERATION_CANCELLED, SECOND_WAITER};
 use flow_base::ids::{ActorId, CellId};
 use flow_cancel::task::Task;
@@ -22,7 +22,7 @@ fn group_at(block: &Block) -> Result<u32, RunFault> {
     }
 }
 
-impl Machine {
+impl Process {
     /// The group of the wait at which an actor stands or waits.
     pub(crate) fn group_of(&self, classes: &ClassProgram, actor: ActorId) -> Result<u32, RunFault> {
         let (_, block) = self.block_of(classes, actor)?;
@@ -74,7 +74,7 @@ impl Machine {
         let (place, block) = self.block_of(classes, actor)?;
         self.heap.push(task)?;
         self.lose_locals(class, actor)?;
-        self.heap.withdraw(actor)?;
+        self.leave(actor)?;
         let last = u32::try_from(block.body.len()).unwrap_or(u32::MAX);
         self.go(actor, place, last)
     }
@@ -166,15 +166,16 @@ impl Machine {
             actor,
             callback: held.callback,
         };
-        match self.kind_at(held.cell) {
-            Some(Kind::Future | Kind::Promise) => {
-                self.heap.cells_mut().add_waiter(held.cell, waiter)?;
-                Ok(true)
-            }
-            Some(Kind::FutureStream | Kind::PromiseStream) => {
-                Ok(self.heap.streams_mut().add_waiter(held.cell, waiter) == Wait::Added)
-            }
-            None => Err(RunFault::Astray),
+        if self.heap.cells().references(held.cell).is_some() {
+            self.heap.cells_mut().add_waiter(held.cell, waiter)?;
+            return Ok(true);
+        }
+        if self.heap.streams().references(held.cell).is_none() {
+            return Err(RunFault::Astray);
+        }
+        match self.heap.streams_mut().add_waiter(held.cell, waiter) {
+            Wait::Added => Ok(true),
+            Wait::Busy => Ok(false),
         }
     }
 
@@ -207,6 +208,15 @@ impl Machine {
         Ok(true)
     }
 
+    // The frame of an actor goes into a state.
+    fn suspend(&mut self, actor: ActorId, group: u32) -> Result<(), RunFault> {
+        if !self.heap.frames().contains(actor) {
+            return Err(RunFault::Astray);
+        }
+        self.heap.frames_mut().set_state(actor, group);
+        Ok(())
+    }
+
     /// All operands are kept. The first that is ready is taken. Otherwise the actor waits for all of them, and its locals
     /// are dropped; where a stream refuses, that is thrown.
     pub(crate) fn wait(
@@ -226,10 +236,7 @@ impl Machine {
         }
         let class = self.class_of(classes, actor)?;
         self.lose_locals(class, actor)?;
-        if !self.heap.frames().contains(actor) {
-            return Err(RunFault::Astray);
-        }
-        self.heap.frames_mut().set_state(actor, group);
+        self.suspend(actor, group)?;
         Ok(Some(Call::Line(Line::Wait(actor, group))))
     }
 }

@@ -1,8 +1,7 @@
 // What a step asks of the world.
 
-use flow_base::ids::{ActorId, CellId, ProcId};
+use flow_base::ids::{ActorId, CellId};
 use flow_base::text::Text;
-use flow_simdisk::DiskAsk;
 use flow_trace::line::Line;
 
 /// Where the result of an effect goes: into the place of the actor's instruction, or among the operands of its wait, as
@@ -13,24 +12,34 @@ pub(crate) enum Goal {
     Kept(u32),
 }
 
-/// What a step asks of the world, if anything.
+/// A request to a disk, with arguments as the program gave them.
+#[derive(Drop, Debug)]
+pub(crate) enum DiskCall {
+    Read(Text, i64, i64),
+    Write(Text, i64, Text),
+    Sync(Text),
+    Size(Text),
+}
+
+/// What a step asks of the world, with arguments as the program gave them. Those that a process makes of an actor's effect
+/// or message have the actor first, and the goal of the result.
 #[derive(Drop, Debug)]
 pub(crate) enum Call {
     /// A line is written.
     Line(Line),
-    /// One of so many numbers from the first on is drawn, for an actor.
-    Draw(ActorId, Goal, i64, u64),
-    /// A timer sets a cell at a time.
-    Timer(CellId, u64),
+    /// A number is drawn, from the first on, the last one left out.
+    Draw(ActorId, Goal, i64, i64),
+    /// A timer sets a new cell after so many ticks.
+    Delay(ActorId, Goal, i64),
+    /// A port gets a stream.
+    Listen(ActorId, Goal, i64),
+    /// A disk is asked.
+    Disk(ActorId, Goal, DiskCall),
     /// A text is sent to a port of a process.
-    Packet(ProcId, u16, Text),
-    /// An actor wants to listen at a port.
-    Listen(ActorId, Goal, u16),
+    SendTo(ActorId, i64, i64, Text),
     /// A port's stream is gone.
     Unlisten(CellId),
-    /// A disk is asked, with the answer for a cell.
-    Disk(CellId, DiskAsk),
 }
 
-/// How a step ended.
+/// What a step asks of the world, if anything.
 pub(crate) type Step = Option<Call>;

@@ -1,35 +1,19 @@
 // Effects: new cells, calls of actors, and what is asked of the world. A bad argument is an error that is thrown where the
 // actor stands.
 
-use crate::call::{Call, Goal, Step};
+use crate::call::{Call, DiskCall, Goal, Step};
 use crate::frames::places_of;
 use crate::host::RunFault;
-use crate::machine::Machine;
+use crate::process::Process;
 use flow_ast::predefined::{Predefined, predefined_call};
-use flow_base::errors::{BAD_ARGUMENT, OUT_OF_RANGE};
 use flow_base::ids::{ActorId, CellId};
 use flow_base::text::Text;
 use flow_cancel::task::Task;
 use flow_class::class::Class;
 use flow_class::program::ClassProgram;
-use flow_simdisk::DiskAsk;
 use flow_trace::line::Line;
 use flow_tree::expr::Expr;
 use flow_value::value::{Kind, Value};
-
-/// The latest time of a timer, in ticks.
-const LATEST: u64 = 1 << 62;
-
-/// Where a file ends at the latest, in bytes.
-const FURTHEST: i64 = 1048576;
-
-/// The greatest number of bytes of a file's name, and of what is read at once.
-const NAME_LIMIT: usize = 255;
-
-const READ_LIMIT: i64 = 65535;
-
-/// The greatest width of a range of drawn numbers.
-const WIDEST: i64 = 1 << 32;
 
 /// A call that has an effect: a predefined one, or that of the class at a place.
 #[derive(Clone, Copy, PartialEq, Eq, Debug)]
@@ -100,60 +84,25 @@ pub(crate) fn take_text(args: &mut [Value], place: usize) -> Result<Text, RunFau
     }
 }
 
-/// Whether a file may have a name.
-fn is_file(name: &Text) -> bool {
-    let length = name.bytes().len();
-    1 <= length && length <= NAME_LIMIT
-}
-
-/// A number from 0 to a last one.
-pub(crate) fn within(n: i64, last: i64) -> Option<u32> {
-    if n < 0 || n > last {
-        return None;
-    }
-    u32::try_from(n).ok()
-}
-
-/// A read whose arguments are in their ranges.
-fn read(file: Text, offset: i64, count: i64) -> Option<DiskAsk> {
-    if !is_file(&file) {
-        return None;
-    }
-    let offset = within(offset, FURTHEST)?;
-    let count = within(count, READ_LIMIT)?;
-    Some(DiskAsk::Read(file, offset, count))
-}
-
-/// A write whose arguments are in their ranges.
-fn write(file: Text, offset: i64, text: Text) -> Option<DiskAsk> {
-    if !is_file(&file) {
-        return None;
-    }
-    let offset = within(offset, FURTHEST)?;
-    let end = offset as usize + text.bytes().len();
-    if end > FURTHEST as usize {
-        return None;
-    }
-    Some(DiskAsk::Write(file, offset, text))
-}
-
-/// The request to a disk that a predefined call makes, if its arguments are in their ranges.
-fn judged(call: Predefined, args: &mut [Value]) -> Result<Option<DiskAsk>, RunFault> {
+/// The request to a disk that a predefined call makes.
+fn disk_call(call: Predefined, args: &mut [Value]) -> Result<DiskCall, RunFault> {
     let file = take_text(args, 0)?;
     match call {
-        Predefined::ReadFile => Ok(read(file, int_at(args, 1)?, int_at(args, 2)?)),
+        Predefined::ReadFile => {
+            let offset = int_at(args, 1)?;
+            Ok(DiskCall::Read(file, offset, int_at(args, 2)?))
+        }
         Predefined::WriteFile => {
             let offset = int_at(args, 1)?;
-            Ok(write(file, offset, take_text(args, 2)?))
+            Ok(DiskCall::Write(file, offset, take_text(args, 2)?))
         }
-        Predefined::SyncFile if is_file(&file) => Ok(Some(DiskAsk::Sync(file))),
-        Predefined::FileSize if is_file(&file) => Ok(Some(DiskAsk::Size(file))),
-        Predefined::SyncFile | Predefined::FileSize => Ok(None),
+        Predefined::SyncFile => Ok(DiskCall::Sync(file)),
+        Predefined::FileSize => Ok(DiskCall::Size(file)),
         _ => Err(RunFault::Astray),
     }
 }
 
-impl Machine {
+impl Process {
     /// A new cell, and a reference of a kind to it as the result.
     pub(crate) fn gives_new(
         &mut self,
@@ -169,8 +118,8 @@ impl Machine {
         Ok(cell)
     }
 
-    // A single result for which the world has an open request.
-    fn gives_open(&mut self, actor: ActorId, goal: Goal) -> Result<CellId, RunFault> {
+    /// A single result for which the world has an open request.
+    pub(crate) fn gives_open(&mut self, actor: ActorId, goal: Goal) -> Result<CellId, RunFault> {
         let cell = self.gives_new(actor, goal, Kind::Future)?;
         self.hold(Kind::Promise, cell)?;
         self.heap.add_request(cell)?;
@@ -200,6 +149,7 @@ impl Machine {
         }
     }
 
+    // An effect that is the world's, or a result that never comes.
     fn world_effect(
         &mut self,
         actor: ActorId,
@@ -209,57 +159,19 @@ impl Machine {
     ) -> Result<Step, RunFault> {
         match call {
             Predefined::RandomInt => {
-                self.draw(actor, goal, int_at(&args, 0)?, int_at(&args, 1)?)
+                let lo = int_at(&args, 0)?;
+                Ok(Some(Call::Draw(actor, goal, lo, int_at(&args, 1)?)))
             }
-            Predefined::Delay => self.delay(actor, goal, int_at(&args, 0)?),
+            Predefined::Delay => Ok(Some(Call::Delay(actor, goal, int_at(&args, 0)?))),
+            Predefined::Listen => Ok(Some(Call::Listen(actor, goal, int_at(&args, 0)?))),
             Predefined::Never => {
                 self.gives_new(actor, goal, Kind::Future)?;
                 Ok(None)
             }
-            Predefined::Listen => self.listen(actor, goal, int_at(&args, 0)?),
-            _ => self.ask_disk(actor, goal, call, args),
-        }
-    }
-
-    fn draw(&mut self, actor: ActorId, goal: Goal, lo: i64, hi: i64) -> Result<Step, RunFault> {
-        match hi.checked_sub(lo) {
-            Some(width) if 1 <= width && width <= WIDEST => {
-                Ok(Some(Call::Draw(actor, goal, lo, width as u64)))
+            _ => {
+                let mut args = args;
+                Ok(Some(Call::Disk(actor, goal, disk_call(call, &mut args)?)))
             }
-            _ => self.throw(actor, BAD_ARGUMENT),
-        }
-    }
-
-    fn delay(&mut self, actor: ActorId, goal: Goal, ticks: i64) -> Result<Step, RunFault> {
-        let time = self.now.saturating_add(ticks.max(0) as u64);
-        if time > LATEST {
-            return self.throw(actor, OUT_OF_RANGE);
-        }
-        let cell = self.gives_open(actor, goal)?;
-        Ok(Some(Call::Timer(cell, time)))
-    }
-
-    fn listen(&mut self, actor: ActorId, goal: Goal, port: i64) -> Result<Step, RunFault> {
-        match u16::try_from(port) {
-            Ok(port) => Ok(Some(Call::Listen(actor, goal, port))),
-            Err(_) => self.throw(actor, BAD_ARGUMENT),
-        }
-    }
-
-    fn ask_disk(
-        &mut self,
-        actor: ActorId,
-        goal: Goal,
-        call: Predefined,
-        args: Vec<Value>,
-    ) -> Result<Step, RunFault> {
-        let mut args = args;
-        match judged(call, &mut args)? {
-            Some(ask) => {
-                let cell = self.gives_open(actor, goal)?;
-                Ok(Some(Call::Disk(cell, ask)))
-            }
-            None => self.throw(actor, BAD_ARGUMENT),
         }
     }
 

@@ -1,7 +1,7 @@
 // The frames of a process: places, positions, and values that leave them.
 
 use crate::host::RunFault;
-use crate::machine::Machine;
+use crate::process::Process;
 use crate::seen::{Places, place_of};
 use flow_base::ids::{ActorId, ErrorCode};
 use flow_class::class::{Block, Class, Group, Slotted};
@@ -33,7 +33,7 @@ fn may_refer(value: &Value) -> bool {
     matches!(value, Value::Struct(_, _) | Value::Ref(_, _))
 }
 
-impl Machine {
+impl Process {
     /// The class of an actor that has a frame.
     pub(crate) fn class_of<'a>(
         &self,
@@ -102,16 +102,33 @@ impl Machine {
         Ok(())
     }
 
-    /// Has a frame go on at its next instruction.
-    pub(crate) fn go_on(&mut self, actor: ActorId) -> Result<(), RunFault> {
+    /// The block and the instruction at which a frame stands.
+    pub(crate) fn position(&self, actor: ActorId) -> Result<(u32, u32), RunFault> {
         if !self.heap.frames().contains(actor) {
             return Err(RunFault::Astray);
         }
-        let (block, instruction) = self.heap.frames().at(actor);
+        Ok(self.heap.frames().at(actor))
+    }
+
+    /// Has a frame go on at its next instruction.
+    pub(crate) fn go_on(&mut self, actor: ActorId) -> Result<(), RunFault> {
+        let (block, instruction) = self.position(actor)?;
         match instruction.checked_add(1) {
             Some(next) => self.go(actor, block, next),
             None => Err(RunFault::Astray),
         }
+    }
+
+    // The number of the block in which a frame stands; where its actor waits, that of the wait.
+    fn block_number(&self, classes: &ClassProgram, actor: ActorId) -> Result<u32, RunFault> {
+        if !self.heap.frames().contains(actor) {
+            return Err(RunFault::Astray);
+        }
+        let state = self.heap.frames().state(actor);
+        if state != 0 {
+            return Ok(self.home_of(classes, actor, state)?.block);
+        }
+        Ok(self.heap.frames().at(actor).0)
     }
 
     /// The block in which a frame stands; where its actor waits, that of the wait.
@@ -121,12 +138,7 @@ impl Machine {
         actor: ActorId,
     ) -> Result<(u32, &'a Block), RunFault> {
         let class = self.class_of(classes, actor)?;
-        let state = self.heap.frames().state(actor);
-        let place = if state == 0 {
-            self.heap.frames().at(actor).0
-        } else {
-            self.home_of(classes, actor, state)?.block
-        };
+        let place = self.block_number(classes, actor)?;
         match class.blocks.get(place as usize) {
             Some(block) => Ok((place, block)),
             None => Err(RunFault::Astray),

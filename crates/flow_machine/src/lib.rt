@@ -6,13 +6,17 @@
 
 mod asks;
 mod branches;
+mod bursts;
 mod call;
 mod effects;
 mod errors;
+mod events;
 mod frames;
 pub mod host;
+mod judged;
 pub mod machine;
 mod next;
+mod process;
 mod seen;
 mod steps;
 #[cfg(test)]

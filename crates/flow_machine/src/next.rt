@@ -4,7 +4,7 @@ use crate::call::{Call, Goal, Step};
 use crate::effects::{Effectful, effect_in};
 use crate::frames::group_of;
 use crate::host::RunFault;
-use crate::machine::Machine;
+use crate::process::Process;
 use crate::seen::Contents;
 use flow_ast::predefined::{predefined_call, predefined_method};
 use flow_base::ids::{ActorId, CellId, ErrorCode};
@@ -45,7 +45,7 @@ fn type_at(class: &Class, place: Slotted) -> Option<&Ty> {
     }
 }
 
-impl Machine {
+impl Process {
     // What stays the same while an expression is evaluated.
     fn setting<'a>(
         &self,
@@ -58,7 +58,7 @@ impl Machine {
             records: &raw.records,
             functions: &raw.functions,
             view: contents,
-            time: self.now as i64,
+            time: i64::try_from(self.now).unwrap_or(i64::MAX),
         }
     }
 
@@ -140,7 +140,7 @@ impl Machine {
     /// An actor takes its next step, by its instruction.
     pub(crate) fn run(&mut self, classes: &ClassProgram, actor: ActorId) -> Result<Step, RunFault> {
         let (_, block) = self.block_of(classes, actor)?;
-        let (_, instruction) = self.heap.frames().at(actor);
+        let (_, instruction) = self.position(actor)?;
         if let Some(instr) = block.body.get(instruction as usize) {
             return self.instruction(classes, actor, instr);
         }
@@ -301,6 +301,9 @@ impl Machine {
         function: usize,
         args: Vec<Value>,
     ) -> Result<Step, RunFault> {
+        if function >= classes.raw().functions.len() {
+            return Err(RunFault::Astray);
+        }
         let mut turns = Turns { left: self.left };
         let came_to = {
             let contents = Contents {
@@ -312,7 +315,8 @@ impl Machine {
         match self.found(actor, came_to, turns.left)? {
             Found::Value(_) => {
                 self.go_on(actor)?;
-                self.run_on(actor)
+                self.run_on(actor)?;
+                Ok(None)
             }
             Found::Stopped => Ok(None),
         }
@@ -327,20 +331,25 @@ impl Machine {
         match last {
             Last::Goto(block) => {
                 self.go(actor, *block, 0)?;
-                self.run_on(actor)
+                self.run_on(actor)?;
+                Ok(None)
             }
             Last::Pass(block) => {
                 self.go(actor, *block, 0)?;
                 if !self.turn() {
                     return Ok(None);
                 }
-                self.run_on(actor)
+                self.run_on(actor)?;
+                Ok(None)
             }
             Last::Test(expr, yes, no) => self.test(classes, actor, expr, *yes, *no),
             Last::Choose(group) => self.choose(classes, actor, *group),
             Last::Return(expr) => self.finish_with(classes, actor, expr),
             Last::Throw(expr) => match self.value(classes, actor, expr)? {
-                Found::Value(Value::Error(error)) => self.throw(actor, error),
+                Found::Value(Value::Error(error)) => {
+                    self.throw(actor, error)?;
+                    Ok(None)
+                }
                 Found::Value(_) => Err(RunFault::Astray),
                 Found::Stopped => Ok(None),
             },
@@ -362,7 +371,8 @@ impl Machine {
             Found::Stopped => return Ok(None),
         };
         self.go(actor, next, 0)?;
-        self.run_on(actor)
+        self.run_on(actor)?;
+        Ok(None)
     }
 
     // The next operand of a wait is asked for; when all are kept, the actor waits.

@@ -4,7 +4,8 @@ ghost use Rattle.std.specs.Prelude.{◌≡◌, ℕ, List, Option};
 ghost use Rattle.std.specs.Option.{option_map, option_copied};
 ghost use Rattle.flow_value.specs.Values.{ValueTree, OutcomeTree};
 ghost use Rattle.flow_value.specs.View.{value_of, outcome_of};
-ghost use Rattle.flow_machine.specs.Seen.{place_in, value_in, content_in};
+ghost use Rattle.flow_numbered.specs.Numbered.{thing};
+ghost use Rattle.flow_machine.specs.Seen.{place_of, place_in, held_at, value_in, content_in};
 
 use flow_base::ids::{ActorId, CellId};
 use flow_cell::cells::Cells;
@@ -16,7 +17,9 @@ use flow_frame::frames::Frames;
 use flow_value::value::{Outcome, Value};
 
 /// The number of a place in its frame: the locals come behind the slots.
-pub(crate) fn place_of(slots: u32, place: Slotted) -> Option<u32> {
+pub(crate) fn place_of(slots: u32, place: Slotted) -> Option<u32>
+    ensures { result ≡ place_of slots place }
+{
     match place {
         Slotted::Slot(n) => { if n < slots { Some(n) } else { None } }
         Slotted::Local(n) => slots.checked_add(n),
@@ -24,7 +27,9 @@ pub(crate) fn place_of(slots: u32, place: Slotted) -> Option<u32> {
 }
 
 /// What a place of a frame holds, if there is such a place and it holds something.
-pub(crate) fn held(frames: &Frames<Value>, actor: ActorId, place: u32) -> Option<&Value> {
+pub(crate) fn held(frames: &Frames<Value>, actor: ActorId, place: u32) -> Option<&Value>
+    ensures { option_copied result ≡ held_at place (thing frames.now.things actor.0) }
+{
     if !frames.contains(actor) || place >= frames.places(actor) {
         return None;
     }
@@ -43,8 +48,13 @@ impl Variables for Places<'_> {
     ghost by_name = { λ p x. value_in p.frames.now p.actor.0 (place_in p.slots x) };
 
     fn value(&self, name: &[u8]) -> Option<&Value> {
-        let place = place_of(self.slots, place_named(name)?)?;
-        held(self.frames, self.actor, place)
+        let Some(place) = place_named(name) else {
+            return None;
+        };
+        match place_of(self.slots, place) {
+            Some(place) => held(self.frames, self.actor, place),
+            None => None,
+        }
     }
 }
 

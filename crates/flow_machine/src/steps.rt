@@ -3,7 +3,7 @@
 use crate::call::{Call, Step};
 use crate::frames::group_of;
 use crate::host::RunFault;
-use crate::machine::Machine;
+use crate::process::Process;
 use flow_base::ids::{ActorId, CellId, ErrorCode};
 use flow_cancel::task::Task;
 use flow_cell::counts::Side;
@@ -26,7 +26,7 @@ fn callback_at(class: &Class, group: u32, branch: u32) -> Option<&Callback> {
     group_of(class, group)?.callbacks.get(branch as usize)
 }
 
-impl Machine {
+impl Process {
     /// Does a task that was the newest, and says what it asks of the world.
     pub(crate) fn do_task(&mut self, classes: &ClassProgram, task: Task) -> Result<Step, RunFault> {
         match task {
@@ -62,7 +62,10 @@ impl Machine {
     ) -> Result<Step, RunFault> {
         let value = match outcome {
             Outcome::Value(value) => value,
-            Outcome::Error(error) => return self.throw(actor, error),
+            Outcome::Error(error) => {
+                self.throw(actor, error)?;
+                return Ok(None);
+            }
         };
         let class = self.class_of(classes, actor)?;
         let group = self.group_of(classes, actor)?;
@@ -102,7 +105,7 @@ impl Machine {
     ) -> Result<Step, RunFault> {
         let class = self.class_of(classes, actor)?;
         let (_, block) = self.block_of(classes, actor)?;
-        let (_, instruction) = self.heap.frames().at(actor);
+        let (_, instruction) = self.position(actor)?;
         match block.body.get(instruction as usize) {
             Some(Instr::Effect(target, _)) => self.assign(classes, actor, target, value)?,
             Some(Instr::New(place)) => {
@@ -153,8 +156,8 @@ impl Machine {
         self.go(actor, catcher.block, 0)
     }
 
-    // The operands of an actor leave all cells, and are dropped.
-    fn leave(&mut self, actor: ActorId) -> Result<(), RunFault> {
+    /// The operands of an actor leave all cells, and are dropped.
+    pub(crate) fn leave(&mut self, actor: ActorId) -> Result<(), RunFault> {
         if !self.heap.frames().contains(actor) {
             return Err(RunFault::Astray);
         }
@@ -230,13 +233,19 @@ impl Machine {
         if !self.turn() {
             return Ok(());
         }
-        match self.heap.cells().references(cell) {
-            Some(references) if references.count(Side::Promise) > 0 => {
-                self.heap.cells_mut().release(cell, Side::Promise);
-            }
-            _ => return Err(RunFault::Astray),
+        self.end_promise(cell)?;
+        self.fill(Kind::Future, cell, outcome)
+    }
+
+    // A promise of a single result counts no more, where others or futures do.
+    fn end_promise(&mut self, cell: CellId) -> Result<(), RunFault> {
+        let Some(references) = self.heap.cells().references(cell) else {
+            return Err(RunFault::Astray);
+        };
+        if references.count(Side::Promise) == 0 {
+            return Err(RunFault::Astray);
         }
-        self.fill(Kind::Future, cell, outcome)?;
+        self.heap.cells_mut().release(cell, Side::Promise);
         Ok(())
     }
 }

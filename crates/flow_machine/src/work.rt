@@ -2,19 +2,19 @@
 
 use crate::call::{Call, Goal, Step};
 use crate::host::RunFault;
-use crate::machine::Machine;
+use crate::process::Process;
 use flow_base::errors::BROKEN_PROMISE;
 use flow_base::ids::{ActorId, CellId, ErrorCode};
 use flow_cancel::heap::side_of;
 use flow_cancel::task::{Dropped, Task};
-use flow_cell::counts::{References, Side};
+use flow_cell::counts::Side;
 use flow_trace::line::Line;
 use flow_value::value::{Kind, Outcome, Value};
 
 /// A count of references may rise where it is below this.
 const COUNTS: u128 = (1 << 100) - 1;
 
-impl Machine {
+impl Process {
     /// Takes a turn, and says whether one was left; where none was, the event is spent.
     pub(crate) fn turn(&mut self) -> bool {
         match self.left.checked_sub(1) {
@@ -30,39 +30,45 @@ impl Machine {
     }
 
     /// An error is thrown where an actor stands.
-    pub(crate) fn throw(&mut self, actor: ActorId, error: ErrorCode) -> Result<Step, RunFault> {
-        self.heap.push(Task::Throw(actor, error))?;
-        Ok(None)
+    pub(crate) fn throw(&mut self, actor: ActorId, error: ErrorCode) -> Result<(), RunFault> {
+        Ok(self.heap.push(Task::Throw(actor, error))?)
     }
 
     /// An actor takes its next step after all that comes on top.
-    pub(crate) fn run_on(&mut self, actor: ActorId) -> Result<Step, RunFault> {
-        self.heap.push(Task::Run(actor))?;
-        Ok(None)
+    pub(crate) fn run_on(&mut self, actor: ActorId) -> Result<(), RunFault> {
+        Ok(self.heap.push(Task::Run(actor))?)
     }
 
-    // How many references count of the cell of a kind of reference.
-    fn references(&self, kind: Kind, cell: CellId) -> Option<References> {
-        match kind {
-            Kind::Promise | Kind::Future => self.heap.cells().references(cell),
-            Kind::PromiseStream | Kind::FutureStream => self.heap.streams().references(cell),
-        }
-    }
-
-    /// A reference is stored: it counts.
-    pub(crate) fn hold(&mut self, kind: Kind, cell: CellId) -> Result<(), RunFault> {
-        let side = side_of(kind);
-        let Some(references) = self.references(kind, cell) else {
+    // A reference to a side of a single result counts.
+    fn hold_cell(&mut self, side: Side, cell: CellId) -> Result<(), RunFault> {
+        let Some(references) = self.heap.cells().references(cell) else {
             return Err(RunFault::Astray);
         };
         if references.count(side) >= COUNTS {
             return Err(RunFault::OutOfMemory);
         }
-        match kind {
-            Kind::Promise | Kind::Future => self.heap.cells_mut().hold(cell, side),
-            Kind::PromiseStream | Kind::FutureStream => self.heap.streams_mut().hold(cell, side),
-        }
+        self.heap.cells_mut().hold(cell, side);
         Ok(())
+    }
+
+    // A reference to a side of a stream counts.
+    fn hold_stream(&mut self, side: Side, cell: CellId) -> Result<(), RunFault> {
+        let Some(references) = self.heap.streams().references(cell) else {
+            return Err(RunFault::Astray);
+        };
+        if references.count(side) >= COUNTS {
+            return Err(RunFault::OutOfMemory);
+        }
+        self.heap.streams_mut().hold(cell, side);
+        Ok(())
+    }
+
+    /// A reference is stored: it counts.
+    pub(crate) fn hold(&mut self, kind: Kind, cell: CellId) -> Result<(), RunFault> {
+        match kind {
+            Kind::Promise | Kind::Future => self.hold_cell(side_of(kind), cell),
+            Kind::PromiseStream | Kind::FutureStream => self.hold_stream(side_of(kind), cell),
+        }
     }
 
     /// A value is stored: its references count.
@@ -125,7 +131,7 @@ impl Machine {
         kind: Kind,
         cell: CellId,
         outcome: Outcome,
-    ) -> Result<Step, RunFault> {
+    ) -> Result<(), RunFault> {
         match kind {
             Kind::Promise | Kind::Future => {
                 self.set(cell, outcome)?;
@@ -136,8 +142,7 @@ impl Machine {
                 self.hold(Kind::FutureStream, cell)?;
             }
         }
-        self.heap.push(Task::Fire(cell))?;
-        Ok(None)
+        Ok(self.heap.push(Task::Fire(cell))?)
     }
 
     /// The result of an effect goes where it belongs, and the actor goes on after that.
@@ -217,11 +222,10 @@ impl Machine {
 
     /// Whether a wait at a cell needn't suspend.
     pub(crate) fn is_ready(&self, cell: CellId) -> bool {
-        match self.kind_at(cell) {
-            Some(Kind::Future | Kind::Promise) => self.heap.cells().content(cell).is_some(),
-            Some(Kind::FutureStream | Kind::PromiseStream) => self.heap.streams().ready(cell),
-            None => false,
+        if self.heap.cells().references(cell).is_some() {
+            return self.heap.cells().content(cell).is_some();
         }
+        self.heap.streams().references(cell).is_some() && self.heap.streams().ready(cell)
     }
 
     /// How many futures of a single result count.

@@ -6,4 +6,4 @@ use Rattle.flow_cancel.proofs.dropping.+push_drops.Given as goal
 
 abbrev pub invariant-loop-field : goal.invariant-loop-field
 invariant-loop-field l =
-    drops (refs_of_all (values_of l.field-iterator.iter.rest)) l.tasks.items ≡ drops (refs_of (value_of l.value)) l.initial.tasks.items
+    drops (refs_of_all (values_of l.field-iterator.iter.rest.now)) l.tasks.items ≡ drops (refs_of (value_of l.value)) l.initial.tasks.items
