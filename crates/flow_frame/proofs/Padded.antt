@@ -1,6 +1,7 @@
 -- Places of which the last hold nothing.
-use Rattle.std.proofs.Common.{◌≡◌, ℕ, zero, suc, ◌<◌, ◌≤◌, List, [], ◌∷◌, ◌++◌, length, get_or, set, Option, None, refl, ap, arith}
-use Rattle.flow_frame.specs.Frames.{padded}
+use Rattle.std.proofs.Common.{◌≡◌, ℕ, zero, suc, ◌<◌, ◌≤◌, List, [], ◌∷◌, ◌++◌, length, get_or, set, Bool, true, is_none, take, Option, Some, None, refl, ap, arith}
+use Rattle.std.specs.List.{list_all}
+use Rattle.flow_frame.specs.Frames.{padded, all_empty}
 
 module _ {T : Type 0} where
   pub length_padded : (n : ℕ) (xs : List (Option T)) → length (padded n xs) ≡ n
@@ -41,3 +42,16 @@ module _ {T : Type 0} where
   past_padded (suc n) [] (suc k) h = past_padded n [] k (omega arith)
   past_padded (suc n) (x ∷ xs) zero h = absurd (omega arith)
   past_padded (suc n) (x ∷ xs) (suc k) h = past_padded n xs k (omega arith)
+
+  -- whether all are empty
+  none_padded : (n : ℕ) (xs : List (Option T)) → xs ≡ [] → all_empty (padded n xs) ≡ true
+  none_padded zero xs e = refl
+  none_padded (suc n) [] e = none_padded n [] refl
+  none_padded (suc n) (x ∷ xs) e = absurd (cc (e))
+
+  pub empty_padded : (n : ℕ) (xs : List (Option T)) → all_empty (padded n xs) ≡ list_all is_none (take n xs)
+  empty_padded zero [] = refl
+  empty_padded zero (x ∷ xs) = refl
+  empty_padded (suc n) [] = none_padded n [] refl
+  empty_padded (suc n) (None ∷ xs) = empty_padded n xs
+  empty_padded (suc n) (Some v ∷ xs) = refl

@@ -1,7 +1,8 @@
 // One frame.
 
-ghost use Rattle.std.specs.Prelude.{◌≡◌, ℕ, ◌<◌, ◌≤◌, length, OnOk, OnErr, IfOk, option_copied, slice_index_or, None};
-ghost use Rattle.flow_frame.specs.Frames.{padded, fresh, in_state, with_place, with_callback, first_held, other_held};
+ghost use Rattle.std.specs.Prelude.{◌≡◌, ℕ, ◌<◌, ◌≤◌, length, OnOk, OnErr, IfOk, option_copied, slice_index_or, None, [], is_none, take};
+ghost use Rattle.std.specs.List.{list_all};
+ghost use Rattle.flow_frame.specs.Frames.{padded, fresh, in_state, with_place, with_callback, first_held, other_held, all_empty};
 
 use crate::held::Held;
 use flow_base::memory::NoMemory;
@@ -59,6 +60,13 @@ fn cut<T: Drop>(filled: &mut Vec<Option<T>>)
         filled.pop();
     }
     filled.shrink_to_fit();
+}
+
+// Whether the first so many of these are empty.
+fn are_empty<T>(filled: &[Option<T>], most: usize) -> bool
+    ensures { result ≡ list_all is_none (take most filled.now) }
+{
+    filled.iter().take(most).all(|value| value.is_none())
 }
 
 impl<T> Frame<T> {
@@ -123,6 +131,14 @@ impl<T> Frame<T> {
         self.places
     }
 
+    #[tactic(auto, using(crate::proofs::Padded::empty_padded))]
+    /// Whether every place is empty.
+    pub(crate) fn is_empty(&self) -> bool
+        ensures { result ≡ all_empty self.now.places }
+    {
+        are_empty(&self.filled, self.places as usize)
+    }
+
     pub(crate) fn state(&self) -> u32
         ensures { result ≡ self.now.state }
     {
@@ -174,6 +190,14 @@ impl<T> Frame<T> {
     {
         self.callbacks.push(held)?;
         Ok(())
+    }
+
+    /// Takes all callbacks, the first first.
+    pub(crate) fn take_callbacks(&mut self, alloc: Global) -> Vec<Held>
+        ensures all { result.items ≡ self.old.callbacks }
+        ensures rest { self.new ≡ record self.old { callbacks = [] } }
+    {
+        mem::replace(&mut self.callbacks, Vec::new(alloc))
     }
 
     /// Takes the first callback, if there is one.

@@ -1,0 +1,4 @@
+pub mod Told
+pub mod Drops
+pub mod Puts
+pub mod Losses
