@@ -1,6 +1,6 @@
 -- Files by their names.
 use Rattle.std.proofs.Common.{◌≡◌, ◌≢◌, ℕ, zero, suc, ◌+◌, ◌-◌, ◌*◌, ◌≤◌, List, [], ◌∷◌, length, ap, sym, subst, ◌∙◌, refl, Some, None, arith}
-use Rattle.std.specs.Prelude.{Bool, true, false, nat_lt, if◌then◌else◌, Result, Ok, Err, OnOk, OnErr}
+use Rattle.std.specs.Prelude.{Bool, true, false, nat_lt, if◌then◌else◌, Result, Ok, Err, OnOk, OnErr, fold}
 use Rattle.std.specs.List.{All, AllByRecursion}
 use Rattle.std.specs.List.Sorted.{IsStrictlySortedBy}
 use Rattle.std.specs.declared.cmp.Ordering.{Ordering}
@@ -8,19 +8,20 @@ use Rattle.std.specs.declared.cmp.Ordering.TheVariants.{Less, Equal, Greater}
 use Rattle.std.specs.declared.alloc.Global.{Global}
 use Rattle.std.specs.declared.vec.Vec.{Vec}
 use Rattle.std.specs.Option.{unwrap_or}
-use Rattle.std.specs.Ordering.{match_ordering, nat_cmp, is_eq}
+use Rattle.std.specs.Ordering.{match_ordering, nat_cmp, is_eq, ordering_reverse}
 use Rattle.std.specs.Cmp.Lexicographic.{slice_cmp}
 use Rattle.std.specs.Map.{lookup, set_value, keys_of}
 use Rattle.std.specs.BTreeMap.{is_at, insert_entry}
 use Rattle.std.proofs.lemmas.Cmp.{nat_list_cmp_total}
 use Rattle.std.proofs.lemmas.List.Sums.{sum_by-cons}
+use Rattle.std.proofs.lemmas.List.{append-nil, append_assoc}
 use Rattle.std.proofs.lemmas.List.Elements.{All-cons, All-tail}
 use Rattle.std.proofs.lemmas.Map.{lookup-none}
 use Rattle.std.proofs.lemmas.Map.Entries.{none_below_head}
-use Rattle.std.proofs.lemmas.Map.Keys.{sorted_tail}
+use Rattle.std.proofs.lemmas.Map.Keys.{sorted_tail, sorted_head}
 use Rattle.flow_simdisk.specs.Asks.{DiskCall}
 use Rattle.flow_simdisk.specs.Disk.{File, empty_file, file_named, with_file, with_bytes, files_after, reply_of, served}
-use Rattle.flow_simdisk.specs.Stored.{files_of, IsThere, HasFiles, most_words}
+use Rattle.flow_simdisk.specs.Stored.{files_of, IsThere, HasFiles, HasRisingNames, StandInOrder, FitsFile, write_in, most_words}
 
 -- the order of names as keys
 abbrev pub by_name : Vec ℕ Global → Vec ℕ Global → Ordering
@@ -187,3 +188,48 @@ served_done q (suc n) fs e = absurd (wrong e)
 
 pub more_words : (e : Vec ℕ Global × File) (es : List (Vec ℕ Global × File)) → most_words (files_of (e ∷ es)) ≡ 2 * length e.1.unsynced + most_words (files_of es)
 more_words e es = omega (arith, sum_by-cons (λ f. length f.1.unsynced) (e.0.items, e.1) (files_of es))
+
+-- a file whose name is above those of all others is put behind them
+put_last : (fs : List (List ℕ × File)) (x : List ℕ) (f : File) → AllByRecursion (λ y. slice_cmp nat_cmp x y ≡ Greater) (keys_of fs)
+    → with_file fs x f ≡ fs ++ (x, f) ∷ []
+put_last [] x f above = refl
+put_last (e ∷ es) x f (first, rest) = rw first (ap (λ gs. e ∷ gs) (put_last es x f rest))
+
+above_one_more : (x : List ℕ) (fs : List (List ℕ × File)) (y : List ℕ) (g : File) → AllByRecursion (λ z. slice_cmp nat_cmp x z ≡ Greater) (keys_of fs)
+    → slice_cmp nat_cmp x y ≡ Greater → AllByRecursion (λ z. slice_cmp nat_cmp x z ≡ Greater) (keys_of (fs ++ (y, g) ∷ []))
+above_one_more x [] y g above last = (last, tt)
+above_one_more x (e ∷ es) y g (first, rest) last = (first, above_one_more x es y g rest last)
+
+greater : (x y : List ℕ) → slice_cmp nat_cmp y x ≡ Less → slice_cmp nat_cmp x y ≡ Greater
+greater x y e = nat_list_cmp_total.antisymm x y ∙ ap ordering_reverse e
+
+-- names all of which are above those of some files
+abbrev AllAbove : List (List ℕ × File) → List (List ℕ × File) → Type 0
+AllAbove fs [] = Unit {0}
+AllAbove fs (e ∷ es) = AllByRecursion (λ y. slice_cmp nat_cmp e.0 y ≡ Greater) (keys_of fs) × AllAbove fs es
+
+still_above : (fs es : List (List ℕ × File)) (x : List ℕ) (f : File) → AllAbove fs es → AllByRecursion (λ y. slice_cmp nat_cmp x y ≡ Less) (keys_of es)
+    → AllAbove (fs ++ (x, f) ∷ []) es
+still_above fs [] x f above below = tt
+still_above fs (e ∷ es) x f (first, rest) (here, later) =
+    (above_one_more e.0 fs x f first (greater e.0 x here), still_above fs es x f rest later)
+
+all_placed : (fs es : List (List ℕ × File)) → HasRisingNames es → AllAbove fs es → fold (λ gs f. with_file gs f.0 f.1) fs es ≡ fs ++ es
+all_placed fs [] rising above = sym (append-nil fs)
+all_placed fs (e ∷ es) rising (first, rest) =
+    ap (λ gs. fold (λ hs f. with_file hs f.0 f.1) gs es) (put_last fs e.0 e.1 first)
+    ∙ all_placed (fs ++ e ∷ []) es (sorted_tail (slice_cmp nat_cmp) e.0 (keys_of es) rising)
+    (still_above fs es e.0 e.1 rest (sorted_head (slice_cmp nat_cmp) e.0 (keys_of es) rising))
+    ∙ append_assoc fs (e ∷ []) es
+
+none_above : (es : List (List ℕ × File)) → AllAbove [] es
+none_above [] = tt
+none_above (e ∷ es) = (tt, none_above es)
+
+pub stand_in_order : StandInOrder
+stand_in_order fs rising = all_placed [] fs rising (none_above fs)
+
+-- writes as plain data
+pub fits_at : (ys zs : List (ℕ × List ℕ)) (y : ℕ × List ℕ) → All FitsFile (map write_in (ys ++ y ∷ zs)) → FitsFile (write_in y)
+fits_at [] zs y all = all 0 (write_in y) (omega arith)
+fits_at (x ∷ xs) zs y all = fits_at xs zs y (All-tail FitsFile (write_in x) (map write_in (xs ++ y ∷ zs)) all)

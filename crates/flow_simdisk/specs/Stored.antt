@@ -3,9 +3,14 @@ use Rattle.std.specs.Prelude.{◌≡◌, ◌≢◌, ℕ, ◌+◌, ◌*◌, ◌�
 use Rattle.std.specs.declared.alloc.Global.{Global}
 use Rattle.std.specs.declared.vec.Vec.{Vec}
 use Rattle.std.specs.List.{All}
+use Rattle.std.specs.List.Sorted.{IsStrictlySortedBy}
+use Rattle.std.specs.Ordering.{nat_cmp}
+use Rattle.std.specs.Cmp.Lexicographic.{slice_cmp}
+use Rattle.std.specs.Map.{keys_of}
 use Rattle.flow_draw.specs.Words.{Drawn, word_at}
 use Rattle.flow_simdisk.specs.declared.write.Write.{Write}
 use Rattle.flow_simdisk.specs.declared.write.Kept.{Kept}
+use Rattle.flow_simdisk.specs.declared.state.FileState.{FileState}
 use Rattle.flow_simdisk.specs.declared.TheConstants.{FILE_BYTES}
 use Rattle.flow_simdisk.specs.Disk.{File, Disk, over, applied, joined, file_named, with_file, with_sync, Losing}
 
@@ -50,6 +55,34 @@ with_joined d x w = record d { files = with_file d.files x (joined (file_named d
 -- a file that is there is synced
 abbrev pub with_synced : Disk → List ℕ → Disk
 with_synced d x = record d { files = with_sync d.files x }
+
+-- files as plain data
+abbrev pub write_in : ℕ × List ℕ → Write
+write_in w = record { offset = w.0; text = w.1 }
+
+abbrev pub file_in : FileState → File
+file_in s = record { durable = s.durable.items; unsynced = map write_in s.unsynced.items }
+
+abbrev pub files_in : List FileState → List (List ℕ × File)
+files_in ss = map (λ s. (s.name, file_in s)) ss
+
+-- no byte is past the end of a file, each write has a byte, and the file is there
+pub record CanRestore (s : FileState) : Type 0 where
+  pub durable_fits : length s.durable.items ≤ FILE_BYTES
+  pub writes_fit : All FitsFile (map write_in s.unsynced.items)
+  pub there : IsThere (file_in s)
+
+-- files in any order, each put in its place by its name, a later one in place of an earlier one of the same name
+abbrev pub in_order_of_names : List (List ℕ × File) → List (List ℕ × File)
+in_order_of_names fs = fold (λ gs f. with_file gs f.0 f.1) [] fs
+
+-- names rise
+abbrev pub HasRisingNames : List (List ℕ × File) → Type 0
+HasRisingNames fs = IsStrictlySortedBy (slice_cmp nat_cmp) (keys_of fs)
+
+-- files whose names rise stand in their places
+abbrev pub StandInOrder : Type 0
+StandInOrder = (fs : List (List ℕ × File)) → HasRisingNames fs → in_order_of_names fs ≡ fs
 
 -- the words of these draws, by number
 abbrev pub drawn_words : Drawn → ℕ → ℕ

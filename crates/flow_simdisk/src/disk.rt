@@ -1,10 +1,11 @@
 // A disk.
 
 ghost use Rattle.std.specs.Prelude.{◌≡◌, ◌+◌, ◌-◌, ◌*◌, ◌<◌, ◌≤◌, ◌^◌, [], IfOk, OnOk, OnErr, length, min, nat_lt, take, drop};
+ghost use Rattle.std.specs.List.{All};
 ghost use Rattle.flow_simdisk.specs.declared.TheConstants.{FILE_BYTES};
 ghost use Rattle.flow_simdisk.specs.Asks.{ReadCall, WriteCall, SyncCall, SizeCall};
-ghost use Rattle.flow_simdisk.specs.Disk.{served, seen_bytes, file_named, lose_next, lose_file, power_lost};
-ghost use Rattle.flow_simdisk.specs.Stored.{FitsFile, HasFiles, files_of, with_joined, with_synced, drawn_words, most_words, losing};
+ghost use Rattle.flow_simdisk.specs.Disk.{served, seen_bytes, file_named, with_file, lose_next, lose_file, power_lost};
+ghost use Rattle.flow_simdisk.specs.Stored.{FitsFile, HasFiles, CanRestore, HasRisingNames, file_in, files_in, in_order_of_names, files_of, with_joined, with_synced, drawn_words, most_words, losing};
 
 use crate::ask::DiskReply;
 use crate::file::File;
@@ -165,6 +166,47 @@ impl Disk {
             return DiskReply::Failed;
         }
         DiskReply::Size(self.seen(name).len() as u32)
+    }
+
+    /// The disk as plain data, its files in the order of the bytes of their names.
+    pub fn state(&self) -> Result<DiskState, NoMemory>
+        ensures fails { IfOk result (λ s. s.fails ≡ self.now.fails) }
+        ensures files { IfOk result (λ s. files_in s.files.items ≡ self.now.files) }
+        ensures fits { IfOk result (λ s. All CanRestore s.files.items) }
+        ensures rising { HasRisingNames self.now.files }
+    {
+        let mut files = Vec::new(self.alloc);
+        for (name, file) in self.files.iter() {
+            files.push(file.state(self.alloc, name)?)?;
+        }
+        Ok(DiskState {
+            fails: self.fails,
+            files,
+        })
+    }
+
+    /// The disk of this plain data, in which each file has a byte or a write, no byte is past 1,048,576, and each write has
+    /// a byte.
+    pub fn restore(alloc: Global, state: DiskState) -> Result<Disk, NoMemory>
+        requires { All CanRestore state.files.items }
+        ensures { IfOk result (λ d. d ≡ record { fails = state.fails; files = in_order_of_names (files_in state.files.items) }) }
+    {
+        let mut disk = Disk::none_of(alloc, state.fails);
+        for file in state.files {
+            disk.place(file)?;
+        }
+        Ok(disk)
+    }
+
+    /// A file of this plain data takes its place.
+    fn place(&mut self, state: FileState) -> Result<(), NoMemory>
+        requires { CanRestore state }
+        ensures { OnOk result (self.new ≡ record self.old { files = with_file self.old.files state.name (file_in state) }) }
+    {
+        let file = File::restore(self.alloc, state.durable, state.unsynced)?;
+        self.files
+            .insert(state.name.bytes().to_vec(self.alloc)?, file)?;
+        Ok(())
     }
 
     /// The most words that a loss of power would take, up to the greatest number there is.

@@ -1,13 +1,16 @@
 // One file.
 
-ghost use Rattle.std.specs.Prelude.{◌≡◌, ◌+◌, ◌*◌, ◌<◌, ◌≤◌, ◌^◌, [], IfOk, OnOk, OnErr, length};
+ghost use Rattle.std.specs.Prelude.{◌≡◌, ◌+◌, ◌*◌, ◌<◌, ◌≤◌, ◌^◌, [], IfOk, OnOk, OnErr, length, map};
+ghost use Rattle.std.specs.List.{All};
 ghost use Rattle.flow_simdisk.specs.declared.TheConstants.{FILE_BYTES};
 ghost use Rattle.flow_simdisk.specs.Disk.{written, empty_file, joined, synced, seen_bytes, lose_write, lose_file};
-ghost use Rattle.flow_simdisk.specs.Stored.{FitsFile, IsThere, drawn_words, losing};
+ghost use Rattle.flow_simdisk.specs.Stored.{FitsFile, IsThere, CanRestore, write_in, file_in, drawn_words, losing};
 
 use crate::overlay::{put_all_over, put_over};
+use crate::state::FileState;
 use crate::write::{Kept, Write, draw_fate, note};
 use flow_base::memory::NoMemory;
+use flow_base::text::Text;
 use flow_draw::Draws;
 use std::alloc::Global;
 use std::marker::Model;
@@ -96,6 +99,37 @@ impl File {
         Ok(())
     }
 
+    /// The file of this name as plain data.
+    pub fn state(&self, alloc: Global, name: &[u8]) -> Result<FileState, NoMemory>
+        requires { length name.now ≤ 65535 }
+        ensures name { IfOk result (λ s. s.name ≡ name.now) }
+        ensures file { IfOk result (λ s. file_in s ≡ self.now) }
+        ensures fits { IfOk result (λ s. IsThere self.now → CanRestore s) }
+    {
+        Ok(FileState {
+            name: Text::new(alloc, name)?,
+            durable: self.durable.to_vec(alloc)?,
+            unsynced: listed(alloc, &self.unsynced)?,
+        })
+    }
+
+    /// The file of this plain data.
+    pub fn restore(
+        alloc: Global,
+        durable: Vec<u8>,
+        unsynced: Vec<(u32, Text)>,
+    ) -> Result<File, NoMemory>
+        requires durable { length durable.items ≤ FILE_BYTES }
+        requires writes { All FitsFile (map write_in unsynced.items) }
+        ensures { IfOk result (λ f. f ≡ record { durable = durable.items; unsynced = map write_in unsynced.items }) }
+    {
+        let mut file = File::of(alloc, durable)?;
+        for (offset, text) in unsynced {
+            file.write(Write { offset, text })?;
+        }
+        Ok(file)
+    }
+
     /// What a loss of power leaves of the file of this name; the fates of its writes are added to the list. On an error
     /// words may have been drawn.
     pub fn lose(
@@ -118,6 +152,17 @@ impl File {
         }
         Ok(left)
     }
+}
+
+/// The writes as plain data.
+fn listed(alloc: Global, writes: &[Write]) -> Result<Vec<(u32, Text)>, NoMemory>
+    ensures { IfOk result (λ list. map write_in list.items ≡ writes.now) }
+{
+    let mut list = Vec::new(alloc);
+    for write in writes.iter() {
+        list.push((write.offset, write.text.copy(alloc)?))?;
+    }
+    Ok(list)
 }
 
 /// What a loss of power does to a write of the file of this name, of which so much is left.

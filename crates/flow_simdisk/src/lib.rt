@@ -5,6 +5,7 @@
 mod ask;
 mod disk;
 mod file;
+pub mod laws;
 mod overlay;
 mod state;
 #[cfg(test)]
