@@ -1,5 +1,5 @@
 -- The lists of waiters: one link more, and the newest of a waiter's links gone.
-use Rattle.std.proofs.Common.{◌≡◌, ◌≢◌, ◌⊎◌, ℕ, nat_eq, Bool, true, false, ◌&&◌, ◌||◌, List, [], ◌∷◌, ◌++◌, length, map, Option, Some, None, refl, sym, ap, ap₂, ◌∙◌, subst, arith, inl, inr, if◌then◌else◌}
+use Rattle.std.proofs.Common.{◌≡◌, ◌≢◌, ◌⊎◌, ℕ, nat_eq, Bool, true, false, ◌&&◌, ◌||◌, List, [], ◌∷◌, ◌++◌, length, map, Option, Some, None, is_some, refl, sym, ap, ap₂, ◌∙◌, subst, arith, inl, inr, if◌then◌else◌}
 use Rattle.std.proofs.lemmas.Bool.Decides.{nat_tests}
 use Rattle.flow_numbered.specs.declared.links.Link.{Link}
 use Rattle.flow_numbered.specs.declared.links.Ends.{Ends}
@@ -465,3 +465,27 @@ module _ (ends : ℕ → Option Ends) (at : Slots Waiting) (newest : Spot → Op
       link_of : (k : ℕ) (q : IsQueue at newest n e) → Spotted q.list spot k ⊎ ((nowhere spot ≡ Some k) × NoSame spot q.list) → (l : Link Waiting) × (at k ≡ Some l)
       link_of k q (inl d) = (_, (back_of at None d.front ((k, d.here) ∷ d.back) None (subst (λ ps. IsChain at None ps None) d.whole q.linked.chain)).0)
       link_of k q (inr d) = absurd (cc (d.0))
+
+  -- the map knows who waits
+  pub told_waits : (n : ℕ) (e : Ends) (spot : Spot) → ends n ≡ Some e → spot.cell ≡ n → is_some (newest spot) ≡ has_waiter (waiters_in at e) (spot_waiter spot)
+  told_waits n e spot there is_here = by_case (newest spot) refl (has_waiter (waiters_in at e) (spot_waiter spot)) refl
+    where
+      q : IsQueue at newest n e
+      q = h.each n e there
+
+      found : (k : ℕ) → Spotted q.list spot k ⊎ ((nowhere spot ≡ Some k) × NoSame spot q.list) → has_waiter (waiters_in at e) (spot_waiter spot) ≡ true
+      found k (inl d) =
+          let w : Waiter = spot_waiter spot in
+          ap (λ ws. has_waiter ws w) (queue_read at e q.list q.linked ∙ ap waiters_of d.whole ∙ waiters_append d.front ((k, d.here) ∷ d.back))
+          ∙ ap (λ s. has_waiter (waiters_of d.front ++ spot_waiter s ∷ waiters_of d.back) w) d.spot ∙ has_here (waiters_of d.front) w (waiters_of d.back) (same_self w)
+      found k (inr d) = absurd (cc (d.0))
+
+      by_case : (o : Option ℕ) → newest spot ≡ o → (b : Bool) → has_waiter (waiters_in at e) (spot_waiter spot) ≡ b → is_some o ≡ b
+      by_case None x false y = refl
+      by_case None x true y = let link = key_there n e spot there is_here y in absurd (cc (x, link.1))
+      by_case (Some k) x true y = refl
+      by_case (Some k) x false y = let is = found k (locate nowhere q.list spot k (sym (q.newest_is spot is_here) ∙ x)) in absurd (cc (is, y))
+
+  -- nobody waits where there is no cell
+  pub told_nobody : (spot : Spot) → ends spot.cell ≡ None → is_some (newest spot) ≡ false
+  told_nobody spot e = ap is_some (h.none spot e)

@@ -5,6 +5,7 @@ use Rattle.std.specs.declared.option.Option.TheVariants.{None, Some}
 use Rattle.flow_numbered.specs.declared.links.Ends.{Ends}
 use Rattle.flow_numbered.specs.Links.{Slots, walk}
 use Rattle.flow_numbered.specs.Lists.{IsList}
+use Rattle.flow_cell.specs.Cells.{CellTree}
 use Rattle.flow_cell.specs.declared.waiter.Waiter.{Waiter}
 use Rattle.flow_cell.specs.declared.queue.Spot.{Spot}
 use Rattle.flow_cell.specs.declared.queue.Waiting.{Waiting}
@@ -29,6 +30,11 @@ same_waiter v w = nat_eq v.actor.0 w.actor.0 && nat_eq v.callback w.callback
 abbrev pub has_waiter : List Waiter → Waiter → Bool
 has_waiter [] w = false
 has_waiter (v ∷ vs) w = same_waiter v w || has_waiter vs w
+
+-- whether a waiter waits at a cell, where there is one
+abbrev pub waits_at : {T : Type 0} → Option (CellTree T) → Waiter → Bool
+waits_at None w = false
+waits_at (Some c) w = has_waiter c.waiters w
 
 abbrev pub without_newest : List Waiter → Waiter → List Waiter
 without_newest [] w = []

@@ -4,7 +4,7 @@ ghost use Rattle.std.specs.Prelude.{◌≡◌, ◌+◌, ◌<◌, ◌^◌, [], �
 ghost use Rattle.std.specs.Option.{ForSome};
 ghost use Rattle.flow_numbered.specs.Numbered.{thing, added, removed, next_above, with_thing};
 ghost use Rattle.flow_cell.specs.Cells.{no_counts, count_of, held, released, loss, unset};
-ghost use Rattle.flow_cell.specs.Waiting.{has_waiter, without_newest};
+ghost use Rattle.flow_cell.specs.Waiting.{has_waiter, waits_at, without_newest};
 
 use crate::cell::Cell;
 use crate::counts::{Loss, References, Side};
@@ -76,6 +76,16 @@ impl<T> Cells<T> {
         Ok(())
     }
 
+    /// How many references of a cell count: `None` where no cell has this number.
+    pub fn references(&self, cell: CellId) -> Option<References>
+        ensures { result ≡ option_map (λ c. c.references) (thing self.now.things cell.0) }
+    {
+        match self.cells.get(cell.0) {
+            Some(found) => Some(found.references),
+            None => None,
+        }
+    }
+
     /// Counts one more reference of a side, which stays below 2^100.
     pub fn hold(&mut self, cell: CellId, side: Side)
         requires there { IsSome (thing self.old.things cell.0) }
@@ -124,6 +134,13 @@ impl<T> Cells<T> {
         let entry = self.cells.get_mut(cell.0);
         join(&mut self.links, &mut self.newest, &mut entry.waiting, spot)?;
         Ok(())
+    }
+
+    /// Whether a waiter waits at a cell; nobody waits where no cell has this number.
+    pub fn waits(&self, cell: CellId, waiter: Waiter) -> bool
+        ensures { result ≡ waits_at (thing self.now.things cell.0) waiter }
+    {
+        self.newest.contains_key(&Spot::new(cell, waiter))
     }
 
     /// Removes a waiter that waits at a cell, in constant time; the newest, where it waits there more than once.
@@ -175,6 +192,13 @@ impl<T> Cells<T> {
             waiting: _,
         } = self.cells.remove(cell.0);
         content
+    }
+
+    /// The greatest number with which a cell was made, 0 at first.
+    pub fn greatest(&self) -> u64
+        ensures { result ≡ self.now.greatest }
+    {
+        self.cells.greatest()
     }
 
     /// Removes all cells. The greatest number stays.

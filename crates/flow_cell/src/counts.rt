@@ -50,6 +50,16 @@ impl References {
         }
     }
 
+    /// How many of a side count.
+    pub fn count(self, side: Side) -> u128
+        ensures { result ≡ count_of side self }
+    {
+        match side {
+            Side::Promise => self.promises,
+            Side::Future => self.futures,
+        }
+    }
+
     /// Counts one more reference of a side, which stays below 2^100.
     pub fn hold(&mut self, side: Side)
         requires { count_of side self.old + 1 < 2 ^ 100 }

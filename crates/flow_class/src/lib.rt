@@ -5,3 +5,5 @@
 #![tactic(auto)]
 
 pub mod class;
+pub mod places;
+pub mod program;

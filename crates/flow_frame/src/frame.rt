@@ -1,7 +1,7 @@
 // One frame.
 
-ghost use Rattle.std.specs.Prelude.{◌≡◌, ℕ, ◌<◌, ◌≤◌, length, OnOk, OnErr, IfOk, option_copied, slice_index_or, None};
-ghost use Rattle.flow_frame.specs.Frames.{padded, fresh, in_state, with_place, with_callback, first_held, other_held};
+ghost use Rattle.std.specs.Prelude.{◌≡◌, ℕ, ◌<◌, ◌≤◌, length, OnOk, OnErr, IfOk, option_copied, slice_index_or, None, []};
+ghost use Rattle.flow_frame.specs.Frames.{padded, fresh, in_state, with_place, with_callback, first_held, other_held, all_empty};
 
 use crate::held::Held;
 use flow_base::memory::NoMemory;
@@ -59,6 +59,22 @@ fn cut<T: Drop>(filled: &mut Vec<Option<T>>)
         filled.pop();
     }
     filled.shrink_to_fit();
+}
+
+#[tactic(auto, using(crate::proofs::Padded::clear_padded, crate::proofs::Padded::full_padded))]
+// Whether so many places, of which the first are these, are empty.
+fn are_empty<T>(filled: &[Option<T>], places: u32) -> bool
+    ensures { result ≡ all_empty (padded places filled.now) }
+{
+    for (place, value) in filled.iter().enumerate() {
+        if place >= places as usize {
+            return true;
+        }
+        if value.is_some() {
+            return false;
+        }
+    }
+    true
 }
 
 impl<T> Frame<T> {
@@ -123,6 +139,13 @@ impl<T> Frame<T> {
         self.places
     }
 
+    /// Whether every place is empty.
+    pub(crate) fn is_empty(&self) -> bool
+        ensures { result ≡ all_empty self.now.places }
+    {
+        are_empty(&self.filled, self.places)
+    }
+
     pub(crate) fn state(&self) -> u32
         ensures { result ≡ self.now.state }
     {
@@ -174,6 +197,14 @@ impl<T> Frame<T> {
     {
         self.callbacks.push(held)?;
         Ok(())
+    }
+
+    /// Takes all callbacks, the first first.
+    pub(crate) fn take_callbacks(&mut self, alloc: Global) -> Vec<Held>
+        ensures all { result.items ≡ self.old.callbacks }
+        ensures rest { self.new ≡ record self.old { callbacks = [] } }
+    {
+        mem::replace(&mut self.callbacks, Vec::new(alloc))
     }
 
     /// Takes the first callback, if there is one.

@@ -1,6 +1,6 @@
 // Frames by number.
 
-ghost use Rattle.std.specs.Prelude.{◌≡◌, ◌<◌, length, IsSome, OnOk, OnErr, IfOk, option_copied, option_map, slice_index_or, Some, None, true, []};
+ghost use Rattle.std.specs.Prelude.{◌≡◌, ◌<◌, length, IsSome, is_some, OnOk, OnErr, IfOk, option_copied, option_map, slice_index_or, Some, None, true, []};
 ghost use Rattle.std.specs.Option.{ForSome};
 ghost use Rattle.flow_numbered.specs.Numbered.{thing, added, removed, next_above, with_thing};
 ghost use Rattle.flow_frame.specs.Frames.{fresh, in_state, with_place, with_callback, first_held, other_held, all_empty};
@@ -59,6 +59,13 @@ impl<T> Frames<T> {
             .insert(actor.0, Frame::new(self.alloc, class, places))
     }
 
+    /// Whether an actor has a frame.
+    pub fn contains(&self, actor: ActorId) -> bool
+        ensures { result ≡ is_some (thing self.now.things actor.0) }
+    {
+        self.frames.contains(actor.0)
+    }
+
     // The frame of an actor.
     fn frame(&self, actor: ActorId) -> &Frame<T>
         requires { IsSome (thing self.now.things actor.0) }
@@ -110,6 +117,14 @@ impl<T> Frames<T> {
         ensures { ForSome (thing self.now.things actor.0) (λ f. result ≡ length f.places) }
     {
         self.frame(actor).places()
+    }
+
+    /// Whether every place of a frame is empty.
+    pub fn is_empty(&self, actor: ActorId) -> bool
+        requires { IsSome (thing self.now.things actor.0) }
+        ensures { ForSome (thing self.now.things actor.0) (λ f. result ≡ all_empty f.places) }
+    {
+        self.frame(actor).is_empty()
     }
 
     /// The least number above this one that a frame has, in constant time where a frame has this one.
@@ -173,6 +188,16 @@ impl<T> Frames<T> {
         self.frames.get_mut(actor.0).add_callback(held)
     }
 
+    /// Takes all callbacks of a frame, the first first.
+    pub fn take_callbacks(&mut self, actor: ActorId) -> Vec<Held>
+        requires { IsSome (thing self.old.things actor.0) }
+        ensures all { ForSome (thing self.old.things actor.0) (λ f. result.items ≡ f.callbacks) }
+        ensures rest { ForSome (thing self.old.things actor.0) (λ f. self.new ≡ with_thing self.old actor.0 (record f { callbacks = [] })) }
+    {
+        let alloc = self.alloc;
+        self.frames.get_mut(actor.0).take_callbacks(alloc)
+    }
+
     /// Takes the first callback of a frame: `None` where there is none.
     pub fn take_callback(&mut self, actor: ActorId) -> Option<Held>
         requires { IsSome (thing self.old.things actor.0) }
@@ -192,6 +217,13 @@ impl<T> Frames<T> {
         ensures { self.new ≡ record self.old { things = removed self.old.things actor.0 } }
     {
         self.frames.remove(actor.0);
+    }
+
+    /// The greatest number with which a actor was entered, 0 at first.
+    pub fn greatest(&self) -> u64
+        ensures { result ≡ self.now.greatest }
+    {
+        self.frames.greatest()
     }
 
     /// Removes all frames. The greatest number stays.

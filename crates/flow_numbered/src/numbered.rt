@@ -1,6 +1,6 @@
 // Things by number.
 
-ghost use Rattle.std.specs.Prelude.{◌≡◌, ℕ, ◌<◌, [], Some, IsSome, OnOk, OnErr, option_copied};
+ghost use Rattle.std.specs.Prelude.{◌≡◌, ℕ, ◌<◌, [], Some, IsSome, is_some, OnOk, OnErr, option_copied};
 ghost use Rattle.std.specs.Borrow.{sem};
 ghost use Rattle.slab.specs.Slab.{get};
 ghost use Rattle.flow_numbered.specs.Links.{walk};
@@ -113,6 +113,13 @@ impl<V> Numbered<V> {
         Some(value_of(&self.links[*key]))
     }
 
+    /// Whether there is a thing with a number.
+    pub fn contains(&self, number: u64) -> bool
+        ensures { result ≡ is_some (thing self.now.things number) }
+    {
+        self.get(number).is_some()
+    }
+
     /// The thing with a number, which is there, for writing.
     pub fn get_mut(&mut self, number: u64) -> &mut V
         requires { IsSome (thing self.old.things number) }
@@ -148,6 +155,13 @@ impl<V> Numbered<V> {
             }
             None => first_above(&self.links, self.ends.first, self.ends.length, number),
         }
+    }
+
+    /// The greatest number that a thing ever had, 0 at first.
+    pub fn greatest(&self) -> u64
+        ensures { result ≡ self.now.greatest }
+    {
+        self.greatest
     }
 
     /// Removes all things. The greatest number stays.

@@ -48,6 +48,13 @@ impl<T> Stream<T> {
         }
     }
 
+    /// How many references count.
+    pub(crate) fn references(&self) -> References
+        ensures { result ≡ self.now.references }
+    {
+        self.references
+    }
+
     pub(crate) fn hold(&mut self, side: Side)
         requires { count_of side self.old.references + 1 < 2 ^ 100 }
         ensures { self.new ≡ record self.old { references = held side self.old.references } }

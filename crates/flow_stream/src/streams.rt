@@ -11,7 +11,7 @@ use crate::head::{Head, Wait};
 use crate::stream::Stream;
 use flow_base::ids::{CellId, ErrorCode};
 use flow_base::memory::NoMemory;
-use flow_cell::counts::{Loss, Side};
+use flow_cell::counts::{Loss, References, Side};
 use flow_cell::waiter::Waiter;
 use flow_numbered::numbered::Numbered;
 use std::alloc::Global;
@@ -64,6 +64,16 @@ impl<T> Streams<T> {
         ensures { thing self.now.things cell.0 ≡ Some result.now }
     {
         self.streams.get(cell.0).unwrap()
+    }
+
+    /// How many references of a stream count: `None` where no stream has this number.
+    pub fn references(&self, cell: CellId) -> Option<References>
+        ensures { result ≡ option_map (λ s. s.references) (thing self.now.things cell.0) }
+    {
+        match self.streams.get(cell.0) {
+            Some(stream) => Some(stream.references()),
+            None => None,
+        }
     }
 
     /// Counts one more reference of a side, which stays below 2^100.
@@ -190,6 +200,13 @@ impl<T> Streams<T> {
         ensures rest { self.new ≡ record self.old { things = removed self.old.things cell.0 } }
     {
         self.streams.remove(cell.0).into_queue()
+    }
+
+    /// The greatest number with which a stream was made, 0 at first.
+    pub fn greatest(&self) -> u64
+        ensures { result ≡ self.now.greatest }
+    {
+        self.streams.greatest()
     }
 
     /// Removes all streams. The greatest number stays.
