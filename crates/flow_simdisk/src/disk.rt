@@ -173,7 +173,7 @@ impl Disk {
         ensures fails { IfOk result (λ s. s.fails ≡ self.now.fails) }
         ensures files { IfOk result (λ s. files_in s.files.items ≡ self.now.files) }
         ensures fits { IfOk result (λ s. All CanRestore s.files.items) }
-        ensures rising { HasRisingNames self.now.files }
+        ensures rising { OnOk result (HasRisingNames self.now.files) }
     {
         let mut files = Vec::new(self.alloc);
         for (name, file) in self.files.iter() {

@@ -6,5 +6,4 @@ ghost use Rattle.flow_simdisk.specs.Stored.{StandInOrder};
 /// stand in their places.
 pub fn restored()
     ensures { StandInOrder }
-{
-}
+{}

@@ -7,5 +7,5 @@ abbrev pub invariant-loop-name : goal.invariant-loop-name
 invariant-loop-name l = record {
   listed : files_in l.files.items ++ files_of l.name-iterator ≡ l.self.files;
   fits : All CanRestore l.files.items;
-  ahead : HasFiles l.name-iterator
+  ahead : HasFiles l.name-iterator;
 }
