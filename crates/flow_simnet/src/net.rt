@@ -106,6 +106,20 @@ impl Net {
         Ok(Sent { number, fate })
     }
 
+    /// How many processes there are.
+    pub fn processes(&self) -> u8
+        ensures { result ≡ self.now.processes }
+    {
+        self.processes
+    }
+
+    /// How many packets were sent.
+    pub fn sent(&self) -> u64
+        ensures { result ≡ self.now.sent }
+    {
+        self.packets
+    }
+
     /// What becomes of a packet.
     fn fate(&self, now: u64, from: ProcId, to: ProcId, draws: &mut Draws) -> Fate
         requires from { from.0 < self.now.processes }

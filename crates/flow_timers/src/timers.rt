@@ -113,6 +113,13 @@ impl<T: Drop> Timers<T> {
 }
 
 impl<T> Timers<T> {
+    /// How many events were made.
+    pub fn made(&self) -> u64
+        ensures { result ≡ self.now.made }
+    {
+        self.made
+    }
+
     /// The time and number of the event that comes next: the least time, and at it the least number.
     /// `None` exactly where nothing is pending.
     pub fn first(&self) -> Option<(u64, u64)>
