@@ -3,4 +3,5 @@
 #![tactic(auto)]
 
 pub mod catcher;
+pub mod entry;
 pub mod scopes;

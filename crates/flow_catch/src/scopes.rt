@@ -1,25 +1,68 @@
 // The locals in force.
 
+ghost use Rattle.std.specs.Prelude.{◌≡◌, ◌≤◌, ◌<◌, ◌×◌, [], ◌∷◌, map, length, take, reverse, IfOk, OnOk};
+ghost use Rattle.flow_class.specs.Scopes.{Mark, Var, find, scope, outside};
+ghost use Rattle.flow_catch.specs.Inner.{scope_of, inner_locals, left_lists};
+
+use crate::entry::Entry;
 use flow_base::memory::NoMemory;
 use flow_base::name::Name;
 use std::alloc::Global;
+use std::marker::Model;
 
-/// The begin of a scope, or a local with its number.
-#[derive(Drop, Debug)]
-pub enum Entry {
-    Mark,
-    Var(Name, u32),
-}
-
-/// The locals in force with their numbers, in scopes.
+/// The locals in force with their numbers, in scopes. Contracts see them newest first, with a mark at
+/// the begin of each scope.
 #[derive(Drop, Debug)]
 pub struct Scopes {
     entries: Vec<Entry>,
 }
 
+impl Model for Scopes {
+    ghost use Rattle.flow_class.specs.Scopes.{Scope};
+    ghost use Rattle.flow_catch.specs.Inner.{scope_of};
+
+    ghost Value = { Scope };
+
+    ghost view = { λ s. scope_of s.entries.items };
+}
+
+// How many of the first entries are outside of the innermost scope among them.
+fn outer(entries: &[Entry], end: usize) -> usize
+    requires { end ≤ length entries.now }
+    ensures within { result ≤ end }
+    ensures outside { scope_of (take result entries.now) ≡ outside (scope_of (take end entries.now)) }
+{
+    let mut at = end;
+    while at > 0 {
+        at -= 1;
+        if let Entry::Mark = &entries[at] {
+            return at;
+        }
+    }
+    at
+}
+
+// The locals of the innermost scope among the first entries, newest first.
+fn newest(alloc: Global, entries: &[Entry], end: usize) -> Result<Vec<u32>, NoMemory>
+    requires { end ≤ length entries.now }
+    ensures { IfOk result (λ v. v.items ≡ scope (scope_of (take end entries.now))) }
+{
+    let mut numbers = Vec::new(alloc);
+    let mut at = end;
+    while at > 0 {
+        at -= 1;
+        match &entries[at] {
+            Entry::Mark => return Ok(numbers),
+            Entry::Var(_, number) => numbers.push(*number)?,
+        }
+    }
+    Ok(numbers)
+}
+
 impl Scopes {
     /// No locals, outside of all scopes.
     pub fn new(alloc: Global) -> Scopes
+        ensures { result ≡ [] }
     {
         Scopes {
             entries: Vec::new(alloc),
@@ -28,6 +71,7 @@ impl Scopes {
 
     /// A scope begins.
     pub fn enter(&mut self) -> Result<(), NoMemory>
+        ensures { OnOk result (self.new ≡ Mark ∷ self.old) }
     {
         self.entries.push(Entry::Mark)?;
         Ok(())
@@ -35,6 +79,7 @@ impl Scopes {
 
     /// A local is in force from now on.
     pub fn declare(&mut self, alloc: Global, name: &Name, number: u32) -> Result<(), NoMemory>
+        ensures { OnOk result (self.new ≡ Var name.now number ∷ self.old) }
     {
         self.entries.push(Entry::Var(name.copy(alloc)?, number))?;
         Ok(())
@@ -42,16 +87,21 @@ impl Scopes {
 
     /// The innermost scope ends.
     pub fn leave(&mut self)
+        ensures { self.new ≡ outside self.old }
     {
-        while let Some(Entry::Var(_, _)) = self.entries.pop() {}
+        let at = outer(&self.entries, self.entries.len());
+        self.entries.truncate(at);
     }
 
     /// The newest local of a name.
     pub fn find(&self, name: &[u8]) -> Option<u32>
+        ensures { result ≡ find self.now name.now }
     {
-        for entry in self.entries.iter().rev() {
-            if let Entry::Var(other, number) = entry {
-                if other.bytes() == name {
+        let mut at = self.entries.len();
+        while at > 0 {
+            at -= 1;
+            if let Entry::Var(other, number) = &self.entries[at] {
+                if name == other.bytes() {
                     return Some(*number);
                 }
             }
@@ -61,58 +111,38 @@ impl Scopes {
 
     /// The locals of the innermost scope, newest first.
     pub fn innermost(&self, alloc: Global) -> Result<Vec<u32>, NoMemory>
+        ensures { IfOk result (λ v. v.items ≡ scope self.now) }
     {
-        let mut numbers = Vec::new(alloc);
-        for entry in self.entries.iter().rev() {
-            match entry {
-                Entry::Mark => return Ok(numbers),
-                Entry::Var(_, number) => numbers.push(*number)?,
-            }
-        }
-        Ok(numbers)
+        newest(alloc, &self.entries, self.entries.len())
     }
 
     /// The locals of so many scopes, the innermost ones, in the order of their declaration.
     pub fn inner(&self, alloc: Global, depth: usize) -> Result<Vec<u32>, NoMemory>
+        ensures { IfOk result (λ v. v.items ≡ reverse (inner_locals depth self.now)) }
     {
         let mut numbers = Vec::new(alloc);
-        for entry in &self.entries[self.begin(depth)..] {
-            if let Entry::Var(_, number) = entry {
-                numbers.push(*number)?;
-            }
+        let mut at = self.entries.len();
+        for _left in 0..depth {
+            numbers.append(&mut newest(alloc, &self.entries, at)?)?;
+            at = outer(&self.entries, at);
         }
+        numbers.reverse();
         Ok(numbers)
     }
 
-    // How many entries stand before so many scopes.
-    fn begin(&self, depth: usize) -> usize
-    {
-        let mut left = depth;
-        let mut at = self.entries.len();
-        while at > 0 && left > 0 {
-            at -= 1;
-            if let Entry::Mark = &self.entries[at] {
-                left -= 1;
-            }
-        }
-        at
-    }
-
-    /// The locals of each of so many scopes, the innermost ones, newest first, but for scopes without
-    /// locals.
+    /// The locals of each of so many scopes, the innermost ones, newest first. A scope without locals
+    /// has no list.
     pub fn left(&self, alloc: Global, depth: usize) -> Result<Vec<Vec<u32>>, NoMemory>
+        ensures { IfOk result (λ v. map (λ w. w.items) v.items ≡ left_lists depth self.now) }
     {
         let mut lists = Vec::new(alloc);
-        let mut numbers = Vec::new(alloc);
-        for entry in self.entries[self.begin(depth)..].iter().rev() {
-            match entry {
-                Entry::Var(_, number) => numbers.push(*number)?,
-                Entry::Mark => {
-                    if !numbers.is_empty() {
-                        lists.push(std::mem::replace(&mut numbers, Vec::new(alloc)))?;
-                    }
-                }
+        let mut at = self.entries.len();
+        for _left in 0..depth {
+            let numbers = newest(alloc, &self.entries, at)?;
+            if !numbers.is_empty() {
+                lists.push(numbers)?;
             }
+            at = outer(&self.entries, at);
         }
         Ok(lists)
     }

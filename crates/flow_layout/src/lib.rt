@@ -2,4 +2,6 @@
 //! of branches at which it waits.
 #![tactic(auto)]
 
+mod laying;
 pub mod layout;
+pub mod places;

@@ -8,7 +8,7 @@ use flow_catch::catcher::catcher;
 use flow_catch::scopes::Scopes;
 use flow_class::class::{Block, Catcher, Group, Instr, Last, Slotted};
 use flow_choose::places::{over, place_of};
-use flow_layout::layout::Layout;
+use flow_layout::places::Layout;
 use flow_tree::decl::Program;
 use flow_tree::expr::Expr;
 use flow_tree::stmt::Into;

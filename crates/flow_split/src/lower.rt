@@ -4,7 +4,7 @@ use crate::around::Around;
 use crate::emitter::Emitter;
 use flow_base::memory::NoMemory;
 use flow_class::class::Class;
-use flow_layout::layout::Layout;
+use flow_layout::places::Layout;
 use flow_tree::decl::{ActorDecl, Program, Slot};
 use flow_tree::ty::Ty;
 use std::alloc::Global;
