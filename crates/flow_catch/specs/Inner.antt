@@ -1,5 +1,7 @@
 -- The locals of the innermost scopes, as they are dropped.
 use Rattle.std.specs.Prelude.{ℕ, zero, suc, List, [], ◌∷◌, ◌++◌, reverse, map}
+use Rattle.std.specs.declared.alloc.Global.{Global}
+use Rattle.std.specs.declared.vec.Vec.{Vec}
 use Rattle.flow_catch.specs.declared.entry.Entry.{Entry}
 use Rattle.flow_catch.specs.declared.entry.Entry.TheVariants as code
 use Rattle.flow_class.specs.Scopes.{Local, Mark, Var, Scope, scope, outside}
@@ -26,3 +28,6 @@ listed (n ∷ ns) lists = (n ∷ ns) ∷ lists
 abbrev pub left_lists : (depth : ℕ) → Scope → List (List ℕ)
 left_lists zero s = []
 left_lists (suc d) s = listed (scope s) (left_lists d (outside s))
+
+abbrev pub lists_of : List (Vec ℕ Global) → List (List ℕ)
+lists_of vs = map (λ v. v.items) vs

@@ -1,8 +1,8 @@
 // The locals in force.
 
-ghost use Rattle.std.specs.Prelude.{◌≡◌, ◌≤◌, ◌<◌, ◌×◌, [], ◌∷◌, map, length, take, reverse, IfOk, OnOk};
+ghost use Rattle.std.specs.Prelude.{◌≡◌, ◌≤◌, ◌<◌, [], ◌∷◌, ◌++◌, length, take, reverse, IfOk, OnOk};
 ghost use Rattle.flow_class.specs.Scopes.{Mark, Var, find, scope, outside};
-ghost use Rattle.flow_catch.specs.Inner.{scope_of, inner_locals, left_lists};
+ghost use Rattle.flow_catch.specs.Inner.{scope_of, inner_locals, listed, lists_of, left_lists};
 
 use crate::entry::Entry;
 use flow_base::memory::NoMemory;
@@ -57,6 +57,16 @@ fn newest(alloc: Global, entries: &[Entry], end: usize) -> Result<Vec<u32>, NoMe
         }
     }
     Ok(numbers)
+}
+
+// A list at the end, where there is something in it.
+fn add_list(lists: &mut Vec<Vec<u32>>, numbers: Vec<u32>) -> Result<(), NoMemory>
+    ensures { OnOk result (lists_of lists.new.items ≡ lists_of lists.old.items ++ listed numbers.items []) }
+{
+    if !numbers.is_empty() {
+        lists.push(numbers)?;
+    }
+    Ok(())
 }
 
 impl Scopes {
@@ -123,7 +133,8 @@ impl Scopes {
         let mut numbers = Vec::new(alloc);
         let mut at = self.entries.len();
         for _left in 0..depth {
-            numbers.append(&mut newest(alloc, &self.entries, at)?)?;
+            let mut found = newest(alloc, &self.entries, at)?;
+            numbers.append(&mut found)?;
             at = outer(&self.entries, at);
         }
         numbers.reverse();
@@ -133,15 +144,12 @@ impl Scopes {
     /// The locals of each of so many scopes, the innermost ones, newest first. A scope without locals
     /// has no list.
     pub fn left(&self, alloc: Global, depth: usize) -> Result<Vec<Vec<u32>>, NoMemory>
-        ensures { IfOk result (λ v. map (λ w. w.items) v.items ≡ left_lists depth self.now) }
+        ensures { IfOk result (λ v. lists_of v.items ≡ left_lists depth self.now) }
     {
         let mut lists = Vec::new(alloc);
         let mut at = self.entries.len();
         for _left in 0..depth {
-            let numbers = newest(alloc, &self.entries, at)?;
-            if !numbers.is_empty() {
-                lists.push(numbers)?;
-            }
+            add_list(&mut lists, newest(alloc, &self.entries, at)?)?;
             at = outer(&self.entries, at);
         }
         Ok(lists)

@@ -1,5 +1,12 @@
 // Names become places.
 
+ghost use Rattle.std.specs.Prelude.{◌≡◌, ◌<◌, ◌^◌, ◌∷◌, decimal, length, map, position, IfOk};
+ghost use Rattle.std.specs.Str.{bytes_eq};
+ghost use Rattle.flow_tree.specs.View.{expr_of, exprs_of};
+ghost use Rattle.flow_tree.specs.DeclView.{slot_of};
+ghost use Rattle.flow_class.specs.Scopes.{place_of, slot_place, var_over, ident_over, over, over_all, path_over, act_over};
+ghost use Rattle.flow_choose.specs.Places.{slots_seen, ident_at};
+
 use flow_ast::predefined::predefined_constant;
 use flow_base::memory::NoMemory;
 use flow_base::name::Name;
@@ -14,6 +21,8 @@ use std::alloc::Global;
 
 /// The place of a name: that of the newest local, or else that of the slot.
 pub fn place_of(slots: &[Slot], scopes: &Scopes, name: &[u8]) -> Option<Slotted>
+    requires { length slots.now < 2 ^ 32 }
+    ensures { result ≡ place_of (slots_seen slots.now) scopes.now name.now }
 {
     match scopes.find(name) {
         Some(number) => Some(Slotted::Local(number)),
@@ -21,7 +30,10 @@ pub fn place_of(slots: &[Slot], scopes: &Scopes, name: &[u8]) -> Option<Slotted>
     }
 }
 
+// The slot of a name.
 fn slot_place(slots: &[Slot], name: &[u8]) -> Option<Slotted>
+    requires { length slots.now < 2 ^ 32 }
+    ensures { result ≡ slot_place (position (λ t. bytes_eq name.now t.name) (slots_seen slots.now)) }
 {
     let mut number = 0;
     for slot in slots {
@@ -35,6 +47,7 @@ fn slot_place(slots: &[Slot], name: &[u8]) -> Option<Slotted>
 
 // The name of a place: a letter and a number.
 fn numbered(alloc: Global, letter: u8, number: u32) -> Result<Name, NoMemory>
+    ensures { IfOk result (λ n. n ≡ letter ∷ decimal number) }
 {
     let mut buffer = Buffer::new();
     let digits = buffer.format(number).as_bytes();
@@ -47,6 +60,7 @@ fn numbered(alloc: Global, letter: u8, number: u32) -> Result<Name, NoMemory>
 /// The name of a place: `s` and the number of a slot, or `l` and that of a local; `_` where there is
 /// none.
 pub fn var_over(alloc: Global, place: Option<Slotted>) -> Result<Name, NoMemory>
+    ensures { IfOk result (λ n. n ≡ var_over place) }
 {
     match place {
         None => Name::new(alloc, b"_"),
@@ -55,13 +69,15 @@ pub fn var_over(alloc: Global, place: Option<Slotted>) -> Result<Name, NoMemory>
     }
 }
 
-// A name in an expression: a constant stays, and a variable becomes its place.
-fn ident_over(
+/// A name in an expression: a constant stays, and a variable becomes its place.
+pub fn ident_over(
     alloc: Global,
     slots: &[Slot],
     scopes: &Scopes,
     name: &Ident,
 ) -> Result<Ident, NoMemory>
+    requires { length slots.now < 2 ^ 32 }
+    ensures { IfOk result (λ i. i ≡ ident_over (slots_seen slots.now) scopes.now name.now) }
 {
     match predefined_constant(name.name.bytes()) {
         Some(_) => name.copy(alloc),
@@ -71,6 +87,7 @@ fn ident_over(
 
 /// The name of a place, where a name stands.
 pub fn var_ident(alloc: Global, place: Option<Slotted>, name: &Ident) -> Result<Ident, NoMemory>
+    ensures { IfOk result (λ i. i ≡ ident_at place name.now) }
 {
     Ok(Ident {
         name: var_over(alloc, place)?,
@@ -86,6 +103,8 @@ pub fn over(
     scopes: &Scopes,
     expr: &Expr,
 ) -> Result<Expr, NoMemory>
+    requires { length slots.now < 2 ^ 32 }
+    ensures { IfOk result (λ e. expr_of e ≡ over (slots_seen slots.now) scopes.now (expr_of expr.now)) }
 {
     match expr {
         Expr::Int(n) => Ok(Expr::Int(*n)),
@@ -134,6 +153,8 @@ pub fn over_all(
     scopes: &Scopes,
     exprs: &[Expr],
 ) -> Result<Vec<Expr>, NoMemory>
+    requires { length slots.now < 2 ^ 32 }
+    ensures { IfOk result (λ v. exprs_of v.items ≡ over_all (slots_seen slots.now) scopes.now (exprs_of exprs.now)) }
 {
     let mut all = Vec::new(alloc);
     for expr in exprs {
@@ -149,6 +170,8 @@ pub fn path_over(
     scopes: &Scopes,
     path: &[Ident],
 ) -> Result<Target, NoMemory>
+    requires { length slots.now < 2 ^ 32 }
+    ensures { IfOk result (λ t. t.path.items ≡ path_over (slots_seen slots.now) scopes.now path.now) }
 {
     let mut names = Vec::new(alloc);
     if let [first, rest @ ..] = path {
@@ -168,26 +191,12 @@ pub fn act_over(
     scopes: &Scopes,
     path: &Target,
 ) -> Result<Target, NoMemory>
+    requires { length slots.now < 2 ^ 32 }
+    ensures { IfOk result (λ t. t.path.items ≡ act_over (slots_seen slots.now) scopes.now path.now.path.items) }
 {
     if path.path.len() == 1 {
         path.copy(alloc)
     } else {
         path_over(alloc, slots, scopes, &path.path)
     }
-}
-
-/// The value of a path over places, as an expression: a variable and its fields.
-pub fn read_over(
-    alloc: Global,
-    slots: &[Slot],
-    scopes: &Scopes,
-    first: &Ident,
-    rest: &[Ident],
-) -> Result<Expr, NoMemory>
-{
-    let mut expr = Expr::Var(ident_over(alloc, slots, scopes, first)?);
-    for name in rest {
-        expr = Expr::Field(Box::new(alloc, expr)?, name.copy(alloc)?);
-    }
-    Ok(expr)
 }

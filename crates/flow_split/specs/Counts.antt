@@ -119,9 +119,6 @@ abbrev pub begun : Next → Next
 begun n = record n { block = suc n.block }
 
 -- the variable of a wait does, and a group
-abbrev pub declared : IntoTree → Next → Next
-declared i n = record n { local = local_count i + n.local }
-
 abbrev pub taken : Option IntoTree → Next → Next
 taken i n = record n { local = into_count i + n.local }
 
@@ -131,3 +128,32 @@ grouped n = record n { group = suc n.group }
 -- the numbers behind a body
 abbrev pub past : (tried : Bool) → Body → Next → Next
 past t b n = record { block = n.block + blocks_in t b; local = n.local + locals_in b; group = n.group + groups_in b }
+
+abbrev pub past_branches : (tried : Bool) → Branches → Next → Next
+past_branches t bs n = record {
+  block = n.block + branch_blocks t bs;
+  local = n.local + branch_local_count bs;
+  group = n.group + branch_group_count bs;
+}
+
+-- whether nothing goes on from the first statement of a body
+abbrev pub ends_with : Body → Bool
+ends_with (BreakStmt at k) = true
+ends_with (ContinueStmt at k) = true
+ends_with (ReturnStmt at e k) = true
+ends_with (ThrowStmt at e k) = true
+ends_with _ = false
+
+-- the blocks of what stands behind a statement
+abbrev pub rest_blocks : (goes_on : Bool) → (tried : Bool) → Body → ℕ
+rest_blocks true t k = blocks_in t k
+rest_blocks false t k = behind k (blocks_in t k)
+
+-- the blocks and locals of the body of an `else`, with the block in which it begins
+abbrev pub else_blocks : (tried : Bool) → Option Body → ℕ
+else_blocks t None = 0
+else_blocks t (Some b) = suc (blocks_in t b)
+
+abbrev pub else_locals : Option Body → ℕ
+else_locals None = 0
+else_locals (Some b) = locals_in b

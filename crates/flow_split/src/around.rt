@@ -1,5 +1,10 @@
 // What is around a body.
 
+ghost use Rattle.std.specs.Prelude.{◌≡◌, ◌+◌, IfOk};
+ghost use Rattle.flow_split.specs.Around.{whole, deeper, inner, pass, guarded, handling};
+ghost use Rattle.flow_split.specs.Contexts.{jump_of, exit_of, hand_of, looped_of, around_of};
+
+use flow_base::memory::NoMemory;
 use flow_base::name::Name;
 use flow_base::place::Place;
 
@@ -47,33 +52,34 @@ pub struct Around<'a> {
     pub caught: Option<&'a Name>,
 }
 
-impl Looped {
-    /// One scope further in.
-    pub fn deeper(&self) -> Looped
-    {
-        Looped {
-            depth: self.depth + 1,
-            tried: self.tried,
-            out: self.out,
-            again: self.again,
-        }
+// So many scopes further in. No tree that memory holds has so many that there is no number for them.
+fn further(depth: usize, scopes: usize) -> Result<usize, NoMemory>
+    ensures { IfOk result (λ n. n ≡ depth + scopes) }
+{
+    match depth.checked_add(scopes) {
+        Some(depth) => Ok(depth),
+        None => Err(NoMemory),
     }
+}
 
-    /// One scope further in, which is a try body.
-    pub fn within_try(&self) -> Looped
+impl Looped {
+    // One scope further in, within a try body or not.
+    fn deeper(&self, tried: bool) -> Result<Looped, NoMemory>
+        ensures { IfOk result (λ l. looped_of l ≡ record (deeper (looped_of self.now)) { tried = tried }) }
     {
-        Looped {
-            depth: self.depth + 1,
-            tried: true,
+        Ok(Looped {
+            depth: further(self.depth, 1)?,
+            tried,
             out: self.out,
             again: self.again,
-        }
+        })
     }
 }
 
 impl<'a> Around<'a> {
     /// What is around the text of an actor, which ends at this brace.
     pub fn text(close: Place) -> Around<'a>
+        ensures { around_of result ≡ whole close }
     {
         Around {
             exit: Exit::Text(close),
@@ -90,24 +96,26 @@ impl<'a> Around<'a> {
     }
 
     /// One scope further in, which goes on with this exit.
-    pub fn scope(&self, exit: Exit) -> Around<'a>
+    pub fn scope(&self, exit: Exit) -> Result<Around<'a>, NoMemory>
+        ensures { IfOk result (λ w. around_of w ≡ inner (around_of self.now) (exit_of exit)) }
     {
-        Around {
+        Ok(Around {
             exit,
             handler: self.handler,
-            depth: self.depth + 1,
-            looped: self.looped.deeper(),
+            depth: further(self.depth, 1)?,
+            looped: self.looped.deeper(self.looped.tried)?,
             caught: self.caught,
-        }
+        })
     }
 
     /// The body of a loop, so many scopes further in.
-    pub fn pass(&self, scopes: usize, again: Jump, out: u32) -> Around<'a>
+    pub fn pass(&self, scopes: usize, again: Jump, out: u32) -> Result<Around<'a>, NoMemory>
+        ensures { IfOk result (λ w. around_of w ≡ pass (around_of self.now) scopes (jump_of again) out) }
     {
-        Around {
+        Ok(Around {
             exit: Exit::Scope(again),
             handler: self.handler,
-            depth: self.depth + scopes,
+            depth: further(self.depth, scopes)?,
             looped: Looped {
                 depth: 1,
                 tried: false,
@@ -115,30 +123,32 @@ impl<'a> Around<'a> {
                 again,
             },
             caught: self.caught,
-        }
+        })
     }
 
     /// A try body.
-    pub fn try_body(&self, exit: Exit, handler: Handler) -> Around<'a>
+    pub fn try_body(&self, exit: Exit, handler: Handler) -> Result<Around<'a>, NoMemory>
+        ensures { IfOk result (λ w. around_of w ≡ guarded (around_of self.now) (exit_of exit) (hand_of handler)) }
     {
-        Around {
+        Ok(Around {
             exit,
             handler: Some(handler),
             depth: 1,
-            looped: self.looped.within_try(),
+            looped: self.looped.deeper(true)?,
             caught: self.caught,
-        }
+        })
     }
 
     /// The handler of a catch with this variable.
-    pub fn catch_body(&self, exit: Exit, name: &'a Name) -> Around<'a>
+    pub fn catch_body(&self, exit: Exit, name: &'a Name) -> Result<Around<'a>, NoMemory>
+        ensures { IfOk result (λ w. around_of w ≡ handling (around_of self.now) (exit_of exit) name.now) }
     {
-        Around {
+        Ok(Around {
             exit,
             handler: self.handler,
-            depth: self.depth + 1,
-            looped: self.looped.deeper(),
+            depth: further(self.depth, 1)?,
+            looped: self.looped.deeper(self.looped.tried)?,
             caught: Some(name),
-        }
+        })
     }
 }

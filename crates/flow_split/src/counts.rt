@@ -1,172 +1,220 @@
 // How many blocks and locals a body takes.
 
+ghost use Rattle.std.specs.Prelude.{◌≡◌, ◌+◌, ◌<◌, ◌^◌, true, false, not, IfOk, if◌then◌else◌};
+ghost use Rattle.std.specs.Option.{option_map};
+ghost use Rattle.flow_tree.specs.View.{expr_of};
+ghost use Rattle.flow_tree.specs.Body.{Body, Branches, End};
+ghost use Rattle.flow_tree.specs.StmtView.{into_of, stmt_of, body_of, branch_of, branches_of, simple_of, else_of};
+ghost use Rattle.flow_split.specs.Counts.{blocks_in, locals_in, branch_blocks, branch_local_count, local_count, into_count, exit_blocks, test_blocks, rest_blocks, ends_with, else_blocks, else_locals};
+
+use flow_base::memory::NoMemory;
+use flow_tree::expr::Expr;
 use flow_tree::stmt::{Into, Stmt, StmtKind, When};
 
-/// How many blocks statements take beyond that in which they begin. `tried` says whether a try body
-/// is between them and their loop.
-#[cycle(extra)]
-pub fn extra_body(tried: bool, body: &[Stmt]) -> u32
+/// A number of blocks and a number of locals.
+#[derive(Clone, Copy, PartialEq, Eq, Debug)]
+pub struct Size {
+    pub blocks: u32,
+    pub locals: u32,
+}
+
+/// A sum. No memory holds a class of so many blocks or locals that there is no number for them.
+pub fn sum(a: u32, b: u32) -> Result<u32, NoMemory>
+    ensures { IfOk result (λ n. n ≡ a + b) }
 {
-    let mut sum = 0;
-    let mut open = true;
-    for stmt in body {
-        if !open {
-            sum += 1;
-        }
-        sum += extra_stmt(tried, stmt);
-        open = !ends(stmt);
+    match a.checked_add(b) {
+        Some(n) => Ok(n),
+        None => Err(NoMemory),
     }
-    sum
 }
 
-/// Whether nothing goes on behind a statement.
+impl Size {
+    // Nothing.
+    fn none() -> Size
+        ensures { result ≡ record { blocks = 0; locals = 0 } }
+    {
+        Size {
+            blocks: 0,
+            locals: 0,
+        }
+    }
+
+    // With so many blocks and locals more.
+    fn with(self, blocks: u32, locals: u32) -> Result<Size, NoMemory>
+        ensures { IfOk result (λ n. n ≡ record { blocks = self.blocks + blocks; locals = self.locals + locals }) }
+    {
+        Ok(Size {
+            blocks: sum(self.blocks, blocks)?,
+            locals: sum(self.locals, locals)?,
+        })
+    }
+
+    // With those of another.
+    fn and(self, other: Size) -> Result<Size, NoMemory>
+        ensures { IfOk result (λ n. n ≡ record { blocks = self.blocks + other.blocks; locals = self.locals + other.locals }) }
+    {
+        self.with(other.blocks, other.locals)
+    }
+}
+
+/// Whether nothing goes on from a statement.
 pub fn ends(stmt: &Stmt) -> bool
-{
-    matches!(
-        stmt.kind,
-        StmtKind::Break | StmtKind::Continue | StmtKind::Return(_) | StmtKind::Throw(_)
-    )
-}
-
-#[cycle(extra)]
-fn extra_stmt(tried: bool, stmt: &Stmt) -> u32
+    ensures { result ≡ ends_with (stmt_of stmt.now End) }
 {
     match &stmt.kind {
-        StmtKind::Block(body) => extra_body(tried, body) + 1,
-        StmtKind::If(_, body, otherwise) => {
-            1 + extra_body(tried, body) + extra_else(tried, otherwise) + 1
-        }
-        StmtKind::While(_, body) => 2 + extra_body(false, body) + 1,
-        StmtKind::For(init, test, step, body) => {
-            let head = if test.is_some() { 2 } else { 1 };
-            extra_part(tried, init) + head + extra_body(false, body) + 1 + extra_part(tried, step) + 1
-        }
-        StmtKind::Loop(body) => 1 + extra_body(false, body) + 1,
-        StmtKind::Break => extra_exit(tried),
-        StmtKind::Continue => extra_exit(tried),
-        StmtKind::Return(_) => 0,
-        StmtKind::Throw(_) => 0,
-        StmtKind::Try(body, _, _, handler) => {
-            1 + extra_body(true, body) + 1 + extra_body(tried, handler) + 1
-        }
-        StmtKind::Choose(branches) => extra_branches(tried, branches) + 1,
-        StmtKind::Declare(_, _) => 0,
-        StmtKind::Assign(_, _) => 0,
-        StmtKind::Modify(_, _) => 0,
-        StmtKind::Call(_, _) => 0,
-        StmtKind::Wait(_) => 1,
+        StmtKind::Break => true,
+        StmtKind::Continue => true,
+        StmtKind::Return(_) => true,
+        StmtKind::Throw(_) => true,
+        StmtKind::Block(_) => false,
+        StmtKind::If(_, _, _) => false,
+        StmtKind::While(_, _) => false,
+        StmtKind::For(_, _, _, _) => false,
+        StmtKind::Loop(_) => false,
+        StmtKind::Try(_, _, _, _) => false,
+        StmtKind::Choose(_) => false,
+        StmtKind::Declare(_, _) => false,
+        StmtKind::Assign(_, _) => false,
+        StmtKind::Modify(_, _) => false,
+        StmtKind::Call(_, _) => false,
+        StmtKind::Wait(_) => false,
     }
 }
 
 // A `break` or a `continue` out of a try body has a block outside it.
-fn extra_exit(tried: bool) -> u32
+fn exit_size(tried: bool) -> Size
+    ensures { result ≡ record { blocks = exit_blocks tried; locals = 0 } }
 {
-    if tried { 1 } else { 0 }
-}
-
-#[cycle(extra)]
-pub fn extra_branches(tried: bool, branches: &[When]) -> u32
-{
-    let mut sum = 0;
-    for branch in branches {
-        sum += 1 + extra_body(tried, &branch.body);
+    Size {
+        blocks: if tried { 1 } else { 0 },
+        locals: 0,
     }
-    sum
 }
 
-#[cycle(extra)]
-fn extra_else(tried: bool, otherwise: &Option<Vec<Stmt>>) -> u32
+/// How many blocks the test of a `for` takes.
+pub fn test_size(test: &Option<Expr>) -> u32
+    ensures { result ≡ test_blocks (option_map expr_of test.now) }
 {
-    match otherwise {
+    match test {
         None => 0,
-        Some(body) => 1 + extra_body(tried, body),
+        Some(_) => 1,
     }
 }
 
-#[cycle(extra)]
-pub fn extra_part(tried: bool, part: &Option<Box<Stmt>>) -> u32
-{
-    match part {
-        None => 0,
-        Some(stmt) => extra_stmt(tried, stmt),
-    }
-}
-
-/// How many locals a wait or a declaration has: one, or none for a state variable.
-pub fn fresh_into(into: &Into) -> u32
+/// How many locals a declared variable is.
+pub fn into_size(into: &Into) -> u32
+    ensures { result ≡ local_count (into_of into.now) }
 {
     if into.state { 0 } else { 1 }
 }
 
 /// How many locals the variable of a wait is.
-pub fn fresh_maybe(into: &Option<Into>) -> u32
+pub fn maybe_size(into: &Option<Into>) -> u32
+    ensures { result ≡ into_count (option_map into_of into.now) }
 {
     match into {
         None => 0,
-        Some(into) => fresh_into(into),
+        Some(into) => into_size(into),
     }
 }
 
-/// How many locals statements have.
-#[cycle(fresh)]
-pub fn fresh_body(body: &[Stmt]) -> u32
+/// The blocks that statements take beyond the one in which they begin, and their locals. `tried` says
+/// whether a try body is between them and their loop.
+#[cycle(size)]
+pub fn body_size(tried: bool, body: &[Stmt]) -> Result<Size, NoMemory>
+    ensures blocks { IfOk result (λ n. n.blocks ≡ blocks_in tried (body_of body.now)) }
+    ensures locals { IfOk result (λ n. n.locals ≡ locals_in (body_of body.now)) }
 {
-    let mut sum = 0;
+    let mut size = Size::none();
+    let mut open = true;
     for stmt in body {
-        sum += fresh_stmt(stmt);
+        if !open {
+            size = size.with(1, 0)?;
+        }
+        size = size.and(stmt_size(tried, stmt)?)?;
+        open = !ends(stmt);
     }
-    sum
+    Ok(size)
 }
 
-#[cycle(fresh)]
-fn fresh_stmt(stmt: &Stmt) -> u32
+#[cycle(size)]
+fn stmt_size(tried: bool, stmt: &Stmt) -> Result<Size, NoMemory>
+    ensures blocks { IfOk result (λ n. (k : Body) → blocks_in tried (stmt_of stmt.now k) ≡ n.blocks + rest_blocks (not (ends_with (stmt_of stmt.now End))) tried k) }
+    ensures locals { IfOk result (λ n. (k : Body) → locals_in (stmt_of stmt.now k) ≡ n.locals + locals_in k) }
 {
     match &stmt.kind {
-        StmtKind::Block(body) => fresh_body(body),
-        StmtKind::If(_, body, otherwise) => fresh_body(body) + fresh_else(otherwise),
-        StmtKind::While(_, body) => fresh_body(body),
-        StmtKind::For(init, _, step, body) => {
-            fresh_part(init) + fresh_body(body) + fresh_part(step)
+        StmtKind::Block(body) => Ok(body_size(tried, body)?.with(1, 0)?),
+        StmtKind::If(_, body, otherwise) => {
+            let size = body_size(tried, body)?.and(else_size(tried, otherwise)?)?;
+            Ok(size.with(2, 0)?)
         }
-        StmtKind::Loop(body) => fresh_body(body),
-        StmtKind::Break => 0,
-        StmtKind::Continue => 0,
-        StmtKind::Return(_) => 0,
-        StmtKind::Throw(_) => 0,
-        StmtKind::Try(body, _, _, handler) => fresh_body(body) + 1 + fresh_body(handler),
-        StmtKind::Choose(branches) => fresh_branches(branches),
-        StmtKind::Declare(into, _) => fresh_into(into),
-        StmtKind::Assign(_, _) => 0,
-        StmtKind::Modify(_, _) => 0,
-        StmtKind::Call(_, _) => 0,
-        StmtKind::Wait(waiting) => fresh_maybe(&waiting.into),
+        StmtKind::While(_, body) => Ok(body_size(false, body)?.with(3, 0)?),
+        StmtKind::For(init, test, step, body) => {
+            let parts = part_size(tried, init)?.and(part_size(tried, step)?)?;
+            let size = parts.and(body_size(false, body)?)?;
+            Ok(size.with(test_size(test), 0)?.with(3, 0)?)
+        }
+        StmtKind::Loop(body) => Ok(body_size(false, body)?.with(2, 0)?),
+        StmtKind::Break => Ok(exit_size(tried)),
+        StmtKind::Continue => Ok(exit_size(tried)),
+        StmtKind::Return(_) => Ok(Size::none()),
+        StmtKind::Throw(_) => Ok(Size::none()),
+        StmtKind::Try(body, _, _, handler) => {
+            let size = body_size(true, body)?.and(body_size(tried, handler)?)?;
+            Ok(size.with(3, 1)?)
+        }
+        StmtKind::Choose(branches) => Ok(branches_size(tried, branches)?.with(1, 0)?),
+        StmtKind::Declare(into, _) => Ok(Size::none().with(0, into_size(into))?),
+        StmtKind::Assign(_, _) => Ok(Size::none()),
+        StmtKind::Modify(_, _) => Ok(Size::none()),
+        StmtKind::Call(_, _) => Ok(Size::none()),
+        StmtKind::Wait(waiting) => Ok(Size::none().with(1, maybe_size(&waiting.into))?),
     }
 }
 
-#[cycle(fresh)]
-fn fresh_branches(branches: &[When]) -> u32
+/// The blocks and locals of the branches of a `choose`.
+#[cycle(size)]
+pub fn branches_size(tried: bool, branches: &[When]) -> Result<Size, NoMemory>
+    ensures blocks { IfOk result (λ n. n.blocks ≡ branch_blocks tried (branches_of branches.now)) }
+    ensures locals { IfOk result (λ n. n.locals ≡ branch_local_count (branches_of branches.now)) }
 {
-    let mut sum = 0;
+    let mut size = Size::none();
     for branch in branches {
-        sum += fresh_maybe(&branch.waiting.into) + fresh_body(&branch.body);
+        size = size.and(branch_size(tried, branch)?)?;
     }
-    sum
+    Ok(size)
 }
 
-#[cycle(fresh)]
-fn fresh_else(otherwise: &Option<Vec<Stmt>>) -> u32
+/// The blocks and locals of a branch, with the block in which it begins.
+#[cycle(size)]
+pub fn branch_size(tried: bool, branch: &When) -> Result<Size, NoMemory>
+    ensures blocks { IfOk result (λ n. (bs : Branches) → branch_blocks tried (branch_of branch.now bs) ≡ n.blocks + branch_blocks tried bs) }
+    ensures locals { IfOk result (λ n. (bs : Branches) → branch_local_count (branch_of branch.now bs) ≡ n.locals + branch_local_count bs) }
+{
+    let size = body_size(tried, &branch.body)?;
+    size.with(1, maybe_size(&branch.waiting.into))
+}
+
+// The body of an `else`, with the block in which it begins.
+#[cycle(size)]
+fn else_size(tried: bool, otherwise: &Option<Vec<Stmt>>) -> Result<Size, NoMemory>
+    ensures blocks { IfOk result (λ n. n.blocks ≡ else_blocks tried (else_of otherwise.now)) }
+    ensures locals { IfOk result (λ n. n.locals ≡ else_locals (else_of otherwise.now)) }
 {
     match otherwise {
-        None => 0,
-        Some(body) => fresh_body(body),
+        None => Ok(Size::none()),
+        Some(body) => body_size(tried, body)?.with(1, 0),
     }
 }
 
-#[cycle(fresh)]
-fn fresh_part(part: &Option<Box<Stmt>>) -> u32
+/// The blocks and locals of a part of a `for`.
+#[cycle(size)]
+pub fn part_size(tried: bool, part: &Option<Box<Stmt>>) -> Result<Size, NoMemory>
+    ensures blocks { IfOk result (λ n. n.blocks ≡ blocks_in tried (simple_of part.now)) }
+    ensures locals { IfOk result (λ n. n.locals ≡ locals_in (simple_of part.now)) }
 {
     match part {
-        None => 0,
-        Some(stmt) => fresh_stmt(stmt),
+        None => Ok(Size::none()),
+        Some(stmt) => stmt_size(tried, stmt),
     }
 }

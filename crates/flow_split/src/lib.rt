@@ -2,6 +2,7 @@
 #![tactic(auto)]
 
 mod around;
+mod context;
 mod counts;
 mod effects;
 mod emitter;
