@@ -1,10 +1,11 @@
 // Names become places.
 
-ghost use Rattle.std.specs.Prelude.{◌≡◌, ◌<◌, ◌^◌, ◌∷◌, decimal, length, map, position, IfOk};
+ghost use Rattle.std.specs.Prelude.{◌≡◌, ◌<◌, ◌^◌, ◌∷◌, ◌++◌, decimal, length, map, position, IfOk, OnOk, IsTrue};
 ghost use Rattle.std.specs.Str.{bytes_eq};
 ghost use Rattle.flow_tree.specs.View.{expr_of, exprs_of};
 ghost use Rattle.flow_tree.specs.DeclView.{slot_of};
 ghost use Rattle.flow_class.specs.Scopes.{place_of, slot_place, var_over, ident_over, over, over_all, path_over, act_over};
+ghost use Rattle.flow_base.specs.Names.{letter as letter_byte};
 ghost use Rattle.flow_choose.specs.Places.{slots_seen, ident_at};
 
 use flow_ast::predefined::predefined_constant;
@@ -30,23 +31,34 @@ pub fn place_of(slots: &[Slot], scopes: &Scopes, name: &[u8]) -> Option<Slotted>
     }
 }
 
-// The slot of a name.
+fn slot_index(slots: &[Slot], name: &[u8]) -> Option<usize>
+    ensures { result ≡ position (λ s. bytes_eq name.now s.name) slots.now }
+{
+    slots.iter().position(|slot| name == slot.name.bytes())
+}
+
+// The first slot of a name.
+fn slot_number(slots: &[Slot], name: &[u8]) -> Option<usize>
+    ensures { result ≡ position (λ t. bytes_eq name.now t.name) (slots_seen slots.now) }
+{
+    slot_index(slots, name)
+}
+
+// The place of the first slot of a name.
+#[tactic(auto, using(crate::proofs::Slots::slot_within))]
 fn slot_place(slots: &[Slot], name: &[u8]) -> Option<Slotted>
     requires { length slots.now < 2 ^ 32 }
     ensures { result ≡ slot_place (position (λ t. bytes_eq name.now t.name) (slots_seen slots.now)) }
 {
-    let mut number = 0;
-    for slot in slots {
-        if name == slot.name.bytes() {
-            return Some(Slotted::Slot(number));
-        }
-        number += 1;
+    match slot_number(slots, name) {
+        Some(number) => Some(Slotted::Slot(number as u32)),
+        None => None,
     }
-    None
 }
 
 // The name of a place: a letter and a number.
 fn numbered(alloc: Global, letter: u8, number: u32) -> Result<Name, NoMemory>
+    requires { IsTrue (letter_byte letter) }
     ensures { IfOk result (λ n. n ≡ letter ∷ decimal number) }
 {
     let mut buffer = Buffer::new();
@@ -177,11 +189,19 @@ pub fn path_over(
     if let [first, rest @ ..] = path {
         let place = place_of(slots, scopes, first.name.bytes());
         names.push(var_ident(alloc, place, first)?)?;
-        for name in rest {
-            names.push(name.copy(alloc)?)?;
-        }
+        copy_onto(alloc, &mut names, rest)?;
     }
     Ok(Target { path: names })
+}
+
+// Equal names behind others.
+fn copy_onto(alloc: Global, names: &mut Vec<Ident>, more: &[Ident]) -> Result<(), NoMemory>
+    ensures { OnOk result (names.new.items ≡ names.old.items ++ more.now) }
+{
+    for name in more {
+        names.push(name.copy(alloc)?)?;
+    }
+    Ok(())
 }
 
 /// The path of a call statement over places. A path of a single name is what is called, and stays.

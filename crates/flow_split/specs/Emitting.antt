@@ -11,9 +11,9 @@ use Rattle.flow_class.specs.View.{instr_of, block_of, group_of}
 use Rattle.flow_catch.specs.Inner.{inner_locals, left_lists}
 use Rattle.flow_meaning.specs.Evaluating.{Names}
 use Rattle.flow_split.specs.declared.emitter.Emitter.{Emitter}
-use Rattle.flow_split.specs.Around.{Exit, Text, Scoped, Part, Around}
-use Rattle.flow_split.specs.Counts.{locals_in, local_count, into_count, Next}
-use Rattle.flow_split.specs.Lowered.{Chunk, catch_part, blocks_of, drop_of, cancelled, with_into, with_taken, lowered}
+use Rattle.flow_split.specs.Around.{Exit, Text, Scoped, Part, Hand, Around}
+use Rattle.flow_split.specs.Counts.{locals_in, branch_local_count, local_count, into_count, Next, begun}
+use Rattle.flow_split.specs.Lowered.{Chunk, catch_part, blocks_of, drop_of, cancelled, with_into, with_taken, lowered, branches}
 
 -- the locals in force and the number of the next one; the blocks and groups so far; whether a block is open, whether a
 -- statement stands in it, and its instructions
@@ -82,60 +82,75 @@ declaring i e = record e { scopes = with_into i e.next e.scopes; next = local_co
 abbrev pub taking : Option IntoTree → Emitted → Emitted
 taking i e = record e { scopes = with_taken i e.next e.scopes; next = into_count i + e.next }
 
--- the numbers that come next
+-- the numbers of the block, the local and the group that come next, where no block is open, and where one is
+abbrev pub coming : Emitted → Next
+coming e = record { block = length e.blocks; local = e.next; group = suc (length e.groups) }
+
 abbrev pub going : Emitted → Next
-going e = record { block = suc (length e.blocks); local = e.next; group = suc (length e.groups) }
+going e = begun (coming e)
 
 -- the block at hand with the rest of it
 abbrev pub onto : Emitted → Chunk → Chunk
-onto e c = record c { body = e.body ++ c.body; acts = e.acts || c.acts }
+onto e c = record c { body = e.body ++ c.body; acts = c.acts || e.acts }
 
--- all blocks and groups of a class
+-- all blocks and groups so far
 pub record Emission : Type 0 where
   pub blocks : List BlockTree
   pub groups : List (List CallbackTree)
 
-abbrev pub with_chunk : Emitted → Around → Chunk → Emission
-with_chunk e w c = record { blocks = e.blocks ++ blocks_of w.hand (onto e c); groups = e.groups ++ c.groups }
+abbrev pub emission : Emitted → Emission
+emission e = record { blocks = e.blocks; groups = e.groups }
 
-abbrev pub with_blocks : Bool → Emitted → Emission → Emission
-with_blocks true e m = m
-with_blocks false e m = record { blocks = e.blocks; groups = e.groups }
+-- and those of a chunk, which begins in the block at hand
+abbrev pub with_chunk : Option Hand → Emitted → Chunk → Emission
+with_chunk h e c = record { blocks = e.blocks ++ blocks_of h (onto e c); groups = e.groups ++ c.groups }
+
+-- nothing stands in the block at hand
+pub record Fresh (e : Emitted) : Type 0 where
+  pub body : e.body ≡ []
+  pub acts : e.acts ≡ false
+
+-- from e on just this chunk was emitted
+pub record At (h : Option Hand) (e : Emitted) (c : Chunk) (f : Emitted) : Type 0 where
+  pub all : emission f ≡ with_chunk h e c
+  pub fresh : Fresh f
 
 module _ (ns : Names) (slots : List SlotTree) where
   -- what is emitted, with what a body adds to it
   abbrev pub rest_of : Emitted → Around → Body → Chunk
   rest_of e w k = lowered ns slots e.scopes w (going e) k
 
+  abbrev pub with_rest_if : Bool → Emitted → Around → Body → Emission
+  with_rest_if true e w k = with_chunk w.hand e (rest_of e w k)
+  with_rest_if false e w k = emission e
+
   abbrev pub with_rest : Emitted → Around → Body → Emission
-  with_rest e w k = with_blocks (e.open || has_statement k) e (with_chunk e w (rest_of e w k))
+  with_rest e w k = with_rest_if (e.open || has_statement k) e w k
 
   -- from old to new just the statement was emitted, whatever follows it
   pub record Emits (w : Around) (stmt : Body → Body) (old new : Emitted) : Type 0 where
     pub code : (k : Body) → with_rest new w k ≡ with_rest old w (stmt k)
     pub next : (k : Body) → new.next + locals_in k ≡ old.next + locals_in (stmt k)
     pub scopes : outside new.scopes ≡ outside old.scopes
-    pub shut : new.open ≡ false → (new.body ≡ []) × (new.acts ≡ false)
+    pub shut : new.open ≡ false → Fresh new
 
   -- a whole body was emitted
-  abbrev pub bodied : Around → Body → Scope → Emitted → Emitted
-  bodied w b s e = record {
-    scopes = s;
-    next = e.next + locals_in b;
-    blocks = (with_chunk e w (rest_of e w b)).blocks;
-    groups = (with_chunk e w (rest_of e w b)).groups;
-    open = false;
-    acts = false;
-    body = [];
-  }
-
   pub record EmitsAll (w : Around) (b : Body) (old new : Emitted) : Type 0 where
-    pub all : new ≡ bodied w b new.scopes old
+    pub all : At w.hand old (rest_of old w b) new
+    pub next : new.next ≡ old.next + locals_in b
     pub scopes : outside new.scopes ≡ outside old.scopes
 
   -- a body in a scope of its own
   abbrev pub in_scope : Emitted → Emitted
   in_scope e = record e { scopes = Mark ∷ e.scopes }
 
-  abbrev pub scoped : Around → Body → Emitted → Emitted
-  scoped w b e = bodied w b e.scopes (in_scope e)
+  pub record EmitsScope (w : Around) (b : Body) (old new : Emitted) : Type 0 where
+    pub all : At w.hand old (rest_of (in_scope old) w b) new
+    pub next : new.next ≡ old.next + locals_in b
+    pub scopes : new.scopes ≡ old.scopes
+
+  -- branches of a choose, behind what was emitted before
+  pub record EmitsBranches (w : Around) (bs : Branches) (old new : Emitted) : Type 0 where
+    pub all : (e : Emitted) (c : Chunk) → At w.hand e c old → At w.hand e (branches ns slots c old.scopes w (coming old) bs) new
+    pub next : new.next ≡ old.next + branch_local_count bs
+    pub scopes : new.scopes ≡ old.scopes

@@ -5,8 +5,9 @@ use Rattle.std.specs.declared.option.Option.{Option}
 use Rattle.std.specs.declared.option.Option.TheVariants.{None, Some}
 use Rattle.flow_base.specs.declared.place.Place.{Place}
 use Rattle.flow_tree.specs.declared.ty.Ident.{Ident}
-use Rattle.flow_tree.specs.Tree.{TypeTree, IntType, BoolType, StringType, ExprTree, ExprTrees, IntExpr, TextExpr, BoolExpr, VarExpr, CallExpr, NoExprs}
-use Rattle.flow_tree.specs.Body.{IntoTree, WaitTree, Body, End, BlockStmt, IfStmt, IfElseStmt, WhileStmt, ForStmt, LoopStmt, BreakStmt, ContinueStmt, ReturnStmt, ThrowStmt, TryStmt, ChooseStmt, DeclareStmt, AssignStmt, ModifyStmt, CallStmt, WaitStmt, Branches, NoBranches, MoreBranches}
+use Rattle.flow_tree.specs.Tree.{TypeTree, IntType, BoolType, StringType, ExprTree, ExprTrees, IntExpr, TextExpr, BoolExpr, VarExpr, CallExpr, BinaryExpr, ParenExpr, NoExprs}
+use Rattle.flow_tree.specs.Body.{IntoTree, WaitTree, ChangeTree, PlusChange, MinusChange, UpChange, DownChange, Body, End, BlockStmt, IfStmt, IfElseStmt, WhileStmt, ForStmt, LoopStmt, BreakStmt, ContinueStmt, ReturnStmt, ThrowStmt, TryStmt, ChooseStmt, DeclareStmt, AssignStmt, ModifyStmt, CallStmt, WaitStmt, Branches, NoBranches, MoreBranches}
+use Rattle.flow_tree.specs.declared.expr.Op.TheVariants.{Add, Sub}
 use Rattle.flow_tree.specs.Decls.{SlotTree, RoutineTree}
 use Rattle.flow_ast.specs.Typing.{is_there}
 use Rattle.flow_ast.specs.Leaving.{has_statement}
@@ -293,3 +294,10 @@ lowered_class ns l a =
       blocks = blocks_of None c;
       groups = c.groups;
     }
+
+-- what a change in place makes of an old value over places
+abbrev pub change_over : List SlotTree → Scope → ChangeTree → ExprTree → ExprTree
+change_over slots s (PlusChange e) old = BinaryExpr Add old (ParenExpr (over slots s e))
+change_over slots s (MinusChange e) old = BinaryExpr Sub old (ParenExpr (over slots s e))
+change_over slots s UpChange old = BinaryExpr Add old (IntExpr (pos 1))
+change_over slots s DownChange old = BinaryExpr Sub old (IntExpr (pos 1))
