@@ -1,0 +1,10 @@
+use Rattle.std.proofs.Common.{◌≡◌, ◌≤◌, take}
+use Rattle.flow_class.specs.Scopes.{outside}
+use Rattle.flow_catch.specs.Inner.{scope_of}
+use Rattle.flow_catch.proofs.scopes.outer.Given as goal
+
+abbrev pub invariant-loop-at : goal.invariant-loop-at
+invariant-loop-at l = (l.at ≤ l.end) × (outside (scope_of (take l.at l.entries)) ≡ outside (scope_of (take l.end l.entries)))
+
+abbrev pub decreases-loop-at : goal.decreases-loop-at
+decreases-loop-at l = l.at

@@ -1,0 +1,2 @@
+pub mod StmtKinds
+pub mod Lays
