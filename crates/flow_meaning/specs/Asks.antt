@@ -2,6 +2,7 @@
 use Rattle.std.specs.Prelude.{ℕ, ℤ, List}
 use Rattle.flow_value.specs.declared.value.Kind.{Kind}
 use Rattle.flow_value.specs.Values.{ValueTree, OutcomeTree}
+pub use Rattle.flow_simdisk.specs.Asks.{DiskCall, ReadCall, WriteCall, SyncCall, SizeCall}
 use Rattle.flow_meaning.specs.Cells.{Ref}
 
 -- a wait or choose of an actor's text: its number, from 1, and the number of its first branch among all branches of
@@ -9,13 +10,6 @@ use Rattle.flow_meaning.specs.Cells.{Ref}
 pub record Spot : Type 0 where
   pub group : ℕ
   pub first : ℕ
-
--- a request to a disk, with arguments as the program gave them, or after they were judged
-pub data DiskCall (N : Type 0) : Type 0 where
-  ReadCall : (file : List ℕ) (offset count : N) → DiskCall N
-  WriteCall : (file : List ℕ) (offset : N) (text : List ℕ) → DiskCall N
-  SyncCall : (file : List ℕ) → DiskCall N
-  SizeCall : (file : List ℕ) → DiskCall N
 
 -- An effect: a new cell for a promise or for the promise side of a stream; the call of the actor at a place among the
 -- declared actors; a drawn number; a timer; a result that never comes; a port; a request to the disk.

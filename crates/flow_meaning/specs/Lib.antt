@@ -20,7 +20,6 @@ pub mod SourceStep
 pub mod Source
 pub mod Frame
 pub mod Class
-pub mod Disk
 pub mod Outside
 pub mod World
 pub mod Runs

@@ -9,7 +9,7 @@ use Rattle.flow_worldfile.specs.declared.directive.Order.{Order}
 use Rattle.flow_draw.specs.Words.{word_at}
 use Rattle.flow_meaning.specs.Asks.{DiskCall, Request, Drew, Timer, Packet, Disks, Supply}
 use Rattle.flow_meaning.specs.Burst.{Host}
-use Rattle.flow_meaning.specs.Disk.{Disk}
+use Rattle.flow_simdisk.specs.Disk.{Disk}
 
 -- What happens when a pending event comes: a process boots; a timer or a disk request of a process sets a
 -- cell; a packet arrives, with its number, its sender, and the process and port for which it is meant.

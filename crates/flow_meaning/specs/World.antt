@@ -16,7 +16,10 @@ use Rattle.flow_meaning.specs.Numbered.{thing}
 use Rattle.flow_meaning.specs.Asks.{DiskCall, ReadCall, WriteCall, SyncCall, SizeCall}
 use Rattle.flow_meaning.specs.Process.{Core, Proc, Engine}
 use Rattle.flow_meaning.specs.Deliver.{begin, boot, stop, deliver, arrive, vanish, idle}
-use Rattle.flow_meaning.specs.Disk.{Disk, File, DiskReply, Bytes, Done, Size, Failed, Kept, Losing, served, power_lost}
+use Rattle.flow_simdisk.specs.declared.ask.DiskReply.{DiskReply}
+use Rattle.flow_simdisk.specs.declared.ask.DiskReply.TheVariants.{Text, Done, Size, Failed}
+use Rattle.flow_simdisk.specs.declared.write.Kept.{Kept}
+use Rattle.flow_simdisk.specs.Disk.{Disk, File, Losing, served, power_lost}
 use Rattle.flow_meaning.specs.Outside.{What, Boots, Rings, Arrives, Answers, Pending, Outside, process_id, healed}
 
 -- a process is up from its boot to its kill
@@ -110,7 +113,7 @@ abbrev pub without_requests : ℕ → List Pending → List Pending
 without_requests p es = filter (λ e. not (is_of p e.what)) es
 
 abbrev pub kept_line : Kept → Line
-kept_line k = line.Kept k.name k.offset k.size k.kept
+kept_line k = line.Kept k.name k.offset k.length k.kept
 
 abbrev pub lost : {A : Type 0} → List Line → ℕ → Place A → Outside → Losing (List (List ℕ × File)) → Begun A
 lost head p at w l = record {
@@ -152,7 +155,7 @@ listener at port = if at.up then thing at.proc.core.ports port else None
 
 -- the line of a disk's answer, and what its cell gets
 abbrev pub disk_line : DiskCall ℕ → DiskReply → Outside → ℕ → Line
-disk_line (ReadCall x offset count) (Bytes bs) w c = line.Read w.ran w.time (process_id w.active) (record { 0 = c }) (Some bs)
+disk_line (ReadCall x offset count) (Text bs) w c = line.Read w.ran w.time (process_id w.active) (record { 0 = c }) (Some bs)
 disk_line (ReadCall x offset count) r w c = line.Read w.ran w.time (process_id w.active) (record { 0 = c }) None
 disk_line (WriteCall x offset bytes) Done w c = line.Write w.ran w.time (process_id w.active) (record { 0 = c }) true
 disk_line (WriteCall x offset bytes) r w c = line.Write w.ran w.time (process_id w.active) (record { 0 = c }) false
@@ -162,7 +165,7 @@ disk_line (SizeCall x) (Size n) w c = line.Size w.ran w.time (process_id w.activ
 disk_line (SizeCall x) r w c = line.Size w.ran w.time (process_id w.active) (record { 0 = c }) None
 
 abbrev pub disk_outcome : DiskReply → OutcomeTree
-disk_outcome (Bytes bs) = GoodOutcome (TextValue bs)
+disk_outcome (Text bs) = GoodOutcome (TextValue bs)
 disk_outcome Done = GoodOutcome VoidValue
 disk_outcome (Size n) = GoodOutcome (IntValue (pos n))
 disk_outcome Failed = BadOutcome 9008

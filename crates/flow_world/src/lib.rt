@@ -1,0 +1,15 @@
+//! The world: its processes and what is outside of them, run event by event.
+#![tactic(auto)]
+
+mod around;
+mod asked;
+mod event;
+mod outside;
+mod ports;
+mod script;
+#[cfg(test)]
+mod tests;
+pub mod world;
+
+pub use event::Event;
+pub use world::World;
