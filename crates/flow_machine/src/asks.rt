@@ -2,7 +2,7 @@
 
 use crate::call::{Call, Step};
 use crate::effects::{int_at, take_text};
-use crate::host::RunFault;
+use crate::errors::Fault;
 use crate::process::Process;
 use flow_ast::predefined::{Method, Predefined, predefined_call, predefined_method};
 use flow_base::errors::ALREADY_SET;
@@ -17,28 +17,28 @@ fn first(args: Vec<Value>) -> Option<Value> {
 }
 
 /// The line of a printed value.
-fn print_line(actor: ActorId, value: Value) -> Result<Line, RunFault> {
+fn print_line(actor: ActorId, value: Value) -> Result<Line, Fault> {
     match value {
         Value::Int(n) => Ok(Line::PrintInt(actor, n)),
         Value::Bool(b) => Ok(Line::PrintBool(actor, b)),
         Value::Text(text) => Ok(Line::PrintText(actor, text)),
         Value::Void | Value::Error(_) | Value::Struct(_, _) | Value::Ref(_, _) => {
-            Err(RunFault::Astray)
+            Err(Fault::Astray)
         }
     }
 }
 
 /// What a method sends: `send` a value, `sendError` an error.
-fn sent(method: Method, args: Vec<Value>) -> Result<Outcome, RunFault> {
+fn sent(method: Method, args: Vec<Value>) -> Result<Outcome, Fault> {
     match (method, first(args)) {
         (Method::Send, Some(value)) => Ok(Outcome::Value(value)),
         (Method::SendError, Some(Value::Error(error))) => Ok(Outcome::Error(error)),
-        _ => Err(RunFault::Astray),
+        _ => Err(Fault::Astray),
     }
 }
 
 /// A text that is sent to a port of a process.
-fn send_to(actor: ActorId, args: Vec<Value>) -> Result<Step, RunFault> {
+fn send_to(actor: ActorId, args: Vec<Value>) -> Result<Step, Fault> {
     let mut args = args;
     let process = int_at(&args, 0)?;
     let port = int_at(&args, 1)?;
@@ -48,9 +48,9 @@ fn send_to(actor: ActorId, args: Vec<Value>) -> Result<Step, RunFault> {
 
 impl Process {
     // A value is printed.
-    fn print(&mut self, actor: ActorId, args: Vec<Value>) -> Result<Step, RunFault> {
+    fn print(&mut self, actor: ActorId, args: Vec<Value>) -> Result<Step, Fault> {
         let Some(value) = first(args) else {
-            return Err(RunFault::Astray);
+            return Err(Fault::Astray);
         };
         let line = print_line(actor, value)?;
         self.heap.push(Task::Run(actor))?;
@@ -63,26 +63,26 @@ impl Process {
         actor: ActorId,
         call: Predefined,
         args: Vec<Value>,
-    ) -> Result<Step, RunFault> {
+    ) -> Result<Step, Fault> {
         match call {
             Predefined::Trace => self.print(actor, args),
             Predefined::SendTo => send_to(actor, args),
-            _ => Err(RunFault::Astray),
+            _ => Err(Fault::Astray),
         }
     }
 
     // Whether nothing more can be sent into the cell of a kind of reference, if there is one.
-    fn is_complete(&self, kind: Kind, cell: CellId) -> Result<bool, RunFault> {
+    fn is_complete(&self, kind: Kind, cell: CellId) -> Result<bool, Fault> {
         match kind {
             Kind::Promise | Kind::Future => {
                 if self.heap.cells().references(cell).is_none() {
-                    return Err(RunFault::Astray);
+                    return Err(Fault::Astray);
                 }
                 Ok(self.heap.cells().content(cell).is_some())
             }
             Kind::PromiseStream | Kind::FutureStream => {
                 if self.heap.streams().references(cell).is_none() {
-                    return Err(RunFault::Astray);
+                    return Err(Fault::Astray);
                 }
                 Ok(self.heap.streams().ended(cell))
             }
@@ -96,7 +96,7 @@ impl Process {
         kind: Kind,
         cell: CellId,
         outcome: Outcome,
-    ) -> Result<Step, RunFault> {
+    ) -> Result<Step, Fault> {
         if self.is_complete(kind, cell)? {
             self.throw(actor, ALREADY_SET)?;
             return Ok(None);
@@ -118,7 +118,7 @@ impl Process {
         kind: Kind,
         cell: CellId,
         args: Vec<Value>,
-    ) -> Result<Step, RunFault> {
+    ) -> Result<Step, Fault> {
         match kind {
             Kind::Promise | Kind::PromiseStream => {
                 let outcome = sent(method, args)?;
@@ -128,7 +128,7 @@ impl Process {
                 self.heap.push(Task::Run(actor))?;
                 self.cancel_owner(cell)
             }
-            Kind::Future | Kind::FutureStream => Err(RunFault::Astray),
+            Kind::Future | Kind::FutureStream => Err(Fault::Astray),
         }
     }
 }

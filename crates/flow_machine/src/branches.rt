@@ -1,7 +1,7 @@
 // Waits: operands, the branch that is taken, and suspending.
 
 use crate::call::{Call, Step};
-use crate::host::RunFault;
+use crate::errors::Fault;
 use crate::process::Process;
 use flow_base::errors::{OPERATION_CANCELLED, SECOND_WAITER};
 use flow_base::ids::{ActorId, CellId};
@@ -15,51 +15,51 @@ use flow_trace::line::Line;
 use flow_value::value::{Kind, Outcome};
 
 /// The group of the wait that ends a block.
-fn group_at(block: &Block) -> Result<u32, RunFault> {
+fn group_at(block: &Block) -> Result<u32, Fault> {
     match &block.last {
         Last::Choose(group) => Ok(*group),
-        _ => Err(RunFault::Astray),
+        _ => Err(Fault::Astray),
     }
 }
 
 impl Process {
     /// The group of the wait at which an actor stands or waits.
-    pub(crate) fn group_of(&self, classes: &ClassProgram, actor: ActorId) -> Result<u32, RunFault> {
+    pub(crate) fn group_of(&self, classes: &ClassProgram, actor: ActorId) -> Result<u32, Fault> {
         let (_, block) = self.block_of(classes, actor)?;
         group_at(block)
     }
 
     // What a branch takes from a cell that is ready: a copy of the outcome, the first element, or else the end.
-    fn taken_from(&mut self, cell: CellId) -> Result<Outcome, RunFault> {
+    fn taken_from(&mut self, cell: CellId) -> Result<Outcome, Fault> {
         match self.kind_at(cell) {
             Some(Kind::Future | Kind::Promise) => self.copied_from(cell),
             Some(Kind::FutureStream | Kind::PromiseStream) => self.popped_from(cell),
-            None => Err(RunFault::Astray),
+            None => Err(Fault::Astray),
         }
     }
 
     // A copy of what a single result holds, whose references count.
-    fn copied_from(&mut self, cell: CellId) -> Result<Outcome, RunFault> {
+    fn copied_from(&mut self, cell: CellId) -> Result<Outcome, Fault> {
         if self.heap.cells().references(cell).is_none() {
-            return Err(RunFault::Astray);
+            return Err(Fault::Astray);
         }
         let copy = match self.heap.cells().content(cell) {
             Some(outcome) => outcome.copy(self.alloc)?,
-            None => return Err(RunFault::Astray),
+            None => return Err(Fault::Astray),
         };
         self.hold_outcome(&copy)?;
         Ok(copy)
     }
 
     // The first element of a stream, or else its end.
-    fn popped_from(&mut self, cell: CellId) -> Result<Outcome, RunFault> {
+    fn popped_from(&mut self, cell: CellId) -> Result<Outcome, Fault> {
         if self.heap.streams().references(cell).is_none() {
-            return Err(RunFault::Astray);
+            return Err(Fault::Astray);
         }
         match self.heap.streams_mut().pop(cell) {
             Head::Item(value) => Ok(Outcome::Value(value)),
             Head::End(error) => Ok(Outcome::Error(error)),
-            Head::Nothing => Err(RunFault::Astray),
+            Head::Nothing => Err(Fault::Astray),
         }
     }
 
@@ -69,7 +69,7 @@ impl Process {
         classes: &ClassProgram,
         actor: ActorId,
         task: Task,
-    ) -> Result<(), RunFault> {
+    ) -> Result<(), Fault> {
         let class = self.class_of(classes, actor)?;
         let (place, block) = self.block_of(classes, actor)?;
         self.heap.push(task)?;
@@ -86,7 +86,7 @@ impl Process {
         actor: ActorId,
         branch: u32,
         cell: CellId,
-    ) -> Result<Step, RunFault> {
+    ) -> Result<Step, Fault> {
         if !self.turn() {
             return Ok(None);
         }
@@ -104,9 +104,9 @@ impl Process {
         actor: ActorId,
         callback: u32,
         cell: CellId,
-    ) -> Result<Step, RunFault> {
+    ) -> Result<Step, Fault> {
         if !self.heap.unfinished(actor) || !self.heap.frames().contains(actor) {
-            return Err(RunFault::Astray);
+            return Err(Fault::Astray);
         }
         let held = Held { callback, cell };
         self.heap.frames_mut().add_callback(actor, held)?;
@@ -125,10 +125,10 @@ impl Process {
     }
 
     // Takes the actor's own task off the stack.
-    fn pop_run(&mut self, actor: ActorId) -> Result<(), RunFault> {
+    fn pop_run(&mut self, actor: ActorId) -> Result<(), Fault> {
         match self.heap.next_task() {
             Some(Task::Run(top)) if top == actor => Ok(()),
-            _ => Err(RunFault::Astray),
+            _ => Err(Fault::Astray),
         }
     }
 
@@ -138,12 +138,12 @@ impl Process {
         classes: &ClassProgram,
         actor: ActorId,
         callback: u32,
-    ) -> Result<u32, RunFault> {
+    ) -> Result<u32, Fault> {
         let group = self.group_of(classes, actor)?;
         let home = self.home_of(classes, actor, group)?;
         match callback.checked_sub(home.first) {
             Some(branch) => Ok(branch),
-            None => Err(RunFault::Astray),
+            None => Err(Fault::Astray),
         }
     }
 
@@ -161,7 +161,7 @@ impl Process {
     }
 
     // A callback waits at its cell: false where a stream refuses it.
-    fn register(&mut self, actor: ActorId, held: Held) -> Result<bool, RunFault> {
+    fn register(&mut self, actor: ActorId, held: Held) -> Result<bool, Fault> {
         let waiter = Waiter {
             actor,
             callback: held.callback,
@@ -171,7 +171,7 @@ impl Process {
             return Ok(true);
         }
         if self.heap.streams().references(held.cell).is_none() {
-            return Err(RunFault::Astray);
+            return Err(Fault::Astray);
         }
         match self.heap.streams_mut().add_waiter(held.cell, waiter) {
             Wait::Added => Ok(true),
@@ -196,10 +196,10 @@ impl Process {
     }
 
     // All operands wait at their cells in order: false where a stream refuses one.
-    fn register_all(&mut self, actor: ActorId) -> Result<bool, RunFault> {
+    fn register_all(&mut self, actor: ActorId) -> Result<bool, Fault> {
         for place in 0..self.operands(actor) {
             let Some(held) = self.held_at(actor, place) else {
-                return Err(RunFault::Astray);
+                return Err(Fault::Astray);
             };
             if !self.register(actor, held)? {
                 return Ok(false);
@@ -209,9 +209,9 @@ impl Process {
     }
 
     // The frame of an actor goes into a state.
-    fn suspend(&mut self, actor: ActorId, group: u32) -> Result<(), RunFault> {
+    fn suspend(&mut self, actor: ActorId, group: u32) -> Result<(), Fault> {
         if !self.heap.frames().contains(actor) {
-            return Err(RunFault::Astray);
+            return Err(Fault::Astray);
         }
         self.heap.frames_mut().set_state(actor, group);
         Ok(())
@@ -224,7 +224,7 @@ impl Process {
         classes: &ClassProgram,
         actor: ActorId,
         group: u32,
-    ) -> Result<Step, RunFault> {
+    ) -> Result<Step, Fault> {
         if let Some(held) = self.first_ready(actor) {
             let branch = self.branch_of(classes, actor, held.callback)?;
             return self.take(classes, actor, branch, held.cell);

@@ -2,8 +2,8 @@
 // actor stands.
 
 use crate::call::{Call, DiskCall, Goal, Step};
+use crate::errors::Fault;
 use crate::frames::places_of;
-use crate::host::RunFault;
 use crate::process::Process;
 use flow_ast::predefined::{Predefined, predefined_call};
 use flow_base::ids::{ActorId, CellId};
@@ -66,26 +66,26 @@ pub(crate) fn effect_in<'a>(
 }
 
 /// The number that an argument is.
-pub(crate) fn int_at(args: &[Value], place: usize) -> Result<i64, RunFault> {
+pub(crate) fn int_at(args: &[Value], place: usize) -> Result<i64, Fault> {
     match args.get(place) {
         Some(Value::Int(n)) => Ok(*n),
-        _ => Err(RunFault::Astray),
+        _ => Err(Fault::Astray),
     }
 }
 
 /// Takes the text that an argument is out of the arguments.
-pub(crate) fn take_text(args: &mut [Value], place: usize) -> Result<Text, RunFault> {
+pub(crate) fn take_text(args: &mut [Value], place: usize) -> Result<Text, Fault> {
     match args.get_mut(place) {
         Some(arg) => match std::mem::replace(arg, Value::Void) {
             Value::Text(text) => Ok(text),
-            _ => Err(RunFault::Astray),
+            _ => Err(Fault::Astray),
         },
-        None => Err(RunFault::Astray),
+        None => Err(Fault::Astray),
     }
 }
 
 /// The request to a disk that a predefined call makes.
-fn disk_call(call: Predefined, args: &mut [Value]) -> Result<DiskCall, RunFault> {
+fn disk_call(call: Predefined, args: &mut [Value]) -> Result<DiskCall, Fault> {
     let file = take_text(args, 0)?;
     match call {
         Predefined::ReadFile => {
@@ -98,7 +98,7 @@ fn disk_call(call: Predefined, args: &mut [Value]) -> Result<DiskCall, RunFault>
         }
         Predefined::SyncFile => Ok(DiskCall::Sync(file)),
         Predefined::FileSize => Ok(DiskCall::Size(file)),
-        _ => Err(RunFault::Astray),
+        _ => Err(Fault::Astray),
     }
 }
 
@@ -109,7 +109,7 @@ impl Process {
         actor: ActorId,
         goal: Goal,
         kind: Kind,
-    ) -> Result<CellId, RunFault> {
+    ) -> Result<CellId, Fault> {
         let cell = match kind {
             Kind::Promise | Kind::Future => self.heap.new_result()?,
             Kind::PromiseStream | Kind::FutureStream => self.heap.new_stream()?,
@@ -119,7 +119,7 @@ impl Process {
     }
 
     /// A single result for which the world has an open request.
-    pub(crate) fn gives_open(&mut self, actor: ActorId, goal: Goal) -> Result<CellId, RunFault> {
+    pub(crate) fn gives_open(&mut self, actor: ActorId, goal: Goal) -> Result<CellId, Fault> {
         let cell = self.gives_new(actor, goal, Kind::Future)?;
         self.hold(Kind::Promise, cell)?;
         self.heap.add_request(cell)?;
@@ -127,7 +127,7 @@ impl Process {
     }
 
     /// A stream for a port that nobody listens to.
-    pub(crate) fn gives_port(&mut self, actor: ActorId, goal: Goal) -> Result<CellId, RunFault> {
+    pub(crate) fn gives_port(&mut self, actor: ActorId, goal: Goal) -> Result<CellId, Fault> {
         let cell = self.gives_new(actor, goal, Kind::FutureStream)?;
         self.hold(Kind::PromiseStream, cell)?;
         self.heap.add_port(cell)?;
@@ -142,7 +142,7 @@ impl Process {
         goal: Goal,
         effect: Effectful,
         args: Vec<Value>,
-    ) -> Result<Step, RunFault> {
+    ) -> Result<Step, Fault> {
         match effect {
             Effectful::World(call) => self.world_effect(actor, goal, call, args),
             Effectful::Actor(class) => self.start(classes, actor, goal, class, args),
@@ -156,7 +156,7 @@ impl Process {
         goal: Goal,
         call: Predefined,
         args: Vec<Value>,
-    ) -> Result<Step, RunFault> {
+    ) -> Result<Step, Fault> {
         match call {
             Predefined::RandomInt => {
                 let lo = int_at(&args, 0)?;
@@ -176,7 +176,7 @@ impl Process {
     }
 
     // The arguments fill the first places of a new frame, and count.
-    fn fill_params(&mut self, actor: ActorId, args: Vec<Value>) -> Result<(), RunFault> {
+    fn fill_params(&mut self, actor: ActorId, args: Vec<Value>) -> Result<(), Fault> {
         let mut place: u32 = 0;
         for arg in args {
             self.hold_value(&arg)?;
@@ -192,19 +192,19 @@ impl Process {
         classes: &ClassProgram,
         class: u32,
         args: Vec<Value>,
-    ) -> Result<(ActorId, CellId), RunFault> {
+    ) -> Result<(ActorId, CellId), Fault> {
         let Some(code) = classes.class(class) else {
-            return Err(RunFault::Astray);
+            return Err(Fault::Astray);
         };
         let Some(places) = places_of(code) else {
-            return Err(RunFault::Astray);
+            return Err(Fault::Astray);
         };
         if args.len() != code.params as usize {
-            return Err(RunFault::Astray);
+            return Err(Fault::Astray);
         }
         let cell = self.heap.new_result()?;
         if !self.heap.may_start(Some(cell)) {
-            return Err(RunFault::Astray);
+            return Err(Fault::Astray);
         }
         let actor = self.heap.start(class, places, Some(cell))?;
         self.fill_params(actor, args)?;
@@ -217,13 +217,13 @@ impl Process {
         classes: &ClassProgram,
         class: u32,
         actor: ActorId,
-    ) -> Result<Step, RunFault> {
+    ) -> Result<Step, Fault> {
         match classes.class(class) {
             Some(code) => {
                 let name = code.name.copy(self.alloc)?;
                 Ok(Some(Call::Line(Line::Start(actor, name))))
             }
-            None => Err(RunFault::Astray),
+            None => Err(Fault::Astray),
         }
     }
 
@@ -235,7 +235,7 @@ impl Process {
         goal: Goal,
         class: u32,
         args: Vec<Value>,
-    ) -> Result<Step, RunFault> {
+    ) -> Result<Step, Fault> {
         if !self.turn() {
             return Ok(None);
         }

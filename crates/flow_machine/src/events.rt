@@ -2,7 +2,7 @@
 
 use crate::call::Step;
 use crate::effects::class_named;
-use crate::host::RunFault;
+use crate::errors::Fault;
 use crate::process::Process;
 use flow_base::ids::{CellId, ProcId};
 use flow_cancel::task::Task;
@@ -12,19 +12,15 @@ use flow_value::value::{Kind, Outcome, Value};
 impl Process {
     /// Calls `main` with the process's number, where no result of `main` is held: this one is from the moment that its cell
     /// is made.
-    pub(crate) fn call_main(
-        &mut self,
-        classes: &ClassProgram,
-        me: ProcId,
-    ) -> Result<Step, RunFault> {
+    pub(crate) fn call_main(&mut self, classes: &ClassProgram, me: ProcId) -> Result<Step, Fault> {
         if self.heap.main().is_some() {
-            return Err(RunFault::Astray);
+            return Err(Fault::Astray);
         }
         if !self.turn() {
             return Ok(None);
         }
         let Some(class) = class_named(&classes.raw().classes, b"main") else {
-            return Err(RunFault::Astray);
+            return Err(Fault::Astray);
         };
         let args = vec![in self.alloc; Value::Int(i64::from(me.0))]?;
         let (actor, cell) = self.enrol(classes, class, args)?;
@@ -35,9 +31,9 @@ impl Process {
     }
 
     /// The answer to an open request: its cell is set and fires, and then the request's promise is dropped.
-    pub(crate) fn answer(&mut self, cell: CellId, outcome: Outcome) -> Result<(), RunFault> {
+    pub(crate) fn answer(&mut self, cell: CellId, outcome: Outcome) -> Result<(), Fault> {
         if !self.heap.is_requested(cell) {
-            return Err(RunFault::Astray);
+            return Err(Fault::Astray);
         }
         self.heap.end_request(cell);
         self.heap.push(Task::Drop(Kind::Promise, cell))?;
@@ -45,12 +41,12 @@ impl Process {
     }
 
     /// An element comes to a port's stream, which fires.
-    pub(crate) fn bring(&mut self, cell: CellId, item: Value) -> Result<(), RunFault> {
+    pub(crate) fn bring(&mut self, cell: CellId, item: Value) -> Result<(), Fault> {
         self.give_in(Kind::PromiseStream, cell, Outcome::Value(item))
     }
 
     // A turn, and a cell gets content from outside.
-    fn give_in(&mut self, kind: Kind, cell: CellId, outcome: Outcome) -> Result<(), RunFault> {
+    fn give_in(&mut self, kind: Kind, cell: CellId, outcome: Outcome) -> Result<(), Fault> {
         if !self.turn() {
             return Ok(());
         }
@@ -59,7 +55,7 @@ impl Process {
     }
 
     /// The hold on the result of `main` is dropped, if there is one.
-    pub(crate) fn drop_main(&mut self) -> Result<(), RunFault> {
+    pub(crate) fn drop_main(&mut self) -> Result<(), Fault> {
         if let Some(cell) = self.heap.main() {
             self.heap.set_main(None);
             self.heap.push(Task::Drop(Kind::Future, cell))?;

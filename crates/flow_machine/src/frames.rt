@@ -1,6 +1,6 @@
 // The frames of a process: places, positions, and values that leave them.
 
-use crate::host::RunFault;
+use crate::errors::Fault;
 use crate::process::Process;
 use crate::seen::{Places, place_of};
 use flow_base::ids::{ActorId, ErrorCode};
@@ -39,13 +39,13 @@ impl Process {
         &self,
         classes: &'a ClassProgram,
         actor: ActorId,
-    ) -> Result<&'a Class, RunFault> {
+    ) -> Result<&'a Class, Fault> {
         if !self.heap.frames().contains(actor) {
-            return Err(RunFault::Astray);
+            return Err(Fault::Astray);
         }
         match classes.class(self.heap.frames().class(actor)) {
             Some(class) => Ok(class),
-            None => Err(RunFault::Astray),
+            None => Err(Fault::Astray),
         }
     }
 
@@ -55,13 +55,13 @@ impl Process {
         classes: &ClassProgram,
         actor: ActorId,
         group: u32,
-    ) -> Result<Home, RunFault> {
+    ) -> Result<Home, Fault> {
         if !self.heap.frames().contains(actor) {
-            return Err(RunFault::Astray);
+            return Err(Fault::Astray);
         }
         match classes.home(self.heap.frames().class(actor), group) {
             Some(home) => Ok(home),
-            None => Err(RunFault::Astray),
+            None => Err(Fault::Astray),
         }
     }
 
@@ -80,22 +80,17 @@ impl Process {
         actor: ActorId,
         place: u32,
         value: Option<Value>,
-    ) -> Result<Option<Value>, RunFault> {
+    ) -> Result<Option<Value>, Fault> {
         if !self.heap.frames().contains(actor) || place >= self.heap.frames().places(actor) {
-            return Err(RunFault::Astray);
+            return Err(Fault::Astray);
         }
         Ok(self.heap.frames_mut().set_slot(actor, place, value)?)
     }
 
     /// Has a frame go on at a block and an instruction of it.
-    pub(crate) fn go(
-        &mut self,
-        actor: ActorId,
-        block: u32,
-        instruction: u32,
-    ) -> Result<(), RunFault> {
+    pub(crate) fn go(&mut self, actor: ActorId, block: u32, instruction: u32) -> Result<(), Fault> {
         if !self.heap.frames().contains(actor) {
-            return Err(RunFault::Astray);
+            return Err(Fault::Astray);
         }
         self.heap.frames_mut().set_state(actor, 0);
         self.heap.frames_mut().set_at(actor, (block, instruction));
@@ -103,26 +98,26 @@ impl Process {
     }
 
     /// The block and the instruction at which a frame stands.
-    pub(crate) fn position(&self, actor: ActorId) -> Result<(u32, u32), RunFault> {
+    pub(crate) fn position(&self, actor: ActorId) -> Result<(u32, u32), Fault> {
         if !self.heap.frames().contains(actor) {
-            return Err(RunFault::Astray);
+            return Err(Fault::Astray);
         }
         Ok(self.heap.frames().at(actor))
     }
 
     /// Has a frame go on at its next instruction.
-    pub(crate) fn go_on(&mut self, actor: ActorId) -> Result<(), RunFault> {
+    pub(crate) fn go_on(&mut self, actor: ActorId) -> Result<(), Fault> {
         let (block, instruction) = self.position(actor)?;
         match instruction.checked_add(1) {
             Some(next) => self.go(actor, block, next),
-            None => Err(RunFault::Astray),
+            None => Err(Fault::Astray),
         }
     }
 
     // The number of the block in which a frame stands; where its actor waits, that of the wait.
-    fn block_number(&self, classes: &ClassProgram, actor: ActorId) -> Result<u32, RunFault> {
+    fn block_number(&self, classes: &ClassProgram, actor: ActorId) -> Result<u32, Fault> {
         if !self.heap.frames().contains(actor) {
-            return Err(RunFault::Astray);
+            return Err(Fault::Astray);
         }
         let state = self.heap.frames().state(actor);
         if state != 0 {
@@ -136,12 +131,12 @@ impl Process {
         &self,
         classes: &'a ClassProgram,
         actor: ActorId,
-    ) -> Result<(u32, &'a Block), RunFault> {
+    ) -> Result<(u32, &'a Block), Fault> {
         let class = self.class_of(classes, actor)?;
         let place = self.block_number(classes, actor)?;
         match class.blocks.get(place as usize) {
             Some(block) => Ok((place, block)),
-            None => Err(RunFault::Astray),
+            None => Err(Fault::Astray),
         }
     }
 
@@ -151,7 +146,7 @@ impl Process {
         actor: ActorId,
         place: u32,
         value: Value,
-    ) -> Result<(), RunFault> {
+    ) -> Result<(), Fault> {
         if let Some(old) = self.put(actor, place, Some(value))? {
             self.heap.push_drops(&old)?;
         }
@@ -166,16 +161,16 @@ impl Process {
         place: u32,
         path: &[Ident],
         value: Value,
-    ) -> Result<(), RunFault> {
+    ) -> Result<(), Fault> {
         let Some(root) = self.put(actor, place, None)? else {
-            return Err(RunFault::Astray);
+            return Err(Fault::Astray);
         };
         let Some(old) = read_in(records, &root, path) else {
-            return Err(RunFault::Astray);
+            return Err(Fault::Astray);
         };
         self.heap.push_drops(old)?;
         let Some(root) = put_in(records, root, path, value) else {
-            return Err(RunFault::Astray);
+            return Err(Fault::Astray);
         };
         self.put(actor, place, Some(root))?;
         Ok(())
@@ -188,13 +183,13 @@ impl Process {
         actor: ActorId,
         target: &Target,
         value: Value,
-    ) -> Result<(), RunFault> {
+    ) -> Result<(), Fault> {
         let class = self.class_of(classes, actor)?;
         let Some((first, path)) = target.path.split_first() else {
-            return Err(RunFault::Astray);
+            return Err(Fault::Astray);
         };
         let Some(place) = place_named(first.name.bytes()) else {
-            return Err(RunFault::Astray);
+            return Err(Fault::Astray);
         };
         let place = self.number_of(class, place)?;
         if path.is_empty() {
@@ -204,10 +199,10 @@ impl Process {
     }
 
     /// The number of a place of a class in its frames.
-    pub(crate) fn number_of(&self, class: &Class, place: Slotted) -> Result<u32, RunFault> {
+    pub(crate) fn number_of(&self, class: &Class, place: Slotted) -> Result<u32, Fault> {
         match place_of(slots_of(class), place) {
             Some(place) => Ok(place),
-            None => Err(RunFault::Astray),
+            None => Err(Fault::Astray),
         }
     }
 
@@ -217,7 +212,7 @@ impl Process {
         class: &Class,
         actor: ActorId,
         locals: &[u32],
-    ) -> Result<Vec<Value>, RunFault> {
+    ) -> Result<Vec<Value>, Fault> {
         let mut values = Vec::new(self.alloc);
         for local in locals {
             let place = self.number_of(class, Slotted::Local(*local))?;
@@ -235,7 +230,7 @@ impl Process {
         class: &Class,
         actor: ActorId,
         locals: &[u32],
-    ) -> Result<(), RunFault> {
+    ) -> Result<(), Fault> {
         let mut values = self.taken(class, actor, locals)?;
         while let Some(value) = values.pop() {
             self.heap.push_drops(&value)?;
@@ -244,9 +239,9 @@ impl Process {
     }
 
     // The places from one on are emptied, and what they held is dropped, that of the last place first.
-    fn empty_from(&mut self, actor: ActorId, first: u32) -> Result<(), RunFault> {
+    fn empty_from(&mut self, actor: ActorId, first: u32) -> Result<(), Fault> {
         if !self.heap.frames().contains(actor) {
-            return Err(RunFault::Astray);
+            return Err(Fault::Astray);
         }
         for place in first..self.heap.frames().places(actor) {
             if let Some(value) = self.put(actor, place, None)? {
@@ -257,12 +252,12 @@ impl Process {
     }
 
     /// All locals are emptied, and what they held is dropped by falling number.
-    pub(crate) fn lose_locals(&mut self, class: &Class, actor: ActorId) -> Result<(), RunFault> {
+    pub(crate) fn lose_locals(&mut self, class: &Class, actor: ActorId) -> Result<(), Fault> {
         self.empty_from(actor, slots_of(class))
     }
 
     /// All places are emptied, and what they held is dropped, by falling number, the locals before the slots.
-    pub(crate) fn lose_all(&mut self, actor: ActorId) -> Result<(), RunFault> {
+    pub(crate) fn lose_all(&mut self, actor: ActorId) -> Result<(), Fault> {
         self.empty_from(actor, 0)
     }
 
@@ -273,7 +268,7 @@ impl Process {
         actor: ActorId,
         local: u32,
         error: ErrorCode,
-    ) -> Result<(), RunFault> {
+    ) -> Result<(), Fault> {
         let place = self.number_of(class, Slotted::Local(local))?;
         self.put(actor, place, Some(Value::Error(error)))?;
         Ok(())

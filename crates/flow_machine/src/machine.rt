@@ -42,19 +42,24 @@ impl Machine {
         self.processes
     }
 
-    /// Calls `main` with the process's number, in a process that doesn't hold a result of `main`: it holds this one from the
-    /// moment that its cell is made. Then everything is done that follows.
+    /// Calls `main` with the process's number, and does all that follows: `Rested` where nothing is left to do, `Spent` where
+    /// a turn is needed and none is left. `Failed` comes only where the host's count of faults rose. `Astray` comes
+    /// where a result of `main` is held already, or where the classes lead to where no valid class comes.
     pub fn start_main<H: Host>(
         &mut self,
         classes: &ClassProgram,
         now: u64,
         turns: u32,
         host: &mut H,
-    ) -> Result<Burst, RunFault> {
+    ) -> Result<Burst, RunFault>
+        requires { H.processes host.old ≡ self.old.processes }
+        ensures cause { RunCause (H.faults host.old) (H.faults host.new) result }
+        ensures host { H.processes host.new ≡ H.processes host.old }
+        ensures processes { self.new.processes ≡ self.old.processes }
+    {
         self.process.begin(now, turns);
-        match self.process.call_main(classes, self.me)? {
-            Some(call) => ask(&mut self.process, self.processes, call, host)?,
-            None => (),
+        if let Some(call) = self.process.call_main(classes, self.me)? {
+            ask(&mut self.process, self.processes, call, host)?;
         }
         burst(&mut self.process, self.processes, classes, host)
     }
@@ -68,7 +73,12 @@ impl Machine {
         now: u64,
         turns: u32,
         host: &mut H,
-    ) -> Result<Burst, RunFault> {
+    ) -> Result<Burst, RunFault>
+        requires { H.processes host.old ≡ self.old.processes }
+        ensures cause { RunCause (H.faults host.old) (H.faults host.new) result }
+        ensures host { H.processes host.new ≡ H.processes host.old }
+        ensures processes { self.new.processes ≡ self.old.processes }
+    {
         self.process.begin(now, turns);
         self.process.answer(cell, outcome)?;
         burst(&mut self.process, self.processes, classes, host)
@@ -83,7 +93,12 @@ impl Machine {
         now: u64,
         turns: u32,
         host: &mut H,
-    ) -> Result<Burst, RunFault> {
+    ) -> Result<Burst, RunFault>
+        requires { H.processes host.old ≡ self.old.processes }
+        ensures cause { RunCause (H.faults host.old) (H.faults host.new) result }
+        ensures host { H.processes host.new ≡ H.processes host.old }
+        ensures processes { self.new.processes ≡ self.old.processes }
+    {
         self.process.begin(now, turns);
         self.process.bring(cell, item)?;
         burst(&mut self.process, self.processes, classes, host)
@@ -96,14 +111,21 @@ impl Machine {
         now: u64,
         turns: u32,
         host: &mut H,
-    ) -> Result<Burst, RunFault> {
+    ) -> Result<Burst, RunFault>
+        requires { H.processes host.old ≡ self.old.processes }
+        ensures cause { RunCause (H.faults host.old) (H.faults host.new) result }
+        ensures host { H.processes host.new ≡ H.processes host.old }
+        ensures processes { self.new.processes ≡ self.old.processes }
+    {
         self.process.begin(now, turns);
         self.process.drop_main()?;
         burst(&mut self.process, self.processes, classes, host)
     }
 
     /// A loss of power: everything goes but the numbers given so far.
-    pub fn vanish(&mut self) {
+    pub fn vanish(&mut self)
+        ensures { self.new.processes ≡ self.old.processes }
+    {
         self.process.vanish();
     }
 

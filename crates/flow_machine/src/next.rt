@@ -2,8 +2,8 @@
 
 use crate::call::{Call, Goal, Step};
 use crate::effects::{Effectful, effect_in};
+use crate::errors::Fault;
 use crate::frames::group_of;
-use crate::host::RunFault;
 use crate::process::Process;
 use crate::seen::Contents;
 use flow_ast::predefined::{predefined_call, predefined_method};
@@ -68,7 +68,7 @@ impl Process {
         actor: ActorId,
         came_to: Result<T, Halt>,
         left: u32,
-    ) -> Result<Found<T>, RunFault> {
+    ) -> Result<Found<T>, Fault> {
         self.left = left;
         match came_to {
             Ok(value) => Ok(Found::Value(value)),
@@ -80,8 +80,8 @@ impl Process {
                 self.spent = true;
                 Ok(Found::Stopped)
             }
-            Err(Halt::NoMeaning) => Err(RunFault::Astray),
-            Err(Halt::OutOfMemory) => Err(RunFault::OutOfMemory),
+            Err(Halt::NoMeaning) => Err(Fault::Astray),
+            Err(Halt::OutOfMemory) => Err(Fault::OutOfMemory),
         }
     }
 
@@ -91,7 +91,7 @@ impl Process {
         classes: &ClassProgram,
         actor: ActorId,
         expr: &Expr,
-    ) -> Result<Found<Value>, RunFault> {
+    ) -> Result<Found<Value>, Fault> {
         let class = self.class_of(classes, actor)?;
         let mut turns = Turns { left: self.left };
         let came_to = {
@@ -117,7 +117,7 @@ impl Process {
         classes: &ClassProgram,
         actor: ActorId,
         args: &[Expr],
-    ) -> Result<Found<Vec<Value>>, RunFault> {
+    ) -> Result<Found<Vec<Value>>, Fault> {
         let class = self.class_of(classes, actor)?;
         let mut turns = Turns { left: self.left };
         let came_to = {
@@ -138,7 +138,7 @@ impl Process {
     }
 
     /// An actor takes its next step, by its instruction.
-    pub(crate) fn run(&mut self, classes: &ClassProgram, actor: ActorId) -> Result<Step, RunFault> {
+    pub(crate) fn run(&mut self, classes: &ClassProgram, actor: ActorId) -> Result<Step, Fault> {
         let (_, block) = self.block_of(classes, actor)?;
         let (_, instruction) = self.position(actor)?;
         if let Some(instr) = block.body.get(instruction as usize) {
@@ -147,7 +147,7 @@ impl Process {
         if instruction as usize == block.body.len() {
             return self.last(classes, actor, &block.last);
         }
-        Err(RunFault::Astray)
+        Err(Fault::Astray)
     }
 
     fn instruction(
@@ -155,14 +155,14 @@ impl Process {
         classes: &ClassProgram,
         actor: ActorId,
         instr: &Instr,
-    ) -> Result<Step, RunFault> {
+    ) -> Result<Step, Fault> {
         match instr {
             Instr::Set(target, expr) => self.set_path(classes, actor, target, expr),
             Instr::Effect(_, expr) => match effect_in(classes, expr) {
                 Some((effect, args)) => {
                     self.ask_effect(classes, actor, Goal::Stored, effect, args)
                 }
-                None => Err(RunFault::Astray),
+                None => Err(Fault::Astray),
             },
             Instr::New(place) => self.new_promise(classes, actor, *place),
             Instr::Act(target, args) => self.act(classes, actor, target, args),
@@ -183,7 +183,7 @@ impl Process {
         actor: ActorId,
         target: &Target,
         expr: &Expr,
-    ) -> Result<Step, RunFault> {
+    ) -> Result<Step, Fault> {
         let Found::Value(value) = self.value(classes, actor, expr)? else {
             return Ok(None);
         };
@@ -202,7 +202,7 @@ impl Process {
         goal: Goal,
         effect: Effectful,
         args: &[Expr],
-    ) -> Result<Step, RunFault> {
+    ) -> Result<Step, Fault> {
         match self.values(classes, actor, args)? {
             Found::Value(args) => self.effect(classes, actor, goal, effect, args),
             Found::Stopped => Ok(None),
@@ -215,14 +215,14 @@ impl Process {
         classes: &ClassProgram,
         actor: ActorId,
         place: Slotted,
-    ) -> Result<Step, RunFault> {
+    ) -> Result<Step, Fault> {
         let class = self.class_of(classes, actor)?;
         match type_at(class, place).and_then(promise_kind) {
             Some(kind) => {
                 self.gives_new(actor, Goal::Stored, kind)?;
                 Ok(None)
             }
-            None => Err(RunFault::Astray),
+            None => Err(Fault::Astray),
         }
     }
 
@@ -233,9 +233,9 @@ impl Process {
         actor: ActorId,
         target: &Target,
         args: &[Expr],
-    ) -> Result<Step, RunFault> {
+    ) -> Result<Step, Fault> {
         let Some((last, before)) = target.path.split_last() else {
-            return Err(RunFault::Astray);
+            return Err(Fault::Astray);
         };
         let Found::Value(args) = self.values(classes, actor, args)? else {
             return Ok(None);
@@ -246,10 +246,10 @@ impl Process {
         };
         let class = self.class_of(classes, actor)?;
         let Some((kind, cell)) = self.reference_at(classes, class, actor, first, path) else {
-            return Err(RunFault::Astray);
+            return Err(Fault::Astray);
         };
         let Some(method) = predefined_method(name) else {
-            return Err(RunFault::Astray);
+            return Err(Fault::Astray);
         };
         self.go_on(actor)?;
         self.method_act(actor, method, kind, cell, args)
@@ -279,7 +279,7 @@ impl Process {
         actor: ActorId,
         name: &[u8],
         args: Vec<Value>,
-    ) -> Result<Step, RunFault> {
+    ) -> Result<Step, Fault> {
         if let Some(call) = predefined_call(name) {
             self.go_on(actor)?;
             return self.predefined_act(actor, call, args);
@@ -290,7 +290,7 @@ impl Process {
             .position(|function| function.name.name.bytes() == name);
         match place {
             Some(place) => self.call_function(classes, actor, place, args),
-            None => Err(RunFault::Astray),
+            None => Err(Fault::Astray),
         }
     }
 
@@ -300,9 +300,9 @@ impl Process {
         actor: ActorId,
         function: usize,
         args: Vec<Value>,
-    ) -> Result<Step, RunFault> {
+    ) -> Result<Step, Fault> {
         if function >= classes.raw().functions.len() {
-            return Err(RunFault::Astray);
+            return Err(Fault::Astray);
         }
         let mut turns = Turns { left: self.left };
         let came_to = {
@@ -322,12 +322,7 @@ impl Process {
         }
     }
 
-    fn last(
-        &mut self,
-        classes: &ClassProgram,
-        actor: ActorId,
-        last: &Last,
-    ) -> Result<Step, RunFault> {
+    fn last(&mut self, classes: &ClassProgram, actor: ActorId, last: &Last) -> Result<Step, Fault> {
         match last {
             Last::Goto(block) => {
                 self.go(actor, *block, 0)?;
@@ -350,7 +345,7 @@ impl Process {
                     self.throw(actor, error)?;
                     Ok(None)
                 }
-                Found::Value(_) => Err(RunFault::Astray),
+                Found::Value(_) => Err(Fault::Astray),
                 Found::Stopped => Ok(None),
             },
         }
@@ -363,11 +358,11 @@ impl Process {
         expr: &Expr,
         yes: u32,
         no: u32,
-    ) -> Result<Step, RunFault> {
+    ) -> Result<Step, Fault> {
         let next = match self.value(classes, actor, expr)? {
             Found::Value(Value::Bool(true)) => yes,
             Found::Value(Value::Bool(false)) => no,
-            Found::Value(_) => return Err(RunFault::Astray),
+            Found::Value(_) => return Err(Fault::Astray),
             Found::Stopped => return Ok(None),
         };
         self.go(actor, next, 0)?;
@@ -381,12 +376,12 @@ impl Process {
         classes: &ClassProgram,
         actor: ActorId,
         group: u32,
-    ) -> Result<Step, RunFault> {
+    ) -> Result<Step, Fault> {
         let class = self.class_of(classes, actor)?;
         let home = self.home_of(classes, actor, group)?;
         let kept = self.operands(actor);
         let Some(branches) = group_of(class, group) else {
-            return Err(RunFault::Astray);
+            return Err(Fault::Astray);
         };
         let Some(callback) = branches.callbacks.get(kept) else {
             return self.wait(classes, actor, group);
@@ -403,7 +398,7 @@ impl Process {
         actor: ActorId,
         number: u32,
         callback: &Callback,
-    ) -> Result<Step, RunFault> {
+    ) -> Result<Step, Fault> {
         if let Some((effect, args)) = effect_in(classes, &callback.operand) {
             return self.ask_effect(classes, actor, Goal::Kept(number), effect, args);
         }
@@ -414,7 +409,7 @@ impl Process {
                 self.heap.push(Task::Keep(actor, number, cell))?;
                 Ok(None)
             }
-            Found::Value(_) => Err(RunFault::Astray),
+            Found::Value(_) => Err(Fault::Astray),
             Found::Stopped => Ok(None),
         }
     }
@@ -425,7 +420,7 @@ impl Process {
         classes: &ClassProgram,
         actor: ActorId,
         expr: &Expr,
-    ) -> Result<Step, RunFault> {
+    ) -> Result<Step, Fault> {
         let Found::Value(value) = self.value(classes, actor, expr)? else {
             return Ok(None);
         };

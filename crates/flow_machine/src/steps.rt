@@ -1,8 +1,8 @@
 // The steps of a process: the newest task is done.
 
 use crate::call::{Call, Step};
+use crate::errors::Fault;
 use crate::frames::group_of;
-use crate::host::RunFault;
 use crate::process::Process;
 use flow_base::ids::{ActorId, CellId, ErrorCode};
 use flow_cancel::task::Task;
@@ -28,7 +28,7 @@ fn callback_at(class: &Class, group: u32, branch: u32) -> Option<&Callback> {
 
 impl Process {
     /// Does a task that was the newest, and says what it asks of the world.
-    pub(crate) fn do_task(&mut self, classes: &ClassProgram, task: Task) -> Result<Step, RunFault> {
+    pub(crate) fn do_task(&mut self, classes: &ClassProgram, task: Task) -> Result<Step, Fault> {
         match task {
             Task::Run(actor) => self.run(classes, actor),
             Task::Give(actor, branch, outcome) => {
@@ -59,7 +59,7 @@ impl Process {
         actor: ActorId,
         branch: u32,
         outcome: Outcome,
-    ) -> Result<Step, RunFault> {
+    ) -> Result<Step, Fault> {
         let value = match outcome {
             Outcome::Value(value) => value,
             Outcome::Error(error) => {
@@ -70,7 +70,7 @@ impl Process {
         let class = self.class_of(classes, actor)?;
         let group = self.group_of(classes, actor)?;
         let Some(callback) = callback_at(class, group, branch) else {
-            return Err(RunFault::Astray);
+            return Err(Fault::Astray);
         };
         self.heap.push(Task::Run(actor))?;
         self.bind(classes, actor, callback, value)?;
@@ -85,7 +85,7 @@ impl Process {
         actor: ActorId,
         callback: &Callback,
         value: Value,
-    ) -> Result<(), RunFault> {
+    ) -> Result<(), Fault> {
         let class = self.class_of(classes, actor)?;
         match callback.into {
             Some(place) => {
@@ -102,7 +102,7 @@ impl Process {
         classes: &ClassProgram,
         actor: ActorId,
         value: Value,
-    ) -> Result<Step, RunFault> {
+    ) -> Result<Step, Fault> {
         let class = self.class_of(classes, actor)?;
         let (_, block) = self.block_of(classes, actor)?;
         let (_, instruction) = self.position(actor)?;
@@ -112,7 +112,7 @@ impl Process {
                 let place = self.number_of(class, *place)?;
                 self.replace(actor, place, value)?;
             }
-            _ => return Err(RunFault::Astray),
+            _ => return Err(Fault::Astray),
         }
         self.go_on(actor)?;
         Ok(None)
@@ -125,7 +125,7 @@ impl Process {
         classes: &ClassProgram,
         actor: ActorId,
         error: ErrorCode,
-    ) -> Result<Step, RunFault> {
+    ) -> Result<Step, Fault> {
         let (_, block) = self.block_of(classes, actor)?;
         match &block.catcher {
             Some(catcher) => self.caught(classes, actor, catcher, error)?,
@@ -145,7 +145,7 @@ impl Process {
         actor: ActorId,
         catcher: &Catcher,
         error: ErrorCode,
-    ) -> Result<(), RunFault> {
+    ) -> Result<(), Fault> {
         let class = self.class_of(classes, actor)?;
         self.heap.push(Task::Catch(actor, error))?;
         self.drop_locals(class, actor, &catcher.drops)?;
@@ -157,9 +157,9 @@ impl Process {
     }
 
     /// The operands of an actor leave all cells, and are dropped.
-    pub(crate) fn leave(&mut self, actor: ActorId) -> Result<(), RunFault> {
+    pub(crate) fn leave(&mut self, actor: ActorId) -> Result<(), Fault> {
         if !self.heap.frames().contains(actor) {
-            return Err(RunFault::Astray);
+            return Err(Fault::Astray);
         }
         Ok(self.heap.withdraw(actor)?)
     }
@@ -187,9 +187,9 @@ impl Process {
 
     // The oldest waiter takes its branch, and the fire goes on after it. It ends, without a turn, where no waiter is left
     // or, on a stream, neither element nor end.
-    fn fire(&mut self, classes: &ClassProgram, cell: CellId) -> Result<Step, RunFault> {
+    fn fire(&mut self, classes: &ClassProgram, cell: CellId) -> Result<Step, Fault> {
         let Some(kind) = self.kind_at(cell) else {
-            return Err(RunFault::Astray);
+            return Err(Fault::Astray);
         };
         let Some(waiter) = self.next_waiter(kind, cell) else {
             return self.lose(kind, cell);
@@ -201,7 +201,7 @@ impl Process {
 
     // The actor is gone: a turn and the line; then its result is set, where a future refers to it, and otherwise the cell
     // goes and the value is dropped.
-    fn close(&mut self, actor: ActorId, outcome: Outcome) -> Result<Step, RunFault> {
+    fn close(&mut self, actor: ActorId, outcome: Outcome) -> Result<Step, Fault> {
         let result = self.forget(actor)?;
         if !self.turn() {
             return Ok(None);
@@ -219,9 +219,9 @@ impl Process {
     }
 
     // The frame of an actor is closed, and its result is told.
-    fn forget(&mut self, actor: ActorId) -> Result<Option<CellId>, RunFault> {
+    fn forget(&mut self, actor: ActorId) -> Result<Option<CellId>, Fault> {
         if !self.heap.unfinished(actor) || !self.heap.may_finish(actor) {
-            return Err(RunFault::Astray);
+            return Err(Fault::Astray);
         }
         let result = self.heap.result(actor);
         self.heap.finish(actor);
@@ -229,7 +229,7 @@ impl Process {
     }
 
     // A turn, and the result is set and fires. The actor's own promise counts no more.
-    fn set_result(&mut self, cell: CellId, outcome: Outcome) -> Result<(), RunFault> {
+    fn set_result(&mut self, cell: CellId, outcome: Outcome) -> Result<(), Fault> {
         if !self.turn() {
             return Ok(());
         }
@@ -238,12 +238,12 @@ impl Process {
     }
 
     // A promise of a single result counts no more, where others or futures do.
-    fn end_promise(&mut self, cell: CellId) -> Result<(), RunFault> {
+    fn end_promise(&mut self, cell: CellId) -> Result<(), Fault> {
         let Some(references) = self.heap.cells().references(cell) else {
-            return Err(RunFault::Astray);
+            return Err(Fault::Astray);
         };
         if references.count(Side::Promise) == 0 {
-            return Err(RunFault::Astray);
+            return Err(Fault::Astray);
         }
         self.heap.cells_mut().release(cell, Side::Promise);
         Ok(())

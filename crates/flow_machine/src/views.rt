@@ -1,5 +1,7 @@
 // What is told of a process between bursts.
 
+ghost use Rattle.std.specs.Prelude.{◌<◌, IfSome};
+
 use crate::process::Process;
 use flow_base::ids::{ActorId, CellId};
 use flow_base::memory::NoMemory;
@@ -39,7 +41,9 @@ fn add_callbacks(
 
 impl Process {
     // The first frame of an actor above this one.
-    fn frame_above(&self, last: ActorId) -> Option<FrameView> {
+    fn frame_above(&self, last: ActorId) -> Option<FrameView>
+        ensures { IfSome result (λ v. last.0 < v.actor.0) }
+    {
         let actor = self.heap.frames().next_actor(last)?;
         if actor.0 <= last.0 || !self.heap.frames().contains(actor) {
             return None;

@@ -1,7 +1,7 @@
 // What a process does to its own state: turns, tasks, counts of references, cells, waits and cancelling.
 
 use crate::call::{Call, Goal, Step};
-use crate::host::RunFault;
+use crate::errors::Fault;
 use crate::process::Process;
 use flow_base::errors::BROKEN_PROMISE;
 use flow_base::ids::{ActorId, CellId, ErrorCode};
@@ -30,41 +30,41 @@ impl Process {
     }
 
     /// An error is thrown where an actor stands.
-    pub(crate) fn throw(&mut self, actor: ActorId, error: ErrorCode) -> Result<(), RunFault> {
+    pub(crate) fn throw(&mut self, actor: ActorId, error: ErrorCode) -> Result<(), Fault> {
         Ok(self.heap.push(Task::Throw(actor, error))?)
     }
 
     /// An actor takes its next step after all that comes on top.
-    pub(crate) fn run_on(&mut self, actor: ActorId) -> Result<(), RunFault> {
+    pub(crate) fn run_on(&mut self, actor: ActorId) -> Result<(), Fault> {
         Ok(self.heap.push(Task::Run(actor))?)
     }
 
     // A reference to a side of a single result counts.
-    fn hold_cell(&mut self, side: Side, cell: CellId) -> Result<(), RunFault> {
+    fn hold_cell(&mut self, side: Side, cell: CellId) -> Result<(), Fault> {
         let Some(references) = self.heap.cells().references(cell) else {
-            return Err(RunFault::Astray);
+            return Err(Fault::Astray);
         };
         if references.count(side) >= COUNTS {
-            return Err(RunFault::OutOfMemory);
+            return Err(Fault::OutOfMemory);
         }
         self.heap.cells_mut().hold(cell, side);
         Ok(())
     }
 
     // A reference to a side of a stream counts.
-    fn hold_stream(&mut self, side: Side, cell: CellId) -> Result<(), RunFault> {
+    fn hold_stream(&mut self, side: Side, cell: CellId) -> Result<(), Fault> {
         let Some(references) = self.heap.streams().references(cell) else {
-            return Err(RunFault::Astray);
+            return Err(Fault::Astray);
         };
         if references.count(side) >= COUNTS {
-            return Err(RunFault::OutOfMemory);
+            return Err(Fault::OutOfMemory);
         }
         self.heap.streams_mut().hold(cell, side);
         Ok(())
     }
 
     /// A reference is stored: it counts.
-    pub(crate) fn hold(&mut self, kind: Kind, cell: CellId) -> Result<(), RunFault> {
+    pub(crate) fn hold(&mut self, kind: Kind, cell: CellId) -> Result<(), Fault> {
         match kind {
             Kind::Promise | Kind::Future => self.hold_cell(side_of(kind), cell),
             Kind::PromiseStream | Kind::FutureStream => self.hold_stream(side_of(kind), cell),
@@ -72,7 +72,7 @@ impl Process {
     }
 
     /// A value is stored: its references count.
-    pub(crate) fn hold_value(&mut self, value: &Value) -> Result<(), RunFault> {
+    pub(crate) fn hold_value(&mut self, value: &Value) -> Result<(), Fault> {
         match value {
             Value::Struct(_, fields) => {
                 for field in fields {
@@ -87,7 +87,7 @@ impl Process {
         }
     }
 
-    pub(crate) fn hold_outcome(&mut self, outcome: &Outcome) -> Result<(), RunFault> {
+    pub(crate) fn hold_outcome(&mut self, outcome: &Outcome) -> Result<(), Fault> {
         match outcome {
             Outcome::Value(value) => self.hold_value(value),
             Outcome::Error(_) => Ok(()),
@@ -95,7 +95,7 @@ impl Process {
     }
 
     /// What an outcome holds is dropped.
-    pub(crate) fn drop_outcome(&mut self, outcome: &Outcome) -> Result<(), RunFault> {
+    pub(crate) fn drop_outcome(&mut self, outcome: &Outcome) -> Result<(), Fault> {
         match outcome {
             Outcome::Value(value) => Ok(self.heap.push_drops(value)?),
             Outcome::Error(_) => Ok(()),
@@ -103,20 +103,20 @@ impl Process {
     }
 
     // A single result is set.
-    fn set(&mut self, cell: CellId, outcome: Outcome) -> Result<(), RunFault> {
+    fn set(&mut self, cell: CellId, outcome: Outcome) -> Result<(), Fault> {
         if self.heap.cells().references(cell).is_none()
             || self.heap.cells().content(cell).is_some()
         {
-            return Err(RunFault::Astray);
+            return Err(Fault::Astray);
         }
         self.heap.cells_mut().set(cell, outcome);
         Ok(())
     }
 
     // A stream gets an element or its end.
-    fn send(&mut self, cell: CellId, outcome: Outcome) -> Result<(), RunFault> {
+    fn send(&mut self, cell: CellId, outcome: Outcome) -> Result<(), Fault> {
         if self.heap.streams().references(cell).is_none() || self.heap.streams().ended(cell) {
-            return Err(RunFault::Astray);
+            return Err(Fault::Astray);
         }
         match outcome {
             Outcome::Value(value) => self.heap.streams_mut().push(cell, value)?,
@@ -126,12 +126,7 @@ impl Process {
     }
 
     /// The cell of a kind of reference, to which more can be sent, gets content that counts already, and fires.
-    pub(crate) fn fill(
-        &mut self,
-        kind: Kind,
-        cell: CellId,
-        outcome: Outcome,
-    ) -> Result<(), RunFault> {
+    pub(crate) fn fill(&mut self, kind: Kind, cell: CellId, outcome: Outcome) -> Result<(), Fault> {
         match kind {
             Kind::Promise | Kind::Future => {
                 self.set(cell, outcome)?;
@@ -146,12 +141,7 @@ impl Process {
     }
 
     /// The result of an effect goes where it belongs, and the actor goes on after that.
-    pub(crate) fn gives(
-        &mut self,
-        actor: ActorId,
-        goal: Goal,
-        value: Value,
-    ) -> Result<(), RunFault> {
+    pub(crate) fn gives(&mut self, actor: ActorId, goal: Goal, value: Value) -> Result<(), Fault> {
         self.hold_value(&value)?;
         self.heap.push(Task::Run(actor))?;
         match (goal, value) {
@@ -162,15 +152,15 @@ impl Process {
             (Goal::Kept(callback), Value::Ref(_, cell)) => {
                 self.heap.push(Task::Keep(actor, callback, cell))?;
             }
-            (Goal::Kept(_), _) => return Err(RunFault::Astray),
+            (Goal::Kept(_), _) => return Err(Fault::Astray),
         }
         Ok(())
     }
 
     /// A reference counts no more, and what that leads to is done.
-    pub(crate) fn lose(&mut self, kind: Kind, cell: CellId) -> Result<Step, RunFault> {
+    pub(crate) fn lose(&mut self, kind: Kind, cell: CellId) -> Result<Step, Fault> {
         if !self.heap.may_drop(kind, cell) {
-            return Err(RunFault::Astray);
+            return Err(Fault::Astray);
         }
         match self.heap.drop_ref(kind, cell)? {
             Dropped::Nothing | Dropped::Freed => Ok(None),
@@ -181,7 +171,7 @@ impl Process {
     }
 
     // A cell is broken: a turn, the line, and the error of a broken promise.
-    fn break_cell(&mut self, kind: Kind, cell: CellId) -> Result<Step, RunFault> {
+    fn break_cell(&mut self, kind: Kind, cell: CellId) -> Result<Step, Fault> {
         if !self.turn() {
             return Ok(None);
         }
@@ -190,16 +180,16 @@ impl Process {
     }
 
     /// An unfinished and unmarked actor is cancelled.
-    pub(crate) fn cancel(&mut self, actor: ActorId) -> Result<Step, RunFault> {
+    pub(crate) fn cancel(&mut self, actor: ActorId) -> Result<Step, Fault> {
         if !self.heap.unfinished(actor) || !self.heap.frames().contains(actor) {
-            return Err(RunFault::Astray);
+            return Err(Fault::Astray);
         }
         self.heap.cancel(actor)?;
         Ok(Some(Call::Line(Line::Cancel(actor))))
     }
 
     /// The unfinished and unmarked actor whose result a cell is, if there is one, is cancelled.
-    pub(crate) fn cancel_owner(&mut self, cell: CellId) -> Result<Step, RunFault> {
+    pub(crate) fn cancel_owner(&mut self, cell: CellId) -> Result<Step, Fault> {
         let Some(actor) = self.heap.owner(cell) else {
             return Ok(None);
         };

@@ -1,6 +1,6 @@
 // The world around a process in its event.
 
-ghost use Rattle.std.specs.Prelude.{IsErrOf};
+ghost use Rattle.std.specs.Prelude.{◌<◌, IsErrOf};
 ghost use Rattle.flow_base.specs.declared.fault.OutFault.TheVariants.{Failed};
 
 use crate::asked::Asked;
@@ -22,6 +22,7 @@ pub struct Around<'a, L: LineOut> {
     pub ports: &'a mut Ports,
     pub outside: &'a mut Outside,
     pub out: &'a mut L,
+    ghost mine: { me.0 < outside.now.net.processes },
 }
 
 impl<'a, L: LineOut> Drop for Around<'a, L> {

@@ -1,8 +1,10 @@
 // The world.
 
-ghost use Rattle.std.specs.Prelude.{◌≡◌, IfOk, OnErr};
+ghost use Rattle.std.specs.Prelude.{◌≡◌, false, IfOk, IsErrOf};
+ghost use Rattle.flow_machine.specs.declared.host.RunFault.TheVariants.{Failed};
 ghost use Rattle.flow_worldfile.specs.Worlds.{IsInRange, seen};
 ghost use Rattle.flow_machine.specs.Cause.{RunCause};
+ghost use Rattle.flow_world.specs.Ending.{is_ended_by};
 
 use crate::around::Around;
 use crate::asked::Asked;
@@ -27,6 +29,7 @@ use flow_trace::out::LineOut;
 use flow_value::value::{Outcome, RecordId, Value};
 use flow_worldfile::{Act, World0};
 use std::alloc::Global;
+use std::marker::Model;
 
 /// A process: whether it is up, what it holds, and its ports.
 #[derive(Drop)]
@@ -50,6 +53,14 @@ pub struct World {
     ended: bool,
 }
 
+impl Model for World {
+    ghost use Rattle.flow_world.specs.Ending.{Seen};
+
+    ghost Value = { Seen };
+
+    ghost view = { λ w. record { ended = w.ended } };
+}
+
 /// What an event does to its process, once its line is put.
 #[derive(Drop)]
 enum Deed {
@@ -63,6 +74,7 @@ impl World {
     /// A world before its first event: each process is down, and a boot of each is pending at time 0.
     pub fn start(alloc: Global, classes: ClassProgram, world: World0) -> Result<World, NoMemory>
         requires { IsInRange (seen world) }
+        ensures { IfOk result (λ w. w.ended ≡ false) }
     {
         let mut processes = Vec::new(alloc);
         let mut disks = Vec::new(alloc);
@@ -104,14 +116,25 @@ impl World {
         &self.classes
     }
 
+    /// How many processes there are.
+    pub fn processes(&self) -> u8 {
+        self.outside.net.processes()
+    }
+
     /// Whether an event was spent or broke off: none may follow.
-    pub fn ended(&self) -> bool {
+    pub fn ended(&self) -> bool
+        ensures { result ≡ self.now.ended }
+    {
         self.ended
     }
 
     /// Runs the next event and puts its lines. With no event pending and no line of the script left it is idle, and else,
     /// with as many events run as the bound, the bound is reached; neither puts a line, and both are answered again.
-    pub fn event<L: LineOut>(&mut self, out: &mut L) -> Result<Event, RunFault> {
+    pub fn event<L: LineOut>(&mut self, out: &mut L) -> Result<Event, RunFault>
+        requires { self.old.ended ≡ false }
+        ensures cause { RunCause (L.faults out.old) (L.faults out.new) result }
+        ensures ended { self.new.ended ≡ is_ended_by result }
+    {
         let Some((time, scripted)) = self.next_time() else {
             return Ok(Event::Idle);
         };
@@ -157,7 +180,9 @@ impl World {
     }
 
     /// A line of the script.
-    fn scripted<L: LineOut>(&mut self, out: &mut L) -> Result<Burst, RunFault> {
+    fn scripted<L: LineOut>(&mut self, out: &mut L) -> Result<Burst, RunFault>
+        ensures { RunCause (L.faults out.old) (L.faults out.new) result }
+    {
         let Some(act) = self.script.next() else {
             return Err(RunFault::Astray);
         };
@@ -186,7 +211,9 @@ impl World {
     }
 
     /// The next pending event.
-    fn pending<L: LineOut>(&mut self, out: &mut L) -> Result<Burst, RunFault> {
+    fn pending<L: LineOut>(&mut self, out: &mut L) -> Result<Burst, RunFault>
+        ensures { RunCause (L.faults out.old) (L.faults out.new) result }
+    {
         let Some((time, number)) = self.outside.timers.first() else {
             return Err(RunFault::Astray);
         };
@@ -205,13 +232,17 @@ impl World {
     }
 
     /// A process boots, unless it holds its `main`.
-    fn boots<L: LineOut>(&mut self, p: ProcId, out: &mut L) -> Result<Burst, RunFault> {
+    fn boots<L: LineOut>(&mut self, p: ProcId, out: &mut L) -> Result<Burst, RunFault>
+        ensures { RunCause (L.faults out.old) (L.faults out.new) result }
+    {
         out.put(&Line::Boot(self.number(), self.outside.now, p))?;
         self.runs(p, Deed::Boots, out)
     }
 
     /// A link is cut.
-    fn cuts(&mut self, p: ProcId, q: ProcId) -> Result<Burst, RunFault> {
+    fn cuts(&mut self, p: ProcId, q: ProcId) -> Result<Burst, RunFault>
+        ensures { ¬ IsErrOf result Failed }
+    {
         let count = self.outside.net.processes();
         if p.0 >= count || q.0 >= count {
             return Err(RunFault::Astray);
@@ -221,7 +252,9 @@ impl World {
     }
 
     /// A link heals.
-    fn heals(&mut self, p: ProcId, q: ProcId) -> Result<Burst, RunFault> {
+    fn heals(&mut self, p: ProcId, q: ProcId) -> Result<Burst, RunFault>
+        ensures { ¬ IsErrOf result Failed }
+    {
         let count = self.outside.net.processes();
         if p.0 >= count || q.0 >= count {
             return Err(RunFault::Astray);
@@ -231,7 +264,9 @@ impl World {
     }
 
     /// So many of the next requests to the disk of a process fail.
-    fn fails(&mut self, p: ProcId, count: u32) -> Result<Burst, RunFault> {
+    fn fails(&mut self, p: ProcId, count: u32) -> Result<Burst, RunFault>
+        ensures { ¬ IsErrOf result Failed }
+    {
         let Some(disk) = self.outside.disks.get_mut(usize::from(p.0)) else {
             return Err(RunFault::Astray);
         };
@@ -240,7 +275,9 @@ impl World {
     }
 
     /// A loss of power: the disk of the process loses what it may, and the process is gone with its timers and requests.
-    fn kills<L: LineOut>(&mut self, p: ProcId, out: &mut L) -> Result<Burst, RunFault> {
+    fn kills<L: LineOut>(&mut self, p: ProcId, out: &mut L) -> Result<Burst, RunFault>
+        ensures { RunCause (L.faults out.old) (L.faults out.new) result }
+    {
         out.put(&Line::Kill(self.number(), self.outside.now, p))?;
         for kept in self.outside.lose_disk(p)? {
             out.put(&Line::Kept(kept.name, kept.offset, kept.length, kept.kept))?;
@@ -262,7 +299,9 @@ impl World {
         p: ProcId,
         packet: u64,
         out: &mut L,
-    ) -> Result<Burst, RunFault> {
+    ) -> Result<Burst, RunFault>
+        ensures { RunCause (L.faults out.old) (L.faults out.new) result }
+    {
         out.put(&Line::Arrival(self.number(), self.outside.now, p, packet))?;
         let Some(packet) = self.outside.net.arrive(packet) else {
             return Err(RunFault::Astray);
@@ -292,18 +331,34 @@ impl World {
         cell: CellId,
         asked: &Asked,
         out: &mut L,
-    ) -> Result<Burst, RunFault> {
+    ) -> Result<Burst, RunFault>
+        ensures { RunCause (L.faults out.old) (L.faults out.new) result }
+    {
         let reply = self.outside.serve(p, asked)?;
-        let line = disk_line(self.alloc, asked.ask(), &reply, self.number(), self.outside.now, p, cell)?;
+        let line = disk_line(
+            self.alloc,
+            asked.ask(),
+            &reply,
+            self.number(),
+            self.outside.now,
+            p,
+            cell,
+        )?;
         out.put(&line)?;
         self.runs(p, Deed::Delivers(cell, disk_outcome(reply)), out)
     }
 
     /// A process does what follows of a deed.
-    fn runs<L: LineOut>(&mut self, p: ProcId, deed: Deed, out: &mut L) -> Result<Burst, RunFault> {
+    fn runs<L: LineOut>(&mut self, p: ProcId, deed: Deed, out: &mut L) -> Result<Burst, RunFault>
+        ensures { RunCause (L.faults out.old) (L.faults out.new) result }
+    {
         let Some(process) = self.processes.get_mut(usize::from(p.0)) else {
             return Err(RunFault::Astray);
         };
+        let count = self.outside.net.processes();
+        if p.0 >= count || process.machine.processes() != count {
+            return Err(RunFault::Astray);
+        }
         let now = self.outside.now;
         let machine = &mut process.machine;
         let classes = &self.classes;

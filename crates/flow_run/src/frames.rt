@@ -1,0 +1,69 @@
+// The lines of frames.
+
+use flow_base::ids::{ActorId, ProcId};
+use flow_base::name::Name;
+use flow_machine::host::RunFault;
+use flow_machine::views::{CallbackView, FrameView};
+use flow_trace::line::Line;
+use flow_trace::out::LineOut;
+use flow_world::World;
+use std::alloc::Global;
+
+/// Puts the frames of the unfinished actors, by process and actor, each with its callbacks by number.
+pub fn put_frames<L: LineOut>(alloc: Global, world: &World, out: &mut L) -> Result<(), RunFault> {
+    for number in 0..world.processes() {
+        let p = ProcId(number);
+        let callbacks = world.callbacks(p)?;
+        put_process(alloc, world, p, &callbacks, out)?;
+    }
+    Ok(())
+}
+
+/// Puts the frames of a process, each with its own of these callbacks, which stand in the order of their actors.
+fn put_process<L: LineOut>(
+    alloc: Global,
+    world: &World,
+    p: ProcId,
+    callbacks: &[CallbackView],
+    out: &mut L,
+) -> Result<(), RunFault> {
+    let mut rest = callbacks;
+    for frame in world.frames(p)? {
+        let name = class_name(alloc, world, &frame)?;
+        out.put(&Line::Frame(p, frame.actor, name, frame.state))?;
+        let own = own_part(rest, frame.actor);
+        put_callbacks(p, &rest[..own], out)?;
+        rest = &rest[own..];
+    }
+    Ok(())
+}
+
+/// The name of the class of a frame.
+fn class_name(alloc: Global, world: &World, frame: &FrameView) -> Result<Name, RunFault> {
+    let Some(class) = world.classes().class(frame.class) else {
+        return Err(RunFault::Astray);
+    };
+    Ok(class.name.copy(alloc)?)
+}
+
+/// How many of the first callbacks are those of an actor.
+fn own_part(callbacks: &[CallbackView], actor: ActorId) -> usize {
+    for (place, callback) in callbacks.iter().enumerate() {
+        if callback.actor != actor {
+            return place;
+        }
+    }
+    callbacks.len()
+}
+
+/// Puts callbacks.
+fn put_callbacks<L: LineOut>(
+    p: ProcId,
+    callbacks: &[CallbackView],
+    out: &mut L,
+) -> Result<(), RunFault> {
+    for view in callbacks {
+        out.put(&Line::Callback(p, view.actor, view.callback, view.cell))?;
+    }
+    Ok(())
+}

@@ -1,0 +1,8 @@
+//! Traces: classes run in a world from its first event to its end, with every line put as it is made.
+#![tactic(auto)]
+
+mod ending;
+mod frames;
+pub mod trace;
+
+pub use ending::Ending;
