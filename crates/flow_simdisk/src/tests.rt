@@ -94,3 +94,25 @@ fn restores_parts(rt: HostRuntime) -> Result<(), Fail> {
     assert_eq!(rt; state.files[0].unsynced[0].0, 4);
     Ok(())
 }
+
+#[test]
+fn many_small_writes(rt: HostRuntime) -> Result<(), Fail> {
+    let alloc = rt.alloc();
+    let name = Text::new(alloc, b"f")?;
+    let mut disk = Disk::new(alloc)?;
+    let hundred = [7u8; 100];
+    for count in 0..100_000u32 {
+        let text = Text::new(alloc, &hundred)?;
+        disk.write(name.copy(alloc)?, count.wrapping_mul(9_999) % 1_048_476, text)?;
+    }
+    disk.sync(&name)?;
+    let mut seen = 0;
+    for piece in 0..17u32 {
+        let DiskReply::Text(bytes) = disk.read(&name, piece * 65_535, 65_535)? else {
+            return Err(Fail::from("no text"));
+        };
+        seen += bytes.bytes().len();
+    }
+    assert!(rt; seen > 1_000_000);
+    Ok(())
+}

@@ -6,6 +6,7 @@ mod asked;
 mod event;
 mod outside;
 mod ports;
+mod put;
 mod script;
 #[cfg(test)]
 mod tests;

@@ -1,7 +1,6 @@
 // What is outside of the processes.
 
-ghost use Rattle.std.specs.Prelude.{◌≡◌, ◌+◌, ◌<◌, ◌≤◌, ◌^◌, pos, ◌+ℤ◌, ◌≤ℤ◌, ◌<ℤ◌, IfOk, IsErrOf};
-ghost use Rattle.flow_machine.specs.declared.host.RunFault.TheVariants.{Failed};
+ghost use Rattle.std.specs.Prelude.{◌≡◌, ◌+◌, ◌<◌, ◌≤◌, ◌^◌, pos, ◌+ℤ◌, ◌≤ℤ◌, ◌<ℤ◌, IfOk};
 
 use crate::asked::Asked;
 use flow_base::ids::{CellId, ProcId};
@@ -124,9 +123,7 @@ impl Outside {
 
 impl Outside {
     /// The disk of a process serves a request.
-    pub fn serve(&mut self, p: ProcId, asked: &Asked) -> Result<DiskReply, RunFault>
-        ensures { ¬ IsErrOf result Failed }
-    {
+    pub fn serve(&mut self, p: ProcId, asked: &Asked) -> Result<DiskReply, RunFault> {
         let Some(disk) = self.disks.get_mut(usize::from(p.0)) else {
             return Err(RunFault::Astray);
         };
@@ -143,9 +140,7 @@ impl Outside {
     }
 
     /// The disk of a process loses what it may at a loss of power. Want of memory too where no more words are given.
-    pub fn lose_disk(&mut self, p: ProcId) -> Result<Vec<Kept>, RunFault>
-        ensures { ¬ IsErrOf result Failed }
-    {
+    pub fn lose_disk(&mut self, p: ProcId) -> Result<Vec<Kept>, RunFault> {
         let Some(disk) = self.disks.get_mut(usize::from(p.0)) else {
             return Err(RunFault::Astray);
         };

@@ -1,9 +1,7 @@
 // The world.
 
-ghost use Rattle.std.specs.Prelude.{◌≡◌, false, IfOk, IsErrOf};
-ghost use Rattle.flow_machine.specs.declared.host.RunFault.TheVariants.{Failed};
+ghost use Rattle.std.specs.Prelude.{◌≡◌, false, IfOk};
 ghost use Rattle.flow_worldfile.specs.Worlds.{IsInRange, seen};
-ghost use Rattle.flow_machine.specs.Cause.{RunCause};
 ghost use Rattle.flow_world.specs.Ending.{is_ended_by};
 
 use crate::around::Around;
@@ -11,6 +9,7 @@ use crate::asked::Asked;
 use crate::event::Event;
 use crate::outside::{LAST_TIME, Outside, What};
 use crate::ports::Ports;
+use crate::put::put;
 use crate::script::Script;
 use flow_base::errors::DISK_FAILED;
 use flow_base::ids::{CellId, ProcId};
@@ -132,8 +131,7 @@ impl World {
     /// with as many events run as the bound, the bound is reached; neither puts a line, and both are answered again.
     pub fn event<L: LineOut>(&mut self, out: &mut L) -> Result<Event, RunFault>
         requires { self.old.ended ≡ false }
-        ensures cause { RunCause (L.faults out.old) (L.faults out.new) result }
-        ensures ended { self.new.ended ≡ is_ended_by result }
+        ensures { self.new.ended ≡ is_ended_by result }
     {
         let Some((time, scripted)) = self.next_time() else {
             return Ok(Event::Idle);
@@ -180,9 +178,7 @@ impl World {
     }
 
     /// A line of the script.
-    fn scripted<L: LineOut>(&mut self, out: &mut L) -> Result<Burst, RunFault>
-        ensures { RunCause (L.faults out.old) (L.faults out.new) result }
-    {
+    fn scripted<L: LineOut>(&mut self, out: &mut L) -> Result<Burst, RunFault> {
         let Some(act) = self.script.next() else {
             return Err(RunFault::Astray);
         };
@@ -191,29 +187,27 @@ impl World {
         match act {
             Act::Boot(p) => self.boots(p, out),
             Act::Stop(p) => {
-                out.put(&Line::Stop(n, t, p))?;
+                put(out, &Line::Stop(n, t, p))?;
                 self.runs(p, Deed::Stops, out)
             }
             Act::Kill(p) => self.kills(p, out),
             Act::Cut(p, q) => {
-                out.put(&Line::Cut(n, t, p, q))?;
+                put(out, &Line::Cut(n, t, p, q))?;
                 self.cuts(p, q)
             }
             Act::Heal(p, q) => {
-                out.put(&Line::Heal(n, t, p, q))?;
+                put(out, &Line::Heal(n, t, p, q))?;
                 self.heals(p, q)
             }
             Act::DiskFail(p, count) => {
-                out.put(&Line::DiskFail(n, t, p, count))?;
+                put(out, &Line::DiskFail(n, t, p, count))?;
                 self.fails(p, count)
             }
         }
     }
 
     /// The next pending event.
-    fn pending<L: LineOut>(&mut self, out: &mut L) -> Result<Burst, RunFault>
-        ensures { RunCause (L.faults out.old) (L.faults out.new) result }
-    {
+    fn pending<L: LineOut>(&mut self, out: &mut L) -> Result<Burst, RunFault> {
         let Some((time, number)) = self.outside.timers.first() else {
             return Err(RunFault::Astray);
         };
@@ -223,7 +217,7 @@ impl World {
         match what {
             What::Boots(p) => self.boots(p, out),
             What::Rings(p, cell) => {
-                out.put(&Line::Timer(self.number(), time, p, cell))?;
+                put(out, &Line::Timer(self.number(), time, p, cell))?;
                 self.runs(p, Deed::Delivers(cell, Outcome::Value(Value::Void)), out)
             }
             What::Arrives(p, packet) => self.arrives(p, packet, out),
@@ -232,17 +226,13 @@ impl World {
     }
 
     /// A process boots, unless it holds its `main`.
-    fn boots<L: LineOut>(&mut self, p: ProcId, out: &mut L) -> Result<Burst, RunFault>
-        ensures { RunCause (L.faults out.old) (L.faults out.new) result }
-    {
-        out.put(&Line::Boot(self.number(), self.outside.now, p))?;
+    fn boots<L: LineOut>(&mut self, p: ProcId, out: &mut L) -> Result<Burst, RunFault> {
+        put(out, &Line::Boot(self.number(), self.outside.now, p))?;
         self.runs(p, Deed::Boots, out)
     }
 
     /// A link is cut.
-    fn cuts(&mut self, p: ProcId, q: ProcId) -> Result<Burst, RunFault>
-        ensures { ¬ IsErrOf result Failed }
-    {
+    fn cuts(&mut self, p: ProcId, q: ProcId) -> Result<Burst, RunFault> {
         let count = self.outside.net.processes();
         if p.0 >= count || q.0 >= count {
             return Err(RunFault::Astray);
@@ -252,9 +242,7 @@ impl World {
     }
 
     /// A link heals.
-    fn heals(&mut self, p: ProcId, q: ProcId) -> Result<Burst, RunFault>
-        ensures { ¬ IsErrOf result Failed }
-    {
+    fn heals(&mut self, p: ProcId, q: ProcId) -> Result<Burst, RunFault> {
         let count = self.outside.net.processes();
         if p.0 >= count || q.0 >= count {
             return Err(RunFault::Astray);
@@ -264,9 +252,7 @@ impl World {
     }
 
     /// So many of the next requests to the disk of a process fail.
-    fn fails(&mut self, p: ProcId, count: u32) -> Result<Burst, RunFault>
-        ensures { ¬ IsErrOf result Failed }
-    {
+    fn fails(&mut self, p: ProcId, count: u32) -> Result<Burst, RunFault> {
         let Some(disk) = self.outside.disks.get_mut(usize::from(p.0)) else {
             return Err(RunFault::Astray);
         };
@@ -275,12 +261,13 @@ impl World {
     }
 
     /// A loss of power: the disk of the process loses what it may, and the process is gone with its timers and requests.
-    fn kills<L: LineOut>(&mut self, p: ProcId, out: &mut L) -> Result<Burst, RunFault>
-        ensures { RunCause (L.faults out.old) (L.faults out.new) result }
-    {
-        out.put(&Line::Kill(self.number(), self.outside.now, p))?;
+    fn kills<L: LineOut>(&mut self, p: ProcId, out: &mut L) -> Result<Burst, RunFault> {
+        put(out, &Line::Kill(self.number(), self.outside.now, p))?;
         for kept in self.outside.lose_disk(p)? {
-            out.put(&Line::Kept(kept.name, kept.offset, kept.length, kept.kept))?;
+            put(
+                out,
+                &Line::Kept(kept.name, kept.offset, kept.length, kept.kept),
+            )?;
         }
         self.outside.forget(p)?;
         let Some(process) = self.processes.get_mut(usize::from(p.0)) else {
@@ -299,15 +286,16 @@ impl World {
         p: ProcId,
         packet: u64,
         out: &mut L,
-    ) -> Result<Burst, RunFault>
-        ensures { RunCause (L.faults out.old) (L.faults out.new) result }
-    {
-        out.put(&Line::Arrival(self.number(), self.outside.now, p, packet))?;
+    ) -> Result<Burst, RunFault> {
+        put(
+            out,
+            &Line::Arrival(self.number(), self.outside.now, p, packet),
+        )?;
         let Some(packet) = self.outside.net.arrive(packet) else {
             return Err(RunFault::Astray);
         };
         let Some(cell) = self.listener(p, packet.port) else {
-            out.put(&Line::Discard(packet.number))?;
+            put(out, &Line::Discard(packet.number))?;
             return Ok(Burst::Rested);
         };
         let item = packet_value(self.alloc, packet)?;
@@ -331,9 +319,7 @@ impl World {
         cell: CellId,
         asked: &Asked,
         out: &mut L,
-    ) -> Result<Burst, RunFault>
-        ensures { RunCause (L.faults out.old) (L.faults out.new) result }
-    {
+    ) -> Result<Burst, RunFault> {
         let reply = self.outside.serve(p, asked)?;
         let line = disk_line(
             self.alloc,
@@ -344,14 +330,12 @@ impl World {
             p,
             cell,
         )?;
-        out.put(&line)?;
+        put(out, &line)?;
         self.runs(p, Deed::Delivers(cell, disk_outcome(reply)), out)
     }
 
     /// A process does what follows of a deed.
-    fn runs<L: LineOut>(&mut self, p: ProcId, deed: Deed, out: &mut L) -> Result<Burst, RunFault>
-        ensures { RunCause (L.faults out.old) (L.faults out.new) result }
-    {
+    fn runs<L: LineOut>(&mut self, p: ProcId, deed: Deed, out: &mut L) -> Result<Burst, RunFault> {
         let Some(process) = self.processes.get_mut(usize::from(p.0)) else {
             return Err(RunFault::Astray);
         };
