@@ -1,5 +1,7 @@
 // The lines of frames.
 
+ghost use Rattle.std.specs.Prelude.{◌≤◌, length};
+
 use flow_base::ids::{ActorId, ProcId};
 use flow_base::name::Name;
 use flow_machine::host::RunFault;
@@ -47,7 +49,9 @@ fn class_name(alloc: Global, world: &World, frame: &FrameView) -> Result<Name, R
 }
 
 /// How many of the first callbacks are those of an actor.
-fn own_part(callbacks: &[CallbackView], actor: ActorId) -> usize {
+fn own_part(callbacks: &[CallbackView], actor: ActorId) -> usize
+    ensures { result ≤ length callbacks.now }
+{
     for (place, callback) in callbacks.iter().enumerate() {
         if callback.actor != actor {
             return place;

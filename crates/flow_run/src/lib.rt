@@ -3,6 +3,8 @@
 
 mod ending;
 mod frames;
+mod to_sink;
 pub mod trace;
 
 pub use ending::Ending;
+pub use to_sink::write_trace;

@@ -1,5 +1,9 @@
 // The trace of classes in a world.
 
+ghost use Rattle.std.specs.Prelude.{◌≡◌, false, IfOk};
+ghost use Rattle.flow_worldfile.specs.Worlds.{IsInRange, seen};
+ghost use Rattle.flow_run.specs.Ends.{PutLast, end_line};
+
 use crate::ending::Ending;
 use crate::frames::put_frames;
 use flow_class::program::ClassProgram;
@@ -18,7 +22,10 @@ pub fn put_trace<L: LineOut>(
     world: World0,
     with_frames: bool,
     out: &mut L,
-) -> Result<Ending, RunFault> {
+) -> Result<Ending, RunFault>
+    requires { IsInRange (seen world) }
+    ensures { IfOk result (λ ending. PutLast L.puts (end_line ending) out.new) }
+{
     let mut world = World::start(alloc, classes, world)?;
     out.put(&Line::Head)?;
     let ending = put_events(alloc, &mut world, with_frames, out)?;
@@ -32,8 +39,10 @@ fn put_events<L: LineOut>(
     world: &mut World,
     with_frames: bool,
     out: &mut L,
-) -> Result<Ending, RunFault> {
-    for _ in 0..u64::MAX {
+) -> Result<Ending, RunFault>
+    requires { world.old.ended ≡ false }
+{
+    'events: for _ in 0..u64::MAX {
         match world.event(out)? {
             Event::Ran => {
                 if with_frames {

@@ -2,7 +2,6 @@
 //! come after a drawn delay.
 #![tactic(auto)]
 
-pub mod laws;
 mod net;
 mod packet;
 #[cfg(test)]

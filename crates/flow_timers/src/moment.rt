@@ -46,8 +46,7 @@ impl<T: Drop> Moment<T> {
 
     /// Puts an event in the place of its number. Unchanged on an error.
     pub fn place(&mut self, number: u64, what: T) -> Result<(), NoMemory>
-        ensures placed { let event = record { number = number; what = what } in
-            OnOk result (self.new ≡ numbered event self.old) }
+        ensures placed { OnOk result (self.new ≡ numbered (record { number = number; what = what }) self.old) }
         ensures unchanged { OnErr result (self.new ≡ self.old) }
     {
         let place = self.place_after(number);
@@ -58,8 +57,7 @@ impl<T: Drop> Moment<T> {
     /// How many events have a number up to this.
     fn place_after(&self, number: u64) -> usize
         ensures bound { result ≤ length self.now }
-        ensures place {
-            IsPartitionPoint (λ e. e.number ≤ number) (λ e. number < e.number) self.now result }
+        ensures place { IsPartitionPoint (λ e. e.number ≤ number) (λ e. number < e.number) self.now result }
     {
         self.events.partition_point(|event| event.number <= number)
     }
@@ -85,8 +83,7 @@ impl<T> Moment<T> {
     /// How many events have a number below this.
     fn place_from(&self, number: u64) -> usize
         ensures bound { result ≤ length self.now }
-        ensures place {
-            IsPartitionPoint (λ e. e.number < number) (λ e. number ≤ e.number) self.now result }
+        ensures place { IsPartitionPoint (λ e. e.number < number) (λ e. number ≤ e.number) self.now result }
     {
         self.events.partition_point(|event| event.number < number)
     }
@@ -112,8 +109,7 @@ impl<T> Moment<T> {
         time: u64,
         entries: &mut Vec<(u64, u64, &'a T)>,
     ) -> Result<(), NoMemory>
-        ensures { let before = map pending_of entries.old.items in
-            OnOk result (map pending_of entries.new.items ≡ before ++ map (at_time time) self.now) }
+        ensures { OnOk result (map pending_of entries.new.items ≡ map pending_of entries.old.items ++ map (at_time time) self.now) }
     {
         for event in self.events.iter() {
             entries.push((time, event.number, &event.what))?;

@@ -35,7 +35,7 @@ impl Asked {
     /// The request.
     pub fn ask(&self) -> &DiskAsk
         ensures ask { result.now ≡ self.now }
-        ensures allowed { IsAllowed self.now }
+        ensures allowed { IsAllowed result.now }
     {
         &self.ask
     }

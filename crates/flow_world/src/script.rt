@@ -21,15 +21,21 @@ impl Script {
 
     /// The time of the next line, where one is left.
     pub fn first(&self) -> Option<u64> {
-        let line = self.lines.get(self.done)?;
-        Some(line.time)
+        if self.done < self.lines.len() {
+            Some(self.lines[self.done].time)
+        } else {
+            None
+        }
     }
 
     /// Takes the next line's act, where one is left.
     pub fn next(&mut self) -> Option<Act> {
-        let line = self.lines.get(self.done)?;
-        let act = line.act;
-        self.done += 1;
-        Some(act)
+        if self.done < self.lines.len() {
+            let act = self.lines[self.done].act;
+            self.done += 1;
+            Some(act)
+        } else {
+            None
+        }
     }
 }
