@@ -1,6 +1,6 @@
 -- The disk of a process: files with durable bytes and unsynced writes, what a request does to them, and
 -- what a loss of power leaves.
-use Rattle.std.specs.Prelude.{ℕ, zero, suc, ◌+◌, ◌-◌, ◌%◌, List, [], ◌∷◌, ◌++◌, length, take, drop, replicate, fold}
+use Rattle.std.specs.Prelude.{◌≡◌, ℕ, zero, suc, ◌+◌, ◌-◌, ◌%◌, List, [], ◌∷◌, ◌++◌, length, take, drop, replicate, fold}
 use Rattle.std.specs.Option.{unwrap_or}
 use Rattle.std.specs.Ordering.{nat_cmp}
 use Rattle.std.specs.Cmp.Lexicographic.{slice_cmp}
@@ -87,6 +87,10 @@ reply_of (SizeCall x) fs = Size (length (seen_bytes (file_named fs x)))
 abbrev pub served : DiskCall ℕ → ℕ → List (List ℕ × File) → Disk × DiskReply
 served q zero fs = (record { fails = 0; files = files_after q fs }, reply_of q fs)
 served q (suc n) fs = (record { fails = n; files = fs }, Failed)
+
+-- the disk after a request that it served, and what it answered
+abbrev pub Serves : DiskCall ℕ → Disk → Disk → DiskReply → Type 0
+Serves q before after reply = (after, reply) ≡ served q before.fails before.files
 
 -- what a loss of power keeps of a write: by a word, all of it, nothing, or a first part whose length a
 -- second word gives; with the words that it takes

@@ -4,7 +4,7 @@ ghost use Rattle.std.specs.Prelude.{◌≡◌, ◌+◌, ◌-◌, ◌*◌, ◌<�
 ghost use Rattle.std.specs.List.{All};
 ghost use Rattle.flow_simdisk.specs.declared.TheConstants.{FILE_BYTES};
 ghost use Rattle.flow_simdisk.specs.Asks.{ReadCall, WriteCall, SyncCall, SizeCall};
-ghost use Rattle.flow_simdisk.specs.Disk.{served, seen_bytes, file_named, with_file, lose_next, lose_file, power_lost};
+ghost use Rattle.flow_simdisk.specs.Disk.{Serves, seen_bytes, file_named, with_file, lose_next, lose_file, power_lost};
 ghost use Rattle.flow_simdisk.specs.Stored.{FitsFile, HasFiles, CanRestore, HasRisingNames, file_in, files_in, in_order_of_names, files_of, with_joined, with_synced, drawn_words, most_words, losing};
 
 use crate::ask::DiskReply;
@@ -91,7 +91,7 @@ impl Disk {
     /// nothing read, exactly while requests fail. Unchanged on an error.
     pub fn read(&mut self, name: &Text, offset: u32, count: u32) -> Result<DiskReply, NoMemory>
         requires { count ≤ 65535 }
-        ensures served { IfOk result (λ r. (self.new, r) ≡ served (ReadCall name.now offset count) self.old.fails self.old.files) }
+        ensures served { IfOk result (Serves (ReadCall name.now offset count) self.old self.new) }
         ensures unchanged { OnErr result (self.new ≡ self.old) }
     {
         if self.fails() {
@@ -105,7 +105,7 @@ impl Disk {
     /// unsynced writes of the file. `Failed`, and nothing written, exactly while requests fail. Unchanged on an error.
     pub fn write(&mut self, name: Text, offset: u32, text: Text) -> Result<DiskReply, NoMemory>
         requires { offset + length text ≤ FILE_BYTES }
-        ensures served { IfOk result (λ r. (self.new, r) ≡ served (WriteCall name offset text) self.old.fails self.old.files) }
+        ensures served { IfOk result (Serves (WriteCall name offset text) self.old self.new) }
         ensures unchanged { OnErr result (self.new ≡ self.old) }
     {
         if self.fails() {
@@ -137,7 +137,7 @@ impl Disk {
     /// Makes all bytes that a program sees in a file durable, where it is there. `Failed`, and nothing done, exactly while
     /// requests fail. Unchanged on an error.
     pub fn sync(&mut self, name: &Text) -> Result<DiskReply, NoMemory>
-        ensures served { IfOk result (λ r. (self.new, r) ≡ served (SyncCall name.now) self.old.fails self.old.files) }
+        ensures served { IfOk result (Serves (SyncCall name.now) self.old self.new) }
         ensures unchanged { OnErr result (self.new ≡ self.old) }
     {
         if self.fails() {
@@ -160,7 +160,7 @@ impl Disk {
 
     /// The number of bytes that a program sees in a file. `Failed` exactly while requests fail.
     pub fn size(&mut self, name: &Text) -> DiskReply
-        ensures { (self.new, result) ≡ served (SizeCall name.now) self.old.fails self.old.files }
+        ensures { Serves (SizeCall name.now) self.old self.new result }
     {
         if self.fails() {
             return DiskReply::Failed;
@@ -189,7 +189,8 @@ impl Disk {
     /// a byte.
     pub fn restore(alloc: Global, state: DiskState) -> Result<Disk, NoMemory>
         requires { All CanRestore state.files.items }
-        ensures { IfOk result (λ d. d ≡ record { fails = state.fails; files = in_order_of_names (files_in state.files.items) }) }
+        ensures { let files = in_order_of_names (files_in state.files.items) in
+            IfOk result (λ d. d ≡ record { fails = state.fails; files = files }) }
     {
         let mut disk = Disk::none_of(alloc, state.fails);
         for file in state.files {
@@ -201,7 +202,8 @@ impl Disk {
     /// A file of this plain data takes its place.
     fn place(&mut self, state: FileState) -> Result<(), NoMemory>
         requires { CanRestore state }
-        ensures { OnOk result (self.new ≡ record self.old { files = with_file self.old.files state.name (file_in state) }) }
+        ensures { let files = with_file self.old.files state.name (file_in state) in
+            OnOk result (self.new ≡ record self.old { files = files }) }
     {
         let file = File::restore(self.alloc, state.durable, state.unsynced)?;
         self.files
@@ -225,7 +227,8 @@ impl Disk {
     /// drawn.
     pub fn kill(&mut self, draws: &mut Draws) -> Result<Vec<Kept>, NoMemory>
         requires { draws.old.used + most_words self.old.files < 2 ^ 63 }
-        ensures lost { IfOk result (λ ks. losing self.new.files draws.new.used ks.items ≡ power_lost (drawn_words draws.old) draws.old.used self.old.files) }
+        ensures lost { IfOk result (λ fates. losing self.new.files draws.new.used fates.items
+            ≡ power_lost (drawn_words draws.old) draws.old.used self.old.files) }
         ensures fails { self.new.fails ≡ self.old.fails }
         ensures drawn { draws.new ≡ record draws.old { used = draws.new.used } }
         ensures unchanged { OnErr result (self.new ≡ self.old) }
@@ -251,7 +254,10 @@ fn lose_file(
 ) -> Result<(), NoMemory>
     requires name { length name.now ≤ 65535 }
     requires room { draws.old.used + 2 * length file.now.unsynced < 2 ^ 63 }
-    ensures lost { OnOk result (losing (files_of files.new.entries) draws.new.used fates.new.items ≡ lose_next (files_of files.old.entries) name.now (lose_file (drawn_words draws.old) draws.old.used fates.old.items name.now file.now)) }
+    ensures lost { let words = drawn_words draws.old in
+        let lost = lose_file words draws.old.used fates.old.items name.now file.now in
+        OnOk result (losing (files_of files.new.entries) draws.new.used fates.new.items
+        ≡ lose_next (files_of files.old.entries) name.now lost) }
     ensures drawn { draws.new ≡ record draws.old { used = draws.new.used } }
     ensures few { draws.new.used ≤ draws.old.used + 2 * length file.now.unsynced }
     ensures there { OnOk result (HasFiles files.old.entries → HasFiles files.new.entries) }

@@ -121,7 +121,8 @@ impl File {
     ) -> Result<File, NoMemory>
         requires durable { length durable.items ≤ FILE_BYTES }
         requires writes { All FitsFile (map write_in unsynced.items) }
-        ensures { IfOk result (λ f. f ≡ record { durable = durable.items; unsynced = map write_in unsynced.items }) }
+        ensures { IfOk result (λ f.
+            f ≡ record { durable = durable.items; unsynced = map write_in unsynced.items }) }
     {
         let mut file = File::of(alloc, durable)?;
         for (offset, text) in unsynced {
@@ -141,7 +142,8 @@ impl File {
     ) -> Result<Vec<u8>, NoMemory>
         requires name { length name.now ≤ 65535 }
         requires room { draws.old.used + 2 * length self.now.unsynced < 2 ^ 63 }
-        ensures lost { IfOk result (λ left. losing left.items draws.new.used fates.new.items ≡ lose_file (drawn_words draws.old) draws.old.used fates.old.items name.now self.now) }
+        ensures lost { IfOk result (λ left. losing left.items draws.new.used fates.new.items
+            ≡ lose_file (drawn_words draws.old) draws.old.used fates.old.items name.now self.now) }
         ensures drawn { draws.new ≡ record draws.old { used = draws.new.used } }
         ensures few { draws.new.used ≤ draws.old.used + 2 * length self.now.unsynced }
         ensures fits { IfOk result (λ left. length left.items ≤ FILE_BYTES) }
@@ -178,7 +180,9 @@ fn lose_write(
     requires fits { FitsFile write.now }
     requires short { length left.old.items ≤ FILE_BYTES }
     requires room { draws.old.used + 2 < 2 ^ 63 }
-    ensures lost { OnOk result (losing left.new.items draws.new.used fates.new.items ≡ lose_write (drawn_words draws.old) name.now (losing left.old.items draws.old.used fates.old.items) write.now) }
+    ensures lost { let before = losing left.old.items draws.old.used fates.old.items in
+        OnOk result (losing left.new.items draws.new.used fates.new.items
+        ≡ lose_write (drawn_words draws.old) name.now before write.now) }
     ensures drawn { draws.new ≡ record draws.old { used = draws.new.used } }
     ensures few { draws.new.used ≤ draws.old.used + 2 }
     ensures fits { OnOk result (length left.new.items ≤ FILE_BYTES) }

@@ -31,7 +31,8 @@ pub fn draw_fate(write: &Write, draws: &mut Draws) -> u32
     requires room { draws.old.used + 2 < 2 ^ 63 }
     ensures kept { result ≡ (fate (drawn_words draws.old) draws.old.used write.now).kept }
     ensures part { result ≤ length write.now.text }
-    ensures drawn { draws.new ≡ record draws.old { used = draws.old.used + (fate (drawn_words draws.old) draws.old.used write.now).words } }
+    ensures drawn { let words = (fate (drawn_words draws.old) draws.old.used write.now).words in
+        draws.new ≡ record draws.old { used = draws.old.used + words } }
 {
     let size = write.text.bytes().len() as u32;
     match draws.next() % 3 {

@@ -1,6 +1,8 @@
 -- The links between processes: which are cut, and the packets on their way.
-use Rattle.std.specs.Prelude.{ℕ, suc, ◌+◌, ◌-◌, ◌*◌, ◌/◌, ◌%◌, Bool, true, false, List, [], ◌∷◌, min, max, nat_lt, slice_set, slice_index_or, if◌then◌else◌}
-use Rattle.std.specs.List.{fold}
+use Rattle.std.specs.Prelude.{◌≡◌, ◌<◌, ◌≤◌, map, length, replicate, ℕ, suc, ◌+◌, ◌-◌, ◌*◌, ◌/◌, ◌%◌, Bool, true, false, List, [], ◌∷◌, min, max, nat_lt, slice_set, slice_index_or, if◌then◌else◌}
+use Rattle.std.specs.List.{All, fold}
+use Rattle.std.specs.List.Sorted.{IsStrictlySortedBy}
+use Rattle.std.specs.Map.{keys_of}
 use Rattle.std.specs.Ordering.{nat_cmp}
 use Rattle.std.specs.BTreeMap.{insert_entry}
 use Rattle.flow_draw.specs.Words.{Drawn, word_at}
@@ -78,6 +80,22 @@ cut_links place [] = []
 cut_links place (b ∷ bs) =
     if b then (record { 0 = place / 64 }, record { 0 = place % 64 }) ∷ cut_links (suc place) bs else cut_links (suc place) bs
 
+-- no packet was sent and no link is cut
+abbrev pub open_links : (processes : ℕ) → (latency : ℕ × ℕ) → (loss : ℕ) → Links
+open_links n latency loss = record { processes = n; latency = latency; loss = loss; sent = 0; cuts = replicate 4096 false; on_way = [] }
+
+-- a link of two of so many processes, the lesser first
+abbrev pub IsLinkBelow : ℕ → ProcId × ProcId → Type 0
+IsLinkBelow n l = (l.0.0 ≤ l.1.0) × (l.1.0 < n)
+
+-- links are of two of so many processes
+abbrev pub AreBelow : ℕ → List (ProcId × ProcId) → Type 0
+AreBelow n links = All (λ l. (l.0.0 < n) × (l.1.0 < n)) links
+
+-- the links that are cut are links of the processes, each at its own place
+abbrev pub HasLinks : (processes : ℕ) → List Bool → Type 0
+HasLinks n cuts = All (IsLinkBelow n) (cut_links 0 cuts)
+
 -- these links cut
 abbrev pub all_cut : List Bool → List (ProcId × ProcId) → List Bool
 all_cut cuts links = fold (λ cs l. cut cs l.0.0 l.1.0) cuts links
@@ -86,5 +104,16 @@ all_cut cuts links = fold (λ cs l. cut cs l.0.0 l.1.0) cuts links
 abbrev pub letter_of : Packet → Letter
 letter_of p = record { from = p.from; to = p.to; port = p.port; text = p.text }
 
+abbrev pub packets_of : List (ℕ × Letter) → List Packet
+packets_of on_way = map (λ e. numbered e.0 e.1) on_way
+
 abbrev pub all_on_way : List (ℕ × Letter) → List Packet → List (ℕ × Letter)
 all_on_way on_way ps = fold (λ es p. insert_entry nat_cmp es p.number (letter_of p)) on_way ps
+
+-- what is restored from the state of links is those links: where the cut links stand at their places, and the numbers of
+-- the packets rise
+abbrev pub ComesBack : Links → Type 0
+ComesBack net = (all_cut (replicate 4096 false) (cut_links 0 net.cuts) ≡ net.cuts) × (all_on_way [] (packets_of net.on_way) ≡ net.on_way)
+
+abbrev pub Restores : Type 0
+Restores = (net : Links) → length net.cuts ≡ 4096 → HasLinks net.processes net.cuts → IsStrictlySortedBy nat_cmp (keys_of net.on_way) → ComesBack net

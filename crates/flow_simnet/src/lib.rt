@@ -2,6 +2,7 @@
 //! come after a drawn delay.
 #![tactic(auto)]
 
+pub mod laws;
 mod net;
 mod packet;
 #[cfg(test)]

@@ -1,12 +1,12 @@
 // The links and the packets on their way.
 
-ghost use Rattle.std.specs.Prelude.{◌≡◌, ◌+◌, ◌*◌, ◌<◌, ◌≤◌, ◌^◌, ◌-◌, [], false, replicate, OnErr, OnOk, IfOk, option_map, map, length};
-ghost use Rattle.std.specs.List.{All};
+ghost use Rattle.std.specs.Prelude.{◌≡◌, ◌+◌, ◌*◌, ◌<◌, ◌≤◌, ◌^◌, ◌-◌, [], false, replicate, OnErr, OnOk, IfOk, option_map, length};
 ghost use Rattle.std.specs.Map.{lookup, remove_entry};
 ghost use Rattle.std.specs.Ordering.{nat_cmp};
 ghost use Rattle.std.specs.BTreeMap.{insert_entry, is_at};
 ghost use Rattle.flow_draw.specs.Words.{next_word, one_taken};
-ghost use Rattle.flow_simnet.specs.Links.{is_cut, link, cut, healed, draw_in, fate, words_of, with_sent, word_in, numbered, cut_links, all_cut, all_on_way, letter_of};
+ghost use Rattle.flow_simnet.specs.Links.{link, cut, healed, draw_in, fate, words_of, with_sent, word_in, numbered, cut_links};
+ghost use Rattle.flow_simnet.specs.Links.{open_links, AreBelow, HasLinks, packets_of, all_cut, all_on_way, letter_of};
 
 use crate::packet::{Fate, Letter, NetState, Packet, Sent};
 use flow_base::ids::ProcId;
@@ -34,18 +34,26 @@ pub struct Net {
 
 impl Model for Net {
     ghost use Rattle.std.specs.Prelude.{◌≡◌, ◌<◌, ◌≤◌, length};
-    ghost use Rattle.flow_simnet.specs.Links.{Links};
+    ghost use Rattle.flow_simnet.specs.Links.{Links, HasLinks};
 
     ghost Value = { Links };
 
-    ghost view = { λ n. record { processes = n.processes; latency = n.latency; loss = n.loss; sent = n.packets; cuts = n.cuts.items; on_way = n.on_way.entries } };
+    ghost view = { λ n. record {
+      processes = n.processes;
+      latency = n.latency;
+      loss = n.loss;
+      sent = n.packets;
+      cuts = n.cuts.items;
+      on_way = n.on_way.entries;
+    } };
 
-    ghost invariant = { λ n. (n.processes ≤ 64) × (length n.cuts.items ≡ 4096) × (n.latency.0 < n.latency.1) × (n.latency.1 ≤ 1000000000) };
+    ghost invariant = { λ n. (n.processes ≤ 64) × (length n.cuts.items ≡ 4096) × HasLinks n.processes n.cuts.items
+        × (n.latency.0 < n.latency.1) × (n.latency.1 ≤ 1000000000) };
 }
 
 impl Net {
-    /// Links of so many processes, up to 64, of which none is cut, with the range of delays in ticks, its first number and the one past its last, at
-    /// most 1,000,000,000, and the permille of packets that are lost.
+    /// Links of so many processes, up to 64, of which none is cut, with the range of delays in ticks, its first number and
+    /// the one past its last, at most 1,000,000,000, and the permille of packets that are lost.
     pub fn new(
         alloc: Global,
         processes: u8,
@@ -56,7 +64,7 @@ impl Net {
         requires few { processes ≤ 64 }
         requires some { latency.0 < latency.1 }
         requires soon { latency.1 ≤ 1000000000 }
-        ensures { IfOk result (λ n. n ≡ record { processes = processes; latency = latency; loss = loss; sent = 0; cuts = replicate 4096 false; on_way = [] }) }
+        ensures { IfOk result (λ n. n ≡ open_links processes latency loss) }
     {
         Ok(Net {
             alloc,
@@ -86,9 +94,12 @@ impl Net {
         requires few { self.old.sent + 1 < 2 ^ 64 }
         requires room { draws.old.used + 2 < 2 ^ 63 }
         ensures number { IfOk result (λ s. s.number ≡ self.old.sent + 1) }
-        ensures fate { IfOk result (λ s. s.fate ≡ fate self.old now from.0 to.0 (word_in draws.old)) }
-        ensures sent { IfOk result (λ s. self.new ≡ with_sent self.old s.fate (record { from = from; to = to; port = port; text = text })) }
-        ensures drawn { IfOk result (λ s. draws.new ≡ record draws.old { used = draws.old.used + words_of s.fate }) }
+        ensures fate { let word = word_in draws.old in
+            IfOk result (λ s. s.fate ≡ fate self.old now from.0 to.0 word) }
+        ensures sent { IfOk result (λ s. self.new ≡ with_sent self.old s.fate
+            (record { from = from; to = to; port = port; text = text })) }
+        ensures drawn { IfOk result (λ s.
+            draws.new ≡ record draws.old { used = draws.old.used + words_of s.fate }) }
         ensures unchanged { OnErr result (self.new ≡ self.old) }
     {
         let number = self.packets + 1;
@@ -158,8 +169,10 @@ impl Net {
 
     /// Takes the packet of this number off its way. `None`, and unchanged, exactly where it isn't on its way.
     pub fn arrive(&mut self, number: u64) -> Option<Packet>
-        ensures packet { result ≡ option_map (numbered number) (lookup (is_at (nat_cmp number)) self.old.on_way) }
-        ensures left { self.new ≡ record self.old { on_way = remove_entry (is_at (nat_cmp number)) self.old.on_way } }
+        ensures packet { let found = lookup (is_at (nat_cmp number)) self.old.on_way in
+            result ≡ option_map (numbered number) found }
+        ensures left { let rest = remove_entry (is_at (nat_cmp number)) self.old.on_way in
+            self.new ≡ record self.old { on_way = rest } }
     {
         let letter = self.on_way.remove(&number)?;
         Some(Packet {
@@ -171,11 +184,13 @@ impl Net {
         })
     }
 
-    /// The links as plain data.
+    /// The links as plain data, of which they can be restored.
     pub fn state(&self) -> Result<NetState, NoMemory>
         ensures packets { IfOk result (λ s. s.packets ≡ self.now.sent) }
         ensures cuts { IfOk result (λ s. s.cuts.items ≡ cut_links 0 self.now.cuts) }
-        ensures on_way { IfOk result (λ s. s.on_way.items ≡ map (λ e. numbered e.0 e.1) self.now.on_way) }
+        ensures on_way { IfOk result (λ s. s.on_way.items ≡ packets_of self.now.on_way) }
+        ensures links { IfOk result (λ s. AreBelow self.now.processes s.cuts.items) }
+        ensures places { HasLinks self.now.processes self.now.cuts }
     {
         Ok(NetState {
             packets: self.packets,
@@ -196,8 +211,12 @@ impl Net {
         requires few { processes ≤ 64 }
         requires some { latency.0 < latency.1 }
         requires soon { latency.1 ≤ 1000000000 }
-        requires links { All (λ l. (l.0.0 < processes) × (l.1.0 < processes)) state.cuts.items }
-        ensures { IfOk result (λ n. n ≡ record { processes = processes; latency = latency; loss = loss; sent = state.packets; cuts = all_cut (replicate 4096 false) state.cuts.items; on_way = all_on_way [] state.on_way.items }) }
+        requires links { AreBelow processes state.cuts.items }
+        ensures { IfOk result (λ n. n ≡ record (open_links processes latency loss) {
+          sent = state.packets;
+          cuts = all_cut (replicate 4096 false) state.cuts.items;
+          on_way = all_on_way [] state.on_way.items;
+        }) }
     {
         let mut net = Net::new(alloc, processes, latency, loss)?;
         net.cut_all(&state.cuts);
@@ -208,7 +227,7 @@ impl Net {
 
     /// Cuts these links.
     fn cut_all(&mut self, links: &[(ProcId, ProcId)])
-        requires { All (λ l. (l.0.0 < self.old.processes) × (l.1.0 < self.old.processes)) links.now }
+        requires { AreBelow self.old.processes links.now }
         ensures { self.new ≡ record self.old { cuts = all_cut self.old.cuts links.now } }
     {
         for (p, q) in links.iter() {
@@ -218,7 +237,9 @@ impl Net {
 
     /// Puts these packets on their way.
     fn put_all(&mut self, packets: Vec<Packet>) -> Result<(), NoMemory>
-        ensures { OnOk result (self.new ≡ record self.old { on_way = all_on_way self.old.on_way packets.items }) }
+        ensures { OnOk result (self.new ≡ record self.old {
+          on_way = all_on_way self.old.on_way packets.items;
+        }) }
     {
         for packet in packets {
             self.put(packet)?;
@@ -228,7 +249,9 @@ impl Net {
 
     /// Puts a packet on its way.
     fn put(&mut self, packet: Packet) -> Result<(), NoMemory>
-        ensures { OnOk result (self.new ≡ record self.old { on_way = insert_entry nat_cmp self.old.on_way packet.number (letter_of packet) }) }
+        ensures { OnOk result (self.new ≡ record self.old {
+          on_way = insert_entry nat_cmp self.old.on_way packet.number (letter_of packet);
+        }) }
     {
         let letter = Letter {
             from: packet.from,
@@ -282,7 +305,7 @@ fn listed(alloc: Global, cuts: &[bool]) -> Result<Vec<(ProcId, ProcId)>, NoMemor
 
 /// The packets on their way, copied.
 fn copied(alloc: Global, on_way: &BTreeMap<u64, Letter>) -> Result<Vec<Packet>, NoMemory>
-    ensures { IfOk result (λ packets. packets.items ≡ map (λ e. numbered e.0 e.1) on_way.now.entries) }
+    ensures { IfOk result (λ packets. packets.items ≡ packets_of on_way.now.entries) }
 {
     let mut packets = Vec::new(alloc);
     for (number, letter) in on_way.iter() {

@@ -88,7 +88,7 @@ impl<'a, L: LineOut> Host for Around<'a, L> {
 
     fn disk(&mut self, cell: CellId, ask: DiskAsk) -> Result<(), NoMemory> {
         let delay = self.outside.draw_delay()?;
-        let time = self.outside.now + delay;
+        let time = self.outside.time + delay;
         self.outside
             .add(time, What::Answers(self.me, cell, Asked::new(ask)))
     }

@@ -34,13 +34,13 @@ const LAST_NUMBER: u64 = (1 << 63) - 1;
 #[derive(Drop)]
 pub struct Outside {
     pub alloc: Global,
-    pub now: u64,
+    pub time: u64,
     pub timers: Timers<What>,
     pub net: Net,
     pub disks: Vec<Disk>,
     pub draws: Draws,
     pub disk_delay: (u64, u64),
-    ghost early: { now < 9223372036854775808 },
+    ghost early: { time < 9223372036854775808 },
     ghost delays: { disk_delay.0 < disk_delay.1 },
     ghost soon: { disk_delay.1 ≤ 1000000000 },
 }
@@ -116,7 +116,7 @@ impl Outside {
         }
         let sent = self
             .net
-            .send(self.now, from, to, port, text, &mut self.draws)?;
+            .send(self.time, from, to, port, text, &mut self.draws)?;
         Ok(sent.fate)
     }
 }

@@ -90,7 +90,7 @@ impl World {
         }
         let outside = Outside {
             alloc,
-            now: 0,
+            time: 0,
             timers,
             net: Net::new(alloc, world.processes, world.latency, world.loss)?,
             disks,
@@ -143,7 +143,7 @@ impl World {
         if time > LAST_TIME {
             return Err(RunFault::OutOfMemory);
         }
-        self.outside.now = time;
+        self.outside.time = time;
         self.ran += 1;
         let burst = if scripted {
             self.scripted(out)?
@@ -183,7 +183,7 @@ impl World {
             return Err(RunFault::Astray);
         };
         let n = self.number();
-        let t = self.outside.now;
+        let t = self.outside.time;
         match act {
             Act::Boot(p) => self.boots(p, out),
             Act::Stop(p) => {
@@ -227,7 +227,7 @@ impl World {
 
     /// A process boots, unless it holds its `main`.
     fn boots<L: LineOut>(&mut self, p: ProcId, out: &mut L) -> Result<Burst, RunFault> {
-        put(out, &Line::Boot(self.number(), self.outside.now, p))?;
+        put(out, &Line::Boot(self.number(), self.outside.time, p))?;
         self.runs(p, Deed::Boots, out)
     }
 
@@ -262,7 +262,7 @@ impl World {
 
     /// A loss of power: the disk of the process loses what it may, and the process is gone with its timers and requests.
     fn kills<L: LineOut>(&mut self, p: ProcId, out: &mut L) -> Result<Burst, RunFault> {
-        put(out, &Line::Kill(self.number(), self.outside.now, p))?;
+        put(out, &Line::Kill(self.number(), self.outside.time, p))?;
         for kept in self.outside.lose_disk(p)? {
             put(
                 out,
@@ -289,7 +289,7 @@ impl World {
     ) -> Result<Burst, RunFault> {
         put(
             out,
-            &Line::Arrival(self.number(), self.outside.now, p, packet),
+            &Line::Arrival(self.number(), self.outside.time, p, packet),
         )?;
         let Some(packet) = self.outside.net.arrive(packet) else {
             return Err(RunFault::Astray);
@@ -326,7 +326,7 @@ impl World {
             asked.ask(),
             &reply,
             self.number(),
-            self.outside.now,
+            self.outside.time,
             p,
             cell,
         )?;
@@ -343,7 +343,7 @@ impl World {
         if p.0 >= count || process.machine.processes() != count {
             return Err(RunFault::Astray);
         }
-        let now = self.outside.now;
+        let now = self.outside.time;
         let machine = &mut process.machine;
         let classes = &self.classes;
         let turns = self.turns;
