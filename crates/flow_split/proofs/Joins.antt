@@ -17,15 +17,15 @@ pub onto_fresh : (f : Emitted) (c : Chunk) → Fresh f → onto f c ≡ c
 onto_fresh f c h i = record c { body = (ap (λ b. b ++ c.body) h.body) i; acts = (ap (λ a. c.acts || a) h.acts ∙ or_false c.acts) i }
 
 -- one chunk and then another
-pub join : (h : Option Hand) (e f : Emitted) (c d : Chunk) → At h e c f → with_chunk h f d ≡ with_chunk h e (joined h c d)
-join h e f c d a i = record {
-  blocks = (ap₂ (λ x y. x ++ blocks_of h y) (ap (λ m. m.blocks) a.all) (onto_fresh f d a.fresh) ∙ append_assoc e.blocks (blocks_of h (onto e c)) (blocks_of h d)) i;
+pub join : (h g : Option Hand) (e f : Emitted) (c d : Chunk) → At h e c f → with_chunk g f d ≡ with_chunk h e (joined g c d)
+join h g e f c d a i = record {
+  blocks = (ap₂ (λ x y. x ++ blocks_of g y) (ap (λ m. m.blocks) a.all) (onto_fresh f d a.fresh) ∙ append_assoc e.blocks (blocks_of h (onto e c)) (blocks_of g d)) i;
   groups = (ap (λ m. m.groups ++ d.groups) a.all ∙ append_assoc e.groups c.groups d.groups) i;
 }
 
 -- and so on
-pub and_then : (h : Option Hand) (e f g : Emitted) (c d : Chunk) → At h e c f → At h f d g → At h e (joined h c d) g
-and_then h e f g c d a b = record { all = b.all ∙ join h e f c d a; fresh = b.fresh }
+pub and_then : (h g : Option Hand) (e f x : Emitted) (c d : Chunk) → At h e c f → At g f d x → At h e (joined g c d) x
+and_then h g e f x c d a b = record { all = b.all ∙ join h g e f c d a; fresh = b.fresh }
 
 -- the numbers behind a chunk
 length-more : (x : BlockTree) (xs : List BlockTree) (bs : List BlockTree) (n : ℕ) → length xs ≡ n → length (bs ++ x ∷ xs) ≡ length bs + suc n

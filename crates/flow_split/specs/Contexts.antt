@@ -23,7 +23,7 @@ abbrev pub names_in : Context → Names
 names_in c = names_of (program_of c.program.now)
 
 abbrev pub slots_in : Context → List SlotTree
-slots_in c = slots_seen c.slots.now
+slots_in c = slots_seen c.layout.now.slots.items
 
 abbrev pub jump_of : Jump → LastTree
 jump_of (Goto b) = GotoLast b

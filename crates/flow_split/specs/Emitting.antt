@@ -2,18 +2,20 @@
 use Rattle.std.specs.Prelude.{◌≡◌, ℕ, suc, ◌+◌, Bool, true, false, ◌||◌, List, [], ◌∷◌, ◌++◌, map, length}
 use Rattle.std.specs.declared.option.Option.{Option}
 use Rattle.std.specs.declared.option.Option.TheVariants.{None, Some}
-use Rattle.flow_tree.specs.Body.{IntoTree, Body, Branches}
+use Rattle.flow_tree.specs.Body.{IntoTree, Body, End, Branches, NoBranches, MoreBranches}
 use Rattle.flow_tree.specs.Decls.{SlotTree}
 use Rattle.flow_ast.specs.Leaving.{has_statement}
-use Rattle.flow_class.specs.Classes.{InstrTree, DropInstr, LastTree, GotoLast, BlockTree, CallbackTree}
-use Rattle.flow_class.specs.Scopes.{Scope, Mark, scope, outside}
-use Rattle.flow_class.specs.View.{instr_of, block_of, group_of}
+use Rattle.flow_class.specs.Classes.{InstrTree, DropInstr, LastTree, GotoLast, TestLast, ChooseLast, BlockTree, CallbackTree}
+use Rattle.flow_class.specs.Scopes.{Scope, Mark, Var, scope, outside, over}
+use Rattle.flow_class.specs.View.{instr_of, block_of, group_of, callback_of}
 use Rattle.flow_catch.specs.Inner.{inner_locals, left_lists}
 use Rattle.flow_meaning.specs.Evaluating.{Names}
+use Rattle.flow_class.specs.declared.class.Callback.{Callback}
+use Rattle.flow_tree.specs.Tree.{ExprTree}
 use Rattle.flow_split.specs.declared.emitter.Emitter.{Emitter}
 use Rattle.flow_split.specs.Around.{Exit, Text, Scoped, Part, Hand, Around}
 use Rattle.flow_split.specs.Counts.{locals_in, branch_local_count, local_count, into_count, Next, begun}
-use Rattle.flow_split.specs.Lowered.{Chunk, catch_part, blocks_of, drop_of, cancelled, with_into, with_taken, lowered, branches}
+use Rattle.flow_split.specs.Lowered.{Chunk, catch_part, blocks_of, drop_of, cancelled, with_into, with_taken, later, lowered, branches}
 
 -- the locals in force and the number of the next one; the blocks and groups so far; whether a block is open, whether a
 -- statement stands in it, and its instructions
@@ -131,26 +133,65 @@ module _ (ns : Names) (slots : List SlotTree) where
   pub record Emits (w : Around) (stmt : Body → Body) (old new : Emitted) : Type 0 where
     pub code : (k : Body) → with_rest new w k ≡ with_rest old w (stmt k)
     pub next : (k : Body) → new.next + locals_in k ≡ old.next + locals_in (stmt k)
-    pub scopes : outside new.scopes ≡ outside old.scopes
+    pub scopes : new.scopes ≡ later (stmt End) old.next old.scopes
     pub shut : new.open ≡ false → Fresh new
 
-  -- a whole body was emitted
+  -- a whole body was emitted, over the locals s with l as the next number; the locals are then those outside of its scope
+  pub record EmitsBody (s : Scope) (l : ℕ) (w : Around) (b : Body) (after : Scope) (old new : Emitted) : Type 0 where
+    pub all : At w.hand old (lowered ns slots s w (record (going old) { local = l }) b) new
+    pub next : new.next ≡ l + locals_in b
+    pub scopes : new.scopes ≡ after
+
+  -- a whole body, and what stands before its scope ends
   pub record EmitsAll (w : Around) (b : Body) (old new : Emitted) : Type 0 where
     pub all : At w.hand old (rest_of old w b) new
     pub next : new.next ≡ old.next + locals_in b
     pub scopes : outside new.scopes ≡ outside old.scopes
 
-  -- a body in a scope of its own
-  abbrev pub in_scope : Emitted → Emitted
-  in_scope e = record e { scopes = Mark ∷ e.scopes }
+  -- a part of a `for`, whose locals stay
+  abbrev pub EmitsPart : Around → Body → Emitted → Emitted → Type 0
+  EmitsPart w b old new = EmitsBody old.scopes old.next w b (later b old.next old.scopes) old new
 
-  pub record EmitsScope (w : Around) (b : Body) (old new : Emitted) : Type 0 where
-    pub all : At w.hand old (rest_of (in_scope old) w b) new
-    pub next : new.next ≡ old.next + locals_in b
-    pub scopes : new.scopes ≡ old.scopes
+  -- a body in a scope of its own, which may begin with a variable
+  abbrev pub EmitsScope : Around → Body → Emitted → Emitted → Type 0
+  EmitsScope w b old new = EmitsBody (Mark ∷ old.scopes) old.next w b old.scopes old new
+
+  abbrev pub EmitsBranch : Around → Option IntoTree → Body → Emitted → Emitted → Type 0
+  EmitsBranch w i b old new = EmitsBody (with_taken i old.next (Mark ∷ old.scopes)) (into_count i + old.next) w b old.scopes old new
+
+  abbrev pub EmitsHandler : Around → List ℕ → Body → Emitted → Emitted → Type 0
+  EmitsHandler w x b old new = EmitsBody (Var x old.next ∷ Mark ∷ old.scopes) (suc old.next) w b old.scopes old new
 
   -- branches of a choose, behind what was emitted before
   pub record EmitsBranches (w : Around) (bs : Branches) (old new : Emitted) : Type 0 where
     pub all : (e : Emitted) (c : Chunk) → At w.hand e c old → At w.hand e (branches ns slots c old.scopes w (coming old) bs) new
     pub next : new.next ≡ old.next + branch_local_count bs
     pub scopes : new.scopes ≡ old.scopes
+
+-- the end of a body, where a block is still open
+abbrev pub ended_if : Bool → Around → Emitted → Emitted
+ended_if true w e = closed_end w e
+ended_if false w e = e
+
+abbrev pub ended_by : Around → Emitted → Emitted
+ended_by w e = ended_if e.open w e
+
+-- the test of a `for`
+abbrev pub testing : List SlotTree → Around → Option ExprTree → (main out : ℕ) → Emitted → Emitted
+testing slots w None main out e = e
+testing slots w (Some t) main out e = opened (closed w (TestLast (over slots e.scopes t) main out) (acted [] e))
+
+-- a wait for callbacks
+abbrev pub callbacks_of : List Callback → List CallbackTree
+callbacks_of cs = map callback_of cs
+
+abbrev pub waiting_for : Around → List CallbackTree → Emitted → Emitted
+waiting_for w cs e = record (closed w (ChooseLast (suc (length e.groups))) (acted [] e)) { groups = e.groups ++ cs ∷ [] }
+
+-- a branch of a choose, in a scope of its own
+abbrev pub EmitsOnly : Names → List SlotTree → Around → Branches → Emitted → Emitted → Type 0
+EmitsOnly ns slots w NoBranches old new = ⊥
+EmitsOnly ns slots w (MoreBranches at v b bs) old new = EmitsBranch ns slots w v.into b old new
+
+abbrev pub EmitsWhen : Names → List SlotTree → Around → (Branches → Branches) → Emitted → Emitted → Type 0
+EmitsWhen ns slots w f old new = EmitsOnly ns slots w (f NoBranches) old new

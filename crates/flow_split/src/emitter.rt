@@ -10,7 +10,7 @@ ghost use Rattle.std.specs.Option.{option_map};
 ghost use Rattle.std.specs.declared.option.Option.TheVariants.{Some};
 ghost use Rattle.flow_split.specs.Contexts.{names_in, slots_in, jump_of, around_of};
 ghost use Rattle.flow_split.specs.Lowered.{catch_part, drop_of, cancelled, place_in, taken_in};
-ghost use Rattle.flow_split.specs.Emitting.{emitted, opened, put, acted, closed, closed_end, left_loop, shut_by, declaring, taking};
+ghost use Rattle.flow_split.specs.Emitting.{emitted, opened, put, acted, closed, closed_end, ended_by, left_loop, shut_by, declaring, taking};
 
 use crate::around::{Around, Exit, Handler, Jump};
 use crate::context::Context;
@@ -203,6 +203,17 @@ impl Emitter {
                 self.close(around, jump.last())
             }
             Exit::Part(jump) => self.close(around, jump.last()),
+        }
+    }
+
+    /// The end of a body, where a block is still open.
+    pub fn finish_open(&mut self, around: &Around) -> Result<(), NoMemory>
+        ensures { OnOk result (emitted self.new ≡ ended_by (around_of around.now) (emitted self.old)) }
+    {
+        if self.open {
+            self.finish(around)
+        } else {
+            Ok(())
         }
     }
 

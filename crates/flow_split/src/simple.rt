@@ -70,7 +70,7 @@ impl<'a> Context<'a> {
     fn read_over(&self, scopes: &Scopes, first: &Ident, rest: &[Ident]) -> Result<Expr, NoMemory>
         ensures { IfOk result (λ e. expr_of e ≡ path_from (VarExpr (ident_over (slots_in self.now) scopes.now first.now)) rest.now) }
     {
-        let mut expr = Expr::Var(ident_over(self.alloc, self.slots, scopes, first)?);
+        let mut expr = Expr::Var(ident_over(self.alloc, &self.layout.slots, scopes, first)?);
         for name in rest {
             expr = Expr::Field(Box::new(self.alloc, expr)?, name.copy(self.alloc)?);
         }
@@ -225,7 +225,7 @@ impl Emitter {
     ) -> Result<(), NoMemory>
         ensures { OnOk result (emitted self.new ≡ acted (ActInstr (act_over (slots_in context.now) self.old.scopes target.now.path.items) (over_all (slots_in context.now) self.old.scopes (exprs_of args.now)) ∷ []) (emitted self.old)) }
     {
-        let path = act_over(self.alloc, context.slots, &self.scopes, target)?;
+        let path = act_over(self.alloc, &context.layout.slots, &self.scopes, target)?;
         let args = context.over_all(&self.scopes, args)?;
         self.act(Instr::Act(path, args))
     }
