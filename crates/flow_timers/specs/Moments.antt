@@ -30,6 +30,10 @@ first_number (x ∷ xs) = Some x.number
 abbrev pub pending_of : {A : Type 0} → ℕ × ℕ × Bor A → Pending A
 pending_of e = record { time = e.0; number = e.1; what = e.2.now }
 
+-- an entry as an event
+abbrev pub event_of : {A : Type 0} → ℕ × ℕ × A → Pending A
+event_of e = record { time = e.0; number = e.1; what = e.2 }
+
 -- the event with its time
 abbrev pub at_time : {A : Type 0} → ℕ → Event A → Pending A
 at_time t x = record { time = t; number = x.number; what = x.what }

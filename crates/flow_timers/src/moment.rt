@@ -46,7 +46,8 @@ impl<T: Drop> Moment<T> {
 
     /// Puts an event in the place of its number. Unchanged on an error.
     pub fn place(&mut self, number: u64, what: T) -> Result<(), NoMemory>
-        ensures placed { OnOk result (self.new ≡ numbered (record { number = number; what = what }) self.old) }
+        ensures placed { OnOk result (self.new ≡ numbered
+            (record { number = number; what = what }) self.old) }
         ensures unchanged { OnErr result (self.new ≡ self.old) }
     {
         let place = self.place_after(number);
@@ -109,7 +110,8 @@ impl<T> Moment<T> {
         time: u64,
         entries: &mut Vec<(u64, u64, &'a T)>,
     ) -> Result<(), NoMemory>
-        ensures { OnOk result (map pending_of entries.new.items ≡ map pending_of entries.old.items ++ map (at_time time) self.now) }
+        ensures { let before = map pending_of entries.old.items in
+            OnOk result (map pending_of entries.new.items ≡ before ++ map (at_time time) self.now) }
     {
         for event in self.events.iter() {
             entries.push((time, event.number, &event.what))?;

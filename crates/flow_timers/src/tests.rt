@@ -1,3 +1,5 @@
+ghost use Rattle.std.specs.Prelude.{◌<◌};
+
 use super::*;
 use flow_base::memory::NoMemory;
 use std::alloc::Global;
@@ -50,4 +52,32 @@ fn owned(alloc: Global, timers: &Timers<char>) -> Result<Vec<(u64, u64, char)>, 
         entries.push((time, number, *what))?;
     }
     Ok(entries)
+}
+
+/// The next number of a simple row of numbers below 2^31.
+fn scattered(number: u64) -> u64
+    ensures { result < 2147483648 }
+{
+    (number.wrapping_mul(1103515245).wrapping_add(12345)) % 2147483648
+}
+
+#[test]
+fn a_million_with_forty_thousand_pending(rt: HostRuntime) -> Result<(), Fail> {
+    let mut timers = Timers::new(rt.alloc())?;
+    let mut delay: u64 = 1;
+    let mut now: u64 = 0;
+    for count in 0..1_000_000u32 {
+        assert!(rt; timers.made() < 1 << 40);
+        delay = scattered(delay);
+        timers.add(now.saturating_add(delay % 5000), count)?;
+        if count >= 40_000 {
+            let (time, number) = timers.first().ok_or("none")?;
+            assert!(rt; time >= now);
+            now = time;
+            assert!(rt; timers.remove(time, number).is_some());
+        }
+    }
+    assert_eq!(rt; timers.made(), 1_000_000);
+    assert_eq!(rt; timers.entries()?.len(), 40_000);
+    Ok(())
 }

@@ -1,8 +1,8 @@
 // Pending events, by time and number.
 
-ghost use Rattle.std.specs.Prelude.{◌≡◌, ◌+◌, ◌<◌, ◌^◌, List, [], ◌∷◌, ◌++◌, OnErr, OnOk, IfOk, map};
-ghost use Rattle.flow_timers.specs.Moments.{pending_of};
-ghost use Rattle.flow_timers.specs.Pending.{Pending, no_events, with_event, placed, event_at, without_event, next_event, in_order};
+ghost use Rattle.std.specs.Prelude.{◌≡◌, ◌+◌, ◌<◌, ◌^◌, [], OnErr, OnOk, IfOk, map};
+ghost use Rattle.flow_timers.specs.Moments.{pending_of, event_of};
+ghost use Rattle.flow_timers.specs.Pending.{no_events, with_event, placed, event_at, without_event, next_event, in_order};
 
 use crate::moment::Moment;
 use flow_base::memory::NoMemory;
@@ -68,7 +68,8 @@ impl<T: Drop> Timers<T> {
     /// Puts an event in its place. Unchanged on an error.
     fn place(&mut self, time: u64, number: u64, what: T) -> Result<(), NoMemory>
         ensures made { self.new.made ≡ self.old.made }
-        ensures placed { OnOk result (self.new.pending ≡ placed (record { time = time; number = number; what = what }) self.old.pending) }
+        ensures placed { OnOk result (self.new.pending ≡ placed
+            (record { time = time; number = number; what = what }) self.old.pending) }
         ensures unchanged { OnErr result (self.new ≡ self.old) }
     {
         match self.moments.get_mut(&time) {
@@ -85,7 +86,8 @@ impl<T: Drop> Timers<T> {
     /// exactly where no such event is pending.
     pub fn remove(&mut self, time: u64, number: u64) -> Option<T>
         ensures what { result ≡ event_at time number self.old.pending }
-        ensures left { self.new ≡ record self.old { pending = without_event time number self.old.pending } }
+        ensures left { let rest = without_event time number self.old.pending in
+            self.new ≡ record self.old { pending = rest } }
     {
         let moment = self.moments.get_mut(&time)?;
         let what = moment.take(number)?;
@@ -95,14 +97,14 @@ impl<T: Drop> Timers<T> {
         Some(what)
     }
 
-    /// The queue with these events, of which so many were made: the next has the number after `made`. The
-    /// numbers are distinct, and from 1 to `made`.
+    /// The queue with these events, in any order, of which so many were made: the next has the number after `made`.
     pub fn restore(
         alloc: Global,
         made: u64,
         entries: Vec<(u64, u64, T)>,
     ) -> Result<Timers<T>, NoMemory>
-        ensures { IfOk result (λ t. t ≡ record { made = made; pending = in_order (map (λ e. record { time = e.0; number = e.1; what = e.2 }) entries.items) }) }
+        ensures { IfOk result (λ t.
+            t ≡ record { made = made; pending = in_order (map event_of entries.items) }) }
     {
         let mut timers = Timers::none_of(alloc, made);
         for (time, number, what) in entries {

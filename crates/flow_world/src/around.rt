@@ -17,15 +17,15 @@ use flow_trace::line::Line;
 use flow_trace::out::LineOut;
 
 /// The world around a process in its event: its number, its ports, what is outside, and where lines go.
-pub struct Around<'a, L: LineOut> {
+pub struct Around<'p, 'w, 'l, L: LineOut> {
     pub me: ProcId,
-    pub ports: &'a mut Ports,
-    pub outside: &'a mut Outside,
-    pub out: &'a mut L,
+    pub ports: &'p mut Ports,
+    pub outside: &'w mut Outside,
+    pub out: &'l mut L,
     ghost mine: { me.0 < outside.now.net.processes },
 }
 
-impl<'a, L: LineOut> Drop for Around<'a, L> {
+impl<'p, 'w, 'l, L: LineOut> Drop for Around<'p, 'w, 'l, L> {
     fn drop(self) {
         let Around {
             me: _,
@@ -46,7 +46,7 @@ fn or_fault<T>(answer: Result<T, NoMemory>) -> Result<T, OutFault>
     }
 }
 
-impl<'a, L: LineOut> Host for Around<'a, L> {
+impl<'p, 'w, 'l, L: LineOut> Host for Around<'p, 'w, 'l, L> {
     ghost processes = { λ h. h.outside.now.net.processes };
 
     ghost faults = { λ h. L.faults h.out.now };
