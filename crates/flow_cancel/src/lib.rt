@@ -8,5 +8,3 @@ mod actors;
 mod dropping;
 pub mod heap;
 pub mod task;
-#[cfg(test)]
-mod tests;

@@ -28,10 +28,11 @@ fn draw<H: Host>(
     match width(lo, hi) {
         Some(width) => {
             let number = host.random(lo, width)?;
-            process.gives(actor, goal, Value::Int(number))
+            process.gives(actor, goal, Value::Int(number))?;
         }
-        None => process.throw(actor, BAD_ARGUMENT),
+        None => process.throw(actor, BAD_ARGUMENT)?,
     }
+    Ok(())
 }
 
 fn delay<H: Host>(
@@ -48,10 +49,10 @@ fn delay<H: Host>(
         Some(at) => {
             let cell = process.gives_open(actor, goal)?;
             host.timer(cell, at)?;
-            Ok(())
         }
-        None => process.throw(actor, OUT_OF_RANGE),
+        None => process.throw(actor, OUT_OF_RANGE)?,
     }
+    Ok(())
 }
 
 // A port that nobody listens to gets a stream.
@@ -66,10 +67,12 @@ fn listen<H: Host>(
     ensures processes { H.processes host.new ≡ H.processes host.old }
 {
     let Ok(port) = u16::try_from(port) else {
-        return process.throw(actor, BAD_ARGUMENT);
+        process.throw(actor, BAD_ARGUMENT)?;
+        return Ok(());
     };
     if host.listening(port) {
-        return process.throw(actor, PORT_IN_USE);
+        process.throw(actor, PORT_IN_USE)?;
+        return Ok(());
     }
     let cell = process.gives_port(actor, goal)?;
     host.listen(port, cell)?;
@@ -90,10 +93,10 @@ fn ask_disk<H: Host>(
         Some(ask) => {
             let cell = process.gives_open(actor, goal)?;
             host.disk(cell, ask)?;
-            Ok(())
         }
-        None => process.throw(actor, BAD_ARGUMENT),
+        None => process.throw(actor, BAD_ARGUMENT)?,
     }
+    Ok(())
 }
 
 fn send_to<H: Host>(
@@ -110,7 +113,8 @@ fn send_to<H: Host>(
 {
     let (number, port) = to;
     let (Some(to), Ok(port)) = (process(processes, number), u16::try_from(port)) else {
-        return from.throw(actor, BAD_ARGUMENT);
+        from.throw(actor, BAD_ARGUMENT)?;
+        return Ok(());
     };
     from.run_on(actor)?;
     host.packet(to, port, text)?;

@@ -1,15 +1,91 @@
-use crate::heap::Heap;
-use crate::task::{Dropped, Task};
 use flow_base::errors::OPERATION_CANCELLED;
 use flow_base::ids::{ActorId, CellId, ErrorCode};
 use flow_base::memory::NoMemory;
+use flow_cancel::heap::Heap;
+use flow_cancel::task::{Dropped, Task};
 use flow_cell::counts::Side;
 use flow_cell::waiter::Waiter;
 use flow_frame::held::Held;
 use flow_value::value::{Kind, Outcome, RecordId, Value};
 use std::alloc::Global;
 
-// Each of these does a call where it may be done, and tells whether it was.
+// Each of these does a call, where it may be done, and tells what came of it.
+
+fn empty(alloc: Global) -> Result<Heap, NoMemory> {
+    Heap::new(alloc)
+}
+
+fn result(heap: &mut Heap) -> Result<CellId, NoMemory> {
+    heap.new_result()
+}
+
+fn stream(heap: &mut Heap) -> Result<CellId, NoMemory> {
+    heap.new_stream()
+}
+
+fn owner(heap: &Heap, cell: CellId) -> Option<ActorId> {
+    heap.owner(cell)
+}
+
+fn unfinished(heap: &Heap, actor: ActorId) -> bool {
+    heap.unfinished(actor)
+}
+
+fn next(heap: &mut Heap) -> Option<Task> {
+    heap.next_task()
+}
+
+fn push(heap: &mut Heap, task: Task) -> Result<(), NoMemory> {
+    heap.push(task)
+}
+
+fn add_port(heap: &mut Heap, cell: CellId) -> Result<bool, NoMemory> {
+    heap.add_port(cell)?;
+    Ok(heap.is_port(cell))
+}
+
+fn is_port(heap: &Heap, cell: CellId) -> bool {
+    heap.is_port(cell)
+}
+
+fn add_request(heap: &mut Heap, cell: CellId) -> Result<bool, NoMemory> {
+    heap.add_request(cell)?;
+    Ok(heap.is_requested(cell))
+}
+
+fn end_request(heap: &mut Heap, cell: CellId) -> bool {
+    heap.end_request(cell);
+    heap.is_requested(cell)
+}
+
+fn set_main(heap: &mut Heap, cell: CellId) {
+    heap.set_main(Some(cell));
+}
+
+fn clear(heap: &mut Heap) {
+    heap.clear();
+}
+
+// Whether nothing is noted of a cell.
+fn forgot(heap: &Heap, cell: CellId) -> bool {
+    heap.main().is_none()
+        && !heap.is_requested(cell)
+        && heap.cells().references(cell).is_none()
+        && heap.streams().references(cell).is_none()
+}
+
+// Whether the newest task, which is taken, throws that an actor was cancelled.
+fn throws(heap: &mut Heap, actor: ActorId) -> bool {
+    match heap.next_task() {
+        Some(Task::Throw(thrown, error)) => thrown == actor && error == OPERATION_CANCELLED,
+        _ => false,
+    }
+}
+
+// Whether no task is left.
+fn rested(heap: &mut Heap) -> bool {
+    heap.next_task().is_none()
+}
 
 fn hold(heap: &mut Heap, cell: CellId, side: Side) -> bool {
     match heap.cells().references(cell) {
@@ -111,8 +187,8 @@ fn pair(alloc: Global, first: CellId, second: CellId) -> Result<Value, NoMemory>
 
 #[test]
 fn drop_by_counts(rt: HostRuntime) -> Result<(), NoMemory> {
-    let mut heap = Heap::new(rt.alloc())?;
-    let cell = heap.new_result()?;
+    let mut heap = empty(rt.alloc())?;
+    let cell = result(&mut heap)?;
     assert!(rt; hold(&mut heap, cell, Side::Promise));
     assert!(rt; hold(&mut heap, cell, Side::Promise));
     assert!(rt; hold(&mut heap, cell, Side::Future));
@@ -126,128 +202,147 @@ fn drop_by_counts(rt: HostRuntime) -> Result<(), NoMemory> {
     );
     assert_eq!(rt; loss(&mut heap, Kind::Promise, cell)?, None);
     assert_eq!(rt; loss(&mut heap, Kind::Future, cell)?, Some(Dropped::Freed));
-    assert_eq!(rt; loss(&mut heap, Kind::Future, cell)?, None);
     Ok(())
 }
 
 #[test]
 fn a_freed_cell_drops_what_it_held(rt: HostRuntime) -> Result<(), NoMemory> {
-    let mut heap = Heap::new(rt.alloc())?;
-    let cell = heap.new_result()?;
+    let mut heap = empty(rt.alloc())?;
+    let cell = result(&mut heap)?;
     let value = pair(rt.alloc(), CellId(7), CellId(8))?;
     assert!(rt; hold(&mut heap, cell, Side::Future));
     assert!(rt; set(&mut heap, cell, Outcome::Value(value)));
     assert_eq!(rt; loss(&mut heap, Kind::Future, cell)?, Some(Dropped::Freed));
     assert!(rt; drops(&mut heap, Kind::Future, CellId(7)));
     assert!(rt; drops(&mut heap, Kind::Promise, CellId(8)));
-    assert!(rt; heap.next_task().is_none());
+    assert!(rt; rested(&mut heap));
     Ok(())
 }
 
 #[test]
 fn the_last_future_cancels_an_actor(rt: HostRuntime) -> Result<(), NoMemory> {
-    let mut heap = Heap::new(rt.alloc())?;
-    let cell = heap.new_result()?;
-    let actor = start(&mut heap, Some(cell))?;
-    assert_eq!(rt; actor, Some(ActorId(1)));
-    assert_eq!(rt; start(&mut heap, Some(cell))?, None);
-    assert_eq!(rt; heap.owner(cell), Some(ActorId(1)));
-    assert!(rt; hold(&mut heap, cell, Side::Future));
+    let mut heap = empty(rt.alloc())?;
+    let cell = result(&mut heap)?;
     let lost = Some(Dropped::Cancel(ActorId(1)));
+    assert_eq!(rt; start(&mut heap, Some(cell))?, Some(ActorId(1)));
+    assert_eq!(rt; start(&mut heap, Some(cell))?, None);
+    assert!(rt; hold(&mut heap, cell, Side::Future));
     assert_eq!(rt; loss(&mut heap, Kind::Future, cell)?, lost);
     assert!(rt; cancel(&mut heap, ActorId(1))?);
-    assert!(rt; heap.next_task().is_none());
     assert!(rt; hold(&mut heap, cell, Side::Future));
     assert_eq!(rt;
         loss(&mut heap, Kind::Future, cell)?,
         Some(Dropped::Nothing)
     );
+    Ok(())
+}
+
+#[test]
+fn a_finished_actor_is_forgotten(rt: HostRuntime) -> Result<(), NoMemory> {
+    let mut heap = empty(rt.alloc())?;
+    let cell = result(&mut heap)?;
+    assert_eq!(rt; start(&mut heap, Some(cell))?, Some(ActorId(1)));
+    assert_eq!(rt; owner(&heap, cell), Some(ActorId(1)));
     assert!(rt; finish(&mut heap, ActorId(1)));
-    assert!(rt; !heap.unfinished(ActorId(1)));
-    assert_eq!(rt; heap.owner(cell), None);
+    assert!(rt; !unfinished(&heap, ActorId(1)));
+    assert_eq!(rt; owner(&heap, cell), None);
     assert_eq!(rt; loss(&mut heap, Kind::Promise, cell)?, Some(Dropped::Freed));
     Ok(())
 }
 
 #[test]
 fn a_cancelled_actor_leaves_its_wait(rt: HostRuntime) -> Result<(), NoMemory> {
-    let mut heap = Heap::new(rt.alloc())?;
-    let one = heap.new_result()?;
-    let two = heap.new_result()?;
+    let mut heap = empty(rt.alloc())?;
+    let one = result(&mut heap)?;
+    let two = result(&mut heap)?;
     let actor = ActorId(1);
     assert_eq!(rt; start(&mut heap, None)?, Some(actor));
-    assert_eq!(rt; start(&mut heap, None)?, Some(ActorId(2)));
     assert!(rt; wait(&mut heap, actor, 0, one)?);
-    assert!(rt; wait(&mut heap, ActorId(2), 0, one)?);
     assert!(rt; wait(&mut heap, actor, 1, two)?);
     assert!(rt; suspend(&mut heap, actor));
-    assert!(rt; !finish(&mut heap, actor));
     assert!(rt; cancel(&mut heap, actor)?);
-    assert_eq!(rt; waiters(&heap, one), Some(ActorId(2)));
+    assert_eq!(rt; waiters(&heap, one), None);
     assert_eq!(rt; waiters(&heap, two), None);
     assert!(rt; drops(&mut heap, Kind::Future, one));
     assert!(rt; drops(&mut heap, Kind::Future, two));
-    match heap.next_task() {
-        Some(Task::Throw(thrown, error)) => {
-            assert!(rt; thrown == actor && error == OPERATION_CANCELLED);
-        }
-        _ => assert!(rt; false),
-    }
+    assert!(rt; throws(&mut heap, actor));
+    Ok(())
+}
+
+#[test]
+fn a_cancelled_actor_leaves_others_waiting(rt: HostRuntime) -> Result<(), NoMemory> {
+    let mut heap = empty(rt.alloc())?;
+    let cell = result(&mut heap)?;
+    assert_eq!(rt; start(&mut heap, None)?, Some(ActorId(1)));
+    assert_eq!(rt; start(&mut heap, None)?, Some(ActorId(2)));
+    assert!(rt; wait(&mut heap, ActorId(1), 0, cell)?);
+    assert!(rt; wait(&mut heap, ActorId(2), 0, cell)?);
+    assert!(rt; suspend(&mut heap, ActorId(1)));
+    assert!(rt; !finish(&mut heap, ActorId(1)));
+    assert!(rt; cancel(&mut heap, ActorId(1))?);
+    assert_eq!(rt; waiters(&heap, cell), Some(ActorId(2)));
     Ok(())
 }
 
 #[test]
 fn a_port_goes_with_its_last_future(rt: HostRuntime) -> Result<(), NoMemory> {
-    let mut heap = Heap::new(rt.alloc())?;
-    let port = heap.new_stream()?;
+    let mut heap = empty(rt.alloc())?;
+    let port = stream(&mut heap)?;
     assert!(rt; hold_stream(&mut heap, port, Side::Promise));
     assert!(rt; hold_stream(&mut heap, port, Side::Future));
-    heap.add_port(port)?;
-    assert!(rt; heap.is_port(port));
+    assert!(rt; add_port(&mut heap, port)?);
     let lost = loss(&mut heap, Kind::FutureStream, port)?;
     assert_eq!(rt; lost, Some(Dropped::PortFreed));
-    assert!(rt; !heap.is_port(port));
-    assert!(rt; heap.streams().references(port).is_none());
-    let stream = heap.new_stream()?;
-    assert!(rt; hold_stream(&mut heap, stream, Side::Future));
-    assert!(rt; hold_stream(&mut heap, stream, Side::Promise));
-    let lost = loss(&mut heap, Kind::PromiseStream, stream)?;
+    assert!(rt; !is_port(&heap, port));
+    assert!(rt; forgot(&heap, port));
+    Ok(())
+}
+
+#[test]
+fn a_stream_is_broken_without_promises(rt: HostRuntime) -> Result<(), NoMemory> {
+    let mut heap = empty(rt.alloc())?;
+    let cell = stream(&mut heap)?;
+    assert!(rt; hold_stream(&mut heap, cell, Side::Future));
+    assert!(rt; hold_stream(&mut heap, cell, Side::Promise));
+    let lost = loss(&mut heap, Kind::PromiseStream, cell)?;
     assert_eq!(rt; lost, Some(Dropped::Broken));
+    let lost = loss(&mut heap, Kind::FutureStream, cell)?;
+    assert_eq!(rt; lost, Some(Dropped::Freed));
     Ok(())
 }
 
 #[test]
 fn the_newest_task_comes_first(rt: HostRuntime) -> Result<(), NoMemory> {
-    let mut heap = Heap::new(rt.alloc())?;
-    heap.push(Task::Run(ActorId(1)))?;
-    heap.push(Task::Throw(ActorId(2), ErrorCode(9)))?;
-    assert!(rt; matches!(&heap.first_task(), Some(Task::Throw(_, _))));
-    assert!(rt; matches!(&heap.next_task(), Some(Task::Throw(_, _))));
-    assert!(rt; matches!(&heap.next_task(), Some(Task::Run(_))));
-    assert!(rt; heap.next_task().is_none());
+    let mut heap = empty(rt.alloc())?;
+    push(&mut heap, Task::Run(ActorId(1)))?;
+    push(&mut heap, Task::Throw(ActorId(2), ErrorCode(9)))?;
+    assert!(rt; matches!(&next(&mut heap), Some(Task::Throw(_, _))));
+    assert!(rt; matches!(&next(&mut heap), Some(Task::Run(_))));
+    assert!(rt; rested(&mut heap));
     Ok(())
 }
 
 #[test]
 fn a_cleared_heap_keeps_the_numbers(rt: HostRuntime) -> Result<(), NoMemory> {
-    let mut heap = Heap::new(rt.alloc())?;
-    let cell = heap.new_result()?;
-    assert_eq!(rt; cell, CellId(1));
-    assert_eq!(rt; heap.new_stream()?, CellId(2));
+    let mut heap = empty(rt.alloc())?;
+    let cell = result(&mut heap)?;
     assert_eq!(rt; start(&mut heap, None)?, Some(ActorId(1)));
-    heap.set_main(Some(cell));
-    heap.add_request(cell)?;
-    assert!(rt; heap.is_requested(cell));
-    heap.end_request(cell);
-    assert!(rt; !heap.is_requested(cell));
-    heap.add_request(cell)?;
-    heap.clear();
-    assert_eq!(rt; heap.main(), None);
-    assert!(rt; !heap.is_requested(cell));
-    assert!(rt; !heap.unfinished(ActorId(1)));
-    assert!(rt; heap.cells().references(cell).is_none());
-    assert_eq!(rt; heap.new_result()?, CellId(3));
+    set_main(&mut heap, cell);
+    assert!(rt; add_request(&mut heap, cell)?);
+    clear(&mut heap);
+    assert!(rt; forgot(&heap, cell));
+    assert!(rt; !unfinished(&heap, ActorId(1)));
+    assert_eq!(rt; stream(&mut heap)?, CellId(2));
     assert_eq!(rt; start(&mut heap, None)?, Some(ActorId(2)));
+    Ok(())
+}
+
+#[test]
+fn an_ended_request_is_open_no_more(rt: HostRuntime) -> Result<(), NoMemory> {
+    let mut heap = empty(rt.alloc())?;
+    let cell = result(&mut heap)?;
+    assert!(rt; add_request(&mut heap, cell)?);
+    assert!(rt; !end_request(&mut heap, cell));
     Ok(())
 }
 
@@ -293,7 +388,7 @@ fn rounds(heap: &mut Heap, most: u32) -> Result<u32, NoMemory> {
 // What bench/heap.sh times.
 #[test]
 fn a_million_rounds(rt: HostRuntime) -> Result<(), NoMemory> {
-    let mut heap = Heap::new(rt.alloc())?;
+    let mut heap = empty(rt.alloc())?;
     assert_eq!(rt; rounds(&mut heap, 1_000_000)?, 1_000_000);
     Ok(())
 }
@@ -341,7 +436,7 @@ fn listed(heap: &Heap, most: u32) -> u32 {
 // What bench/heap.sh measures.
 #[test]
 fn many_frames(rt: HostRuntime) -> Result<(), NoMemory> {
-    let mut heap = Heap::new(rt.alloc())?;
+    let mut heap = empty(rt.alloc())?;
     assert_eq!(rt; add_many(&mut heap, 100_000)?, 100_000);
     assert_eq!(rt; listed(&heap, 200_000), 100_000);
     Ok(())
