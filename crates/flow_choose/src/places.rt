@@ -109,12 +109,7 @@ pub fn var_ident(alloc: Global, place: Option<Slotted>, name: &Ident) -> Result<
 
 /// An expression over places.
 #[cycle(over)]
-pub fn over(
-    alloc: Global,
-    slots: &[Slot],
-    scopes: &Scopes,
-    expr: &Expr,
-) -> Result<Expr, NoMemory>
+pub fn over(alloc: Global, slots: &[Slot], scopes: &Scopes, expr: &Expr) -> Result<Expr, NoMemory>
     requires { length slots.now < 2 ^ 32 }
     ensures { IfOk result (λ e. expr_of e ≡ over (slots_seen slots.now) scopes.now (expr_of expr.now)) }
 {
@@ -137,23 +132,14 @@ pub fn over(
             name.copy(alloc)?,
             over_all(alloc, slots, scopes, args)?,
         )),
-        Expr::Not(of) => Ok(Expr::Not(Box::new(
-            alloc,
-            over(alloc, slots, scopes, of)?,
-        )?)),
-        Expr::Neg(of) => Ok(Expr::Neg(Box::new(
-            alloc,
-            over(alloc, slots, scopes, of)?,
-        )?)),
+        Expr::Not(of) => Ok(Expr::Not(Box::new(alloc, over(alloc, slots, scopes, of)?)?)),
+        Expr::Neg(of) => Ok(Expr::Neg(Box::new(alloc, over(alloc, slots, scopes, of)?)?)),
         Expr::Binary(op, left, right) => Ok(Expr::Binary(
             *op,
             Box::new(alloc, over(alloc, slots, scopes, left)?)?,
             Box::new(alloc, over(alloc, slots, scopes, right)?)?,
         )),
-        Expr::Paren(of) => Ok(Expr::Paren(Box::new(
-            alloc,
-            over(alloc, slots, scopes, of)?,
-        )?)),
+        Expr::Paren(of) => Ok(Expr::Paren(Box::new(alloc, over(alloc, slots, scopes, of)?)?)),
     }
 }
 

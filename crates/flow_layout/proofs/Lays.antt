@@ -62,7 +62,7 @@ two_bodies l b c k i = record {
   slots = three l.slots (body_slots b) (body_slots c) (body_slots k) i;
   locals = three l.locals (body_locals b) (body_locals c) (body_locals k) i;
   branches = (three l.branches (counts (body_groups b)) (counts (body_groups c)) (counts (body_groups k))
-    ∙ ap (λ x. l.branches ++ x) (sym (counts_three (body_groups b) (body_groups c) (body_groups k)))) i;
+      ∙ ap (λ x. l.branches ++ x) (sym (counts_three (body_groups b) (body_groups c) (body_groups k)))) i;
 }
 
 pub three_bodies : (l : LayoutTree) (b c d k : Body) → with_body (with_body (with_body (with_body l b) c) d) k ≡ record {
@@ -74,7 +74,7 @@ three_bodies l b c d k i = record {
   slots = four l.slots (body_slots b) (body_slots c) (body_slots d) (body_slots k) i;
   locals = four l.locals (body_locals b) (body_locals c) (body_locals d) (body_locals k) i;
   branches = (four l.branches (counts (body_groups b)) (counts (body_groups c)) (counts (body_groups d)) (counts (body_groups k))
-    ∙ ap (λ x. l.branches ++ x) (sym (counts_four (body_groups b) (body_groups c) (body_groups d) (body_groups k)))) i;
+      ∙ ap (λ x. l.branches ++ x) (sym (counts_four (body_groups b) (body_groups c) (body_groups d) (body_groups k)))) i;
 }
 
 -- a try: its body, the local of the error, its handler
@@ -87,7 +87,7 @@ try_bodies l b h k i = record {
   slots = (ap (λ x. (x ++ body_slots h) ++ body_slots k) (append-nil (l.slots ++ body_slots b)) ∙ three l.slots (body_slots b) (body_slots h) (body_slots k)) i;
   locals = four l.locals (body_locals b) (ErrorType ∷ []) (body_locals h) (body_locals k) i;
   branches = (three l.branches (counts (body_groups b)) (counts (body_groups h)) (counts (body_groups k))
-    ∙ ap (λ x. l.branches ++ x) (sym (counts_three (body_groups b) (body_groups h) (body_groups k)))) i;
+      ∙ ap (λ x. l.branches ++ x) (sym (counts_three (body_groups b) (body_groups h) (body_groups k)))) i;
 }
 
 -- the branches of a choose, and a body behind it
@@ -100,8 +100,8 @@ choose_bodies l bs n k e i = record {
   slots = append_assoc l.slots (branch_slots bs) (body_slots k) i;
   locals = append_assoc l.locals (branch_locals bs) (body_locals k) i;
   branches = (ap (λ m. ((l.branches ++ (m ∷ [])) ++ counts (branch_groups bs)) ++ counts (body_groups k)) e
-    ∙ three l.branches (length (branch_waits bs) ∷ []) (counts (branch_groups bs)) (counts (body_groups k))
-    ∙ ap (λ x. l.branches ++ (length (branch_waits bs) ∷ x)) (sym (counts_append (branch_groups bs) (body_groups k)))) i;
+      ∙ three l.branches (length (branch_waits bs) ∷ []) (counts (branch_groups bs)) (counts (body_groups k))
+      ∙ ap (λ x. l.branches ++ (length (branch_waits bs) ∷ x)) (sym (counts_append (branch_groups bs) (body_groups k)))) i;
 }
 
 -- what a declaration or a wait adds, and a body behind it

@@ -10,8 +10,8 @@ ghost use Rattle.flow_ast.specs.Slots.{declared_slots, into_slots, param_slot};
 ghost use Rattle.flow_layout.specs.Locals.{declared_locals, into_locals};
 ghost use Rattle.flow_layout.specs.Laying.{laid, layout_of, with_body, with_branches, with_more, with_group, LaysBefore, else_body};
 
-use flow_base::memory::NoMemory;
 use crate::places::Layout;
+use flow_base::memory::NoMemory;
 use flow_tree::decl::{Param, Slot};
 use flow_tree::stmt::{Into, Stmt, StmtKind, Waiting, When};
 use flow_tree::ty::{Ident, Ty};

@@ -53,7 +53,7 @@ outside_later (CallStmt at xs es k) l s = refl
 outside_later (WaitStmt at w k) l s = outside_taken w.into l s
 
 module _ (ns : Names) (slots : List SlotTree) (w : Around) where
-  pub try_emits : (v u : Around) (e e1 f g new : Emitted) (at catch : Place) (b : Body) (x : Ident) (c : Body) (y hb he q : ℕ) → e.open ≡ true
+  pub try_emits : (v u : Around) (e e1 f g new : Emitted) (at catch : Place) (b : Body) (x : Ident) (c : Body) (y hb he q : ℕ) → e.is_open ≡ true
       → y ≡ (going e).block → hb ≡ (past true b (begun (going e))).block → he ≡ (past true b (begun (going e))).local
       → q ≡ (past w.looped.tried c (begun (record (past true b (begun (going e))) { local = suc (past true b (begun (going e))).local }))).block
       → e1 ≡ closed w (GotoLast y) e → v ≡ guarded w (Scoped (GotoLast q)) (record { block = hb; error = he }) → EmitsScope ns slots v b (opened e1) f
@@ -78,12 +78,12 @@ module _ (ns : Names) (slots : List SlotTree) (w : Around) where
   record Tested (v : Around) (s : Scope) (t : Option ExprTree) (main out : ℕ) (h : Next) (e : Emitted) (c : Chunk) (f : Emitted) : Type 0 where
     at : At v.hand e (test_before ns slots v s t main out c) f
     stands : Stands f s (tested t h)
-    open : f.open ≡ true
+    is_open : f.is_open ≡ true
 
   tested_by : (v : Around) (s : Scope) (t : Option ExprTree) (main out : ℕ) (h : Next) (e f g : Emitted) (c : Chunk) → At v.hand e c f → Stands f s h → g ≡ testing slots v t main out (opened f)
       → Tested v s t main out h e c g
   tested_by v s None main out h e f g c a st eq =
-      subst (Tested v s None main out h e c) (sym eq) (record { at = record { all = a.all; fresh = record { body = a.fresh.body; acts = a.fresh.acts } }; stands = record { scopes = st.scopes; coming = st.coming }; open = refl })
+      subst (Tested v s None main out h e c) (sym eq) (record { at = record { all = a.all; fresh = record { body = a.fresh.body; acts = a.fresh.acts } }; stands = record { scopes = st.scopes; coming = st.coming }; is_open = refl })
   tested_by v s (Some t) main out h e f g c a st eq =
       let f2 = closed v (TestLast (over slots f.scopes t) main out) (acted [] (opened f)) in
       let r = ended_acting v [] (TestLast (over slots f.scopes t) main out) (opened f) f2 refl in
@@ -93,14 +93,14 @@ module _ (ns : Names) (slots : List SlotTree) (w : Around) where
       (record {
         at = record { all = d.all; fresh = record { body = d.fresh.body; acts = d.fresh.acts } };
         stands = record { scopes = r.stands.scopes ∙ st.scopes; coming = r.stands.coming ∙ ap begun st.coming };
-        open = refl;
+        is_open = refl;
       })
 
   -- drops at the begin of a block
   onto_put : (ds : List InstrTree) (f : Emitted) (c : Chunk) → onto (put ds f) c ≡ onto f (record c { body = ds ++ c.body })
   onto_put ds f c i = record c { body = append_assoc f.body ds c.body i; acts = c.acts || f.acts }
 
-  pub for_emits : (v u : Around) (e e1 e2 f g new : Emitted) (at : Place) (i : Body) (t : Option ExprTree) (p b : Body) (hd main again out : ℕ) → e.open ≡ true
+  pub for_emits : (v u : Around) (e e1 e2 f g new : Emitted) (at : Place) (i : Body) (t : Option ExprTree) (p b : Body) (hd main again out : ℕ) → e.is_open ≡ true
       → hd ≡ (past w.looped.tried i (going e)).block → main ≡ (tested t (past w.looped.tried i (going e))).block
       → again ≡ (past false b (begun (tested t (past w.looped.tried i (going e))))).block
       → out ≡ (past w.looped.tried p (begun (past false b (begun (tested t (past w.looped.tried i (going e))))))).block
@@ -131,11 +131,11 @@ module _ (ns : Names) (slots : List SlotTree) (w : Around) where
       subst (Emits ns slots w (ForStmt at i t p b) e) (sym nw)
       (record {
         code = λ z.
-          ap₂ (λ x y. with_chunk w.hand (put (drop_of (scope g.scopes)) g) (lowered ns slots x w (begun y) z)) outer q.stands.coming
-          ∙ (λ y. record { blocks = g.blocks ++ blocks_of w.hand (onto_put (drop_of (scope g.scopes)) g (lowered ns slots e.scopes w (begun j) z) y); groups = g.groups ++ (lowered ns slots e.scopes w (begun j) z).groups })
-          ∙ ap (λ y. with_chunk w.hand g (dropping (scope y) (lowered ns slots e.scopes w (begun j) z))) q.stands.scopes
-          ∙ join w.hand w.hand e g _ (dropping (scope last) (lowered ns slots e.scopes w (begun j) z)) all
-          ∙ ap (λ y. with_rest_if ns slots (y || true) e w (ForStmt at i t p b z)) (sym o);
+            ap₂ (λ x y. with_chunk w.hand (put (drop_of (scope g.scopes)) g) (lowered ns slots x w (begun y) z)) outer q.stands.coming
+            ∙ (λ y. record { blocks = g.blocks ++ blocks_of w.hand (onto_put (drop_of (scope g.scopes)) g (lowered ns slots e.scopes w (begun j) z) y); groups = g.groups ++ (lowered ns slots e.scopes w (begun j) z).groups })
+            ∙ ap (λ y. with_chunk w.hand g (dropping (scope y) (lowered ns slots e.scopes w (begun j) z))) q.stands.scopes
+            ∙ join w.hand w.hand e g _ (dropping (scope last) (lowered ns slots e.scopes w (begun j) z)) all
+            ∙ ap (λ y. with_rest_if ns slots (y || true) e w (ForStmt at i t p b z)) (sym o);
         next = λ z. ap (λ y. y.local + locals_in z) q.stands.coming ∙ for_sums e.next (locals_in i) (locals_in b) (locals_in p) (locals_in z);
         scopes = outer;
         shut = λ z. absurd (no_false z);

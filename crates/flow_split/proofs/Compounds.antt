@@ -23,14 +23,14 @@ four_sums : (a b c d : ℕ) → a + b + c + d ≡ a + (b + c + d)
 four_sums a b c d = omega arith
 
 module _ (ns : Names) (slots : List SlotTree) (w v : Around) where
-  pub block_emits : (e f new : Emitted) (at : Place) (b : Body) (q : ℕ) → e.open ≡ true → q ≡ (past w.looped.tried b (going e)).block → v ≡ inner w (Scoped (GotoLast q))
+  pub block_emits : (e f new : Emitted) (at : Place) (b : Body) (q : ℕ) → e.is_open ≡ true → q ≡ (past w.looped.tried b (going e)).block → v ≡ inner w (Scoped (GotoLast q))
       → EmitsScope ns slots v b e f → new ≡ opened f → Emits ns slots w (BlockStmt at b) e new
   block_emits e f new at b q o qe ve h nw =
       let g : EmitsScope ns slots (inner w (Scoped (GotoLast (past w.looped.tried b (going e)).block))) b e f = subst (λ x. EmitsScope ns slots x b e f) (ve ∙ ap (λ x. inner w (Scoped (GotoLast x))) qe) h in
       let s = scope_goes_on ns slots _ b e f g in
       finish ns slots w e f new _ _ (BlockStmt at b) o nw s.at s.stands (λ k. refl) (λ k. three_sums e.next (locals_in b) (locals_in k)) refl
 
-  pub if_emits : (e e1 f new : Emitted) (at : Place) (t : ExprTree) (b : Body) (y q : ℕ) → e.open ≡ true → y ≡ (going e).block → q ≡ (past w.looped.tried b (begun (going e))).block
+  pub if_emits : (e e1 f new : Emitted) (at : Place) (t : ExprTree) (b : Body) (y q : ℕ) → e.is_open ≡ true → y ≡ (going e).block → q ≡ (past w.looped.tried b (begun (going e))).block
       → e1 ≡ closed w (TestLast (over slots e.scopes t) y q) (acted [] e) → v ≡ inner w (Scoped (GotoLast q)) → EmitsScope ns slots v b (opened e1) f → new ≡ opened f
       → Emits ns slots w (IfStmt at t b) e new
   if_emits e e1 f new at t b y q o ye qe h1 ve h nw =
@@ -40,7 +40,7 @@ module _ (ns : Names) (slots : List SlotTree) (w v : Around) where
       let s = scope_begins ns slots _ e.scopes (going e) b e1 f one.stands g in
       finish ns slots w e f new _ _ (IfStmt at t b) o nw (and_then w.hand w.hand e e1 f _ _ one.at s.at) s.stands (λ k. refl) (λ k. three_sums e.next (locals_in b) (locals_in k)) refl
 
-  pub if_else_emits : (e e1 f g new : Emitted) (at : Place) (t : ExprTree) (b c : Body) (y m q : ℕ) → e.open ≡ true → y ≡ (going e).block → m ≡ (past w.looped.tried b (begun (going e))).block
+  pub if_else_emits : (e e1 f g new : Emitted) (at : Place) (t : ExprTree) (b c : Body) (y m q : ℕ) → e.is_open ≡ true → y ≡ (going e).block → m ≡ (past w.looped.tried b (begun (going e))).block
       → q ≡ (past w.looped.tried c (begun (past w.looped.tried b (begun (going e))))).block
       → e1 ≡ closed w (TestLast (over slots e.scopes t) y m) (acted [] e) → v ≡ inner w (Scoped (GotoLast q)) → EmitsScope ns slots v b (opened e1) f → EmitsScope ns slots v c (opened f) g → new ≡ opened g
       → Emits ns slots w (IfElseStmt at t b c) e new
@@ -54,7 +54,7 @@ module _ (ns : Names) (slots : List SlotTree) (w v : Around) where
       finish ns slots w e g new _ _ (IfElseStmt at t b c) o nw (and_then w.hand w.hand e f g _ _ (and_then w.hand w.hand e e1 f _ _ one.at s.at) r.at) r.stands (λ k. refl)
       (λ k. four_sums e.next (locals_in b) (locals_in c) (locals_in k)) refl
 
-  pub loop_emits : (e e1 f new : Emitted) (at : Place) (b : Body) (y q : ℕ) → e.open ≡ true → y ≡ (going e).block → q ≡ (past false b (begun (going e))).block
+  pub loop_emits : (e e1 f new : Emitted) (at : Place) (b : Body) (y q : ℕ) → e.is_open ≡ true → y ≡ (going e).block → q ≡ (past false b (begun (going e))).block
       → e1 ≡ closed w (PassLast y) e → v ≡ pass w 1 (PassLast y) q → EmitsScope ns slots v b (opened e1) f → new ≡ opened f → Emits ns slots w (LoopStmt at b) e new
   loop_emits e e1 f new at b y q o ye qe h1 ve h nw =
       let m = past false b (begun (going e)) in
@@ -63,7 +63,7 @@ module _ (ns : Names) (slots : List SlotTree) (w v : Around) where
       let s = scope_begins ns slots _ e.scopes (going e) b e1 f one.stands g in
       finish ns slots w e f new _ _ (LoopStmt at b) o nw (and_then w.hand w.hand e e1 f _ _ one.at s.at) s.stands (λ k. refl) (λ k. three_sums e.next (locals_in b) (locals_in k)) refl
 
-  pub while_emits : (e e1 e2 f new : Emitted) (at : Place) (t : ExprTree) (b : Body) (y z q : ℕ) → e.open ≡ true → y ≡ (going e).block → z ≡ (begun (going e)).block
+  pub while_emits : (e e1 e2 f new : Emitted) (at : Place) (t : ExprTree) (b : Body) (y z q : ℕ) → e.is_open ≡ true → y ≡ (going e).block → z ≡ (begun (going e)).block
       → q ≡ (past false b (begun (begun (going e)))).block
       → e1 ≡ closed w (PassLast y) e → e2 ≡ closed w (TestLast (over slots e.scopes t) z q) (acted [] (opened e1)) → v ≡ pass w 1 (PassLast y) q
       → EmitsScope ns slots v b (opened e2) f → new ≡ opened f → Emits ns slots w (WhileStmt at t b) e new
@@ -72,12 +72,12 @@ module _ (ns : Names) (slots : List SlotTree) (w v : Around) where
       let m = past false b (begun (begun n)) in
       let one = ended_plain w (PassLast n.block) e e1 (h1 ∙ ap (λ x. closed w (PassLast x) e) ye) in
       let two = ended_acting w [] (TestLast (over slots e.scopes t) (begun n).block m.block) (opened e1) e2
-        (h2 ∙ ap (λ x. closed w (TestLast (over slots e.scopes t) x q) (acted [] (opened e1))) ze ∙ ap (λ x. closed w (TestLast (over slots e.scopes t) (begun n).block x) (acted [] (opened e1))) qe) in
+      (h2 ∙ ap (λ x. closed w (TestLast (over slots e.scopes t) x q) (acted [] (opened e1))) ze ∙ ap (λ x. closed w (TestLast (over slots e.scopes t) (begun n).block x) (acted [] (opened e1))) qe) in
       let test : At w.hand e1 (ends w e.scopes true [] (TestLast (over slots e.scopes t) (begun n).block m.block)) e2 =
-        subst (λ s. At w.hand e1 (ends w s true [] (TestLast (over slots e.scopes t) (begun n).block m.block)) e2) one.stands.scopes (reopen w.hand e1 e2 _ two.at) in
+      subst (λ s. At w.hand e1 (ends w s true [] (TestLast (over slots e.scopes t) (begun n).block m.block)) e2) one.stands.scopes (reopen w.hand e1 e2 _ two.at) in
       let st : Stands e2 e.scopes (begun n) = record { scopes = two.stands.scopes ∙ one.stands.scopes; coming = two.stands.coming ∙ ap begun one.stands.coming } in
       let g : EmitsScope ns slots (pass w 1 (PassLast n.block) m.block) b (opened e2) f =
-        subst (λ x. EmitsScope ns slots x b (opened e2) f) (ve ∙ ap (λ x. pass w 1 (PassLast x) q) ye ∙ ap (λ x. pass w 1 (PassLast n.block) x) qe) h in
+      subst (λ x. EmitsScope ns slots x b (opened e2) f) (ve ∙ ap (λ x. pass w 1 (PassLast x) q) ye ∙ ap (λ x. pass w 1 (PassLast n.block) x) qe) h in
       let s = scope_begins ns slots _ e.scopes (begun n) b e2 f st g in
       finish ns slots w e f new _ _ (WhileStmt at t b) o nw (and_then w.hand w.hand e e2 f _ _ (and_then w.hand w.hand e e1 e2 _ _ one.at test) s.at) s.stands (λ k. refl)
       (λ k. three_sums e.next (locals_in b) (locals_in k)) refl

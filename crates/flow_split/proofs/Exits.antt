@@ -19,7 +19,7 @@ use Rattle.flow_split.proofs.Steps.{Stands, Ended, ended, ended_plain, length_pu
 pub record Exited (t : Bool) (w : Around) (last : LastTree) (e f : Emitted) : Type 0 where
   pub at : At w.hand e (exits t w e.scopes (going e) last) f
   pub stands : Stands f e.scopes (exited t (going e))
-  pub shut : f.open ≡ false
+  pub shut : f.is_open ≡ false
 
 exited_if : (t : Bool) (w : Around) (last : LastTree) (e : Emitted) → Exited t w last e (shut_if t w last e)
 exited_if false w last e =
@@ -32,7 +32,7 @@ exited_if true w last e =
       at = record {
         all = λ i. record {
           blocks = (ap (λ x. x.blocks ++ record { catcher = _; body = map DropInstr (left_lists w.looped.depth e.scopes); last = last } ∷ []) r.at.all
-            ∙ append_assoc e.blocks _ (record { catcher = _; body = map DropInstr (left_lists w.looped.depth e.scopes); last = last } ∷ [])) i;
+              ∙ append_assoc e.blocks _ (record { catcher = _; body = map DropInstr (left_lists w.looped.depth e.scopes); last = last } ∷ [])) i;
           groups = (ap (λ x. x.groups) r.at.all) i;
         };
         fresh = record { body = refl; acts = refl };
@@ -71,12 +71,12 @@ waits w cs e f h =
     })
 
 module _ (ns : Names) (slots : List SlotTree) (w : Around) where
-  pub break_emits : (e f : Emitted) (at : Place) → e.open ≡ true → f ≡ shut_by w (GotoLast w.looped.out) e → Emits ns slots w (BreakStmt at) e f
+  pub break_emits : (e f : Emitted) (at : Place) → e.is_open ≡ true → f ≡ shut_by w (GotoLast w.looped.out) e → Emits ns slots w (BreakStmt at) e f
   break_emits e f at o h =
       let r = exited_by w (GotoLast w.looped.out) e f h in
       stop ns slots w e f _ _ (BreakStmt at) o r.shut r.at r.stands (λ k. refl) (λ k. ap (λ x. x + locals_in k) (exit_local w.looped.tried (going e))) refl
 
-  pub continue_emits : (e f : Emitted) (at : Place) → e.open ≡ true → f ≡ shut_by w w.looped.again e → Emits ns slots w (ContinueStmt at) e f
+  pub continue_emits : (e f : Emitted) (at : Place) → e.is_open ≡ true → f ≡ shut_by w w.looped.again e → Emits ns slots w (ContinueStmt at) e f
   continue_emits e f at o h =
       let r = exited_by w w.looped.again e f h in
       stop ns slots w e f _ _ (ContinueStmt at) o r.shut r.at r.stands (λ k. refl) (λ k. ap (λ x. x + locals_in k) (exit_local w.looped.tried (going e))) refl
@@ -84,16 +84,16 @@ module _ (ns : Names) (slots : List SlotTree) (w : Around) where
   swapped : (a b c : ℕ) → (a + b) + c ≡ b + (a + c)
   swapped a b c = omega arith
 
-  pub wait_emits : (e e1 new : Emitted) (at : Place) (v : WaitTree) (block : ℕ) → e.open ≡ true → block ≡ (going e).block
+  pub wait_emits : (e e1 new : Emitted) (at : Place) (v : WaitTree) (block : ℕ) → e.is_open ≡ true → block ≡ (going e).block
       → e1 ≡ waiting_for w (callback ns slots e.scopes v e.next block ∷ []) e → new ≡ taking v.into (opened e1) → Emits ns slots w (WaitStmt at v) e new
   wait_emits e e1 new at v block o be h nw =
       let r = waits w (callback ns slots e.scopes v e.next (going e).block ∷ []) e e1 (h ∙ ap (λ x. waiting_for w (callback ns slots e.scopes v e.next x ∷ []) e) be) in
       subst (Emits ns slots w (WaitStmt at v) e) (sym nw)
       (record {
         code = λ k.
-          ap₂ (λ s n. with_chunk w.hand e1 (lowered ns slots (with_taken v.into n.local s) w (taken v.into (begun n)) k)) r.stands.scopes r.stands.coming
-          ∙ join w.hand w.hand e e1 _ (lowered ns slots (with_taken v.into e.next e.scopes) w (taken v.into (begun (grouped (going e)))) k) r.at
-          ∙ ap (λ x. with_rest_if ns slots (x || true) e w (WaitStmt at v k)) (sym o);
+            ap₂ (λ s n. with_chunk w.hand e1 (lowered ns slots (with_taken v.into n.local s) w (taken v.into (begun n)) k)) r.stands.scopes r.stands.coming
+            ∙ join w.hand w.hand e e1 _ (lowered ns slots (with_taken v.into e.next e.scopes) w (taken v.into (begun (grouped (going e)))) k) r.at
+            ∙ ap (λ x. with_rest_if ns slots (x || true) e w (WaitStmt at v k)) (sym o);
         next = λ k. ap (λ n. (into_count v.into + n.local) + locals_in k) r.stands.coming ∙ swapped (into_count v.into) e.next (locals_in k);
         scopes = ap₂ (λ s n. with_taken v.into n.local s) r.stands.scopes r.stands.coming;
         shut = λ x. absurd (no_false x);
@@ -102,7 +102,7 @@ module _ (ns : Names) (slots : List SlotTree) (w : Around) where
       no_false : true ≡ false → ⊥
       no_false h = cc
 
-  pub choose_emits : (v : Around) (e e1 f new : Emitted) (at : Place) (bs : Branches) (first q : ℕ) → e.open ≡ true → first ≡ (going e).block
+  pub choose_emits : (v : Around) (e e1 f new : Emitted) (at : Place) (bs : Branches) (first q : ℕ) → e.is_open ≡ true → first ≡ (going e).block
       → q ≡ (past_branches w.looped.tried bs (grouped (going e))).block → v ≡ inner w (Scoped (GotoLast q))
       → e1 ≡ waiting_for w (callbacks ns slots e.scopes w.looped.tried (grouped (going e)) bs) e → EmitsBranches ns slots v bs e1 f → new ≡ opened f
       → Emits ns slots w (ChooseStmt at bs) e new
@@ -118,12 +118,12 @@ module _ (ns : Names) (slots : List SlotTree) (w : Around) where
       let st : Stands f e.scopes j = record {
         scopes = g.scopes ∙ r.stands.scopes;
         coming =
-          coming_at w.hand e f _ _ _ (branches_more ns slots c0 e.scopes u (grouped n) bs) (branches_groups ns slots c0 e.scopes u (grouped n) bs) a
-          ∙ (λ i. record {
-            block = block_numbers (length e.blocks) (branch_blocks w.looped.tried bs) i;
-            local = (g.next ∙ ap (λ m. m.local + branch_local_count bs) r.stands.coming) i;
-            group = group_numbers (length e.groups) (branch_group_count bs) i;
-          });
+            coming_at w.hand e f _ _ _ (branches_more ns slots c0 e.scopes u (grouped n) bs) (branches_groups ns slots c0 e.scopes u (grouped n) bs) a
+            ∙ (λ i. record {
+              block = block_numbers (length e.blocks) (branch_blocks w.looped.tried bs) i;
+              local = (g.next ∙ ap (λ m. m.local + branch_local_count bs) r.stands.coming) i;
+              group = group_numbers (length e.groups) (branch_group_count bs) i;
+            });
       } in
       finish ns slots w e f new _ _ (ChooseStmt at bs) o nw a st (λ k. refl) (λ k. sums e.next (branch_local_count bs) (locals_in k)) refl
     where

@@ -102,12 +102,12 @@ module _ (ns : Names) (slots : List SlotTree) where
         join_more w.hand _ _ _ _ (join_more w.hand _ _ _ _ (join_more w.hand _ _ 0 0 refl refl) (lowered_more _ (pass w 1 _ _) _ b)) (lowered_more _ w _ k)
     lowered_more s w n (ForStmt at i e p b k) =
         join_more w.hand _ _ _ _
-          (join_more w.hand _ _ _ _
-            (join_more w.hand _ _ _ _
-              (test_more _ _ e _ _ _ ∙ ap (λ x. x + test_blocks e) (lowered_more _ (inner w _) _ i))
-              (lowered_more _ (pass w 2 _ _) _ b))
-            (lowered_more _ (inner w _) _ p))
-          (lowered_more _ w _ k)
+        (join_more w.hand _ _ _ _
+        (join_more w.hand _ _ _ _
+        (test_more _ _ e _ _ _ ∙ ap (λ x. x + test_blocks e) (lowered_more _ (inner w _) _ i))
+        (lowered_more _ (pass w 2 _ _) _ b))
+        (lowered_more _ (inner w _) _ p))
+        (lowered_more _ w _ k)
     lowered_more s w n (LoopStmt at b k) =
         join_more w.hand _ _ _ _ (join_more w.hand _ _ 0 _ refl (lowered_more _ (pass w 1 _ _) _ b)) (lowered_more _ w _ k)
         ∙ ap (λ x. x + suc (blocks_in w.looped.tried k)) (zero_plus (suc (blocks_in false b)))
@@ -146,10 +146,10 @@ module _ (ns : Names) (slots : List SlotTree) where
         ∙ ap (λ x. x + groups_in k) (zero_plus (groups_in b))
     lowered_groups s w n (ForStmt at i e p b k) =
         join_groups w.hand _ _ _ _
-          (join_groups w.hand _ _ _ _
-            (join_groups w.hand _ _ _ _ (test_groups _ _ e _ _ _ ∙ lowered_groups _ (inner w _) _ i) (lowered_groups _ (pass w 2 _ _) _ b))
-            (lowered_groups _ (inner w _) _ p))
-          (lowered_groups _ w _ k)
+        (join_groups w.hand _ _ _ _
+        (join_groups w.hand _ _ _ _ (test_groups _ _ e _ _ _ ∙ lowered_groups _ (inner w _) _ i) (lowered_groups _ (pass w 2 _ _) _ b))
+        (lowered_groups _ (inner w _) _ p))
+        (lowered_groups _ w _ k)
     lowered_groups s w n (LoopStmt at b k) =
         join_groups w.hand _ _ _ _ (join_groups w.hand _ _ 0 _ refl (lowered_groups _ (pass w 1 _ _) _ b)) (lowered_groups _ w _ k) ∙ ap (λ x. x + groups_in k) (zero_plus (groups_in b))
     lowered_groups s w n (BreakStmt at k) = rest_groups w.hand _ _ k (exits_groups w.looped.tried w s n _) (lowered_groups _ w _ k)

@@ -62,9 +62,9 @@ module _ (ns : Names) (slots : List SlotTree) (w : Around) where
     pub code : with_rest ns slots now w rest ≡ with_rest ns slots old w whole
     pub next : now.next + locals_in rest ≡ old.next + locals_in whole
     pub scopes : outside now.scopes ≡ outside old.scopes
-    pub shut : now.open ≡ false → Fresh now
+    pub shut : now.is_open ≡ false → Fresh now
 
-  pub going_first : (b : Body) (e : Emitted) → e.open ≡ true → Going b b e e
+  pub going_first : (b : Body) (e : Emitted) → e.is_open ≡ true → Going b b e e
   going_first b e o = record { code = refl; next = refl; scopes = refl; shut = λ h. absurd (no_false (sym o ∙ h)) }
     where
       no_false : true ≡ false → ⊥
@@ -77,9 +77,9 @@ module _ (ns : Names) (slots : List SlotTree) (w : Around) where
       let split : stmt_of s k ≡ body_of (drop i ss) = ap (λ x. stmt_of x k) got ∙ ap body_of (sym (drop_more ss i s lt)) in
       record {
         code =
-          h.code k ∙ ap (λ x. with_rest ns slots x w (stmt_of s k)) be
-          ∙ sym (ap (λ x. with_rest_if ns slots x e w (stmt_of s k)) (ap (λ x. e.open || x) (stmt_has s k) ∙ or_true e.open))
-          ∙ ap (with_rest ns slots e w) split ∙ g.code;
+            h.code k ∙ ap (λ x. with_rest ns slots x w (stmt_of s k)) be
+            ∙ sym (ap (λ x. with_rest_if ns slots x e w (stmt_of s k)) (ap (λ x. e.is_open || x) (stmt_has s k) ∙ or_true e.is_open))
+            ∙ ap (with_rest ns slots e w) split ∙ g.code;
         next = h.next k ∙ ap (λ x. x.next + locals_in (stmt_of s k)) be ∙ ap (λ x. e.next + locals_in x) split ∙ g.next;
         scopes = ap outside h.scopes ∙ outside_later (stmt_of s End) e1.next e1.scopes ∙ ap (λ x. outside x.scopes) be ∙ g.scopes;
         shut = h.shut;
@@ -106,14 +106,14 @@ module _ (ns : Names) (slots : List SlotTree) (w : Around) where
   finished_scopes (Scoped last) e = refl
   finished_scopes (Part last) e = refl
 
-  over_if : (o : Bool) (b : Body) (e0 e : Emitted) → e0.open ≡ true → e.open ≡ o → Going b End e0 e → Over b e0 e (ended_if o w e)
+  over_if : (o : Bool) (b : Body) (e0 e : Emitted) → e0.is_open ≡ true → e.is_open ≡ o → Going b End e0 e → Over b e0 e (ended_if o w e)
   over_if true b e0 e o h g =
       let f = finished_at w.exit e in
       record {
         all = record {
           all =
-            f.all ∙ ap (λ x. with_rest_if ns slots (x || false) e w End) (sym h) ∙ g.code
-            ∙ ap (λ x. with_rest_if ns slots (x || has_statement b) e0 w b) o;
+              f.all ∙ ap (λ x. with_rest_if ns slots (x || false) e w End) (sym h) ∙ g.code
+              ∙ ap (λ x. with_rest_if ns slots (x || has_statement b) e0 w b) o;
           fresh = f.fresh;
         };
         next = finished_next w.exit e ∙ sym (plus_zero e.next) ∙ g.next;
@@ -128,10 +128,10 @@ module _ (ns : Names) (slots : List SlotTree) (w : Around) where
     scopes = refl;
   }
 
-  pub over : (b : Body) (e0 e new : Emitted) → e0.open ≡ true → Going b End e0 e → new ≡ ended_by w e → Over b e0 e new
-  over b e0 e new o g h = subst (Over b e0 e) (sym h) (over_if e.open b e0 e o refl g)
+  pub over : (b : Body) (e0 e new : Emitted) → e0.is_open ≡ true → Going b End e0 e → new ≡ ended_by w e → Over b e0 e new
+  over b e0 e new o g h = subst (Over b e0 e) (sym h) (over_if e.is_open b e0 e o refl g)
 
-  pub whole_body : (ss : List Stmt) (i : ℕ) (e0 e new : Emitted) → e0.open ≡ true → length ss ≤ i → Going (body_of ss) (body_of (drop i ss)) e0 e → new ≡ ended_by w e
+  pub whole_body : (ss : List Stmt) (i : ℕ) (e0 e new : Emitted) → e0.is_open ≡ true → length ss ≤ i → Going (body_of ss) (body_of (drop i ss)) e0 e → new ≡ ended_by w e
       → EmitsAll ns slots w (body_of ss) e0 new
   whole_body ss i e0 e new o le g h =
       let g2 : Going (body_of ss) End e0 e = subst (λ x. Going (body_of ss) (body_of x) e0 e) (drop_all i ss le) g in
@@ -158,12 +158,12 @@ module _ (ns : Names) (slots : List SlotTree) (w : Around) where
       subst (EmitsHandler ns slots w x b e) (sym nw) (record { all = record { all = r.all.all; fresh = record { body = r.all.fresh.body; acts = r.all.fresh.acts } }; next = r.next; scopes = r.scopes })
 
   -- a part of a `for`
-  pub no_part : (e new : Emitted) → e.open ≡ true → new ≡ ended_by w e → EmitsPart ns slots w End e new
+  pub no_part : (e new : Emitted) → e.is_open ≡ true → new ≡ ended_by w e → EmitsPart ns slots w End e new
   no_part e new o h =
       let r = over End e e new o (going_first End e o) h in
       record { all = r.all; next = r.next; scopes = r.scopes }
 
-  pub some_part : (s : Stmt) (e e1 new : Emitted) → e.open ≡ true → Emits ns slots w (stmt_of s) e e1 → new ≡ ended_by w e1 → EmitsPart ns slots w (stmt_of s End) e new
+  pub some_part : (s : Stmt) (e e1 new : Emitted) → e.is_open ≡ true → Emits ns slots w (stmt_of s) e e1 → new ≡ ended_by w e1 → EmitsPart ns slots w (stmt_of s End) e new
   some_part s e e1 new o h nw =
       let g : Going (stmt_of s End) End e e1 = record { code = h.code End; next = h.next End; scopes = ap outside h.scopes ∙ outside_later (stmt_of s End) e.next e.scopes; shut = h.shut } in
       let r = over (stmt_of s End) e e1 new o g nw in

@@ -67,13 +67,13 @@ module _ (ns : Names) (slots : List SlotTree) where
   behind_body w s l b after e f h = record {
     scopes = h.scopes;
     coming =
-      coming_at w.hand e f (lowered ns slots s w (record (going e) { local = l }) b) (blocks_in w.looped.tried b) (groups_in b) (lowered_more ns slots s w (record (going e) { local = l }) b)
-      (lowered_groups ns slots s w (record (going e) { local = l }) b) h.all
-      ∙ (λ i. record {
-        block = more_numbers (length e.blocks) (blocks_in w.looped.tried b) 0 i;
-        local = h.next i;
-        group = group_numbers (length e.groups) (groups_in b) i;
-      });
+        coming_at w.hand e f (lowered ns slots s w (record (going e) { local = l }) b) (blocks_in w.looped.tried b) (groups_in b) (lowered_more ns slots s w (record (going e) { local = l }) b)
+        (lowered_groups ns slots s w (record (going e) { local = l }) b) h.all
+        ∙ (λ i. record {
+          block = more_numbers (length e.blocks) (blocks_in w.looped.tried b) 0 i;
+          local = h.next i;
+          group = group_numbers (length e.groups) (groups_in b) i;
+        });
   }
 
   pub record Scoping (v : Around) (s : Scope) (n : Next) (b : Body) (e f : Emitted) : Type 0 where
@@ -120,7 +120,7 @@ module _ (ns : Names) (slots : List SlotTree) where
   scope_goes_on v b e f h = record { at = h.all; stands = behind_body v (Mark ∷ e.scopes) e.next b e.scopes e f h }
 
   -- a statement that goes on in a block of its own
-  pub finish : (w : Around) (e f new : Emitted) (c : Chunk) (m : Next) (stmt : Body → Body) → e.open ≡ true → new ≡ opened f → At w.hand e c f → Stands f e.scopes m
+  pub finish : (w : Around) (e f new : Emitted) (c : Chunk) (m : Next) (stmt : Body → Body) → e.is_open ≡ true → new ≡ opened f → At w.hand e c f → Stands f e.scopes m
       → ((k : Body) → rest_of ns slots e w (stmt k) ≡ joined w.hand c (lowered ns slots e.scopes w (begun m) k))
       → ((k : Body) → m.local + locals_in k ≡ e.next + locals_in (stmt k))
       → later (stmt End) e.next e.scopes ≡ e.scopes
@@ -129,10 +129,10 @@ module _ (ns : Names) (slots : List SlotTree) where
       subst (Emits ns slots w stmt e) (sym nw)
       (record {
         code = λ k.
-          ap₂ (λ s n. with_chunk w.hand f (lowered ns slots s w (begun n) k)) st.scopes st.coming
-          ∙ join w.hand w.hand e f c (lowered ns slots e.scopes w (begun m) k) a
-          ∙ ap (with_chunk w.hand e) (sym (code k))
-          ∙ ap (λ x. with_rest_if ns slots (x || has_statement (stmt k)) e w (stmt k)) (sym o);
+            ap₂ (λ s n. with_chunk w.hand f (lowered ns slots s w (begun n) k)) st.scopes st.coming
+            ∙ join w.hand w.hand e f c (lowered ns slots e.scopes w (begun m) k) a
+            ∙ ap (with_chunk w.hand e) (sym (code k))
+            ∙ ap (λ x. with_rest_if ns slots (x || has_statement (stmt k)) e w (stmt k)) (sym o);
         next = λ k. ap (λ n. n.local + locals_in k) st.coming ∙ next k;
         scopes = st.scopes ∙ sym same;
         shut = λ h. absurd (no_false h);
@@ -148,17 +148,17 @@ module _ (ns : Names) (slots : List SlotTree) where
       ap₂ (λ s n. with_chunk w.hand f (lowered ns slots s w (begun n) k)) st.scopes st.coming ∙ join w.hand w.hand e f c (lowered ns slots e.scopes w (begun m) k) a
   behind_if false w e f c m k a st = a.all
 
-  pub stop : (w : Around) (e f : Emitted) (c : Chunk) (m : Next) (stmt : Body → Body) → e.open ≡ true → f.open ≡ false → At w.hand e c f → Stands f e.scopes m
+  pub stop : (w : Around) (e f : Emitted) (c : Chunk) (m : Next) (stmt : Body → Body) → e.is_open ≡ true → f.is_open ≡ false → At w.hand e c f → Stands f e.scopes m
       → ((k : Body) → rest_of ns slots e w (stmt k) ≡ before_rest w.hand c k (lowered ns slots e.scopes w (begun m) k))
       → ((k : Body) → m.local + locals_in k ≡ e.next + locals_in (stmt k))
       → later (stmt End) e.next e.scopes ≡ e.scopes
       → Emits ns slots w stmt e f
   stop w e f c m stmt o sh a st code next same = record {
     code = λ k.
-      ap (λ x. with_rest_if ns slots (x || has_statement k) f w k) sh
-      ∙ behind_if (has_statement k) w e f c m k a st
-      ∙ ap (with_chunk w.hand e) (sym (code k))
-      ∙ ap (λ x. with_rest_if ns slots (x || has_statement (stmt k)) e w (stmt k)) (sym o);
+        ap (λ x. with_rest_if ns slots (x || has_statement k) f w k) sh
+        ∙ behind_if (has_statement k) w e f c m k a st
+        ∙ ap (with_chunk w.hand e) (sym (code k))
+        ∙ ap (λ x. with_rest_if ns slots (x || has_statement (stmt k)) e w (stmt k)) (sym o);
     next = λ k. ap (λ n. n.local + locals_in k) st.coming ∙ next k;
     scopes = st.scopes ∙ sym same;
     shut = λ h. a.fresh;
@@ -172,21 +172,21 @@ module _ (ns : Names) (slots : List SlotTree) where
   onto_acted : (is : List InstrTree) (e : Emitted) (c : Chunk) → onto (acted is e) c ≡ onto e (acting is c)
   onto_acted is e c i = record c { body = append_assoc e.body is c.body i; acts = or_true c.acts i }
 
-  pub instrs_emit : (w : Around) (e f : Emitted) (is : List InstrTree) (stmt : Body → Body) → e.open ≡ true → f.blocks ≡ e.blocks → f.groups ≡ e.groups → f.open ≡ true → f.body ≡ e.body ++ is → f.acts ≡ true
+  pub instrs_emit : (w : Around) (e f : Emitted) (is : List InstrTree) (stmt : Body → Body) → e.is_open ≡ true → f.blocks ≡ e.blocks → f.groups ≡ e.groups → f.is_open ≡ true → f.body ≡ e.body ++ is → f.acts ≡ true
       → ((k : Body) → rest_of ns slots e w (stmt k) ≡ acting is (rest_of ns slots f w k))
       → ((k : Body) → f.next + locals_in k ≡ e.next + locals_in (stmt k))
       → f.scopes ≡ later (stmt End) e.next e.scopes
       → Emits ns slots w stmt e f
   instrs_emit w e f is stmt o fb fg fo fi fa code next same = record {
     code = λ k.
-      ap (λ x. with_rest_if ns slots (x || has_statement k) f w k) fo
-      ∙ (λ i. record {
-        blocks = fb i ++ blocks_of w.hand (record (rest_of ns slots f w k) { body = fi i ++ (rest_of ns slots f w k).body; acts = (rest_of ns slots f w k).acts || fa i });
-        groups = fg i ++ (rest_of ns slots f w k).groups;
-      })
-      ∙ (λ i. record { blocks = e.blocks ++ blocks_of w.hand (onto_acted is e (rest_of ns slots f w k) i); groups = e.groups ++ (rest_of ns slots f w k).groups })
-      ∙ ap (with_chunk w.hand e) (sym (code k))
-      ∙ ap (λ x. with_rest_if ns slots (x || has_statement (stmt k)) e w (stmt k)) (sym o);
+        ap (λ x. with_rest_if ns slots (x || has_statement k) f w k) fo
+        ∙ (λ i. record {
+          blocks = fb i ++ blocks_of w.hand (record (rest_of ns slots f w k) { body = fi i ++ (rest_of ns slots f w k).body; acts = (rest_of ns slots f w k).acts || fa i });
+          groups = fg i ++ (rest_of ns slots f w k).groups;
+        })
+        ∙ (λ i. record { blocks = e.blocks ++ blocks_of w.hand (onto_acted is e (rest_of ns slots f w k) i); groups = e.groups ++ (rest_of ns slots f w k).groups })
+        ∙ ap (with_chunk w.hand e) (sym (code k))
+        ∙ ap (λ x. with_rest_if ns slots (x || has_statement (stmt k)) e w (stmt k)) (sym o);
     next = next;
     scopes = same;
     shut = λ h. absurd (true_is_false (sym fo ∙ h));

@@ -24,7 +24,7 @@ pub record Emitted : Type 0 where
   pub next : ℕ
   pub blocks : List BlockTree
   pub groups : List (List CallbackTree)
-  pub open : Bool
+  pub is_open : Bool
   pub acts : Bool
   pub body : List InstrTree
 
@@ -34,14 +34,14 @@ emitted e = record {
   next = e.next;
   blocks = map block_of e.blocks.items;
   groups = map group_of e.groups.items;
-  open = e.open;
+  is_open = e.is_open;
   acts = e.acts;
   body = map instr_of e.body.items;
 }
 
 -- a block begins, instructions are added, and the block ends
 abbrev pub opened : Emitted → Emitted
-opened e = record e { open = true }
+opened e = record e { is_open = true }
 
 abbrev pub put : List InstrTree → Emitted → Emitted
 put is e = record e { body = e.body ++ is }
@@ -52,7 +52,7 @@ acted is e = record e { body = e.body ++ is; acts = true }
 abbrev pub closed : Around → LastTree → Emitted → Emitted
 closed w last e = record e {
   blocks = e.blocks ++ record { catcher = catch_part e.acts w.hand (inner_locals w.depth e.scopes); body = e.body; last = last } ∷ [];
-  open = false;
+  is_open = false;
   acts = false;
   body = [];
 }
@@ -127,14 +127,14 @@ module _ (ns : Names) (slots : List SlotTree) where
   with_rest_if false e w k = emission e
 
   abbrev pub with_rest : Emitted → Around → Body → Emission
-  with_rest e w k = with_rest_if (e.open || has_statement k) e w k
+  with_rest e w k = with_rest_if (e.is_open || has_statement k) e w k
 
   -- from old to new just the statement was emitted, whatever follows it
   pub record Emits (w : Around) (stmt : Body → Body) (old new : Emitted) : Type 0 where
     pub code : (k : Body) → with_rest new w k ≡ with_rest old w (stmt k)
     pub next : (k : Body) → new.next + locals_in k ≡ old.next + locals_in (stmt k)
     pub scopes : new.scopes ≡ later (stmt End) old.next old.scopes
-    pub shut : new.open ≡ false → Fresh new
+    pub shut : new.is_open ≡ false → Fresh new
 
   -- a whole body was emitted, over the locals s with l as the next number; the locals are then those outside of its scope
   pub record EmitsBody (s : Scope) (l : ℕ) (w : Around) (b : Body) (after : Scope) (old new : Emitted) : Type 0 where
@@ -174,7 +174,7 @@ ended_if true w e = closed_end w e
 ended_if false w e = e
 
 abbrev pub ended_by : Around → Emitted → Emitted
-ended_by w e = ended_if e.open w e
+ended_by w e = ended_if e.is_open w e
 
 -- the test of a `for`
 abbrev pub testing : List SlotTree → Around → Option ExprTree → (main out : ℕ) → Emitted → Emitted

@@ -186,31 +186,31 @@ module _ (ns : Names) (slots : List SlotTree) where
     lowered s w n (IfStmt at e b k) =
         let m = past w.looped.tried b (begun n) in
         joined w.hand
-          (joined w.hand
-            (ends w s true [] (TestLast (over slots s e) n.block m.block))
-            (lowered (Mark ∷ s) (inner w (Scoped (GotoLast m.block))) (begun n) b))
-          (lowered s w (begun m) k)
+        (joined w.hand
+        (ends w s true [] (TestLast (over slots s e) n.block m.block))
+        (lowered (Mark ∷ s) (inner w (Scoped (GotoLast m.block))) (begun n) b))
+        (lowered s w (begun m) k)
     lowered s w n (IfElseStmt at e b c k) =
         let m = past w.looped.tried b (begun n) in
         let j = past w.looped.tried c (begun m) in
         let v = inner w (Scoped (GotoLast j.block)) in
         joined w.hand
-          (joined w.hand
-            (joined w.hand
-              (ends w s true [] (TestLast (over slots s e) n.block m.block))
-              (lowered (Mark ∷ s) v (begun n) b))
-            (lowered (Mark ∷ s) v (begun m) c))
-          (lowered s w (begun j) k)
+        (joined w.hand
+        (joined w.hand
+        (ends w s true [] (TestLast (over slots s e) n.block m.block))
+        (lowered (Mark ∷ s) v (begun n) b))
+        (lowered (Mark ∷ s) v (begun m) c))
+        (lowered s w (begun j) k)
     lowered s w n (WhileStmt at e b k) =
         let h = begun n in
         let m = past false b (begun h) in
         joined w.hand
-          (joined w.hand
-            (joined w.hand
-              (ends w s false [] (PassLast n.block))
-              (ends w s true [] (TestLast (over slots s e) h.block m.block)))
-            (lowered (Mark ∷ s) (pass w 1 (PassLast n.block) m.block) (begun h) b))
-          (lowered s w (begun m) k)
+        (joined w.hand
+        (joined w.hand
+        (ends w s false [] (PassLast n.block))
+        (ends w s true [] (TestLast (over slots s e) h.block m.block)))
+        (lowered (Mark ∷ s) (pass w 1 (PassLast n.block) m.block) (begun h) b))
+        (lowered s w (begun m) k)
     lowered s w n (ForStmt at i e p b k) =
         let t = w.looped.tried in
         let h = past t i n in
@@ -220,19 +220,19 @@ module _ (ns : Names) (slots : List SlotTree) where
         let r = later i n.local (Mark ∷ s) in
         let v = inner w (Part (PassLast h.block)) in
         joined w.hand
-          (joined w.hand
-            (joined w.hand
-              (test_before v r e g.block o.block (lowered (Mark ∷ s) v n i))
-              (lowered (Mark ∷ r) (pass w 2 (GotoLast m.block) o.block) (begun g) b))
-            (lowered r v (begun m) p))
-          (dropping (scope (later p m.local r)) (lowered s w (begun o) k))
+        (joined w.hand
+        (joined w.hand
+        (test_before v r e g.block o.block (lowered (Mark ∷ s) v n i))
+        (lowered (Mark ∷ r) (pass w 2 (GotoLast m.block) o.block) (begun g) b))
+        (lowered r v (begun m) p))
+        (dropping (scope (later p m.local r)) (lowered s w (begun o) k))
     lowered s w n (LoopStmt at b k) =
         let m = past false b (begun n) in
         joined w.hand
-          (joined w.hand
-            (ends w s false [] (PassLast n.block))
-            (lowered (Mark ∷ s) (pass w 1 (PassLast n.block) m.block) (begun n) b))
-          (lowered s w (begun m) k)
+        (joined w.hand
+        (ends w s false [] (PassLast n.block))
+        (lowered (Mark ∷ s) (pass w 1 (PassLast n.block) m.block) (begun n) b))
+        (lowered s w (begun m) k)
     lowered s w n (BreakStmt at k) =
         let m = exited w.looped.tried n in
         before_rest w.hand (exits w.looped.tried w s n (GotoLast w.looped.out)) k (lowered s w (begun m) k)
@@ -251,19 +251,19 @@ module _ (ns : Names) (slots : List SlotTree) where
         let h : Hand = record { block = m.block; error = m.local } in
         let exit = Scoped (GotoLast j.block) in
         joined w.hand
-          (joined w.hand
-            (joined (Some h)
-              (ends w s false [] (GotoLast n.block))
-              (lowered (Mark ∷ s) (guarded w exit h) (begun n) b))
-            (lowered (Var x.name m.local ∷ Mark ∷ s) (handling w exit x.name) g c))
-          (lowered s w (begun j) k)
+        (joined w.hand
+        (joined (Some h)
+        (ends w s false [] (GotoLast n.block))
+        (lowered (Mark ∷ s) (guarded w exit h) (begun n) b))
+        (lowered (Var x.name m.local ∷ Mark ∷ s) (handling w exit x.name) g c))
+        (lowered s w (begun j) k)
     lowered s w n (ChooseStmt at bs k) =
         let t = w.looped.tried in
         let g = grouped n in
         let j = past_branches t bs g in
         joined w.hand
-          (branches (record (ends w s true [] (ChooseLast n.group)) { groups = callbacks s t g bs ∷ [] }) s (inner w (Scoped (GotoLast j.block))) g bs)
-          (lowered s w (begun j) k)
+        (branches (record (ends w s true [] (ChooseLast n.group)) { groups = callbacks s t g bs ∷ [] }) s (inner w (Scoped (GotoLast j.block))) g bs)
+        (lowered s w (begun j) k)
     lowered s w n (DeclareStmt at i e k) =
         acting (declares s n.local i e) (lowered (with_into i n.local s) w (taken (Some i) n) k)
     lowered s w n (AssignStmt at xs e k) = acting (assigned s (path_over slots s xs) e ∷ []) (lowered s w n k)
@@ -271,8 +271,8 @@ module _ (ns : Names) (slots : List SlotTree) where
     lowered s w n (CallStmt at xs es k) = acting (ActInstr (act_over slots s xs) (over_all slots s es) ∷ []) (lowered s w n k)
     lowered s w n (WaitStmt at v k) =
         joined w.hand
-          (record (ends w s true [] (ChooseLast n.group)) { groups = (callback s v n.local n.block ∷ []) ∷ [] })
-          (lowered (with_taken v.into n.local s) w (taken v.into (begun (grouped n))) k)
+        (record (ends w s true [] (ChooseLast n.group)) { groups = (callback s v n.local n.block ∷ []) ∷ [] })
+        (lowered (with_taken v.into n.local s) w (taken v.into (begun (grouped n))) k)
 
     -- the branches of a choose behind it, each with its variable in a scope of its own
     pub branches : Chunk → Scope → Around → Next → Branches → Chunk

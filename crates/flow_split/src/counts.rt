@@ -126,13 +126,13 @@ pub fn body_size(tried: bool, body: &[Stmt]) -> Result<Size, NoMemory>
     ensures locals { IfOk result (λ n. n.locals ≡ locals_in (body_of body.now)) }
 {
     let mut size = Size::none();
-    let mut open = true;
+    let mut goes_on = true;
     for stmt in body {
-        if !open {
+        if !goes_on {
             size = size.with(1, 0)?;
         }
         size = size.and(stmt_size(tried, stmt)?)?;
-        open = !ends(stmt);
+        goes_on = !ends(stmt);
     }
     Ok(size)
 }

@@ -35,7 +35,7 @@ pub struct Emitter {
     pub next: u32,
     pub blocks: Vec<Block>,
     pub groups: Vec<Group>,
-    pub open: bool,
+    pub is_open: bool,
     pub acts: bool,
     pub body: Vec<Instr>,
 }
@@ -78,7 +78,7 @@ fn number(things: usize) -> Result<u32, NoMemory>
 impl Emitter {
     /// No blocks yet, and the first one is open.
     pub fn new(alloc: Global) -> Emitter
-        ensures { emitted result ≡ record { scopes = []; next = 0; blocks = []; groups = []; open = true; acts = false; body = [] } }
+        ensures { emitted result ≡ record { scopes = []; next = 0; blocks = []; groups = []; is_open = true; acts = false; body = [] } }
     {
         Emitter {
             alloc,
@@ -86,7 +86,7 @@ impl Emitter {
             next: 0,
             blocks: Vec::new(alloc),
             groups: Vec::new(alloc),
-            open: true,
+            is_open: true,
             acts: false,
             body: Vec::new(alloc),
         }
@@ -110,7 +110,7 @@ impl Emitter {
     pub fn begin(&mut self)
         ensures { emitted self.new ≡ opened (emitted self.old) }
     {
-        self.open = true;
+        self.is_open = true;
     }
 
     /// An instruction of a statement.
@@ -158,7 +158,7 @@ impl Emitter {
             body,
             last,
         })?;
-        self.open = false;
+        self.is_open = false;
         self.acts = false;
         Ok(())
     }
@@ -210,7 +210,7 @@ impl Emitter {
     pub fn finish_open(&mut self, around: &Around) -> Result<(), NoMemory>
         ensures { OnOk result (emitted self.new ≡ ended_by (around_of around.now) (emitted self.old)) }
     {
-        if self.open {
+        if self.is_open {
             self.finish(around)
         } else {
             Ok(())

@@ -9,3 +9,4 @@ mod emitter;
 pub mod lower;
 mod simple;
 mod statements;
+mod variables;

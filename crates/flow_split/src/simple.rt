@@ -89,11 +89,7 @@ impl<'a> Context<'a> {
     {
         let amount = self.over(scopes, amount)?;
         let by = Expr::Paren(Box::new(self.alloc, amount)?);
-        Ok(Expr::Binary(
-            op,
-            Box::new(self.alloc, old)?,
-            Box::new(self.alloc, by)?,
-        ))
+        Ok(Expr::Binary(op, Box::new(self.alloc, old)?, Box::new(self.alloc, by)?))
     }
 
     // One more than an old value, or one less.

@@ -91,7 +91,7 @@ impl Emitter {
         around: &Around,
         waiting: &Waiting,
     ) -> Result<(), NoMemory>
-        requires { self.old.open ≡ true }
+        requires { self.old.is_open ≡ true }
         ensures { OnOk result ((at : Place) → Emits (names_in context.now) (slots_in context.now) (around_of around.now) (WaitStmt at (waiting_of waiting.now)) (emitted self.old) (emitted self.new)) }
     {
         let block = self.block()?;
@@ -172,7 +172,7 @@ impl Emitter {
         around: &Around,
         body: &[Stmt],
     ) -> Result<(), NoMemory>
-        requires { self.old.open ≡ true }
+        requires { self.old.is_open ≡ true }
         ensures { OnOk result (EmitsScope (names_in context.now) (slots_in context.now) (around_of around.now) (body_of body.now) (emitted self.old) (emitted self.new)) }
     {
         self.scopes.enter()?;
@@ -189,7 +189,7 @@ impl Emitter {
         around: &Around,
         branch: &When,
     ) -> Result<(), NoMemory>
-        requires { self.old.open ≡ true }
+        requires { self.old.is_open ≡ true }
         ensures { OnOk result (EmitsWhen (names_in context.now) (slots_in context.now) (around_of around.now) (branch_of branch.now) (emitted self.old) (emitted self.new)) }
     {
         self.scopes.enter()?;
@@ -208,7 +208,7 @@ impl Emitter {
         error: &Name,
         handler: &[Stmt],
     ) -> Result<(), NoMemory>
-        requires { self.old.open ≡ true }
+        requires { self.old.is_open ≡ true }
         ensures { OnOk result (EmitsHandler (names_in context.now) (slots_in context.now) (around_of around.now) error.now (body_of handler.now) (emitted self.old) (emitted self.new)) }
     {
         self.scopes.enter()?;
@@ -227,7 +227,7 @@ impl Emitter {
         around: &Around,
         body: &[Stmt],
     ) -> Result<(), NoMemory>
-        requires { self.old.open ≡ true }
+        requires { self.old.is_open ≡ true }
         ensures { OnOk result (EmitsAll (names_in context.now) (slots_in context.now) (around_of around.now) (body_of body.now) (emitted self.old) (emitted self.new)) }
     {
         for stmt in body {
@@ -245,7 +245,7 @@ impl Emitter {
         around: &Around,
         part: &Option<Box<Stmt>>,
     ) -> Result<(), NoMemory>
-        requires { self.old.open ≡ true }
+        requires { self.old.is_open ≡ true }
         ensures { OnOk result (EmitsPart (names_in context.now) (slots_in context.now) (around_of around.now) (simple_of part.now) (emitted self.old) (emitted self.new)) }
     {
         match part {
@@ -259,13 +259,8 @@ impl Emitter {
 
     // A statement in the block at hand.
     #[cycle(lower)]
-    fn put_stmt(
-        &mut self,
-        context: &Context,
-        around: &Around,
-        stmt: &Stmt,
-    ) -> Result<(), NoMemory>
-        requires { self.old.open ≡ true }
+    fn put_stmt(&mut self, context: &Context, around: &Around, stmt: &Stmt) -> Result<(), NoMemory>
+        requires { self.old.is_open ≡ true }
         ensures { OnOk result (Emits (names_in context.now) (slots_in context.now) (around_of around.now) (stmt_of stmt.now) (emitted self.old) (emitted self.new)) }
     {
         match &stmt.kind {
@@ -302,7 +297,7 @@ impl Emitter {
         around: &Around,
         body: &[Stmt],
     ) -> Result<(), NoMemory>
-        requires { self.old.open ≡ true }
+        requires { self.old.is_open ≡ true }
         ensures { OnOk result ((at : Place) → Emits (names_in context.now) (slots_in context.now) (around_of around.now) (BlockStmt at (body_of body.now)) (emitted self.old) (emitted self.new)) }
     {
         let size = body_size(around.looped.tried, body)?;
@@ -321,7 +316,7 @@ impl Emitter {
         test: &Expr,
         body: &[Stmt],
     ) -> Result<(), NoMemory>
-        requires { self.old.open ≡ true }
+        requires { self.old.is_open ≡ true }
         ensures { OnOk result ((at : Place) → Emits (names_in context.now) (slots_in context.now) (around_of around.now) (IfStmt at (expr_of test.now) (body_of body.now)) (emitted self.old) (emitted self.new)) }
     {
         let size = body_size(around.looped.tried, body)?;
@@ -345,7 +340,7 @@ impl Emitter {
         body: &[Stmt],
         other: &[Stmt],
     ) -> Result<(), NoMemory>
-        requires { self.old.open ≡ true }
+        requires { self.old.is_open ≡ true }
         ensures { OnOk result ((at : Place) → Emits (names_in context.now) (slots_in context.now) (around_of around.now) (IfElseStmt at (expr_of test.now) (body_of body.now) (body_of other.now)) (emitted self.old) (emitted self.new)) }
     {
         let size = body_size(around.looped.tried, body)?;
@@ -371,7 +366,7 @@ impl Emitter {
         around: &Around,
         body: &[Stmt],
     ) -> Result<(), NoMemory>
-        requires { self.old.open ≡ true }
+        requires { self.old.is_open ≡ true }
         ensures { OnOk result ((at : Place) → Emits (names_in context.now) (slots_in context.now) (around_of around.now) (LoopStmt at (body_of body.now)) (emitted self.old) (emitted self.new)) }
     {
         let size = body_size(false, body)?;
@@ -393,7 +388,7 @@ impl Emitter {
         test: &Expr,
         body: &[Stmt],
     ) -> Result<(), NoMemory>
-        requires { self.old.open ≡ true }
+        requires { self.old.is_open ≡ true }
         ensures { OnOk result ((at : Place) → Emits (names_in context.now) (slots_in context.now) (around_of around.now) (WhileStmt at (expr_of test.now) (body_of body.now)) (emitted self.old) (emitted self.new)) }
     {
         let size = body_size(false, body)?;
@@ -420,7 +415,7 @@ impl Emitter {
         main: u32,
         out: u32,
     ) -> Result<(), NoMemory>
-        requires { self.old.open ≡ true }
+        requires { self.old.is_open ≡ true }
         ensures { OnOk result (emitted self.new ≡ testing (slots_in context.now) (around_of around.now) (option_map expr_of test.now) main out (emitted self.old)) }
     {
         match test {
@@ -445,7 +440,7 @@ impl Emitter {
         step: &Option<Box<Stmt>>,
         body: &[Stmt],
     ) -> Result<(), NoMemory>
-        requires { self.old.open ≡ true }
+        requires { self.old.is_open ≡ true }
         ensures { OnOk result ((at : Place) → Emits (names_in context.now) (slots_in context.now) (around_of around.now) (ForStmt at (simple_of init.now) (option_map expr_of test.now) (simple_of step.now) (body_of body.now)) (emitted self.old) (emitted self.new)) }
     {
         let init_size = part_size(around.looped.tried, init)?;
@@ -479,7 +474,7 @@ impl Emitter {
         error: &Ident,
         handler: &[Stmt],
     ) -> Result<(), NoMemory>
-        requires { self.old.open ≡ true }
+        requires { self.old.is_open ≡ true }
         ensures { OnOk result ((at : Place) (catch : Place) → Emits (names_in context.now) (slots_in context.now) (around_of around.now) (TryStmt at (body_of body.now) catch error.now (body_of handler.now)) (emitted self.old) (emitted self.new)) }
     {
         let size = body_size(true, body)?;
@@ -512,7 +507,7 @@ impl Emitter {
         around: &Around,
         branches: &[When],
     ) -> Result<(), NoMemory>
-        requires { self.old.open ≡ true }
+        requires { self.old.is_open ≡ true }
         ensures { OnOk result ((at : Place) → Emits (names_in context.now) (slots_in context.now) (around_of around.now) (ChooseStmt at (branches_of branches.now)) (emitted self.old) (emitted self.new)) }
     {
         let first = self.block()?;

@@ -5,7 +5,7 @@ use Rattle.flow_split.proofs.counts.+size.Given as goal
 
 abbrev pub invariant-body_size-loop-stmt : goal.invariant-body_size-loop-stmt
 invariant-body_size-loop-stmt l =
-    (l.size.blocks + rest_blocks l.open l.tried (body_of (drop l.stmt-index l.body)) ≡ blocks_in l.tried (body_of l.body))
+    (l.size.blocks + rest_blocks l.goes_on l.tried (body_of (drop l.stmt-index l.body)) ≡ blocks_in l.tried (body_of l.body))
     × (l.size.locals + locals_in (body_of (drop l.stmt-index l.body)) ≡ locals_in (body_of l.body))
 
 abbrev pub invariant-branches_size-loop-branch : goal.invariant-branches_size-loop-branch
