@@ -109,11 +109,12 @@ fn a_million_packets(rt: HostRuntime) -> Result<(), Fail> {
     let alloc = rt.alloc();
     let mut net = Net::new(alloc, 4, (1, 100), 10)?;
     let mut draws = Draws::new(7, Vec::new(alloc));
-    let mut arrived = 0;
+    let mut arrived = 0u64;
     for count in 0..1_000_000u32 {
         assert_eq!(rt; net.processes(), 4);
         assert!(rt; net.sent() < 1 << 40);
         assert!(rt; draws.used() < 1 << 40);
+        assert!(rt; arrived < 1 << 40);
         let text = Text::new(alloc, b"ping")?;
         let to = ProcId((count % 4) as u8);
         let sent = net.send(u64::from(count), ProcId(0), to, 7, text, &mut draws)?;
