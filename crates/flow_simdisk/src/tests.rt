@@ -116,8 +116,9 @@ fn many_small_writes(rt: HostRuntime) -> Result<(), Fail> {
         )?;
     }
     disk.sync(&name)?;
-    let mut seen = 0;
+    let mut seen = 0usize;
     for piece in 0..17u32 {
+        assert!(rt; seen < 1 << 30);
         let DiskReply::Text(bytes) = disk.read(&name, piece * 65_535, 65_535)? else {
             return Err(Fail::from("no text"));
         };
