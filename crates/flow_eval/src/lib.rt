@@ -7,7 +7,7 @@ pub mod cells;
 pub mod eval;
 pub mod evaluate;
 pub mod laws;
-mod locals;
+pub mod locals;
 mod operators;
 mod predefined;
 mod records;

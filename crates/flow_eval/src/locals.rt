@@ -67,7 +67,8 @@ pub fn default_value(alloc: Global, ty: &Ty) -> Result<Value, Halt>
     }
 }
 
-fn read_in<'a>(records: &[RecordDecl], base: &'a Value, path: &[Ident]) -> Option<&'a Value>
+/// The part of a value to which a path of fields leads.
+pub fn read_in<'a>(records: &[RecordDecl], base: &'a Value, path: &[Ident]) -> Option<&'a Value>
     ensures { option_map value_of (option_copied result) ≡ read_in (map record_of records.now) (Some (value_of base.now)) path.now }
 {
     let mut value = base;

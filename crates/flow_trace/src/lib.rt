@@ -10,6 +10,7 @@ pub mod quote;
 pub mod read;
 mod reading;
 mod scan;
+pub mod sink_out;
 #[cfg(test)]
 mod tests;
 pub mod unquote;

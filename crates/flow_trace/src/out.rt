@@ -20,10 +20,16 @@ pub trait LineOut {
     /// How often it has failed. The count never falls; at 2^64 - 1 it stands still.
     ghost faults: { Self → ℕ };
 
+    /// What no put changes, as where the lines go.
+    ghost Kept: { Type 0 } = { Unit {0} };
+
+    ghost kept: { Self → Self.Kept };
+
     /// Puts a line.
     fn put(&mut self, line: &Line) -> Result<(), OutFault>
         ensures puts { puts self.old line.now result self.new }
-        ensures cause { HasCause (faults self.old) (faults self.new) result };
+        ensures cause { HasCause (faults self.old) (faults self.new) result }
+        ensures kept { Self.kept self.new ≡ Self.kept self.old };
 
     /// How often it has failed.
     fn faults(&self) -> u64
@@ -70,6 +76,8 @@ impl LineOut for LineVec {
     ghost puts = { GainsLine };
 
     ghost faults = { λ _. 0 };
+
+    ghost kept = { λ _. record {} };
 
     fn put(&mut self, line: &Line) -> Result<(), OutFault> {
         let Ok(copy) = line.copy(self.alloc) else {
