@@ -1,45 +1,36 @@
 // Lines that go out as they are put.
 
-ghost use Rattle.std.specs.Prelude.{◌≡◌, IfOk};
+ghost use Rattle.std.specs.Prelude.{◌≡◌};
 ghost use Rattle.std.specs.Borrow.{GName};
-ghost use Rattle.flow_trace.specs.Out.{WritesLine};
+ghost use Rattle.std.proofs.Props.{props};
+ghost use Rattle.flow_trace.specs.Out.{Grows, WritesLine};
 
 use crate::buffer::{LineBuf, print_line};
 use crate::line::Line;
 use crate::out::LineOut;
 use flow_base::fault::OutFault;
-use flow_base::memory::NoMemory;
 use flow_base::output::write_whole;
 use flow_base::sink::Sink;
-use std::alloc::Global;
+use std::snapshot::Snapshot;
 
-/// Lines that are written to a sink, each at once and by one call where the sink takes it whole.
+/// Lines that are written to a sink as they are put, each by one call where the sink takes it whole; and the sink as it was
+/// before the first of them: what was written then stays. Who made it takes it apart again, to go on with the sink.
 pub struct SinkOut<'a, S: Sink> {
-    out: &'a mut S,
-    buffer: LineBuf,
-}
-
-impl<'a, S: Sink> SinkOut<'a, S> {
-    /// Lines go to this sink.
-    pub fn new(alloc: Global, out: &'a mut S) -> Result<SinkOut<'a, S>, NoMemory>
-        ensures same_reference { IfOk result (λ o. o.out.ghost_name ≡ out.entry.ghost_name) }
-        ensures now { IfOk result (λ o. o.out.now ≡ out.old) }
-    {
-        Ok(SinkOut {
-            out,
-            buffer: LineBuf::new(alloc)?,
-        })
-    }
+    pub out: &'a mut S,
+    pub buffer: LineBuf,
+    pub before: Snapshot<S>,
+    ghost grown: { Grows (S.seen before.value).written (S.seen out.now).written } by { Prim.hlevel props },
 }
 
 impl<'a, S: Sink> LineOut for SinkOut<'a, S> {
-    ghost puts = { λ before line answer after. WritesLine (S.seen before.out.now).written (S.seen after.out.now).written line answer };
+    ghost puts = { λ old line answer new. (new.before.value ≡ old.before.value)
+        × WritesLine (S.seen old.out.now).written (S.seen new.out.now).written line answer };
 
-    ghost faults = { λ o. (S.seen o.out.now).faults };
+    ghost faults = { λ w. (S.seen w.out.now).faults };
 
-    ghost Kept = { GName };
+    ghost Kept = { GName × S };
 
-    ghost kept = { λ o. o.out.ghost_name };
+    ghost kept = { λ w. (w.out.ghost_name, w.before.value) };
 
     fn put(&mut self, line: &Line) -> Result<(), OutFault> {
         print_line(line, &mut self.buffer);
@@ -48,11 +39,5 @@ impl<'a, S: Sink> LineOut for SinkOut<'a, S> {
 
     fn faults(&self) -> u64 {
         self.out.faults()
-    }
-}
-
-impl<'a, S: Sink> Drop for SinkOut<'a, S> {
-    fn drop(self) {
-        let SinkOut { out: _, buffer: _ } = self;
     }
 }
