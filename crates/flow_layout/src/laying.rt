@@ -18,7 +18,7 @@ use flow_tree::ty::{Ident, Ty};
 use std::alloc::Global;
 
 impl Layout {
-    // A slot for each parameter.
+    /// A slot for each parameter, in order. It fails only for want of memory.
     pub fn lay_params(&mut self, alloc: Global, params: &[Param]) -> Result<(), NoMemory>
         ensures { OnOk result (laid self.new ≡ with_more (laid self.old) (map param_slot (map param_of params.now)) []) }
     {
@@ -141,6 +141,8 @@ impl Layout {
         }
     }
 
+    /// What the statements of a body declare, and where they wait, in the order of the text. It fails
+    /// only for want of memory.
     #[cycle(lay)]
     pub fn lay_body(&mut self, alloc: Global, body: &[Stmt]) -> Result<(), NoMemory>
         ensures { OnOk result (laid self.new ≡ with_body (laid self.old) (body_of body.now)) }

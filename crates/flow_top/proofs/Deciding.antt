@@ -1,5 +1,5 @@
 -- What was decided, from what was read.
-use Rattle.std.proofs.Common.{◌≡◌, ◌≢◌, ℕ, ◌+◌, ◌≤◌, List, [], ◌∷◌, ◌++◌, ◌⊎◌, Bool, true≢false, map, length, get_or, refl, sym, ap, ap₂, ◌∙◌, subst, arith, rules, true, false, append_assoc, inl, inr, Ok, Err, Option, None, Some, Vec, Global}
+use Rattle.std.proofs.Common.{◌≡◌, ◌≢◌, ℕ, ◌+◌, ◌≤◌, ◌<◌, List, [], ◌∷◌, ◌++◌, ◌⊎◌, Bool, true≢false, map, length, get_or, refl, sym, ap, ap₂, ◌∙◌, subst, arith, rules, true, false, append_assoc, inl, inr, Result, Ok, Err, Option, None, Some, Vec, Global}
 use Rattle.std.specs.Prelude.{MatchOption, bytes_eq}
 use Rattle.std.specs.Io.KnownBytes.{Consumes}
 use Rattle.std.specs.Prelude.{Decides}
@@ -12,16 +12,30 @@ use Rattle.flow_base.specs.Asked.{AsksOnce}
 use Rattle.flow_base.specs.declared.fault.OutFault.{OutFault}
 use Rattle.flow_base.specs.declared.fault.OutFault.TheVariants as fault
 use Rattle.flow_base.specs.declared.fault.OutFault.TheVariants.{Failed}
+use Rattle.flow_base.specs.declared.place.Place.{Place}
 use Rattle.flow_tree.specs.declared.decl.Program.{Program}
 use Rattle.flow_tree.specs.declared.fault.SourceFault.{SourceFault}
 use Rattle.flow_tree.specs.declared.fault.SourceFault.TheVariants as source
 use Rattle.flow_tree.specs.DeclView.{program_of}
+use Rattle.flow_tree.specs.Decls.{ProgramTree}
+use Rattle.flow_class.specs.declared.program.ClassProgram.{ClassProgram}
+use Rattle.flow_staterule.specs.declared.sound.Sound.{Sound}
+use Rattle.flow_compile.specs.Verdict.{Reading, Verdict}
+use Rattle.flow_compile.specs.Compiled.{Has}
+use Rattle.flow_worldfile.specs.declared.world.World0.{World0}
 use Rattle.flow_top.specs.declared.outcome.Outcome.{Outcome}
-use Rattle.flow_top.specs.declared.outcome.Outcome.TheVariants.{Formatted}
-use Rattle.flow_top.specs.Words.{AreFormat, AreRun, NameProgram, of_run}
-use Rattle.flow_top.specs.Source.{Verdict}
+use Rattle.flow_top.specs.declared.outcome.Outcome.TheVariants.{Told, Run}
+use Rattle.flow_top.specs.declared.outcome.Told as told
+use Rattle.flow_top.specs.declared.outcome.Told.TheVariants.{Formatted, Passed, Printed, OutOfMemory}
+use Rattle.flow_top.specs.Words.{AreFormat, AreCheck, AreRun, JudgeProgram, of_check, of_run, NameProgram, of_format, of_judged}
 use Rattle.flow_top.specs.Form.{PrintsOnly}
-use Rattle.flow_top.specs.Run.{IsText, HasProgram, HasPrints, AsksNames, refused, formatted, none, program, both, Loaded, is_accepted, is_refused, is_unread, unasked, starved, Decided, due, read_fault, no_memory, outcome_of, refusal_outcome_of}
+use Rattle.flow_top.specs.Run.{IsText, HasProgram, HasWorld, IsNoPrint, AsksNames, unread, formatted, refused, lost, heavy, passed, no_world, printed, run, AskedSome, none, program, both, Decided, due, read_fault, no_memory, outcome_of, refusal_outcome_of, heavy_outcome}
+use Rattle.flow_top.specs.Steps.{FileRead, is_read, is_unread, unasked, starved, Loaded, is_loaded, is_refused, is_lost, no_text, no_room, ClassesOf, are_classes, is_heavy, no_classes, WorldOf, is_world, is_none, no_room_for_it, PrintedOf, are_texts, is_another, no_room_for_texts, RunIn, it_prints, it_runs, not_there, no_room_to_run}
+
+-- a list without length
+pub nothing : (l : List ℕ) → length l ≤ 0 → l ≡ []
+nothing [] h = refl
+nothing (x ∷ l) h = absurd (omega arith)
 
 -- one name was asked for, or none
 pub asks : {before after : FilesSeen} {name : List ℕ} → after.asked ≡ before.asked ++ name ∷ [] → ReadsWithin (PROGRAM_BYTES + 1) name before after
@@ -31,52 +45,99 @@ asks e within = record { asked = e; within = (within, tt) }
 pub asks_none : {before after : FilesSeen} → after.asked ≡ before.asked → AsksNames before after []
 asks_none e = record { asked = e ∙ sym (append-nil _); within = tt }
 
--- the program couldn't be read, or it isn't accepted
-pub unread : (T : Type 0) {before after : FilesSeen} {name : List ℕ} {outcome : Outcome} (fault : OutFault) → outcome ≡ outcome_of fault
+-- the file couldn't be read
+pub without_bytes : (T : Type 0) {before after : FilesSeen} {name : List ℕ} {o : told.Told} (fault : OutFault) → o ≡ outcome_of fault
     → AsksOnce {T = T} before.asked after.asked name (Err fault) → ReadsWithin (PROGRAM_BYTES + 1) name before after
-    → Counts {T = T} before.faults after.faults (Err fault) → Loaded name before after (Err outcome)
-unread T {before = b} {after = a} {name = n} Failed o e within counted = subst (λ x. Loaded n b a (Err x)) (sym o) (is_unread (asks e within) counted)
-unread T {before = b} {after = a} {name = n} fault.OutOfMemory o (inl e) within counted = subst (λ x. Loaded n b a (Err x)) (sym o) (unasked (asks_none e) counted)
-unread T {before = b} {after = a} {name = n} fault.OutOfMemory o (inr e) within counted = subst (λ x. Loaded n b a (Err x)) (sym o) (starved (asks e within) counted)
+    → Counts {T = T} before.faults after.faults (Err fault) → FileRead name before after (Err o)
+without_bytes T {before = b} {after = a} {name = n} Failed o e within counted = subst (λ x. FileRead n b a (Err x)) (sym o) (is_unread (asks e within) counted)
+without_bytes T {before = b} {after = a} {name = n} fault.OutOfMemory o (inl e) within counted = subst (λ x. FileRead n b a (Err x)) (sym o) (unasked (asks_none e) counted)
+without_bytes T {before = b} {after = a} {name = n} fault.OutOfMemory o (inr e) within counted = subst (λ x. FileRead n b a (Err x)) (sym o) (starved (asks e within) counted)
 
-pub judged : {before after : FilesSeen} {name : List ℕ} {outcome : Outcome} (text : List ℕ) (fault : SourceFault) → outcome ≡ refusal_outcome_of fault
+-- what is known where it was read
+pub text_is : {before after : FilesSeen} {name : List ℕ} {v : Vec ℕ Global} → FileRead name before after (Ok v) → IsText before.content name v.items
+text_is (is_read v is asked same) = is
+
+pub asked_it : {before after : FilesSeen} {name : List ℕ} {v : Vec ℕ Global} → FileRead name before after (Ok v) → AsksNames before after (name ∷ [])
+asked_it (is_read v is asked same) = asked
+
+pub same_faults : {before after : FilesSeen} {name : List ℕ} {v : Vec ℕ Global} → FileRead name before after (Ok v) → after.faults ≡ before.faults
+same_faults (is_read v is asked same) = same
+
+-- then the program isn't loaded, and it isn't formatted
+pub unloaded : {before after : FilesSeen} {name : List ℕ} {o : told.Told} → FileRead name before after (Err o) → Loaded name before after (Err o)
+unloaded (is_unread asked counted) = no_text asked counted
+unloaded (unasked asked same) = no_room [] asked (inl refl) same
+unloaded {name = name} (starved asked same) = no_room (name ∷ []) asked (inr refl) same
+
+pub without_file : {words : List (List ℕ)} {before after : FilesSeen} {name : List ℕ} {o : told.Told}
+    → NameProgram words name → FileRead name before after (Err o) → Decided words before after (Told o)
+without_file {name = name} named (is_unread asked counted) = read_fault (name ∷ []) (program name named) asked counted
+without_file named (unasked asked same) = no_memory [] none asked same
+without_file {name = name} named (starved asked same) = no_memory (name ∷ []) (program name named) asked same
+
+-- the text is no program
+pub unformatted : {words : List (List ℕ)} {before after : FilesSeen} {name : List ℕ} {o : told.Told} (text : List ℕ) (fault : SourceFault) → o ≡ refusal_outcome_of fault
+    → AreFormat words name → IsText before.content name text → Reading text (Err fault) → AsksNames before after (name ∷ []) → after.faults ≡ before.faults
+    → Decided words before after (Told o)
+unformatted {words} {before = b} {after = a} {name = n} text (source.Refused rule at) o are is v asked same =
+    subst (λ x. Decided words b a (Told x)) (sym o) (due _ _ (unread n text rule at are is v) asked same)
+unformatted text (source.AcrossWait at declared wait) o are is v asked same = absurd v
+unformatted {words} {before = b} {after = a} {name = n} text source.OutOfMemory o are is v asked same =
+    subst (λ x. Decided words b a (Told x)) (sym o) (no_memory (n ∷ []) (program n (of_format are)) asked same)
+
+-- the program doesn't pass
+pub judged : {before after : FilesSeen} {name : List ℕ} {o : told.Told} (text : List ℕ) (fault : SourceFault) → o ≡ refusal_outcome_of fault
     → IsText before.content name text → Verdict text (Err fault) → AsksNames before after (name ∷ []) → after.faults ≡ before.faults
-    → Loaded name before after (Err outcome)
+    → Loaded name before after (Err o)
 judged {before = b} {after = a} {name = n} text (source.Refused rule at) o is v asked same = subst (λ x. Loaded n b a (Err x)) (sym o) (is_refused text rule at is v asked same)
-judged text (source.AcrossWait at declared wait) o is v asked same = absurd v
-judged {before = b} {after = a} {name = n} text source.OutOfMemory o is v asked same = subst (λ x. Loaded n b a (Err x)) (sym o) (starved asked same)
+judged {before = b} {after = a} {name = n} text (source.AcrossWait at declared wait) o is v asked same =
+    subst (λ x. Loaded n b a (Err x)) (sym o) (is_lost v.0 at declared wait (record { text = text; is = is; read = v.1 }) asked same)
+judged {before = b} {after = a} {name = n} text source.OutOfMemory o is v asked same =
+    subst (λ x. Loaded n b a (Err x)) (sym o) (no_room (n ∷ []) asked (inr refl) same)
+
+asked_some : {words : List (List ℕ)} (content : List ℕ → Option (List ℕ)) {name : List ℕ} (names : List (List ℕ)) → JudgeProgram words name → (names ≡ []) ⊎ (names ≡ name ∷ [])
+    → AskedSome words content names
+asked_some {words} content names judges (inl e) = subst (AskedSome words content) (sym e) none
+asked_some {words} content {name = n} names judges (inr e) = subst (AskedSome words content) (sym e) (program n (of_judged judges))
 
 -- then the command goes no further
-pub without_program : {outcome : Outcome} {words : List (List ℕ)} {before after : FilesSeen} {name : List ℕ}
-    → NameProgram words name → Loaded name before after (Err outcome) → Decided words before after outcome
-without_program {name = name} named (is_refused text rule at is why asked same) = due _ _ (refused name text rule at named is why) asked same
-without_program {name = name} named (is_unread asked counted) = read_fault (name ∷ []) (program name named) asked counted
-without_program named (unasked asked same) = no_memory [] none asked same
-without_program {name = name} named (starved asked same) = no_memory (name ∷ []) (program name named) asked same
+pub without_program : {o : told.Told} {words : List (List ℕ)} {before after : FilesSeen} {name : List ℕ}
+    → JudgeProgram words name → Loaded name before after (Err o) → Decided words before after (Told o)
+without_program {name = name} judges (is_refused text rule at is why asked same) = due _ _ (refused name text rule at judges is why) asked same
+without_program {name = name} judges (is_lost p at declared wait has asked same) = due _ _ (lost name p at declared wait judges has) asked same
+without_program {name = name} judges (no_text asked counted) = read_fault (name ∷ []) (program name (of_judged judges)) asked counted
+without_program {words} {before = b} {name = name} judges (no_room names asked which same) = no_memory names (asked_some b.content names judges which) asked same
 
-pub formats : {words : List (List ℕ)} {before after : FilesSeen} {name : List ℕ} {p : Program}
-    → AreFormat words name → Loaded name before after (Ok p) → Decided words before after (Formatted p)
-formats {name = name} {p = p} are (is_accepted q has asked same) = due _ _ (formatted name p are has) asked same
+-- the program passes
+pub loaded : {before after : FilesSeen} {name : List ℕ} {v : Vec ℕ Global} {s : Sound} → FileRead name before after (Ok v) → Verdict v.items (Ok s) → Loaded name before after (Ok s)
+loaded {v = v} {s = s} (is_read w is asked same) verdict = is_loaded s (record { text = v.items; is = is; read = verdict }) asked same
 
--- what an accepted program comes to by its form
-pub has_program : {before after : FilesSeen} {name : List ℕ} {p : Program} → Loaded name before after (Ok p) → HasProgram before.content name p
-has_program (is_accepted q has asked same) = has
+-- what is known where it is loaded
+pub has_program : {before after : FilesSeen} {name : List ℕ} {s : Sound} → Loaded name before after (Ok s) → HasProgram before.content name s.typed.program
+has_program (is_loaded s has asked same) = has
 
-pub was_asked : {before after : FilesSeen} {name : List ℕ} {p : Program} → Loaded name before after (Ok p) → AsksNames before after (name ∷ [])
-was_asked (is_accepted q has asked same) = asked
+pub was_asked : {before after : FilesSeen} {name : List ℕ} {s : Sound} → Loaded name before after (Ok s) → AsksNames before after (name ∷ [])
+was_asked (is_loaded s has asked same) = asked
 
-pub no_fault : {before after : FilesSeen} {name : List ℕ} {p : Program} → Loaded name before after (Ok p) → after.faults ≡ before.faults
-no_fault (is_accepted q has asked same) = same
+pub no_fault : {before after : FilesSeen} {name : List ℕ} {s : Sound} → Loaded name before after (Ok s) → after.faults ≡ before.faults
+no_fault (is_loaded s has asked same) = same
 
--- what the form of a program says
-abbrev FormIs : Program → Option (Vec (List ℕ) Global) → Type 0
-FormIs p o = MatchOption o ((ts : List (List ℕ)) → PrintsOnly (program_of p) ts → ⊥) (λ v. PrintsOnly (program_of p) v.items)
+pub passes : {words : List (List ℕ)} {before after : FilesSeen} {name : List ℕ} {s : Sound}
+    → AreCheck words name → Loaded name before after (Ok s) → Decided words before after (Told Passed)
+passes {name = name} {s = s} are l = due _ _ (passed name s.typed.program are (has_program l)) (was_asked l) (no_fault l)
 
-pub form_none : (p : Program) (o : Option (Vec (List ℕ) Global)) → o ≡ None → FormIs p o → (ts : List (List ℕ)) → PrintsOnly (program_of p) ts → ⊥
-form_none p o e h = subst (FormIs p) e h
+pub too_heavy : {words : List (List ℕ)} {before after : FilesSeen} {name : List ℕ} {s : Sound} {o : told.Told} (at : Place) → o ≡ heavy_outcome at
+    → JudgeProgram words name → Loaded name before after (Ok s) → Decided words before after (Told o)
+too_heavy {words} {before = b} {after = a} {name = n} {s = s} at e judges l =
+    subst (λ x. Decided words b a (Told x)) (sym e) (due _ _ (heavy n s.typed.program at judges (has_program l)) (was_asked l) (no_fault l))
 
-pub form_some : {content : List ℕ → Option (List ℕ)} {name : List ℕ} (p : Program) (o : Option (Vec (List ℕ) Global)) (v : Vec (List ℕ) Global) → HasProgram content name p → o ≡ Some v → FormIs p o → HasPrints content name v.items
-form_some p o v has e h = record { program = p; has = has; form = subst (FormIs p) e h }
+pub without_classes : {words : List (List ℕ)} {before after : FilesSeen} {name : List ℕ} {s : Sound} {o : told.Told}
+    → JudgeProgram words name → Loaded name before after (Ok s) → ClassesOf (program_of s.typed.program) (Err o) → Decided words before after (Told o)
+without_classes {name = n} judges l (is_heavy at) = too_heavy at refl judges l
+without_classes {name = n} judges l no_classes = no_memory (n ∷ []) (program n (of_judged judges)) (was_asked l) (no_fault l)
+
+pub has_classes : {p : ProgramTree} {c : ClassProgram} → ClassesOf p (Ok c) → Has p c
+has_classes (are_classes c h) = h
 
 -- two names are equal, or they are apart
 equal_or_apart : (r : Bool) (a b : List ℕ) → Decides r (a ≡ b) → (a ≡ b) ⊎ (a ≢ b)
@@ -116,19 +177,15 @@ pub record Between (name world : List ℕ) (before mid after : FilesSeen) : Type
   pub asked : AsksNames before mid (name ∷ [])
   pub others : MovesOnly name before mid
   pub others_then : MovesOnly world mid after
-  pub within_then : ReadsWithin 1 world mid after
-
-wider : {name : List ℕ} {before after : FilesSeen} → ReadsWithin 1 name before after → ReadsWithin (PROGRAM_BYTES + 1) name before after
-wider (opened bytes short read) = opened bytes (omega (arith, short)) read
-wider (unopened same) = unopened same
+  pub within_then : ReadsWithin (PROGRAM_BYTES + 1) world mid after
 
 first_within : (name world : List ℕ) (before mid after : FilesSeen) → Between name world before mid after → ReadsWithin (PROGRAM_BYTES + 1) name before after
 first_within name world before mid after b =
-    first_by name world before mid after (equal_or_apart _ name world (bytes_eq-Decides name world)) b.content b.others_then b.asked.within.0 (wider b.within_then)
+    first_by name world before mid after (equal_or_apart _ name world (bytes_eq-Decides name world)) b.content b.others_then b.asked.within.0 b.within_then
 
 second_within : (name world : List ℕ) (before mid after : FilesSeen) → Between name world before mid after → ReadsWithin (PROGRAM_BYTES + 1) world before after
 second_within name world before mid after b =
-    second_by name world before mid after (equal_or_apart _ world name (bytes_eq-Decides world name)) b.content b.others b.asked.within.0 (wider b.within_then)
+    second_by name world before mid after (equal_or_apart _ world name (bytes_eq-Decides world name)) b.content b.others b.asked.within.0 b.within_then
 
 pub asks_first : (name world : List ℕ) (before mid after : FilesSeen) → Between name world before mid after → after.asked ≡ mid.asked
     → AsksNames before after (name ∷ [])
@@ -141,16 +198,82 @@ asks_both name world before mid after b e = record {
   within = (first_within name world before mid after b, (second_within name world before mid after b, tt));
 }
 
--- a fault at the world
-pub world_fault : (T : Type 0) (name world : List ℕ) (before mid after : FilesSeen) {words : List (List ℕ)} {outcome : Outcome} (texts : List (List ℕ)) (fault : OutFault)
-    → outcome ≡ outcome_of fault → AreRun words name world → HasPrints before.content name texts → Between name world before mid after → mid.faults ≡ before.faults
-    → AsksOnce {T = T} mid.asked after.asked world (Err fault) → Counts {T = T} mid.faults after.faults (Err fault) → Decided words before after outcome
-world_fault T n w before mid after {words} texts Failed o are has b same asked counted =
-    subst (λ x. Decided words before after x) (sym o) (read_fault (n ∷ (w ∷ [])) (both n w texts are has) (asks_both n w before mid after b asked) (counted ∙ ap next_count same))
-world_fault T n w before mid after {words} texts fault.OutOfMemory o are has b same (inl e) counted =
-    subst (λ x. Decided words before after x) (sym o) (no_memory (n ∷ []) (program n (of_run w are)) (asks_first n w before mid after b e) (counted ∙ same))
-world_fault T n w before mid after {words} texts fault.OutOfMemory o are has b same (inr e) counted =
-    subst (λ x. Decided words before after x) (sym o) (no_memory (n ∷ (w ∷ [])) (both n w texts are has) (asks_both n w before mid after b e) (counted ∙ same))
+-- the world isn't there, or the texts have no room, or what is done in it
+pub without_world_of : {frames : Bool} {text : List ℕ} {p : Program} {c : ClassProgram} {o : told.Told} → WorldOf text (Err o) → RunIn frames text p c (Err o)
+without_world_of (is_none fault answered) = not_there fault answered
+without_world_of no_room_for_it = no_room_to_run
+
+pub without_printed : {frames : Bool} {text : List ℕ} {p : Program} {c : ClassProgram} {o : told.Told} → PrintedOf frames text p (Err o) → RunIn frames text p c (Err o)
+without_printed no_room_for_texts = no_room_to_run
+
+pub prints_it : {frames : Bool} {text : List ℕ} {p : Program} {c : ClassProgram} {texts : Vec (List ℕ) Global} → PrintedOf frames text p (Ok (Some texts))
+    → RunIn frames text p c (Ok (Told (Printed texts)))
+prints_it (are_texts texts f e prints) = it_prints texts f e prints
+
+pub runs_it : {frames : Bool} {text : List ℕ} {p : Program} {c : ClassProgram} {w : World0} → WorldOf text (Ok w) → PrintedOf frames text p (Ok None)
+    → RunIn frames text p c (Ok (Run c w frames))
+runs_it (is_world w answered) (is_another other) = it_runs w answered other
+
+-- what the form of a program says
+abbrev FormIs : Program → Option (Vec (List ℕ) Global) → Type 0
+FormIs p o = MatchOption o ((ts : List (List ℕ)) → PrintsOnly (program_of p) ts → ⊥) (λ v. PrintsOnly (program_of p) v.items)
+
+-- whether a program only prints
+pub framed_world : {text : List ℕ} {p : Program} → PrintedOf true text p (Ok None)
+framed_world = is_another (λ f e texts prints. absurd (true≢false f))
+
+pub told_world : {frames : Bool} {text : List ℕ} {p : Program} → 0 < length text → PrintedOf frames text p (Ok None)
+told_world {text = text} l = is_another (λ f e texts prints. let z : length text ≡ 0 = ap length e in absurd (omega (arith, l, z)))
+
+pub by_form : {text : List ℕ} {p : Program} (o : Option (Vec (List ℕ) Global)) → length text ≤ 0 → FormIs p o → PrintedOf false text p (Ok o)
+by_form None l h = is_another (λ f e. h)
+by_form {text = text} (Some v) l h = are_texts v refl (nothing text l) h
+
+pub no_texts : {frames : Bool} {text : List ℕ} {p : Program} → PrintedOf frames text p (Err OutOfMemory)
+no_texts = no_room_for_texts
+
+-- one name, and no name, were asked for
+asked_only : {before after : FilesSeen} {name : List ℕ} → AsksNames before after (name ∷ []) → after.asked ≡ before.asked ++ name ∷ []
+asked_only a = a.asked
+
+asked_nothing : {before after : FilesSeen} → AsksNames before after [] → after.asked ≡ before.asked
+asked_nothing a = a.asked ∙ append-nil _
+
+-- the world couldn't be read
+pub without_world : {words : List (List ℕ)} {name world : List ℕ} {before mid after : FilesSeen} {s : Sound} {frames : Bool} {o : told.Told}
+    → AreRun words name world frames → Loaded name before mid (Ok s) → Between name world before mid after → FileRead world mid after (Err o)
+    → Decided words before after (Told o)
+without_world {name = n} {world = w} {before = b} {mid = m} {after = a} {s = s} {frames = f} are l bt (is_unread asked counted) =
+    read_fault (n ∷ (w ∷ [])) (both n w f s.typed.program are (has_program l)) (asks_both n w b m a bt asked.asked) (counted ∙ ap next_count (no_fault l))
+without_world {name = n} {world = w} {before = b} {mid = m} {after = a} {frames = f} are l bt (unasked asked same) =
+    no_memory (n ∷ []) (program n (of_judged (of_run w f are))) (asks_first n w b m a bt (asked_nothing asked)) (same ∙ no_fault l)
+without_world {name = n} {world = w} {before = b} {mid = m} {after = a} {s = s} {frames = f} are l bt (starved asked same) =
+    no_memory (n ∷ (w ∷ [])) (both n w f s.typed.program are (has_program l)) (asks_both n w b m a bt asked.asked) (same ∙ no_fault l)
+
+-- the text of the world, as the files were before
+world_text : (content : List ℕ → Option (List ℕ)) {mid after : FilesSeen} {world : List ℕ} {v : Vec ℕ Global} → mid.content ≡ content → FileRead world mid after (Ok v)
+    → IsText content world v.items
+world_text content {world = w} {v = v} e r = subst (λ k. IsText k w v.items) e (text_is r)
+
+-- what a run in that world comes to
+pub ran : {words : List (List ℕ)} {name world : List ℕ} {before mid after : FilesSeen} {s : Sound} {frames : Bool} {c : ClassProgram} {v : Vec ℕ Global} {o : Outcome}
+    → AreRun words name world frames → Loaded name before mid (Ok s) → Has (program_of s.typed.program) c → Between name world before mid after
+    → FileRead world mid after (Ok v) → RunIn frames v.items s.typed.program c (Ok o) → Decided words before after o
+ran {words} {name = n} {world = w} {before = b} {mid = m} {after = a} {s = s} {v = v} are l h bt r (it_prints texts f e prints) =
+    due _ _ (printed n w s.typed.program texts (subst (AreRun words n w) f are) (has_program l) prints (subst (IsText b.content w) e (world_text b.content bt.content r)))
+    (asks_both n w b m a bt (asked_it r).asked) (same_faults r ∙ no_fault l)
+ran {name = n} {world = w} {before = b} {mid = m} {after = a} {s = s} {frames = f} {c = c} {v = v} are l h bt r (it_runs world answered other) =
+    due _ _ (run n w f s.typed.program c world are (has_program l) h (record { text = v.items; is = world_text b.content bt.content r; answered = answered }) other)
+    (asks_both n w b m a bt (asked_it r).asked) (same_faults r ∙ no_fault l)
+
+pub not_ran : {words : List (List ℕ)} {name world : List ℕ} {before mid after : FilesSeen} {s : Sound} {frames : Bool} {c : ClassProgram} {v : Vec ℕ Global} {o : told.Told}
+    → AreRun words name world frames → Loaded name before mid (Ok s) → Between name world before mid after
+    → FileRead world mid after (Ok v) → RunIn frames v.items s.typed.program c (Err o) → Decided words before after (Told o)
+not_ran {name = n} {world = w} {before = b} {mid = m} {after = a} {s = s} {frames = f} {v = v} are l bt r (not_there fault answered) =
+    due _ _ (no_world n w f s.typed.program fault are (has_program l) (record { text = v.items; is = world_text b.content bt.content r; answered = answered }))
+    (asks_both n w b m a bt (asked_it r).asked) (same_faults r ∙ no_fault l)
+not_ran {name = n} {world = w} {before = b} {mid = m} {after = a} {s = s} {frames = f} are l bt r no_room_to_run =
+    no_memory (n ∷ (w ∷ [])) (both n w f s.typed.program are (has_program l)) (asks_both n w b m a bt (asked_it r).asked) (same_faults r ∙ no_fault l)
 
 -- two words, and three
 pub two : {X : Type 0} (f : X → List ℕ) (xs : List X) (x y : X) (a b : List ℕ) → length xs ≡ 2 → x ≡ get_or xs 0 x → y ≡ get_or xs 1 y → a ≡ f x → b ≡ f y → map f xs ≡ a ∷ (b ∷ [])
@@ -168,9 +291,15 @@ three f (k ∷ l ∷ m ∷ []) x y z a b d e p q r s t u =
     ap₂ (λ v w. v ∷ w) (sym (s ∙ ap f p)) (ap₂ (λ v w. v ∷ (w ∷ [])) (sym (t ∙ ap f q)) (sym (u ∙ ap f r)))
 three f (k ∷ l ∷ m ∷ n ∷ xs) x y z a b d e p q r s t u = absurd (omega arith)
 
+pub four : {X : Type 0} (f : X → List ℕ) (xs : List X) (x y z w : X) (a b d e : List ℕ) → length xs ≡ 4 → x ≡ get_or xs 0 x → y ≡ get_or xs 1 y → z ≡ get_or xs 2 z → w ≡ get_or xs 3 w
+    → a ≡ f x → b ≡ f y → d ≡ f z → e ≡ f w → map f xs ≡ a ∷ (b ∷ (d ∷ (e ∷ [])))
+four f [] x y z w a b d e l p q r o s t u v = absurd (omega arith)
+four f (k ∷ []) x y z w a b d e l p q r o s t u v = absurd (omega arith)
+four f (k ∷ k2 ∷ []) x y z w a b d e l p q r o s t u v = absurd (omega arith)
+four f (k ∷ k2 ∷ k3 ∷ []) x y z w a b d e l p q r o s t u v = absurd (omega arith)
+four f (k ∷ k2 ∷ k3 ∷ k4 ∷ []) x y z w a b d e l p q r o s t u v =
+    ap₂ (λ m n. m ∷ n) (sym (s ∙ ap f p)) (ap₂ (λ m n. m ∷ n) (sym (t ∙ ap f q)) (ap₂ (λ m n. m ∷ (n ∷ [])) (sym (u ∙ ap f r)) (sym (v ∙ ap f o))))
+four f (k ∷ k2 ∷ k3 ∷ k4 ∷ k5 ∷ xs) x y z w a b d e l p q r o s t u v = absurd (omega arith)
+
 pub bytes_same : (a b : List ℕ) → bytes_eq a b ≡ true → a ≡ b
 bytes_same a b h = search (rules, bytes_eq-Decides a b, h)
-
-pub nothing : (l : List ℕ) → length l ≤ 0 → l ≡ []
-nothing [] h = refl
-nothing (x ∷ l) h = absurd (omega arith)

@@ -9,9 +9,12 @@ use Rattle.flow_base.specs.Seen.{SinkSeen}
 use Rattle.flow_base.specs.declared.fault.OutFault.{OutFault}
 use Rattle.flow_base.specs.declared.fault.OutFault.TheVariants.{Failed, OutOfMemory}
 use Rattle.flow_trace.specs.Bytes.{Bytes}
+use Rattle.flow_trace.specs.Out.{Grows, GrowsTo}
+use Rattle.flow_machine.specs.declared.host.RunFault.{RunFault}
+use Rattle.flow_machine.specs.declared.host.RunFault.TheVariants as broken
 use Rattle.flow_trace.specs.declared.line.Line.{Line}
-use Rattle.flow_top.specs.declared.outcome.Outcome.{Outcome}
-use Rattle.flow_top.specs.Run.{bytes_of, text_of, fault_status_of, Reported, write_fault, no_memory}
+use Rattle.flow_top.specs.declared.outcome.Told.{Told}
+use Rattle.flow_top.specs.Run.{bytes_of, text_of, fault_status_of, run_fault_status, ReportedTold, write_fault, no_memory_told, ReportedRun, run_write_fault, run_no_memory, astray}
 
 pub bytes_append : (xs ys : List Line) → bytes_of (xs ++ ys) ≡ bytes_of xs ++ bytes_of ys
 bytes_append [] ys = refl
@@ -43,10 +46,23 @@ line_part a b c lines i d piece lt e p q =
 pub whole_part : (a b : Option (List ℕ)) (text : List ℕ) → Appends a b text → AppendsPart a b text
 whole_part a b text p = (text, [], sym (append-nil text), p)
 
-pub told_fault : (outcome : Outcome) (before after : SinkSeen) (fault : OutFault) → AppendsPart before.written after.written (text_of outcome)
-    → (fault ≡ Failed → Rose before.faults after.faults) → Reported outcome before after (fault_status_of fault)
+pub told_fault : (outcome : Told) (before after : SinkSeen) (fault : OutFault) → AppendsPart before.written after.written (text_of outcome)
+    → (fault ≡ Failed → Rose before.faults after.faults) → ReportedTold outcome before after (fault_status_of fault)
 told_fault outcome before after Failed p r = write_fault p (r refl)
-told_fault outcome before after OutOfMemory p r = no_memory p
+told_fault outcome before after OutOfMemory p r = no_memory_told p
 
 pub rose_after : (a b c : ℕ) → a ≤ b → Rose b c → Rose a c
 rose_after a b c le r = omega arith
+
+-- a run broke off
+pub broke_off : (before after : SinkSeen) (fault : RunFault) → Grows before.written after.written → (fault ≡ broken.Failed → Rose before.faults after.faults)
+    → ReportedRun before after (run_fault_status fault)
+broke_off before after broken.Failed g r = run_write_fault g (r refl)
+broke_off before after broken.OutOfMemory g r = run_no_memory g
+broke_off before after broken.Astray g r = astray g
+
+-- the last flush of a run failed
+pub unflushed : (before after : SinkSeen) (fault : OutFault) → Grows before.written after.written → (fault ≡ Failed → Rose before.faults after.faults)
+    → ReportedRun before after (fault_status_of fault)
+unflushed before after Failed g r = run_write_fault g (r refl)
+unflushed before after OutOfMemory g r = run_no_memory g

@@ -1,6 +1,5 @@
 pub mod Words
-pub mod Source
 pub mod Form
-pub mod Laws
 pub mod Refusal
 pub mod Run
+pub mod Steps

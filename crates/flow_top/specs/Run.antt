@@ -1,30 +1,47 @@
 -- What a command line comes to, and what is written and answered then.
-use Rattle.std.specs.Prelude.{◌≡◌, ℕ, ◌+◌, ◌<◌, List, [], ◌∷◌, ◌++◌, map, length, codes, Result, Ok, Err}
+use Rattle.std.specs.Prelude.{◌≡◌, ℕ, Bool, false, ◌+◌, List, [], ◌∷◌, ◌++◌, map, codes, Result, Ok, Err}
 use Rattle.std.specs.Io.KnownBytes.{Appends}
 use Rattle.std.specs.declared.option.Option.{Option}
-use Rattle.std.specs.declared.vec.Vec.{Vec}
-use Rattle.std.specs.declared.alloc.Global.{Global}
 use Rattle.flow_tree.specs.declared.limits.TheConstants.{PROGRAM_BYTES}
 use Rattle.flow_base.specs.Bytes.{AreFirst, AppendsPart}
 use Rattle.flow_base.specs.Faults.{Rose, next_count}
 use Rattle.flow_base.specs.Seen.{FilesSeen, SinkSeen, ReadsWithin}
 use Rattle.flow_base.specs.declared.fault.OutFault.{OutFault}
 use Rattle.flow_base.specs.declared.fault.OutFault.TheVariants as fault
-use Rattle.flow_base.specs.declared.ids.ActorId.{ActorId}
+use Rattle.flow_base.specs.declared.place.Place.{Place}
 use Rattle.flow_tree.specs.declared.decl.Program.{Program}
 use Rattle.flow_tree.specs.declared.fault.SourceFault.{SourceFault}
 use Rattle.flow_tree.specs.declared.fault.SourceFault.TheVariants as source
 use Rattle.flow_tree.specs.declared.fault.Rule.{Rule}
-use Rattle.flow_base.specs.declared.place.Place.{Place}
+use Rattle.flow_tree.specs.declared.fault.Rule.TheVariants.{L}
 use Rattle.flow_tree.specs.DeclView.{program_of}
 use Rattle.flow_tree.specs.Canon.{Canon}
 use Rattle.flow_trace.specs.Bytes.{Bytes}
 use Rattle.flow_trace.specs.declared.line.Line.{Line}
 use Rattle.flow_trace.specs.declared.line.Line.TheVariants.{Head, Boot, Start, PrintText, Finish, EndIdle}
+use Rattle.flow_base.specs.declared.ids.ActorId.{ActorId}
+use Rattle.std.specs.declared.vec.Vec.{Vec}
+use Rattle.std.specs.declared.alloc.Global.{Global}
+use Rattle.flow_worldfile.specs.Faults.{fault_text}
+use Rattle.flow_worldfile.specs.declared.world.World0.{World0}
+use Rattle.flow_worldfile.specs.declared.world.WorldFault.{WorldFault}
+use Rattle.flow_worldfile.specs.declared.world.WorldFault.TheVariants as world
+use Rattle.flow_worldfile.specs.Reading as reading
+use Rattle.flow_worldfile.specs.Worlds.{IsInRange, seen}
+use Rattle.flow_machine.specs.declared.host.RunFault.{RunFault}
+use Rattle.flow_machine.specs.declared.host.RunFault.TheVariants as broken
+use Rattle.flow_class.specs.declared.program.ClassProgram.{ClassProgram}
+use Rattle.flow_compile.specs.Verdict.{IsUnread, IsRefused, IsProgram}
+use Rattle.flow_compile.specs.Compiled.{Has}
+use Rattle.flow_run.specs.declared.ending.Ending.{Ending}
+use Rattle.flow_run.specs.declared.ending.Ending.TheVariants.{Idle, Bound, Spent}
+use Rattle.flow_run.specs.Ends.{end_line}
+use Rattle.flow_trace.specs.Out.{Grows, GrowsTo}
 use Rattle.flow_top.specs.declared.outcome.Outcome.{Outcome}
-use Rattle.flow_top.specs.declared.outcome.Outcome.TheVariants.{Usage, ReadFault, OutOfMemory, Refused, Unbuilt, Formatted, Ran}
-use Rattle.flow_top.specs.Words.{AreFormat, AreRun, NameProgram}
-use Rattle.flow_top.specs.Source.{IsRefused, IsAccepted}
+use Rattle.flow_top.specs.declared.outcome.Outcome.TheVariants.{Told, Run}
+use Rattle.flow_top.specs.declared.outcome.Told as told
+use Rattle.flow_top.specs.declared.outcome.Told.TheVariants.{Usage, ReadFault, OutOfMemory, Refused, NoWorld, Passed, Formatted, Printed}
+use Rattle.flow_top.specs.Words.{AreFormat, AreCheck, AreRun, JudgeProgram, NameProgram}
 use Rattle.flow_top.specs.Form.{PrintsOnly}
 use Rattle.flow_top.specs.Refusal.{refusal_text, refusal_status}
 
@@ -42,44 +59,72 @@ abbrev pub bytes_of : List Line → List ℕ
 bytes_of [] = []
 bytes_of (line ∷ lines) = Bytes line ++ bytes_of lines
 
--- what is written for an outcome
-abbrev pub text_of : Outcome → List ℕ
+-- the line of a refusal of a world
+abbrev pub world_refusal : WorldFault → List ℕ
+world_refusal fault = codes "refused " ++ (fault_text fault ++ codes "\n")
+
+-- what is written for an outcome that is no run
+abbrev pub text_of : told.Told → List ℕ
 text_of Usage = codes "usage" ++ 10 ∷ []
 text_of ReadFault = codes "read fault" ++ 10 ∷ []
 text_of OutOfMemory = []
 text_of (Refused fault) = refusal_text fault
-text_of Unbuilt = codes "unbuilt" ++ 10 ∷ []
+text_of (NoWorld fault) = world_refusal fault
+text_of Passed = codes "ok" ++ 10 ∷ []
 text_of (Formatted program) = Canon (program_of program)
-text_of (Ran texts) = bytes_of (trace_of texts.items)
+text_of (Printed texts) = bytes_of (trace_of texts.items)
 
--- the status of an outcome whose text went out whole
-abbrev pub status_of : Outcome → ℕ
-status_of (Formatted program) = 0
-status_of (Ran texts) = 0
-status_of (Refused fault) = refusal_status fault
+-- the status of a refusal of a world: 10 where it is too large
+abbrev pub world_status : WorldFault → ℕ
+world_status world.TooLarge = 10
+world_status world.OutOfMemory = 7
+world_status _ = 3
+
+-- the status of an outcome that is no run, and whose text went out whole
+abbrev pub status_of : told.Told → ℕ
 status_of Usage = 2
 status_of ReadFault = 5
 status_of OutOfMemory = 7
-status_of Unbuilt = 11
+status_of (Refused fault) = refusal_status fault
+status_of (NoWorld fault) = world_status fault
+status_of Passed = 0
+status_of (Formatted program) = 0
+status_of (Printed texts) = 0
+
+-- the status of a run by its last line: 4 where an event needed more turns than it may take
+abbrev pub ending_status : Ending → ℕ
+ending_status Idle = 0
+ending_status Bound = 0
+ending_status Spent = 4
+
+-- the status where a run broke off: 15 where the classes, which aren't judged, led where no valid class comes
+abbrev pub run_fault_status : RunFault → ℕ
+run_fault_status broken.Failed = 6
+run_fault_status broken.OutOfMemory = 7
+run_fault_status broken.Astray = 15
 
 -- what a fault of the files comes to
-abbrev pub outcome_of : OutFault → Outcome
+abbrev pub outcome_of : OutFault → told.Told
 outcome_of fault.Failed = ReadFault
 outcome_of fault.OutOfMemory = OutOfMemory
 
 -- what the verdict on a program that isn't accepted comes to
-abbrev pub refusal_outcome_of : SourceFault → Outcome
+abbrev pub refusal_outcome_of : SourceFault → told.Told
 refusal_outcome_of (source.Refused rule at) = Refused (source.Refused rule at)
 refusal_outcome_of (source.AcrossWait at declared wait) = Refused (source.AcrossWait at declared wait)
 refusal_outcome_of source.OutOfMemory = OutOfMemory
+
+-- what a program with an actor that weighs too much comes to
+abbrev pub heavy_outcome : Place → told.Told
+heavy_outcome at = Refused (source.Refused (L 9) at)
 
 -- the status where the text didn't go out whole
 abbrev pub fault_status_of : OutFault → ℕ
 fault_status_of fault.Failed = 6
 fault_status_of fault.OutOfMemory = 7
 
--- The text of a program by its file's content: as much of it as tells a text within the limit from a
--- longer one; where the content isn't told, bytes that were read.
+-- The text of a file by its content: as much of it as tells a text within the limit from a longer one; where the content
+-- isn't told, bytes that were read.
 abbrev pub IsText : (List ℕ → Option (List ℕ)) → List ℕ → List ℕ → Type 0
 IsText content name text = AreFirst (PROGRAM_BYTES + 1) (content name) text
 
@@ -87,35 +132,55 @@ IsText content name text = AreFirst (PROGRAM_BYTES + 1) (content name) text
 pub record HasProgram (content : List ℕ → Option (List ℕ)) (name : List ℕ) (p : Program) : Type 0 where
   pub text : List ℕ
   pub is : IsText content name text
-  pub accepted : IsAccepted text p
+  pub read : IsProgram text p
 
--- the file of this name has a program that is run so far, and it prints these texts
-pub record HasPrints (content : List ℕ → Option (List ℕ)) (name : List ℕ) (texts : List (List ℕ)) : Type 0 where
-  pub program : Program
-  pub has : HasProgram content name program
-  pub form : PrintsOnly (program_of program) texts
+-- what is answered for the file of a world
+pub record HasWorld (content : List ℕ → Option (List ℕ)) (name : List ℕ) (answer : Result World0 WorldFault) : Type 0 where
+  pub text : List ℕ
+  pub is : IsText content name text
+  pub answered : reading.Answers text answer
 
--- What the words come to, by the content of the files (where it isn't told, by bytes that were read),
--- and the names that are asked for.
+-- it isn't that frames aren't asked for, the text of the world is empty, and the program prints texts and returns
+abbrev pub IsNoPrint : Bool → List ℕ → Program → Type 0
+IsNoPrint frames text p = frames ≡ false → text ≡ [] → (texts : List (List ℕ)) → PrintsOnly (program_of p) texts → ⊥
+
+-- a world in which classes are run is in range
+abbrev pub InRange : Outcome → Type 0
+InRange (Told outcome) = Unit {0}
+InRange (Run classes world frames) = IsInRange (seen world)
+
+-- What the words come to, by the content of the files (where it isn't told, by bytes that were read), and the names that are
+-- asked for.
 pub data Due (words : List (List ℕ)) (content : List ℕ → Option (List ℕ)) : Outcome → List (List ℕ) → Type 0 where
   -- the words are no command
-  usage : ((name : List ℕ) → NameProgram words name → ⊥) → Due words content Usage []
+  usage : ((name : List ℕ) → NameProgram words name → ⊥) → Due words content (Told Usage) []
+  -- the text that is formatted is no program
+  unread : (name text : List ℕ) (rule : Rule) (at : Place) → AreFormat words name → IsText content name text → IsUnread text rule at
+      → Due words content (Told (Refused (source.Refused rule at))) (name ∷ [])
+  formatted : (name : List ℕ) (p : Program) → AreFormat words name → HasProgram content name p
+      → Due words content (Told (Formatted p)) (name ∷ [])
   -- the program is refused
-  refused : (name text : List ℕ) (rule : Rule) (at : Place) → NameProgram words name → IsText content name text → IsRefused text rule at
-      → Due words content (Refused (source.Refused rule at)) (name ∷ [])
-  -- the program is formatted
-  formatted : (name : List ℕ) (p : Program) → AreFormat words name → HasProgram content name p → Due words content (Formatted p) (name ∷ [])
-  -- the program is accepted, but it isn't one that is run so far; the world isn't asked for
-  no_form : (name world : List ℕ) (p : Program) → AreRun words name world → HasProgram content name p
-      → ((texts : List (List ℕ)) → PrintsOnly (program_of p) texts → ⊥) → Due words content Unbuilt (name ∷ [])
-  -- the program is run, but the world file has a byte
-  no_world : (name world rest : List ℕ) (texts : List (List ℕ)) → AreRun words name world → HasPrints content name texts
-      → AreFirst 1 (content world) rest → 0 < length rest → Due words content Unbuilt (name ∷ (world ∷ []))
-  -- the program ran
-  ran : (name world : List ℕ) (texts : Vec (List ℕ) Global) → AreRun words name world → HasPrints content name texts.items
-      → AreFirst 1 (content world) [] → Due words content (Ran texts) (name ∷ (world ∷ []))
+  refused : (name text : List ℕ) (rule : Rule) (at : Place) → JudgeProgram words name → IsText content name text → IsRefused text rule at
+      → Due words content (Told (Refused (source.Refused rule at))) (name ∷ [])
+  -- the program uses a local after a wait
+  lost : (name : List ℕ) (p : Program) (at declared wait : Place) → JudgeProgram words name → HasProgram content name p
+      → Due words content (Told (Refused (source.AcrossWait at declared wait))) (name ∷ [])
+  -- an actor of the program weighs too much
+  heavy : (name : List ℕ) (p : Program) (at : Place) → JudgeProgram words name → HasProgram content name p
+      → Due words content (Told (heavy_outcome at)) (name ∷ [])
+  passed : (name : List ℕ) (p : Program) → AreCheck words name → HasProgram content name p → Due words content (Told Passed) (name ∷ [])
+  -- the world is refused
+  no_world : (name world : List ℕ) (frames : Bool) (p : Program) (fault : WorldFault) → AreRun words name world frames → HasProgram content name p
+      → HasWorld content world (Err fault) → Due words content (Told (NoWorld fault)) (name ∷ (world ∷ []))
+  -- the program prints texts and returns, and the world is an empty file
+  printed : (name file : List ℕ) (p : Program) (texts : Vec (List ℕ) Global) → AreRun words name file false → HasProgram content name p
+      → PrintsOnly (program_of p) texts.items → IsText content file [] → Due words content (Told (Printed texts)) (name ∷ (file ∷ []))
+  -- another program, or in another world: its classes are run in the world
+  run : (name file : List ℕ) (frames : Bool) (p : Program) (classes : ClassProgram) (world : World0) → AreRun words name file frames
+      → HasProgram content name p → Has (program_of p) classes → (has : HasWorld content file (Ok world)) → IsNoPrint frames has.text p
+      → Due words content (Run classes world frames) (name ∷ (file ∷ []))
 
--- each of these files was read to one byte past its limit at most
+-- each of these files was read to one byte past the limit at most
 abbrev pub AllWithin : List (List ℕ) → FilesSeen → FilesSeen → Type 0
 AllWithin [] before after = Unit {0}
 AllWithin (name ∷ names) before after = ReadsWithin (PROGRAM_BYTES + 1) name before after × AllWithin names before after
@@ -125,39 +190,45 @@ pub record AsksNames (before after : FilesSeen) (names : List (List ℕ)) : Type
   pub asked : after.asked ≡ before.asked ++ names
   pub within : AllWithin names before after
 
--- The names asked for where a call failed or there was no memory: the program's, and then the world's
--- only where the program is one that is run.
+-- The names asked for where a call failed or there was no memory: the program's, and then the world's only where the program
+-- passed.
 pub data AskedSome (words : List (List ℕ)) (content : List ℕ → Option (List ℕ)) : List (List ℕ) → Type 0 where
   none : AskedSome words content []
   program : (name : List ℕ) → NameProgram words name → AskedSome words content (name ∷ [])
-  both : (name world : List ℕ) (texts : List (List ℕ)) → AreRun words name world → HasPrints content name texts → AskedSome words content (name ∷ (world ∷ []))
+  both : (name world : List ℕ) (frames : Bool) (p : Program) → AreRun words name world frames → HasProgram content name p
+      → AskedSome words content (name ∷ (world ∷ []))
 
--- What reading and judging the program of this name came to: a call of the files failed exactly where it is unread.
-pub data Loaded (name : List ℕ) (before after : FilesSeen) : Result Program Outcome → Type 0 where
-  is_accepted : (p : Program) → HasProgram before.content name p → AsksNames before after (name ∷ []) → after.faults ≡ before.faults
-      → Loaded name before after (Ok p)
-  is_refused : (text : List ℕ) (rule : Rule) (at : Place) → IsText before.content name text → IsRefused text rule at
-      → AsksNames before after (name ∷ []) → after.faults ≡ before.faults → Loaded name before after (Err (Refused (source.Refused rule at)))
-  is_unread : AsksNames before after (name ∷ []) → after.faults ≡ next_count before.faults → Loaded name before after (Err ReadFault)
-  unasked : AsksNames before after [] → after.faults ≡ before.faults → Loaded name before after (Err OutOfMemory)
-  starved : AsksNames before after (name ∷ []) → after.faults ≡ before.faults → Loaded name before after (Err OutOfMemory)
-
--- What was decided: what is due, and no call of the files failed; or a read fault, where one call failed; or
--- want of memory.
+-- What was decided: what is due, and no call of the files failed; or a read fault, where one call failed; or want of memory.
 pub data Decided (words : List (List ℕ)) (before after : FilesSeen) : Outcome → Type 0 where
   due : (outcome : Outcome) (names : List (List ℕ)) → Due words before.content outcome names → AsksNames before after names
       → after.faults ≡ before.faults → Decided words before after outcome
   read_fault : (names : List (List ℕ)) → AskedSome words before.content names → AsksNames before after names
-      → after.faults ≡ next_count before.faults → Decided words before after ReadFault
+      → after.faults ≡ next_count before.faults → Decided words before after (Told ReadFault)
   no_memory : (names : List (List ℕ)) → AskedSome words before.content names → AsksNames before after names
-      → after.faults ≡ before.faults → Decided words before after OutOfMemory
+      → after.faults ≡ before.faults → Decided words before after (Told OutOfMemory)
 
--- What was told of an outcome: its whole text, which was handed on, with its status; or a first part of it, with
+-- What was told of an outcome that is no run: its whole text, which was handed on, with its status; or a first part of it, with
 -- status 6 where the sink failed, which its count then shows, or 7 where there was no memory.
-pub data Reported (outcome : Outcome) (before after : SinkSeen) : ℕ → Type 0 where
-  whole : Appends before.written after.written (text_of outcome) → after.handed ≡ after.written → Reported outcome before after (status_of outcome)
-  write_fault : AppendsPart before.written after.written (text_of outcome) → Rose before.faults after.faults → Reported outcome before after 6
-  no_memory : AppendsPart before.written after.written (text_of outcome) → Reported outcome before after 7
+pub data ReportedTold (outcome : told.Told) (before after : SinkSeen) : ℕ → Type 0 where
+  whole : Appends before.written after.written (text_of outcome) → after.handed ≡ after.written
+      → ReportedTold outcome before after (status_of outcome)
+  write_fault : AppendsPart before.written after.written (text_of outcome) → Rose before.faults after.faults
+      → ReportedTold outcome before after 6
+  no_memory_told : AppendsPart before.written after.written (text_of outcome) → ReportedTold outcome before after 7
+
+-- What was told of a run: lines up to its last one, which were handed on, with its status; or some bytes, with status 6 where
+-- the sink failed, 7 where there was no memory, or 15 where the classes led where no valid class comes. What was written before
+-- stays.
+pub data ReportedRun (before after : SinkSeen) : ℕ → Type 0 where
+  ended : (ending : Ending) → GrowsTo before.written after.written (Bytes (end_line ending)) → after.handed ≡ after.written
+      → ReportedRun before after (ending_status ending)
+  run_write_fault : Grows before.written after.written → Rose before.faults after.faults → ReportedRun before after 6
+  run_no_memory : Grows before.written after.written → ReportedRun before after 7
+  astray : Grows before.written after.written → ReportedRun before after 15
+
+abbrev pub Reported : Outcome → SinkSeen → SinkSeen → ℕ → Type 0
+Reported (Told outcome) before after status = ReportedTold outcome before after status
+Reported (Run classes world frames) before after status = ReportedRun before after status
 
 -- The answer to a command line over files and a sink: an outcome was decided, and it was told.
 pub record Answers (words : List (List ℕ)) (files files' : FilesSeen) (sink sink' : SinkSeen) (status : ℕ) : Type 0 where

@@ -1,15 +1,17 @@
 // The words of a command line.
 
-ghost use Rattle.std.specs.Prelude.{◌≡◌, ℕ, List, map, string_bytes, MatchOption, bytes_eq};
-ghost use Rattle.flow_top.specs.Words.{AreFormat, AreRun, AreCommand, NameProgram, is_option};
+ghost use Rattle.std.specs.Prelude.{◌≡◌, ℕ, true, false, List, map, string_bytes, MatchOption, bytes_eq};
+ghost use Rattle.flow_top.specs.Words.{AreFormat, AreCheck, AreRun, AreCommand, NameProgram, is_option};
 
 /// A command and the names of its files.
 #[derive(Clone, Copy, Debug)]
 pub enum Command<'a> {
     /// The program that is formatted.
     Format(&'a str),
-    /// The program that is run, and its world.
-    Run(&'a str, &'a str),
+    /// The program that is judged.
+    Check(&'a str),
+    /// The program that is run, its world, and whether frames are told after each event.
+    Run(&'a str, &'a str, bool),
 }
 
 /// Whether a word begins with `-`, so that it is no name.
@@ -29,7 +31,8 @@ fn is_command(word: &str, command: &str) -> bool
 
 // The name of the program, where the words are `format` and a name.
 fn format_words<'a>(words: &'a [String]) -> Option<&'a str>
-    ensures { MatchOption result ((p : List ℕ) → AreFormat (map string_bytes words.now) p → ⊥) (λ p. AreFormat (map string_bytes words.now) p.now) }
+    ensures { let given = map string_bytes words.now in
+        MatchOption result ((p : List ℕ) → AreFormat given p → ⊥) (λ p. AreFormat given p.now) }
 {
     if words.len() != 2 {
         return None;
@@ -44,9 +47,28 @@ fn format_words<'a>(words: &'a [String]) -> Option<&'a str>
     Some(program)
 }
 
+// The name of the program, where the words are `check` and a name.
+fn check_words<'a>(words: &'a [String]) -> Option<&'a str>
+    ensures { let given = map string_bytes words.now in
+        MatchOption result ((p : List ℕ) → AreCheck given p → ⊥) (λ p. AreCheck given p.now) }
+{
+    if words.len() != 2 {
+        return None;
+    }
+    if !is_command(words[0].as_str(), "check") {
+        return None;
+    }
+    let program = words[1].as_str();
+    if is_dashed(program) {
+        return None;
+    }
+    Some(program)
+}
+
 // The names of the program and of the world, where the words are `run` and two names.
 fn run_words<'a>(words: &'a [String]) -> Option<(&'a str, &'a str)>
-    ensures { MatchOption result ((p w : List ℕ) → AreRun (map string_bytes words.now) p w → ⊥) (λ x. AreRun (map string_bytes words.now) x.0.now x.1.now) }
+    ensures { let given = map string_bytes words.now in
+        MatchOption result ((p w : List ℕ) → AreRun given p w false → ⊥) (λ x. AreRun given x.0.now x.1.now false) }
 {
     if words.len() != 3 {
         return None;
@@ -65,15 +87,47 @@ fn run_words<'a>(words: &'a [String]) -> Option<(&'a str, &'a str)>
     Some((program, world))
 }
 
+// The names of the program and of the world, where the words are `run`, two names and `--frames`.
+fn framed_words<'a>(words: &'a [String]) -> Option<(&'a str, &'a str)>
+    ensures { let given = map string_bytes words.now in
+        MatchOption result ((p w : List ℕ) → AreRun given p w true → ⊥) (λ x. AreRun given x.0.now x.1.now true) }
+{
+    if words.len() != 4 {
+        return None;
+    }
+    if !is_command(words[0].as_str(), "run") {
+        return None;
+    }
+    if !is_command(words[3].as_str(), "--frames") {
+        return None;
+    }
+    let program = words[1].as_str();
+    let world = words[2].as_str();
+    if is_dashed(program) {
+        return None;
+    }
+    if is_dashed(world) {
+        return None;
+    }
+    Some((program, world))
+}
+
 /// The command that the words are, where they are one.
 pub fn command_of<'a>(words: &'a [String]) -> Option<Command<'a>>
-    ensures { MatchOption result ((p : List ℕ) → NameProgram (map string_bytes words.now) p → ⊥) (λ c. AreCommand (map string_bytes words.now) c) }
+    ensures { let given = map string_bytes words.now in
+        MatchOption result ((p : List ℕ) → NameProgram given p → ⊥) (λ c. AreCommand given c) }
 {
     if let Some(program) = format_words(words) {
         return Some(Command::Format(program));
     }
-    let Some((program, world)) = run_words(words) else {
+    if let Some(program) = check_words(words) {
+        return Some(Command::Check(program));
+    }
+    if let Some((program, world)) = run_words(words) {
+        return Some(Command::Run(program, world, false));
+    }
+    let Some((program, world)) = framed_words(words) else {
         return None;
     };
-    Some(Command::Run(program, world))
+    Some(Command::Run(program, world, true))
 }

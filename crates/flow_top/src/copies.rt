@@ -1,15 +1,15 @@
 // Copies of trees, seen by the text that they are written as.
 
 use crate::samples::{CALLS_A_FUNCTION, HELLO, REQUEST_SERVER};
-use flow_ast::decl::{ActorDecl, Decl, FunctionDecl, Param, Program, RecordDecl, Slot};
-use flow_ast::fault::SourceFault;
-use flow_ast::stmt::Stmt;
-use flow_ast::token::Tokens;
 use flow_base::memory::NoMemory;
 use flow_lex::lex::lex;
 use flow_parse::parse::parse;
 use flow_show::show::show;
+use flow_tree::decl::{ActorDecl, Decl, FunctionDecl, Param, Program, RecordDecl, Slot};
+use flow_tree::fault::SourceFault;
 use flow_tree::limits::PROGRAM_BYTES;
+use flow_tree::stmt::Stmt;
+use flow_tree::token::Tokens;
 use std::alloc::Global;
 
 // Each parameter, copied by way of a slot.

@@ -1,101 +1,224 @@
 // What the words and the files come to.
 
-ghost use Rattle.std.specs.Prelude.{◌≡◌, ℕ, List, map, string_bytes};
-ghost use Rattle.flow_base.specs.Seen.{MovesOnly};
-ghost use Rattle.flow_top.specs.Words.{AreFormat, AreRun};
-ghost use Rattle.flow_top.specs.Run.{Decided, Loaded, outcome_of, refusal_outcome_of};
+ghost use Rattle.std.specs.Prelude.{◌≡◌, ◌+◌, ℕ, Bool, false, List, [], map, string_bytes, IfOk, MatchOption};
+ghost use Rattle.flow_tree.specs.declared.limits.TheConstants.{PROGRAM_BYTES};
+ghost use Rattle.flow_base.specs.Seen.{MovesOnly, ReadsWithin};
+ghost use Rattle.flow_tree.specs.DeclView.{program_of};
+ghost use Rattle.flow_top.specs.Form.{PrintsOnly};
+ghost use Rattle.flow_top.specs.Words.{AreFormat, AreCheck, AreRun};
+ghost use Rattle.flow_worldfile.specs.Worlds.{IsInRange, seen};
+ghost use Rattle.flow_top.specs.Run.{Decided, InRange, outcome_of, refusal_outcome_of, heavy_outcome};
+ghost use Rattle.flow_top.specs.Steps.{FileRead, Loaded, ClassesOf, WorldOf, PrintedOf, RunIn};
 
 use crate::command::{Command, command_of};
 use crate::form::printed_texts;
-use crate::outcome::Outcome;
-use crate::source::read_program;
-use flow_ast::decl::Program;
-use flow_ast::fault::SourceFault;
+use crate::outcome::{Outcome, Told};
 use flow_base::fault::OutFault;
 use flow_base::files::Files;
 use flow_base::input::read_file;
+use flow_base::place::Place;
 use flow_base::text::Text;
+use flow_class::program::ClassProgram;
+use flow_compile::{CompileFault, compile, first_heavy, front, read_program};
+use flow_staterule::Sound;
+use flow_tree::decl::Program;
+use flow_tree::fault::{Rule, SourceFault};
 use flow_tree::limits::PROGRAM_BYTES;
+use flow_worldfile::{World0, WorldFault, read_world};
 use std::alloc::Global;
 
 // What a fault of the files comes to.
-fn fault_outcome(fault: OutFault) -> Outcome
+fn fault_outcome(fault: OutFault) -> Told
     ensures { result ≡ outcome_of fault }
 {
     match fault {
-        OutFault::Failed => Outcome::ReadFault,
-        OutFault::OutOfMemory => Outcome::OutOfMemory,
+        OutFault::Failed => Told::ReadFault,
+        OutFault::OutOfMemory => Told::OutOfMemory,
     }
 }
 
 // What a refusal of the program comes to.
-fn refusal_outcome(fault: SourceFault) -> Outcome
+fn refusal_outcome(fault: SourceFault) -> Told
     ensures { result ≡ refusal_outcome_of fault }
 {
     match fault {
-        SourceFault::OutOfMemory => Outcome::OutOfMemory,
-        SourceFault::Refused { .. } | SourceFault::AcrossWait { .. } => Outcome::Refused(fault),
+        SourceFault::OutOfMemory => Told::OutOfMemory,
+        SourceFault::Refused { .. } | SourceFault::AcrossWait { .. } => Told::Refused(fault),
     }
 }
 
-// The program of the file of this name, or what the command comes to without it.
-fn load<F: Files>(alloc: Global, name: &str, files: &mut F) -> Result<Program, Outcome>
+// The bytes of the file of this name, one past the limit of a text at most, or what the command comes to without them. A world
+// file has the same limit as a program.
+fn bytes_of<F: Files>(alloc: Global, name: &str, files: &mut F) -> Result<Vec<u8>, Told>
+    ensures content { (F.seen files.new).content ≡ (F.seen files.old).content }
+    ensures others { MovesOnly name.now (F.seen files.old) (F.seen files.new) }
+    ensures within { ReadsWithin (PROGRAM_BYTES + 1) name.now (F.seen files.old) (F.seen files.new) }
+    ensures read { FileRead name.now (F.seen files.old) (F.seen files.new) result }
+{
+    match read_file(alloc, files, name, PROGRAM_BYTES) {
+        Ok(bytes) => Ok(bytes),
+        Err(fault) => Err(fault_outcome(fault)),
+    }
+}
+
+// The program of the file of this name, which passes the rules, or what the command comes to without it.
+fn load<F: Files>(alloc: Global, name: &str, files: &mut F) -> Result<Sound, Told>
     ensures content { (F.seen files.new).content ≡ (F.seen files.old).content }
     ensures others { MovesOnly name.now (F.seen files.old) (F.seen files.new) }
     ensures loaded { Loaded name.now (F.seen files.old) (F.seen files.new) result }
 {
-    let bytes = match read_file(alloc, files, name, PROGRAM_BYTES) {
+    let bytes = match bytes_of(alloc, name, files) {
         Ok(bytes) => bytes,
-        Err(fault) => return Err(fault_outcome(fault)),
+        Err(told) => return Err(told),
     };
-    match read_program(alloc, &bytes) {
-        Ok(program) => Ok(program),
+    match front(alloc, &bytes) {
+        Ok(sound) => Ok(sound),
         Err(fault) => Err(refusal_outcome(fault)),
     }
 }
 
 // What `format` on this program comes to.
-fn format<F: Files>(alloc: Global, name: &str, files: &mut F) -> Outcome
-    ensures { (words : List (List ℕ)) → AreFormat words name.now → Decided words (F.seen files.old) (F.seen files.new) result }
+fn format<F: Files>(alloc: Global, name: &str, files: &mut F) -> Told
+    ensures { (words : List (List ℕ)) → AreFormat words name.now → Decided words (F.seen files.old) (F.seen files.new) (Outcome.Told result) }
 {
-    match load(alloc, name, files) {
-        Ok(program) => Outcome::Formatted(program),
-        Err(outcome) => outcome,
+    let bytes = match bytes_of(alloc, name, files) {
+        Ok(bytes) => bytes,
+        Err(told) => return told,
+    };
+    match read_program(alloc, &bytes) {
+        Ok(program) => Told::Formatted(program),
+        Err(fault) => refusal_outcome(fault),
     }
 }
 
-// What `run` on this program and this world comes to. The world is read only where the program is one
-// that is run.
-fn run<F: Files>(alloc: Global, name: &str, world: &str, files: &mut F) -> Outcome
-    ensures { (words : List (List ℕ)) → AreRun words name.now world.now → Decided words (F.seen files.old) (F.seen files.new) result }
+// That the actor at this place weighs too much.
+fn too_heavy(at: Place) -> Told
+    ensures { result ≡ heavy_outcome at }
 {
-    let program = match load(alloc, name, files) {
-        Ok(program) => program,
-        Err(outcome) => return outcome,
-    };
-    let Ok(judged) = printed_texts(alloc, &program) else {
-        return Outcome::OutOfMemory;
-    };
-    let Some(texts) = judged else {
-        return Outcome::Unbuilt;
-    };
-    let rest = match read_file(alloc, files, world, 0) {
-        Ok(rest) => rest,
-        Err(fault) => return fault_outcome(fault),
-    };
-    if rest.as_slice().len() > 0 {
-        return Outcome::Unbuilt;
+    Told::Refused(SourceFault::Refused {
+        rule: Rule::L(9),
+        at,
+    })
+}
+
+// The classes of a program, or what the command comes to without them.
+fn classes_of(alloc: Global, sound: &Sound) -> Result<ClassProgram, Told>
+    ensures { ClassesOf (program_of sound.now.typed.program) result }
+{
+    match compile(alloc, sound) {
+        Ok(classes) => Ok(classes),
+        Err(CompileFault::TooManyBlocks(at)) => Err(too_heavy(at)),
+        Err(CompileFault::OutOfMemory) => Err(Told::OutOfMemory),
     }
-    Outcome::Ran(texts)
+}
+
+// What `check` on this program comes to.
+fn check<F: Files>(alloc: Global, name: &str, files: &mut F) -> Told
+    ensures { (words : List (List ℕ)) → AreCheck words name.now → Decided words (F.seen files.old) (F.seen files.new) (Outcome.Told result) }
+{
+    let sound = match load(alloc, name, files) {
+        Ok(sound) => sound,
+        Err(told) => return told,
+    };
+    match first_heavy(&sound.program().decls) {
+        None => Told::Passed,
+        Some(at) => too_heavy(at),
+    }
+}
+
+// The world of a text, or what the command comes to without it.
+fn world_of(alloc: Global, bytes: &[u8]) -> Result<World0, Told>
+    ensures answered { WorldOf bytes.now result }
+    ensures in_range { IfOk result (λ w. IsInRange (seen w)) }
+{
+    match read_world(alloc, bytes) {
+        Ok(world) => Ok(world),
+        Err(WorldFault::OutOfMemory) => Err(Told::OutOfMemory),
+        Err(fault) => Err(Told::NoWorld(fault)),
+    }
+}
+
+// The texts of a program that prints them and returns, where the text of the world is empty.
+#[tactic(auto, using(crate::proofs::Deciding::told_world, crate::proofs::Deciding::by_form, crate::proofs::Deciding::no_texts))]
+fn printed(alloc: Global, program: &Program, world: &[u8]) -> Result<Option<Vec<Text>>, Told>
+    ensures { PrintedOf false world.now program.now result }
+{
+    if world.len() > 0 {
+        return Ok(None);
+    }
+    match printed_texts(alloc, program) {
+        Ok(texts) => Ok(texts),
+        Err(_) => Err(Told::OutOfMemory),
+    }
+}
+
+// The same, where frames aren't asked for.
+#[tactic(auto, using(crate::proofs::Deciding::framed_world))]
+fn printed_unframed(
+    alloc: Global,
+    program: &Program,
+    world: &[u8],
+    frames: bool,
+) -> Result<Option<Vec<Text>>, Told>
+    ensures { PrintedOf frames world.now program.now result }
+{
+    match frames {
+        true => Ok(None),
+        false => printed(alloc, program, world),
+    }
+}
+
+// What a run in the world of this text comes to.
+#[tactic(auto, using(crate::proofs::Deciding::without_world_of, crate::proofs::Deciding::without_printed, crate::proofs::Deciding::prints_it, crate::proofs::Deciding::runs_it))]
+fn run_in(
+    alloc: Global,
+    sound: &Sound,
+    classes: ClassProgram,
+    bytes: &[u8],
+    frames: bool,
+) -> Result<Outcome, Told>
+    ensures in_range { IfOk result InRange }
+    ensures run { RunIn frames bytes.now sound.now.typed.program classes result }
+{
+    let world = world_of(alloc, bytes)?;
+    match printed_unframed(alloc, sound.program(), bytes, frames)? {
+        Some(texts) => Ok(Outcome::Told(Told::Printed(texts))),
+        None => Ok(Outcome::Run(classes, world, frames)),
+    }
+}
+
+// What `run` on this program and this world comes to. The world is read only where the program passes all rules.
+fn run<F: Files>(alloc: Global, name: &str, world: &str, frames: bool, files: &mut F) -> Outcome
+    ensures in_range { InRange result }
+    ensures decided { (words : List (List ℕ)) → AreRun words name.now world.now frames → Decided words (F.seen files.old) (F.seen files.new) result }
+{
+    let sound = match load(alloc, name, files) {
+        Ok(sound) => sound,
+        Err(told) => return Outcome::Told(told),
+    };
+    let classes = match classes_of(alloc, &sound) {
+        Ok(classes) => classes,
+        Err(told) => return Outcome::Told(told),
+    };
+    let bytes = match bytes_of(alloc, world, files) {
+        Ok(bytes) => bytes,
+        Err(told) => return Outcome::Told(told),
+    };
+    match run_in(alloc, &sound, classes, &bytes, frames) {
+        Ok(outcome) => outcome,
+        Err(told) => Outcome::Told(told),
+    }
 }
 
 /// What the command line comes to.
 pub fn decide<F: Files>(alloc: Global, words: &[String], files: &mut F) -> Outcome
-    ensures { Decided (map string_bytes words.now) (F.seen files.old) (F.seen files.new) result }
+    ensures in_range { InRange result }
+    ensures decided { Decided (map string_bytes words.now) (F.seen files.old) (F.seen files.new) result }
 {
     match command_of(words) {
-        None => Outcome::Usage,
-        Some(Command::Format(program)) => format(alloc, program, files),
-        Some(Command::Run(program, world)) => run(alloc, program, world, files),
+        None => Outcome::Told(Told::Usage),
+        Some(Command::Format(program)) => Outcome::Told(format(alloc, program, files)),
+        Some(Command::Check(program)) => Outcome::Told(check(alloc, program, files)),
+        Some(Command::Run(program, world, frames)) => run(alloc, program, world, frames, files),
     }
 }

@@ -10,12 +10,12 @@ ghost use Rattle.flow_tree.specs.DeclView.{param_of, params_of, actor_of, decl_o
 ghost use Rattle.flow_tree.specs.Canon.{bare_ident, bare_expr, bare_exprs, bare_body, bare_param, bare_routine, bare_decl};
 ghost use Rattle.flow_top.specs.Form.{named, print, ending, prints, parameter, main_of, one_actor, PrintsOnly};
 
-use flow_ast::decl::{ActorDecl, Decl, Param, Program};
-use flow_ast::expr::Expr;
-use flow_ast::stmt::{Stmt, StmtKind};
-use flow_ast::ty::{Ident, Ty};
 use flow_base::memory::NoMemory;
 use flow_base::text::Text;
+use flow_tree::decl::{ActorDecl, Decl, Param, Program};
+use flow_tree::expr::Expr;
+use flow_tree::stmt::{Stmt, StmtKind};
+use flow_tree::ty::{Ident, Ty};
 use std::alloc::Global;
 
 fn is_named(ident: &Ident, name: &[u8]) -> bool

@@ -6,19 +6,20 @@ mod command;
 mod copies;
 mod decide;
 mod form;
-mod laws;
 mod outcome;
 mod real;
 mod refusal;
 mod report;
 #[cfg(test)]
 mod samples;
-mod source;
 #[cfg(test)]
 mod tests;
 mod top;
+#[cfg(test)]
+mod traces;
 
 use crate::real::{RealFiles, StandardOutput};
+use flow_base::sink::Sink;
 use std::process::ExitCode;
 use std::{env, io};
 
@@ -36,7 +37,10 @@ fn main(rt: HostRuntime) -> ExitCode {
         Ok(words) => {
             let mut files = RealFiles::new(&rt);
             let mut out = StandardOutput::new(&rt);
-            ExitCode::from(top::flow_main(rt.alloc(), &words, &mut files, &mut out))
+            let status = top::flow_main(rt.alloc(), &words, &mut files, &mut out);
+            // What was gathered before a fault goes out too; the status tells of the fault already.
+            let _ = out.flush();
+            ExitCode::from(status)
         }
         Err(error) => {
             if error.kind() == io::ErrorKind::OutOfMemory {

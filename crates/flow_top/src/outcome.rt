@@ -1,12 +1,23 @@
 // What a command line comes to.
 
-use flow_ast::decl::Program;
-use flow_ast::fault::SourceFault;
 use flow_base::text::Text;
+use flow_class::program::ClassProgram;
+use flow_tree::decl::Program;
+use flow_tree::fault::SourceFault;
+use flow_worldfile::{World0, WorldFault};
 
 /// What a command line comes to, before any of it is told.
 #[derive(Drop, Debug)]
 pub enum Outcome {
+    /// Its text, which is known before it is told.
+    Told(Told),
+    /// The classes of the program are run in the world, with frames after each event or without.
+    Run(ClassProgram, World0, bool),
+}
+
+/// What a command line comes to where nothing is run.
+#[derive(Drop, Debug)]
+pub enum Told {
     /// The words are no command.
     Usage,
     /// A file couldn't be read.
@@ -15,10 +26,12 @@ pub enum Outcome {
     OutOfMemory,
     /// The program text is refused.
     Refused(SourceFault),
-    /// The program or the world hasn't a form that is run yet.
-    Unbuilt,
+    /// The world file is refused.
+    NoWorld(WorldFault),
+    /// The program passes all rules.
+    Passed,
     /// The program is written in its canonical text.
     Formatted(Program),
-    /// The program printed these texts and returned.
-    Ran(Vec<Text>),
+    /// The program prints these texts and returns, in an empty world: its trace.
+    Printed(Vec<Text>),
 }

@@ -2,6 +2,7 @@
 // nothing of content.
 
 ghost use Rattle.std.specs.Prelude.{◌≡◌, length};
+ghost use Rattle.flow_base.specs.Faults.{HasCause};
 
 use flow_base::fault::OutFault;
 use flow_base::files::Files;
@@ -92,17 +93,40 @@ impl<'a> Files for RealFiles<'a> {
     }
 }
 
-/// Standard output.
+/// How many bytes standard output gathers before they are handed on.
+const ROOM: usize = 65_536;
+
+/// Standard output. It gathers bytes, and hands them on when there are many, and at a flush.
 #[derive(Drop)]
 pub struct StandardOutput<'a> {
     rt: &'a HostRuntime,
+    gathered: Vec<u8>,
     faults: u64,
 }
 
 impl<'a> StandardOutput<'a> {
     /// Nothing is written yet.
     pub fn new(rt: &'a HostRuntime) -> StandardOutput<'a> {
-        StandardOutput { rt, faults: 0 }
+        StandardOutput {
+            rt,
+            gathered: Vec::new(rt.alloc()),
+            faults: 0,
+        }
+    }
+
+    // Hands on what was gathered. Where that fails it is gone, and the failure is counted.
+    fn hand_on(&mut self) -> Result<(), OutFault>
+        ensures { HasCause self.old.faults self.new.faults result }
+    {
+        let handed = io::writer(self.rt).write_all(&self.gathered);
+        self.gathered.clear();
+        match handed {
+            Ok(()) => Ok(()),
+            Err(_) => {
+                self.faults = self.faults.saturating_add(1);
+                Err(OutFault::Failed)
+            }
+        }
     }
 }
 
@@ -112,17 +136,17 @@ impl<'a> Sink for StandardOutput<'a> {
     ghost seen = { λ s. record { written = None; handed = None; faults = s.faults } };
 
     fn write(&mut self, piece: &[u8]) -> Result<usize, OutFault> {
-        let Ok(count) = io::writer(self.rt).write(piece) else {
-            self.faults = self.faults.saturating_add(1);
-            return Err(OutFault::Failed);
-        };
-        if count == 0 {
-            self.faults = self.faults.saturating_add(1);
+        if self.gathered.len() >= ROOM {
+            self.hand_on()?;
         }
-        Ok(count)
+        match self.gathered.extend_from_slice(piece) {
+            Ok(()) => Ok(piece.len()),
+            Err(_) => Err(OutFault::OutOfMemory),
+        }
     }
 
     fn flush(&mut self) -> Result<(), OutFault> {
+        self.hand_on()?;
         let Ok(()) = io::writer(self.rt).flush() else {
             self.faults = self.faults.saturating_add(1);
             return Err(OutFault::Failed);

@@ -4,9 +4,9 @@ ghost use Rattle.std.specs.Prelude.{◌≡◌, ◌++◌, codes, decimal, IfOk};
 ghost use Rattle.flow_tree.specs.declared.fault.SourceFault.TheVariants.{Refused, AcrossWait};
 ghost use Rattle.flow_top.specs.Refusal.{place_text, rule_text, where_text, refusal_text, refusal_status};
 
-use flow_ast::fault::{Rule, SourceFault};
 use flow_base::memory::NoMemory;
 use flow_base::place::Place;
+use flow_tree::fault::{Rule, SourceFault};
 use itoa::Buffer;
 use std::alloc::Global;
 

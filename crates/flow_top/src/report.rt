@@ -6,11 +6,12 @@ ghost use Rattle.flow_base.specs.Bytes.{AppendsPart};
 ghost use Rattle.flow_base.specs.Faults.{HasCause};
 ghost use Rattle.flow_trace.specs.Bytes.{Bytes};
 ghost use Rattle.flow_top.specs.Refusal.{refusal_text};
-ghost use Rattle.flow_top.specs.Run.{trace_of, bytes_of, text_of, status_of, fault_status_of, Reported};
+ghost use Rattle.flow_worldfile.specs.Faults.{fault_text};
+ghost use Rattle.flow_worldfile.specs.Worlds.{IsInRange, seen};
+ghost use Rattle.flow_top.specs.Run.{trace_of, bytes_of, text_of, status_of, world_status, ending_status, fault_status_of, world_refusal, run_fault_status, InRange, ReportedTold, ReportedRun, Reported};
 
-use crate::outcome::Outcome;
+use crate::outcome::{Outcome, Told};
 use crate::refusal::{refusal_line, refusal_status};
-use flow_ast::fault::SourceFault;
 use flow_base::fault::OutFault;
 use flow_base::ids::{ActorId, ProcId};
 use flow_base::memory::NoMemory;
@@ -18,12 +19,20 @@ use flow_base::name::Name;
 use flow_base::output::write_whole;
 use flow_base::sink::Sink;
 use flow_base::text::Text;
+use flow_class::program::ClassProgram;
+use flow_machine::host::RunFault;
+use flow_run::{Ending, write_trace};
 use flow_show::show::show_lines;
 use flow_trace::buffer::{LineBuf, print_line};
 use flow_trace::line::Line;
+use flow_tree::fault::SourceFault;
+use flow_worldfile::{World0, WorldFault};
 use std::alloc::Global;
 
 const ACTOR: ActorId = ActorId(1);
+
+/// The status where classes, which no rule judged, led where no valid class comes.
+const ASTRAY: u8 = 15;
 
 // The lines of the run of a program that prints these texts.
 fn trace_lines(alloc: Global, texts: Vec<Text>) -> Result<Vec<Line>, NoMemory>
@@ -81,35 +90,63 @@ fn put_refusal<S: Sink>(alloc: Global, fault: &SourceFault, out: &mut S) -> Resu
     write_whole(out, &line)
 }
 
-// Writes the text of an outcome.
-fn put<S: Sink>(alloc: Global, outcome: Outcome, out: &mut S) -> Result<(), OutFault>
+// Writes the line of a refusal of the world.
+fn put_world_refusal<S: Sink>(alloc: Global, fault: WorldFault, out: &mut S) -> Result<(), OutFault>
+    ensures whole { OnOk result (Appends (S.seen out.old).written (S.seen out.new).written (world_refusal fault)) }
+    ensures part { AppendsPart (S.seen out.old).written (S.seen out.new).written (world_refusal fault) }
+    ensures cause { HasCause (S.seen out.old).faults (S.seen out.new).faults result }
+{
+    let Ok(line) = format!(in alloc; "refused {fault}\n") else {
+        return Err(OutFault::OutOfMemory);
+    };
+    write_whole(out, line.as_bytes())
+}
+
+// Writes the text of an outcome that is no run.
+fn put<S: Sink>(alloc: Global, outcome: Told, out: &mut S) -> Result<(), OutFault>
     ensures whole { OnOk result (Appends (S.seen out.old).written (S.seen out.new).written (text_of outcome)) }
     ensures part { AppendsPart (S.seen out.old).written (S.seen out.new).written (text_of outcome) }
     ensures cause { HasCause (S.seen out.old).faults (S.seen out.new).faults result }
 {
     match outcome {
-        Outcome::Usage => write_whole(out, b"usage\n"),
-        Outcome::ReadFault => write_whole(out, b"read fault\n"),
-        Outcome::OutOfMemory => Ok(()),
-        Outcome::Refused(fault) => put_refusal(alloc, &fault, out),
-        Outcome::Unbuilt => write_whole(out, b"unbuilt\n"),
-        Outcome::Formatted(program) => show_lines(alloc, &program, out),
-        Outcome::Ran(texts) => put_trace(alloc, texts, out),
+        Told::Usage => write_whole(out, b"usage\n"),
+        Told::ReadFault => write_whole(out, b"read fault\n"),
+        Told::OutOfMemory => Ok(()),
+        Told::Refused(fault) => put_refusal(alloc, &fault, out),
+        Told::NoWorld(fault) => put_world_refusal(alloc, fault, out),
+        Told::Passed => write_whole(out, b"ok\n"),
+        Told::Formatted(program) => show_lines(alloc, &program, out),
+        Told::Printed(texts) => put_trace(alloc, texts, out),
+    }
+}
+
+// The status of a refusal of the world.
+fn world_status(fault: WorldFault) -> u8
+    ensures { result ≡ world_status fault }
+{
+    match fault {
+        WorldFault::TooLarge => 10,
+        WorldFault::OutOfMemory => 7,
+        WorldFault::Form(_)
+        | WorldFault::Range(_)
+        | WorldFault::Twice(_)
+        | WorldFault::NoProcess(_) => 3,
     }
 }
 
 // The status of an outcome that was told whole.
-fn status(outcome: &Outcome) -> u8
+fn status(outcome: &Told) -> u8
     ensures { result ≡ status_of outcome.now }
 {
     match outcome {
-        Outcome::Formatted(_) => 0,
-        Outcome::Ran(_) => 0,
-        Outcome::Usage => 2,
-        Outcome::ReadFault => 5,
-        Outcome::OutOfMemory => 7,
-        Outcome::Refused(fault) => refusal_status(fault),
-        Outcome::Unbuilt => 11,
+        Told::Passed => 0,
+        Told::Formatted(_) => 0,
+        Told::Printed(_) => 0,
+        Told::Usage => 2,
+        Told::ReadFault => 5,
+        Told::OutOfMemory => 7,
+        Told::Refused(fault) => refusal_status(fault),
+        Told::NoWorld(fault) => world_status(*fault),
     }
 }
 
@@ -123,10 +160,9 @@ fn fault_status(fault: OutFault) -> u8
     }
 }
 
-/// Writes the text of an outcome and flushes it, and gives the status: the outcome's own, or 6 or 7
-/// where the sink failed or there was no memory on the way.
-pub fn report<S: Sink>(alloc: Global, outcome: Outcome, out: &mut S) -> u8
-    ensures { Reported outcome (S.seen out.old) (S.seen out.new) result }
+// Writes the text of an outcome that is no run and flushes it, and gives the status.
+fn report_told<S: Sink>(alloc: Global, outcome: Told, out: &mut S) -> u8
+    ensures { ReportedTold outcome (S.seen out.old) (S.seen out.new) result }
 {
     let told = status(&outcome);
     if let Err(fault) = put(alloc, outcome, out) {
@@ -136,4 +172,59 @@ pub fn report<S: Sink>(alloc: Global, outcome: Outcome, out: &mut S) -> u8
         return fault_status(fault);
     }
     told
+}
+
+// The status of a run by its last line.
+fn ending_status(ending: Ending) -> u8
+    ensures { result ≡ ending_status ending }
+{
+    match ending {
+        Ending::Idle => 0,
+        Ending::Bound => 0,
+        Ending::Spent => 4,
+    }
+}
+
+// The status where a run broke off.
+fn run_fault_status(fault: RunFault) -> u8
+    ensures { result ≡ run_fault_status fault }
+{
+    match fault {
+        RunFault::Failed => 6,
+        RunFault::OutOfMemory => 7,
+        RunFault::Astray => ASTRAY,
+    }
+}
+
+// Runs the classes in the world, writes the lines as they are made and flushes them, and gives the status.
+fn report_run<S: Sink>(
+    alloc: Global,
+    classes: ClassProgram,
+    world: World0,
+    frames: bool,
+    out: &mut S,
+) -> u8
+    requires { IsInRange (seen world) }
+    ensures { ReportedRun (S.seen out.old) (S.seen out.new) result }
+{
+    let ending = match write_trace(alloc, classes, world, frames, out) {
+        Ok(ending) => ending,
+        Err(fault) => return run_fault_status(fault),
+    };
+    if let Err(fault) = out.flush() {
+        return fault_status(fault);
+    }
+    ending_status(ending)
+}
+
+/// Writes the text of an outcome and flushes it, and gives the status: the outcome's own, or 6 or 7
+/// where the sink failed or there was no memory on the way.
+pub fn report<S: Sink>(alloc: Global, outcome: Outcome, out: &mut S) -> u8
+    requires { InRange outcome }
+    ensures { Reported outcome (S.seen out.old) (S.seen out.new) result }
+{
+    match outcome {
+        Outcome::Told(told) => report_told(alloc, told, out),
+        Outcome::Run(classes, world, frames) => report_run(alloc, classes, world, frames, out),
+    }
 }

@@ -13,7 +13,7 @@ ACTOR Future<Void> main(int p) {
 }
 ";
 
-const CANCEL_BY_NAME: &[u8] = b"\
+pub const CANCEL_BY_NAME: &[u8] = b"\
 ACTOR Future<Void> leaf(int n) {
     wait(Never());
     return Void();
@@ -26,7 +26,7 @@ ACTOR Future<Void> main(int p) {
 }
 ";
 
-const CATCH_FOREVER_IS_SPENT: &[u8] = b"\
+pub const CATCH_FOREVER_IS_SPENT: &[u8] = b"\
 ACTOR Future<Void> main(int p) {
     loop {
         try {
@@ -38,7 +38,7 @@ ACTOR Future<Void> main(int p) {
 }
 ";
 
-const CHOOSE_TWICE_ON_ONE_FUTURE: &[u8] = b"\
+pub const CHOOSE_TWICE_ON_ONE_FUTURE: &[u8] = b"\
 ACTOR Future<int> both(Future<int> f) {
     choose {
         when (int x = wait(f)) {
@@ -58,7 +58,7 @@ ACTOR Future<Void> main(int p) {
 }
 ";
 
-const DISK_AFTER_POWER_LOSS: &[u8] = b"\
+pub const DISK_AFTER_POWER_LOSS: &[u8] = b"\
 ACTOR Future<Void> main(int p) {
     string old = wait(readFile(\"f\", 0, 10));
     trace(old);
@@ -71,7 +71,7 @@ ACTOR Future<Void> main(int p) {
 }
 ";
 
-const DISK_REQUEST_FAILS: &[u8] = b"\
+pub const DISK_REQUEST_FAILS: &[u8] = b"\
 ACTOR Future<Void> main(int p) {
     try {
         wait(writeFile(\"f\", 0, \"a\"));
@@ -82,7 +82,7 @@ ACTOR Future<Void> main(int p) {
 }
 ";
 
-const DRAWN_WORDS: &[u8] = b"\
+pub const DRAWN_WORDS: &[u8] = b"\
 ACTOR Future<Void> main(int p) {
     int x = randomInt(0, 10);
     trace(x);
@@ -92,7 +92,7 @@ ACTOR Future<Void> main(int p) {
 }
 ";
 
-const DROPPED_WHILE_RUNNING: &[u8] = b"\
+pub const DROPPED_WHILE_RUNNING: &[u8] = b"\
 ACTOR Future<Void> a(Promise<Void> go) {
     wait(delay(1));
     go.send(Void());
@@ -117,7 +117,7 @@ ACTOR Future<Void> main(int p) {
 }
 ";
 
-const LOCAL_ACROSS_LOOP: &[u8] = b"\
+pub const LOCAL_ACROSS_LOOP: &[u8] = b"\
 ACTOR Future<Void> main(int p) {
     int x = 1;
     loop {
@@ -127,7 +127,7 @@ ACTOR Future<Void> main(int p) {
 }
 ";
 
-const LOCAL_ACROSS_WAIT: &[u8] = b"\
+pub const LOCAL_ACROSS_WAIT: &[u8] = b"\
 ACTOR Future<Void> main(int p) {
     int x = 1;
     wait(delay(5));
@@ -136,7 +136,7 @@ ACTOR Future<Void> main(int p) {
 }
 ";
 
-const LOST_PING_TIMES_OUT: &[u8] = b"\
+pub const LOST_PING_TIMES_OUT: &[u8] = b"\
 ACTOR Future<Void> main(int p) {
     state FutureStream<Packet> in = listen(7);
     if (p == 0) {
@@ -161,7 +161,7 @@ ACTOR Future<Void> main(int p) {
 }
 ";
 
-const OVERFLOW_CAUGHT: &[u8] = b"\
+pub const OVERFLOW_CAUGHT: &[u8] = b"\
 ACTOR Future<Void> main(int p) {
     try {
         int x = 9223372036854775807;
@@ -173,14 +173,14 @@ ACTOR Future<Void> main(int p) {
 }
 ";
 
-const PACKET_DISCARDED: &[u8] = b"\
+pub const PACKET_DISCARDED: &[u8] = b"\
 ACTOR Future<Void> main(int p) {
     sendTo(0, 7, \"x\");
     return Void();
 }
 ";
 
-const PACKETS_OUT_OF_ORDER: &[u8] = b"\
+pub const PACKETS_OUT_OF_ORDER: &[u8] = b"\
 ACTOR Future<Void> main(int p) {
     if (p == 0) {
         sendTo(1, 7, \"a\");
@@ -198,7 +198,7 @@ ACTOR Future<Void> main(int p) {
 }
 ";
 
-const PROMISE_BROKEN_AT_WAIT: &[u8] = b"\
+pub const PROMISE_BROKEN_AT_WAIT: &[u8] = b"\
 ACTOR Future<int> hold(int n) {
     Promise<int> q;
     int x = wait(q.getFuture());
@@ -249,7 +249,7 @@ ACTOR Future<Void> main(int p) {
 }
 ";
 
-const SECOND_OPERAND_NEVER_STARTS: &[u8] = b"\
+pub const SECOND_OPERAND_NEVER_STARTS: &[u8] = b"\
 ACTOR Future<int> one(int v) {
     return v;
 }
@@ -266,7 +266,7 @@ ACTOR Future<Void> main(int p) {
 }
 ";
 
-const SECOND_WAITER_ON_A_STREAM: &[u8] = b"\
+pub const SECOND_WAITER_ON_A_STREAM: &[u8] = b"\
 ACTOR Future<Void> main(int p) {
     state PromiseStream<int> q;
     try {
@@ -285,7 +285,7 @@ ACTOR Future<Void> main(int p) {
 }
 ";
 
-const STATE_IN_LOOP: &[u8] = b"\
+pub const STATE_IN_LOOP: &[u8] = b"\
 ACTOR Future<Void> main(int p) {
     state int n = 0;
     while (n < 2) {
@@ -298,7 +298,7 @@ ACTOR Future<Void> main(int p) {
 }
 ";
 
-const STOP_CANCELS_IN_ORDER: &[u8] = b"\
+pub const STOP_CANCELS_IN_ORDER: &[u8] = b"\
 ACTOR Future<Void> leaf(int n) {
     wait(Never());
     return Void();
@@ -312,7 +312,7 @@ ACTOR Future<Void> main(int p) {
 }
 ";
 
-const STREAM_WITH_END: &[u8] = b"\
+pub const STREAM_WITH_END: &[u8] = b"\
 ACTOR Future<Void> main(int p) {
     state PromiseStream<int> q;
     state FutureStream<int> s = q.getFuture();
@@ -331,7 +331,7 @@ ACTOR Future<Void> main(int p) {
 }
 ";
 
-const WAITS_FOR_A_DOUBLED_VALUE: &[u8] = b"\
+pub const WAITS_FOR_A_DOUBLED_VALUE: &[u8] = b"\
 ACTOR Future<int> twice(int v) {
     wait(delay(2));
     return v * 2;

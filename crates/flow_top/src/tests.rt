@@ -1,8 +1,11 @@
 // Command lines over files and a sink in memory. Expected texts are those of the language's and the
 // formats' own pages.
 
-use crate::samples::{EXAMPLES, INSIDES};
+use crate::samples::{
+    EXAMPLES, INSIDES, LOCAL_ACROSS_LOOP, LOCAL_ACROSS_WAIT, STOP_CANCELS_IN_ORDER,
+};
 use crate::top::flow_main;
+use crate::traces::{RUNS, STOP_CANCELS_IN_ORDER_TRACE, STOP_CANCELS_IN_ORDER_WORLD};
 use flow_base::mem_files::MemFiles;
 use flow_base::mem_sink::MemSink;
 use flow_tree::limits::PROGRAM_BYTES;
@@ -31,6 +34,22 @@ fn words(alloc: Global, texts: &[&str]) -> Result<Vec<String>, AllocError> {
     Ok(words)
 }
 
+// Whether these words, on a program and a world, end with this status and write this text.
+fn runs_in(
+    alloc: Global,
+    texts: &[&str],
+    program: &[u8],
+    world: &[u8],
+    status: u8,
+    text: &[u8],
+) -> Result<bool, AllocError> {
+    let mut files = two_files(alloc, program, world, Vec::new(alloc))?;
+    let mut out = MemSink::new(alloc, Vec::new(alloc));
+    let words = words(alloc, texts)?;
+    let told = flow_main(alloc, &words, &mut files, &mut out);
+    Ok(told == status && out.bytes() == text)
+}
+
 // Whether these words, on a program and a world without a byte, end with this status and write this text.
 fn answers(
     alloc: Global,
@@ -39,11 +58,7 @@ fn answers(
     status: u8,
     text: &[u8],
 ) -> Result<bool, AllocError> {
-    let mut files = two_files(alloc, program, b"", Vec::new(alloc))?;
-    let mut out = MemSink::new(alloc, Vec::new(alloc));
-    let words = words(alloc, texts)?;
-    let told = flow_main(alloc, &words, &mut files, &mut out);
-    Ok(told == status && out.bytes() == text)
+    runs_in(alloc, texts, program, b"", status, text)
 }
 
 // Whether `run p w` ends so.
@@ -87,46 +102,114 @@ fn several_texts_and_blanks_of_all_kinds(rt: HostRuntime) -> Result<(), AllocErr
 }
 
 #[test]
-fn an_accepted_program_of_another_form_is_unbuilt(rt: HostRuntime) -> Result<(), AllocError> {
+fn runs_the_examples(rt: HostRuntime) -> Result<(), AllocError> {
     let alloc = rt.alloc();
-    let others = [
-        b"".as_slice(),
-        b"struct A { int n; };".as_slice(),
-        b"int f() { }".as_slice(),
-        b"ACTOR Future<int> main(int p) { return Void(); }".as_slice(),
-        b"ACTOR Future<Void> name(int p) { return Void(); }".as_slice(),
-        b"ACTOR Future<Void> main(int q) { return Void(); }".as_slice(),
-        b"ACTOR Future<Void> main(bool p) { return Void(); }".as_slice(),
-        b"ACTOR Future<Void> main() { return Void(); }".as_slice(),
-        b"ACTOR Future<Void> main(int p, int p) { return Void(); }".as_slice(),
-        b"ACTOR Future<Void> main(int p) { }".as_slice(),
-        b"ACTOR Future<Void> main(int p) { return p; }".as_slice(),
-        b"ACTOR Future<Void> main(int p) { return (Void()); }".as_slice(),
-        b"ACTOR Future<Void> main(int p) { return Void(); return Void(); }".as_slice(),
-        b"ACTOR Future<Void> main(int p) { trace(\"a\"); }".as_slice(),
-        b"ACTOR Future<Void> main(int p) { trace(1); return Void(); }".as_slice(),
-        b"ACTOR Future<Void> main(int p) { trace(); return Void(); }".as_slice(),
-        b"ACTOR Future<Void> main(int p) { trace(\"a\", \"b\"); return Void(); }".as_slice(),
-        b"ACTOR Future<Void> main(int p) { trace(\"a\" + \"b\"); return Void(); }".as_slice(),
-        b"ACTOR Future<Void> main(int p) { trade(\"a\"); return Void(); }".as_slice(),
-        b"ACTOR Future<Void> main(int p) { p.trace(\"a\"); return Void(); }".as_slice(),
-        b"ACTOR Future<Void> main(int p) { { trace(\"a\"); } return Void(); }".as_slice(),
-        b"ACTOR Future<Void> main(int p) { return Void(); } int f() { }".as_slice(),
-    ];
-    for program in others {
-        assert!(rt; runs(alloc, program, 11, b"unbuilt\n")?);
+    for (program, world, trace, status) in RUNS {
+        assert!(rt; runs_in(alloc, &["run", "p", "w"], program, world, status, trace)?);
     }
     Ok(())
 }
 
 #[test]
-fn a_world_with_a_byte_is_unbuilt(rt: HostRuntime) -> Result<(), AllocError> {
+fn tells_frames(rt: HostRuntime) -> Result<(), AllocError> {
     let alloc = rt.alloc();
-    let mut files = two_files(alloc, HELLO, b"\n", Vec::new(alloc))?;
-    let mut out = MemSink::new(alloc, Vec::new(alloc));
-    let words = words(alloc, &["run", "p", "w"])?;
-    assert_eq!(rt; flow_main(alloc, &words, &mut files, &mut out), 11);
-    assert!(rt; out.bytes() == b"unbuilt\n".as_slice());
+    let words = ["run", "p", "w", "--frames"];
+    let program = STOP_CANCELS_IN_ORDER;
+    assert!(rt;
+        runs_in(
+            alloc,
+            &words,
+            program,
+            STOP_CANCELS_IN_ORDER_WORLD,
+            0,
+            STOP_CANCELS_IN_ORDER_TRACE
+        )?
+    );
+    Ok(())
+}
+
+// Whether `check p` ends so.
+fn checks(alloc: Global, program: &[u8], status: u8, text: &[u8]) -> Result<bool, AllocError> {
+    answers(alloc, &["check", "p"], program, status, text)
+}
+
+#[test]
+fn checks_programs(rt: HostRuntime) -> Result<(), AllocError> {
+    let alloc = rt.alloc();
+    assert!(rt; checks(alloc, HELLO, 0, b"ok\n")?);
+    for (program, _, _, _) in RUNS {
+        assert!(rt; checks(alloc, program, 0, b"ok\n")?);
+    }
+    Ok(())
+}
+
+// Whether `check p` and `run p w` both end so.
+fn judges(alloc: Global, program: &[u8], status: u8, text: &[u8]) -> Result<bool, AllocError> {
+    Ok(checks(alloc, program, status, text)? && runs(alloc, program, status, text)?)
+}
+
+#[test]
+fn tells_uses_after_a_wait(rt: HostRuntime) -> Result<(), AllocError> {
+    let alloc = rt.alloc();
+    let wait = b"refused U1 at 4:11 declared 2:9 wait 3:5\n";
+    assert!(rt; judges(alloc, LOCAL_ACROSS_WAIT, 1, wait)?);
+    let looped = b"refused U1 at 4:15 declared 2:9 wait 5:9\n";
+    assert!(rt; judges(alloc, LOCAL_ACROSS_LOOP, 1, looped)?);
+    Ok(())
+}
+
+#[test]
+fn tells_rules(rt: HostRuntime) -> Result<(), AllocError> {
+    let alloc = rt.alloc();
+    assert!(rt; judges(alloc, b"", 1, b"refused K11 at 1:1\n")?);
+    let falls_off = b"int f() { } ACTOR Future<Void> main(int p) { return Void(); }";
+    assert!(rt; judges(alloc, falls_off, 1, b"refused K8 at 1:11\n")?);
+    Ok(())
+}
+
+// `main` with so many loops.
+fn looping(alloc: Global, loops: usize) -> Result<Vec<u8>, AllocError> {
+    let inside = repeated(alloc, b"while (true) {} ", loops)?;
+    joined(
+        alloc,
+        b"ACTOR Future<Void> main(int p) { ",
+        &inside,
+        b"return Void(); }",
+    )
+}
+
+#[test]
+fn limit_of_weight(rt: HostRuntime) -> Result<(), AllocError> {
+    let alloc = rt.alloc();
+    assert!(rt; checks(alloc, &looping(alloc, 7499)?, 0, b"ok\n")?);
+    assert!(rt; judges(alloc, &looping(alloc, 7500)?, 10, b"refused L9 at 1:1\n")?);
+    Ok(())
+}
+
+#[test]
+fn refuses_worlds(rt: HostRuntime) -> Result<(), AllocError> {
+    let alloc = rt.alloc();
+    let words = ["run", "p", "w"];
+    let refusals = [
+        (b"sead 4\n".as_slice(), b"refused W1 at line 1\n".as_slice()),
+        (
+            b"loss 1001\n".as_slice(),
+            b"refused W2 at line 1\n".as_slice(),
+        ),
+        (
+            b"processes 2\nprocesses 2\n".as_slice(),
+            b"refused W3 at line 2\n".as_slice(),
+        ),
+        (
+            b"at 5 kill 1\n".as_slice(),
+            b"refused W4 at line 1\n".as_slice(),
+        ),
+    ];
+    for (world, line) in refusals {
+        assert!(rt; runs_in(alloc, &words, HELLO, world, 3, line)?);
+    }
+    let bound = b"trace 1\nend bound\n";
+    assert!(rt; runs_in(alloc, &words, HELLO, b"events 0\n", 0, bound)?);
     Ok(())
 }
 
@@ -320,6 +403,9 @@ fn other_words_are_usage(rt: HostRuntime) -> Result<(), AllocError> {
     assert!(rt; says_usage(alloc, &["format"])?);
     assert!(rt; says_usage(alloc, &["format", "-p"])?);
     assert!(rt; says_usage(alloc, &["format", "p", "w"])?);
+    assert!(rt; says_usage(alloc, &["check", "p", "w"])?);
+    assert!(rt; says_usage(alloc, &["run", "p", "w", "--frame"])?);
+    assert!(rt; says_usage(alloc, &["run", "p", "w", "--frames", "--frames"])?);
     assert!(rt; says_usage(alloc, &["walk", "p"])?);
     assert!(rt; says_usage(alloc, &["walk", "p", "w"])?);
     assert!(rt; says_usage(alloc, &["--help"])?);

@@ -1,0 +1,5 @@
+//! Tests of flow_cancel: what is done with a heap, call by call.
+#![tactic(auto)]
+
+#[cfg(test)]
+mod heaps;

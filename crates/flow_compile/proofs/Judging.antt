@@ -1,0 +1,32 @@
+-- What reading a text comes to, by how far it was read.
+use Rattle.std.proofs.Common.{ℕ, ◌≤◌, List, length, Result, Ok, Err}
+use Rattle.flow_tree.specs.declared.limits.TheConstants.{PROGRAM_BYTES}
+use Rattle.flow_tree.specs.declared.token.Tokens.{Tokens}
+use Rattle.flow_tree.specs.declared.decl.Program.{Program}
+use Rattle.flow_tree.specs.declared.fault.SourceFault.{SourceFault}
+use Rattle.flow_tree.specs.declared.fault.SourceFault.TheVariants.{Refused, AcrossWait, OutOfMemory}
+use Rattle.flow_tree.specs.Lexing.{Lexes, Lexed}
+use Rattle.flow_parse.specs.ParseAnswer.{ParseAnswer}
+use Rattle.flow_compile.specs.Verdict.{no_tokens, no_program, Reading, IsProgram, unread, judged, Verdict}
+
+pub without_tokens : (text : List ℕ) (fault : SourceFault) → length text ≤ PROGRAM_BYTES → Lexed text (Err fault) → Reading text (Err fault)
+without_tokens text (Refused rule at) short l = no_tokens short l
+without_tokens text (AcrossWait at declared wait) short l = l
+without_tokens text OutOfMemory short l = l
+
+pub by_tokens : (text : List ℕ) (tokens : Tokens) (answer : Result Program SourceFault) → length text ≤ PROGRAM_BYTES → Lexes text tokens.spots.items tokens.end → ParseAnswer tokens answer → Reading text answer
+by_tokens text tokens (Ok p) short l a = record { tokens = tokens; has = record { short = short; lexes = l }; parsed = a }
+by_tokens text tokens (Err (Refused rule at)) short l a = no_program tokens (record { short = short; lexes = l }) a
+by_tokens text tokens (Err (AcrossWait at declared wait)) short l a = a
+by_tokens text tokens (Err OutOfMemory) short l a = a
+
+-- a text that is no program, and a program that isn't accepted
+pub unread_verdict : (text : List ℕ) (fault : SourceFault) → Reading text (Err fault) → Verdict text (Err fault)
+unread_verdict text (Refused rule at) v = unread v
+unread_verdict text (AcrossWait at declared wait) v = absurd v
+unread_verdict text OutOfMemory v = v
+
+pub judged_verdict : (text : List ℕ) (p : Program) (fault : SourceFault) → IsProgram text p → Verdict text (Err fault)
+judged_verdict text p (Refused rule at) i = judged p i
+judged_verdict text p (AcrossWait at declared wait) i = (p, i)
+judged_verdict text p OutOfMemory i = tt

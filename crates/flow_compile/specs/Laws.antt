@@ -1,0 +1,13 @@
+-- What holds of the verdict on any text.
+use Rattle.std.specs.Prelude.{◌≡◌, ℕ, List}
+use Rattle.flow_base.specs.declared.place.Place.{Place}
+use Rattle.flow_tree.specs.declared.decl.Program.{Program}
+use Rattle.flow_tree.specs.declared.fault.Rule.{Rule}
+use Rattle.flow_tree.specs.DeclView.{program_of}
+use Rattle.flow_compile.specs.Verdict.{IsProgram, IsUnread}
+
+-- a text is one program at most; where it is none, that is told by one rule at one place at most; and never both
+pub record OneVerdict (text : List ℕ) : Type 0 where
+  pub program : (p q : Program) → IsProgram text p → IsProgram text q → program_of p ≡ program_of q
+  pub refusal : (r s : Rule) (p q : Place) → IsUnread text r p → IsUnread text s q → (r ≡ s) × (p ≡ q)
+  pub either : (program : Program) (r : Rule) (p : Place) → IsProgram text program → IsUnread text r p → ⊥

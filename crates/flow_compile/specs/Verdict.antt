@@ -1,0 +1,51 @@
+-- What a program text comes to: why it is refused, and where, or the program that it is.
+use Rattle.std.specs.Prelude.{ℕ, ◌≤◌, ◌<◌, List, length, Result, Ok, Err}
+use Rattle.flow_tree.specs.declared.limits.TheConstants.{PROGRAM_BYTES}
+use Rattle.flow_base.specs.declared.place.Place.{Place}
+use Rattle.flow_tree.specs.declared.token.Tokens.{Tokens}
+use Rattle.flow_tree.specs.declared.decl.Program.{Program}
+use Rattle.flow_tree.specs.declared.fault.Rule.{Rule}
+use Rattle.flow_tree.specs.declared.fault.Rule.TheVariants.{L}
+use Rattle.flow_tree.specs.declared.fault.SourceFault.{SourceFault}
+use Rattle.flow_tree.specs.declared.fault.SourceFault.TheVariants.{Refused, AcrossWait, OutOfMemory}
+use Rattle.flow_tree.specs.Lexing.{Lexes, LexFault}
+use Rattle.flow_tree.specs.Canon.{first_place}
+use Rattle.flow_parse.specs.ParseAnswer.{ParseAnswer}
+use Rattle.flow_staterule.specs.declared.sound.Sound.{Sound}
+
+-- the text has at most 1,048,576 bytes, and these are its tokens
+pub record HasTokens (text : List ℕ) (tokens : Tokens) : Type 0 where
+  pub short : length text ≤ PROGRAM_BYTES
+  pub lexes : Lexes text tokens.spots.items tokens.end
+
+-- the text is no program: its size, its first lexical refusal, or what its tokens are refused for
+pub data IsUnread (text : List ℕ) : Rule → Place → Type 0 where
+  too_long : PROGRAM_BYTES < length text → IsUnread text (L 1) first_place
+  no_tokens : {rule : Rule} {at : Place} → length text ≤ PROGRAM_BYTES → LexFault text rule at → IsUnread text rule at
+  no_program : {rule : Rule} {at : Place} → (tokens : Tokens) → HasTokens text tokens → ParseAnswer tokens (Err (Refused rule at)) → IsUnread text rule at
+
+-- the text is this program
+pub record IsProgram (text : List ℕ) (p : Program) : Type 0 where
+  pub tokens : Tokens
+  pub has : HasTokens text tokens
+  pub parsed : ParseAnswer tokens (Ok p)
+
+-- what reading a text comes to; want of memory may come anywhere
+abbrev pub Reading : List ℕ → Result Program SourceFault → Type 0
+Reading text (Ok p) = IsProgram text p
+Reading text (Err (Refused rule at)) = IsUnread text rule at
+Reading text (Err (AcrossWait at declared wait)) = ⊥
+Reading text (Err OutOfMemory) = Unit {0}
+
+-- The text is refused: it is no program; or it is one, and the rules K1 to K12 and L8 on what it means don't accept it. Which of
+-- these is told, and where, isn't said here.
+pub data IsRefused (text : List ℕ) (rule : Rule) (at : Place) : Type 0 where
+  unread : IsUnread text rule at → IsRefused text rule at
+  judged : (p : Program) → IsProgram text p → IsRefused text rule at
+
+-- What the front answers; want of memory may come anywhere. A text that is refused for a use after a wait is a program.
+abbrev pub Verdict : List ℕ → Result Sound SourceFault → Type 0
+Verdict text (Ok s) = IsProgram text s.typed.program
+Verdict text (Err (Refused rule at)) = IsRefused text rule at
+Verdict text (Err (AcrossWait at declared wait)) = (p : Program) × IsProgram text p
+Verdict text (Err OutOfMemory) = Unit {0}

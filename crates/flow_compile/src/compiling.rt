@@ -1,0 +1,166 @@
+// The classes of a program.
+
+ghost use Rattle.std.specs.Prelude.{◌≡◌, [], ◌∷◌, ◌++◌, map, IfOk};
+ghost use Rattle.flow_tree.specs.DeclView.{decl_of, record_of, function_of, actor_of, program_of};
+ghost use Rattle.flow_class.specs.View.{class_of};
+ghost use Rattle.flow_meaning.specs.Source.{records_in, functions_in, actors_in, names_of};
+ghost use Rattle.flow_compile.specs.Compiled.{class_in, Has};
+
+use crate::weighing::weight;
+use flow_base::memory::NoMemory;
+use flow_base::place::Place;
+use flow_class::class::{Class, RawClasses};
+use flow_class::program::ClassProgram;
+use flow_layout::layout::layout;
+use flow_split::lower::lower;
+use flow_staterule::Sound;
+use flow_tree::decl::{ActorDecl, Decl, FunctionDecl, Program, RecordDecl};
+use flow_tree::limits::WEIGHT;
+use std::alloc::Global;
+
+/// Why a program has no classes: the weight of the actor at this place is above 60,000, or there was no memory.
+#[derive(Clone, Copy, PartialEq, Eq, Debug)]
+pub enum CompileFault {
+    TooManyBlocks(Place),
+    OutOfMemory,
+}
+
+impl From<NoMemory> for CompileFault {
+    ghost use Rattle.std.specs.Prelude.{◌≡◌};
+    ghost use Rattle.flow_compile.specs.declared.compiling.CompileFault.TheVariants.{OutOfMemory};
+
+    ghost from_gives = { λ _ e. e ≡ OutOfMemory };
+
+    fn from(_error: NoMemory) -> CompileFault {
+        CompileFault::OutOfMemory
+    }
+}
+
+/// The place of the first actor whose weight is above 60,000.
+pub fn first_heavy(decls: &[Decl]) -> Option<Place> {
+    for decl in decls {
+        if let Decl::Actor(actor) = decl {
+            if weight(actor) > u64::from(WEIGHT) {
+                return Some(actor.at);
+            }
+        }
+    }
+    None
+}
+
+// Adds a declaration to the records, if it is one.
+fn push_record(alloc: Global, records: &mut Vec<RecordDecl>, decl: &Decl) -> Result<(), NoMemory>
+    ensures { let olds = map record_of records.old.items in
+        IfOk result (λ _. map record_of records.new.items ≡ olds ++ records_in (decl_of decl.now ∷ [])) }
+{
+    match decl {
+        Decl::Struct(record) => {
+            records.push(record.copy(alloc)?)?;
+            Ok(())
+        }
+        Decl::Function(_) => Ok(()),
+        Decl::Actor(_) => Ok(()),
+    }
+}
+
+// The records, in the order of the text.
+#[tactic(auto, using(crate::proofs::Collecting::records_more, crate::proofs::Collecting::records_all))]
+fn records_of(alloc: Global, decls: &[Decl]) -> Result<Vec<RecordDecl>, NoMemory>
+    ensures { IfOk result (λ v. map record_of v.items ≡ records_in (map decl_of decls.now)) }
+{
+    let mut records = Vec::new(alloc);
+    for decl in decls {
+        push_record(alloc, &mut records, decl)?;
+    }
+    Ok(records)
+}
+
+// Adds a declaration to the plain functions, if it is one.
+fn push_function(
+    alloc: Global,
+    functions: &mut Vec<FunctionDecl>,
+    decl: &Decl,
+) -> Result<(), NoMemory>
+    ensures { let olds = map function_of functions.old.items in
+        IfOk result (λ _. map function_of functions.new.items ≡ olds ++ functions_in (decl_of decl.now ∷ [])) }
+{
+    match decl {
+        Decl::Struct(_) => Ok(()),
+        Decl::Function(function) => {
+            functions.push(function.copy(alloc)?)?;
+            Ok(())
+        }
+        Decl::Actor(_) => Ok(()),
+    }
+}
+
+// The plain functions, in the order of the text.
+#[tactic(auto, using(crate::proofs::Collecting::functions_more, crate::proofs::Collecting::functions_all))]
+fn functions_of(alloc: Global, decls: &[Decl]) -> Result<Vec<FunctionDecl>, NoMemory>
+    ensures { IfOk result (λ v. map function_of v.items ≡ functions_in (map decl_of decls.now)) }
+{
+    let mut functions = Vec::new(alloc);
+    for decl in decls {
+        push_function(alloc, &mut functions, decl)?;
+    }
+    Ok(functions)
+}
+
+// The class of an actor.
+fn class_of_actor(alloc: Global, program: &Program, actor: &ActorDecl) -> Result<Class, NoMemory>
+    ensures { IfOk result (λ c. class_of c ≡ class_in (names_of (program_of program.now)) (actor_of actor.now)) }
+{
+    let layout = layout(alloc, actor)?;
+    lower(alloc, program, actor, &layout)
+}
+
+// Adds the class of a declaration to the classes, if it is an actor.
+fn push_class(
+    alloc: Global,
+    program: &Program,
+    classes: &mut Vec<Class>,
+    decl: &Decl,
+) -> Result<(), NoMemory>
+    ensures { let olds = map class_of classes.old.items in
+        let added = map (class_in (names_of (program_of program.now))) (actors_in (decl_of decl.now ∷ [])) in
+        IfOk result (λ _. map class_of classes.new.items ≡ olds ++ added) }
+{
+    match decl {
+        Decl::Struct(_) => Ok(()),
+        Decl::Function(_) => Ok(()),
+        Decl::Actor(actor) => {
+            classes.push(class_of_actor(alloc, program, actor)?)?;
+            Ok(())
+        }
+    }
+}
+
+// The class of each actor, in the order of the text.
+#[tactic(auto, using(crate::proofs::Collecting::classes_more, crate::proofs::Collecting::classes_all))]
+fn classes_of(alloc: Global, program: &Program, decls: &[Decl]) -> Result<Vec<Class>, NoMemory>
+    ensures { let ns = names_of (program_of program.now) in
+        IfOk result (λ v. map class_of v.items ≡ map (class_in ns) (actors_in (map decl_of decls.now))) }
+{
+    let mut classes = Vec::new(alloc);
+    for decl in decls {
+        push_class(alloc, program, &mut classes, decl)?;
+    }
+    Ok(classes)
+}
+
+/// The classes of a sound program: those of its actors, in the order of the text, beside its records and functions. It is
+/// refused exactly where the weight of an actor is above 60,000, at the first such actor.
+pub fn compile(alloc: Global, sound: &Sound) -> Result<ClassProgram, CompileFault>
+    ensures { IfOk result (Has (program_of sound.now.typed.program)) }
+{
+    let program = sound.program();
+    if let Some(at) = first_heavy(&program.decls) {
+        return Err(CompileFault::TooManyBlocks(at));
+    }
+    let raw = RawClasses {
+        records: records_of(alloc, &program.decls)?,
+        functions: functions_of(alloc, &program.decls)?,
+        classes: classes_of(alloc, program, &program.decls)?,
+    };
+    Ok(ClassProgram::unjudged(alloc, raw)?)
+}

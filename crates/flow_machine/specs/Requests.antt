@@ -1,0 +1,21 @@
+-- What a process may ask of its disk.
+use Rattle.std.specs.Prelude.{ℕ, ◌+◌, ◌^◌, ◌≤◌, ℤ, pos, ◌+ℤ◌, ◌≤ℤ◌, List, length}
+use Rattle.flow_simdisk.specs.declared.ask.DiskAsk.{DiskAsk}
+use Rattle.flow_simdisk.specs.declared.ask.DiskAsk.TheVariants.{Read, Write, Sync, Size}
+
+-- a file's name has 1 to 255 bytes, and a file ends at 1,048,576
+abbrev pub IsFile : List ℕ → Type 0
+IsFile name = (1 ≤ length name) × (length name ≤ 255)
+
+abbrev pub furthest : ℕ
+furthest = 1048576
+
+abbrev pub IsAllowed : DiskAsk → Type 0
+IsAllowed (Read file offset count) = IsFile file × (offset ≤ furthest) × (count ≤ 65535)
+IsAllowed (Write file offset text) = IsFile file × (offset + length text ≤ furthest)
+IsAllowed (Sync file) = IsFile file
+IsAllowed (Size file) = IsFile file
+
+-- a range of so many numbers from the first on may be drawn from
+abbrev pub IsRange : ℤ → ℕ → Type 0
+IsRange lo n = (1 ≤ n) × (n ≤ 2 ^ 32) × ((lo +ℤ pos n) ≤ℤ pos (2 ^ 63))

@@ -1,0 +1,174 @@
+// Bursts: steps, and what each asks of the world around the process.
+
+ghost use Rattle.std.specs.Prelude.{◌≡◌};
+ghost use Rattle.flow_machine.specs.Cause.{RunCause};
+
+use crate::host::{Burst, Host, RunFault};
+use crate::judged::{judged, process, time_after, width};
+use flow_base::errors::{BAD_ARGUMENT, OUT_OF_RANGE, PORT_IN_USE};
+use flow_base::ids::{ActorId, CellId};
+use flow_base::text::Text;
+use flow_class::program::ClassProgram;
+use flow_steps::call::{Call, DiskCall, Goal};
+use flow_steps::process::{Next, Process};
+use flow_value::value::Value;
+
+fn draw<H: Host>(
+    process: &mut Process,
+    actor: ActorId,
+    goal: Goal,
+    lo: i64,
+    hi: i64,
+    host: &mut H,
+) -> Result<(), RunFault>
+    ensures cause { RunCause (H.faults host.old) (H.faults host.new) result }
+    ensures kept { H.kept host.new ≡ H.kept host.old }
+{
+    match width(lo, hi) {
+        Some(width) => {
+            let number = host.random(lo, width)?;
+            process.gives(actor, goal, Value::Int(number))?;
+        }
+        None => process.throw(actor, BAD_ARGUMENT)?,
+    }
+    Ok(())
+}
+
+fn delay<H: Host>(
+    process: &mut Process,
+    actor: ActorId,
+    goal: Goal,
+    ticks: i64,
+    host: &mut H,
+) -> Result<(), RunFault>
+    ensures cause { RunCause (H.faults host.old) (H.faults host.new) result }
+    ensures kept { H.kept host.new ≡ H.kept host.old }
+{
+    match time_after(process.now(), ticks) {
+        Some(at) => {
+            let cell = process.gives_open(actor, goal)?;
+            host.timer(cell, at)?;
+        }
+        None => process.throw(actor, OUT_OF_RANGE)?,
+    }
+    Ok(())
+}
+
+// A port that nobody listens to gets a stream.
+fn listen<H: Host>(
+    process: &mut Process,
+    actor: ActorId,
+    goal: Goal,
+    port: i64,
+    host: &mut H,
+) -> Result<(), RunFault>
+    ensures cause { RunCause (H.faults host.old) (H.faults host.new) result }
+    ensures kept { H.kept host.new ≡ H.kept host.old }
+{
+    let Ok(port) = u16::try_from(port) else {
+        process.throw(actor, BAD_ARGUMENT)?;
+        return Ok(());
+    };
+    if host.listening(port) {
+        process.throw(actor, PORT_IN_USE)?;
+        return Ok(());
+    }
+    let cell = process.gives_port(actor, goal)?;
+    host.listen(port, cell)?;
+    Ok(())
+}
+
+fn ask_disk<H: Host>(
+    process: &mut Process,
+    actor: ActorId,
+    goal: Goal,
+    call: DiskCall,
+    host: &mut H,
+) -> Result<(), RunFault>
+    ensures cause { RunCause (H.faults host.old) (H.faults host.new) result }
+    ensures kept { H.kept host.new ≡ H.kept host.old }
+{
+    match judged(call) {
+        Some(ask) => {
+            let cell = process.gives_open(actor, goal)?;
+            host.disk(cell, ask)?;
+        }
+        None => process.throw(actor, BAD_ARGUMENT)?,
+    }
+    Ok(())
+}
+
+fn send_to<H: Host>(
+    from: &mut Process,
+    processes: u8,
+    actor: ActorId,
+    to: (i64, i64),
+    text: Text,
+    host: &mut H,
+) -> Result<(), RunFault>
+    requires { H.processes (H.kept host.old) ≡ processes }
+    ensures cause { RunCause (H.faults host.old) (H.faults host.new) result }
+    ensures kept { H.kept host.new ≡ H.kept host.old }
+{
+    let (number, port) = to;
+    let (Some(to), Ok(port)) = (process(processes, number), u16::try_from(port)) else {
+        from.throw(actor, BAD_ARGUMENT)?;
+        return Ok(());
+    };
+    from.run_on(actor)?;
+    host.packet(to, port, text)?;
+    Ok(())
+}
+
+/// Asks the world what a step of a process, of so many, asks of it.
+pub(crate) fn ask<H: Host>(
+    process: &mut Process,
+    processes: u8,
+    call: Call,
+    host: &mut H,
+) -> Result<(), RunFault>
+    requires { H.processes (H.kept host.old) ≡ processes }
+    ensures cause { RunCause (H.faults host.old) (H.faults host.new) result }
+    ensures kept { H.kept host.new ≡ H.kept host.old }
+{
+    match call {
+        Call::Line(line) => {
+            host.line(&line)?;
+            Ok(())
+        }
+        Call::Draw(actor, goal, lo, hi) => draw(process, actor, goal, lo, hi, host),
+        Call::Delay(actor, goal, ticks) => delay(process, actor, goal, ticks, host),
+        Call::Listen(actor, goal, port) => listen(process, actor, goal, port, host),
+        Call::Disk(actor, goal, call) => ask_disk(process, actor, goal, call, host),
+        Call::SendTo(actor, number, port, text) => {
+            send_to(process, processes, actor, (number, port), text, host)
+        }
+        Call::Unlisten(cell) => {
+            host.unlisten(cell);
+            Ok(())
+        }
+    }
+}
+
+#[tactic(auto, using(crate::proofs::Causes::cause_before))]
+/// Steps of a process, of so many, until no task is left, or a turn is needed and none is left.
+pub(crate) fn burst<H: Host>(
+    process: &mut Process,
+    processes: u8,
+    classes: &ClassProgram,
+    host: &mut H,
+) -> Result<Burst, RunFault>
+    requires { H.processes (H.kept host.old) ≡ processes }
+    ensures cause { RunCause (H.faults host.old) (H.faults host.new) result }
+    ensures kept { H.kept host.new ≡ H.kept host.old }
+{
+    for _step in 0..u64::MAX {
+        match process.step(classes)? {
+            Next::Rested => return Ok(Burst::Rested),
+            Next::Spent => return Ok(Burst::Spent),
+            Next::Asks(call) => ask(process, processes, call, host)?,
+            Next::Goes => (),
+        }
+    }
+    Err(RunFault::Astray)
+}

@@ -1,0 +1,93 @@
+// The world around a process, and how a burst ends.
+
+ghost use Rattle.std.specs.Prelude.{◌≡◌, ℕ, ◌+◌, ◌^◌, ◌<◌, ◌≤◌, pos, ◌+ℤ◌, ◌≤ℤ◌, ◌<ℤ◌, IfOk};
+ghost use Rattle.flow_base.specs.Faults.{HasCause};
+ghost use Rattle.flow_machine.specs.Requests.{IsAllowed};
+
+use flow_base::fault::OutFault;
+use flow_base::ids::{CellId, ProcId};
+use flow_base::memory::NoMemory;
+use flow_base::text::Text;
+use flow_simdisk::DiskAsk;
+use flow_trace::line::Line;
+
+/// The world around a process, as the process sees it while it runs. The count of faults never falls; at 2^64 - 1 it
+/// stands still. A call that counts, numbers or keeps something may answer want of memory where its numbers end.
+pub trait Host {
+    /// What no call changes, as how many processes there are and where the lines go.
+    ghost Kept: { Type 0 } = { Unit {0} };
+
+    ghost kept: { Self → Self.Kept };
+
+    /// How many processes there are.
+    ghost processes: { Self.Kept → ℕ };
+
+    /// How often it has failed.
+    ghost faults: { Self → ℕ };
+
+    /// Writes a line of the trace.
+    fn line(&mut self, line: &Line) -> Result<(), OutFault>
+        ensures cause { HasCause (faults self.old) (faults self.new) result }
+        ensures kept { Self.kept self.new ≡ Self.kept self.old };
+
+    /// One of the `width` numbers from `lo` on, by the next drawn word.
+    fn random(&mut self, lo: i64, width: u64) -> Result<i64, NoMemory>
+        requires some { 1 ≤ width }
+        requires few { width ≤ 2 ^ 32 }
+        requires fits { (lo +ℤ pos width) ≤ℤ pos (2 ^ 63) }
+        ensures from { IfOk result (λ n. lo ≤ℤ n) }
+        ensures below { IfOk result (λ n. n <ℤ (lo +ℤ pos width)) }
+        ensures faults { faults self.old ≤ faults self.new }
+        ensures kept { Self.kept self.new ≡ Self.kept self.old };
+
+    /// Has the cell be set at this time, in ticks and not after 2^62, by `deliver` with `Void`.
+    fn timer(&mut self, cell: CellId, at: u64) -> Result<(), NoMemory>
+        requires { at ≤ 2 ^ 62 }
+        ensures faults { faults self.old ≤ faults self.new }
+        ensures kept { Self.kept self.new ≡ Self.kept self.old };
+
+    /// Sends a text to a port of one of the processes, and writes the lines of that.
+    fn packet(&mut self, to: ProcId, port: u16, text: Text) -> Result<(), OutFault>
+        requires { to.0 < processes (Self.kept self.old) }
+        ensures cause { HasCause (faults self.old) (faults self.new) result }
+        ensures kept { Self.kept self.new ≡ Self.kept self.old };
+
+    /// Whether the process listens at a port.
+    fn listening(&self, port: u16) -> bool;
+
+    /// The process listens at a port where it does not yet: the elements for it come to this stream, by `arrive`.
+    fn listen(&mut self, port: u16, cell: CellId) -> Result<(), NoMemory>
+        ensures faults { faults self.old ≤ faults self.new }
+        ensures kept { Self.kept self.new ≡ Self.kept self.old };
+
+    /// The process listens no more at the port whose elements came to this stream.
+    fn unlisten(&mut self, cell: CellId)
+        ensures faults { faults self.old ≤ faults self.new }
+        ensures kept { Self.kept self.new ≡ Self.kept self.old };
+
+    /// Asks the disk of the process, with arguments in their ranges. The answer comes by `deliver` into the cell.
+    fn disk(&mut self, cell: CellId, ask: DiskAsk) -> Result<(), NoMemory>
+        requires { IsAllowed ask }
+        ensures faults { faults self.old ≤ faults self.new }
+        ensures kept { Self.kept self.new ≡ Self.kept self.old };
+
+    /// How often it has failed.
+    fn faults(&self) -> u64
+        ensures { result ≡ faults self.now };
+}
+
+/// How a burst ended: nothing is left to do, or a turn was needed and none was left.
+#[derive(Clone, Copy, PartialEq, Eq, Debug)]
+pub enum Burst {
+    Rested,
+    Spent,
+}
+
+/// Why a burst broke off: the host failed, which its count of faults then shows; there was no memory; or the classes,
+/// which were not judged, led where no valid class comes.
+#[derive(Clone, Copy, PartialEq, Eq, Debug)]
+pub enum RunFault {
+    Failed,
+    OutOfMemory,
+    Astray,
+}

@@ -1,0 +1,124 @@
+// Arguments of effects and messages that are in their ranges.
+
+ghost use Rattle.std.specs.Prelude.{◌≡◌, ◌≤◌, ◌<◌, ◌+◌, ◌^◌, pos, ◌+ℤ◌, ◌≤ℤ◌, IfSome, IsTrue, ◌↔◌};
+ghost use Rattle.flow_machine.specs.Requests.{IsAllowed, IsFile, IsRange};
+
+use flow_base::ids::ProcId;
+use flow_base::text::Text;
+use flow_simdisk::DiskAsk;
+use flow_steps::call::DiskCall;
+
+/// The latest time of a timer, in ticks.
+const LATEST: u64 = 1 << 62;
+
+/// Where a file ends at the latest, in bytes.
+const FURTHEST: u32 = 1048576;
+
+/// The greatest number of bytes of a file's name.
+const NAME_LIMIT: usize = 255;
+
+/// The greatest number of bytes that are read at once.
+const READ_LIMIT: u32 = 65535;
+
+/// The greatest width of a range of drawn numbers.
+const WIDEST: i64 = 1 << 32;
+
+/// How many numbers a range has, its last one left out, where there are 1 to 2^32.
+pub(crate) fn width(lo: i64, hi: i64) -> Option<u64>
+    ensures { IfSome result (λ n. IsRange lo n) }
+{
+    let width = hi.checked_sub(lo)?;
+    if width < 1 || width > WIDEST {
+        return None;
+    }
+    Some(width as u64)
+}
+
+/// The time after so many ticks, a negative count being none, where it isn't after 2^62.
+pub(crate) fn time_after(now: u64, ticks: i64) -> Option<u64>
+    ensures { IfSome result (λ t. t ≤ 2 ^ 62) }
+{
+    let time = now.saturating_add(u64::try_from(ticks).unwrap_or(0));
+    if time > LATEST {
+        return None;
+    }
+    Some(time)
+}
+
+/// The process of a number, of so many.
+pub(crate) fn process(processes: u8, number: i64) -> Option<ProcId>
+    ensures { IfSome result (λ p. p.0 < processes) }
+{
+    let number = u8::try_from(number).ok()?;
+    if number >= processes {
+        return None;
+    }
+    Some(ProcId(number))
+}
+
+// Whether a file may have a name.
+fn is_file(name: &Text) -> bool
+    ensures { IsTrue result ↔ IsFile name.now }
+{
+    let length = name.bytes().len();
+    1 <= length && length <= NAME_LIMIT
+}
+
+// A number from 0 to a last one.
+fn within(number: i64, last: u32) -> Option<u32>
+    ensures { IfSome result (λ n. n ≤ last) }
+{
+    let number = u32::try_from(number).ok()?;
+    if number > last {
+        return None;
+    }
+    Some(number)
+}
+
+// A read whose arguments are in their ranges.
+fn read(file: Text, offset: i64, count: i64) -> Option<DiskAsk>
+    ensures { IfSome result (λ a. IsAllowed a) }
+{
+    if !is_file(&file) {
+        return None;
+    }
+    let offset = within(offset, FURTHEST)?;
+    let count = within(count, READ_LIMIT)?;
+    Some(DiskAsk::Read(file, offset, count))
+}
+
+// A write whose arguments are in their ranges.
+fn write(file: Text, offset: i64, text: Text) -> Option<DiskAsk>
+    ensures { IfSome result (λ a. IsAllowed a) }
+{
+    if !is_file(&file) {
+        return None;
+    }
+    let offset = within(offset, FURTHEST)?;
+    if offset as usize + text.bytes().len() > FURTHEST as usize {
+        return None;
+    }
+    Some(DiskAsk::Write(file, offset, text))
+}
+
+/// A request to a disk whose arguments are in their ranges.
+pub(crate) fn judged(call: DiskCall) -> Option<DiskAsk>
+    ensures { IfSome result (λ a. IsAllowed a) }
+{
+    match call {
+        DiskCall::Read(file, offset, count) => read(file, offset, count),
+        DiskCall::Write(file, offset, text) => write(file, offset, text),
+        DiskCall::Sync(file) => {
+            if !is_file(&file) {
+                return None;
+            }
+            Some(DiskAsk::Sync(file))
+        }
+        DiskCall::Size(file) => {
+            if !is_file(&file) {
+                return None;
+            }
+            Some(DiskAsk::Size(file))
+        }
+    }
+}

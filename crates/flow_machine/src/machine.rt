@@ -1,0 +1,152 @@
+// One process.
+
+ghost use Rattle.std.specs.Prelude.{◌≡◌, ◌<◌, ◌≤◌, ◌^◌, IfOk};
+ghost use Rattle.flow_machine.specs.Cause.{RunCause};
+
+use crate::bursts::{ask, burst};
+use crate::host::{Burst, Host, RunFault};
+use flow_base::ids::{CellId, ProcId};
+use flow_base::memory::NoMemory;
+use flow_class::program::ClassProgram;
+use flow_steps::process::Process;
+use flow_steps::views::{CallbackView, FrameView};
+use flow_value::value::{Outcome, Value};
+use std::alloc::Global;
+
+/// One process of so many.
+#[derive(Drop)]
+pub struct Machine {
+    me: ProcId,
+    processes: u8,
+    process: Process,
+}
+
+impl Machine {
+    /// A process of so many, up to 64, by its number, which never ran.
+    pub fn new(alloc: Global, me: ProcId, processes: u8) -> Result<Machine, NoMemory>
+        requires mine { me.0 < processes }
+        requires few { processes ≤ 64 }
+        ensures { IfOk result (λ m. m.processes ≡ processes) }
+    {
+        Ok(Machine {
+            me,
+            processes,
+            process: Process::new(alloc)?,
+        })
+    }
+
+    /// How many processes there are.
+    pub fn processes(&self) -> u8
+        ensures { result ≡ self.now.processes }
+    {
+        self.processes
+    }
+
+    #[tactic(auto, using(crate::proofs::Causes::cause_before))]
+    /// Calls `main` with the process's number, and does all that follows: `Rested` where nothing is left to do, `Spent` where
+    /// a turn is needed and none is left. `Failed` comes only where the host's count of faults rose. `Astray` comes
+    /// where a result of `main` is held already, or where the classes lead to where no valid class comes.
+    pub fn start_main<H: Host>(
+        &mut self,
+        classes: &ClassProgram,
+        now: u64,
+        turns: u32,
+        host: &mut H,
+    ) -> Result<Burst, RunFault>
+        requires { H.processes (H.kept host.old) ≡ self.old.processes }
+        ensures cause { RunCause (H.faults host.old) (H.faults host.new) result }
+        ensures host { H.kept host.new ≡ H.kept host.old }
+        ensures processes { self.new.processes ≡ self.old.processes }
+    {
+        self.process.begin(now, turns);
+        if let Some(call) = self.process.call_main(classes, self.me)? {
+            ask(&mut self.process, self.processes, call, host)?;
+        }
+        burst(&mut self.process, self.processes, classes, host)
+    }
+
+    /// Brings the answer to an open request: its cell is set and fires, and then the request's promise is dropped.
+    pub fn deliver<H: Host>(
+        &mut self,
+        classes: &ClassProgram,
+        cell: CellId,
+        outcome: Outcome,
+        now: u64,
+        turns: u32,
+        host: &mut H,
+    ) -> Result<Burst, RunFault>
+        requires { H.processes (H.kept host.old) ≡ self.old.processes }
+        ensures cause { RunCause (H.faults host.old) (H.faults host.new) result }
+        ensures host { H.kept host.new ≡ H.kept host.old }
+        ensures processes { self.new.processes ≡ self.old.processes }
+    {
+        self.process.begin(now, turns);
+        self.process.answer(cell, outcome)?;
+        burst(&mut self.process, self.processes, classes, host)
+    }
+
+    /// Brings an element to a port's stream, which fires.
+    pub fn arrive<H: Host>(
+        &mut self,
+        classes: &ClassProgram,
+        cell: CellId,
+        item: Value,
+        now: u64,
+        turns: u32,
+        host: &mut H,
+    ) -> Result<Burst, RunFault>
+        requires { H.processes (H.kept host.old) ≡ self.old.processes }
+        ensures cause { RunCause (H.faults host.old) (H.faults host.new) result }
+        ensures host { H.kept host.new ≡ H.kept host.old }
+        ensures processes { self.new.processes ≡ self.old.processes }
+    {
+        self.process.begin(now, turns);
+        self.process.bring(cell, item)?;
+        burst(&mut self.process, self.processes, classes, host)
+    }
+
+    /// Drops the hold on the result of `main`, if there is one.
+    pub fn stop<H: Host>(
+        &mut self,
+        classes: &ClassProgram,
+        now: u64,
+        turns: u32,
+        host: &mut H,
+    ) -> Result<Burst, RunFault>
+        requires { H.processes (H.kept host.old) ≡ self.old.processes }
+        ensures cause { RunCause (H.faults host.old) (H.faults host.new) result }
+        ensures host { H.kept host.new ≡ H.kept host.old }
+        ensures processes { self.new.processes ≡ self.old.processes }
+    {
+        self.process.begin(now, turns);
+        self.process.drop_main()?;
+        burst(&mut self.process, self.processes, classes, host)
+    }
+
+    /// A loss of power: everything goes but the numbers given so far.
+    pub fn vanish(&mut self)
+        ensures { self.new.processes ≡ self.old.processes }
+    {
+        self.process.vanish();
+    }
+
+    /// Whether the process holds the result of a `main`.
+    pub fn holds_main(&self) -> bool {
+        self.process.holds_main()
+    }
+
+    /// The frames of unfinished actors, by rising number.
+    pub fn frames(&self) -> Result<Vec<FrameView>, NoMemory> {
+        self.process.frames()
+    }
+
+    /// The callbacks of unfinished actors, by rising number of the actor, and those of an actor in order.
+    pub fn callbacks(&self) -> Result<Vec<CallbackView>, NoMemory> {
+        self.process.callbacks()
+    }
+
+    /// How many actors are unfinished.
+    pub fn live(&self) -> u64 {
+        self.process.live()
+    }
+}

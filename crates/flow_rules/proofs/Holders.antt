@@ -1,0 +1,192 @@
+-- The records of a program that hold a reference.
+use Rattle.std.proofs.Common.{◌≡◌, ℕ, zero, suc, ◌+◌, ◌≤◌, ◌<◌, Bool, true, false, ◌||◌, List, [], ◌∷◌, ◌++◌, length, map, drop, get_or, slice_get, position, is_some, if◌then◌else◌, refl, sym, ap, ap₂, subst, ◌∙◌, arith, append_assoc, append-nil}
+use Rattle.std.specs.List.{list_any}
+use Rattle.std.specs.Option.{option_map}
+use Rattle.std.specs.Str.{bytes_eq}
+use Rattle.std.specs.declared.option.Option.{Option}
+use Rattle.std.specs.declared.option.Option.TheVariants.{None, Some}
+use Rattle.std.specs.Map.{keys_of, values_of, lookup}
+use Rattle.std.proofs.lemmas.Slice.Eq.{bytes_eq-Decides}
+use Rattle.std.proofs.lemmas.Option.{slice_get-map}
+use lib.ListN.{length-map}
+use Rattle.indexmap.proofs.MapLemmas.{Found-position, some_index}
+use denote.Ref.{Bor}
+use Rattle.flow_tree.specs.declared.decl.Param.{Param}
+use Rattle.flow_tree.specs.declared.decl.Decl.{Decl}
+use Rattle.flow_tree.specs.Decls.{ParamTree, DeclTree}
+use Rattle.flow_tree.specs.View.{type_of}
+use Rattle.flow_tree.specs.DeclView.{param_of, params_of, decl_of}
+use Rattle.flow_ast.specs.TypingNames.{named}
+use Rattle.flow_ast.specs.Typing.{is_there, or_else}
+use Rattle.flow_rules.specs.declared.holding.Uses.{Uses}
+use Rattle.flow_rules.specs.declared.callee.Meaning as meant
+use Rattle.flow_rules.specs.Holding.{marked, uses_hold, some_hold, held, level}
+use Rattle.flow_rules.specs.Known.{Meaning, field_row, row_of, holds_by, fields_hold, meaning_holds, record_holds}
+use Rattle.flow_rules.specs.View.{meaning_of}
+use Rattle.flow_rules.specs.MapView.{bound, at_number}
+use Rattle.flow_rules.proofs.Steps.{drop_more, drop_all}
+use Rattle.flow_rules.proofs.Lookups.{named_lookup}
+
+or_or : (a b c : Bool) → ((a || b) || c) ≡ (a || (b || c))
+or_or true b c = refl
+or_or false b c = refl
+
+or_false : (b : Bool) → (b || false) ≡ b
+or_false true = refl
+or_false false = refl
+
+any_last : (g : ℕ → Bool) (ns : List ℕ) (n : ℕ) → list_any g (ns ++ n ∷ []) ≡ (list_any g ns || g n)
+any_last g [] n = or_false (g n)
+any_last g (m ∷ ns) n = ap (λ b. g m || b) (any_last g ns n) ∙ sym (or_or (g m) (list_any g ns) (g n))
+
+-- a field that is a record, a reference, or neither
+pub note_record : (g : ℕ → Bool) (old new : Uses) (n : ℕ) → new.direct ≡ old.direct → new.records.items ≡ old.records.items ++ n ∷ [] → uses_hold g new ≡ (uses_hold g old || g n)
+note_record g old new n d r =
+    ap₂ (λ a ns. a || list_any g ns) d r ∙ ap (λ b. old.direct || b) (any_last g old.records.items n) ∙ sym (or_or old.direct (list_any g old.records.items) (g n))
+
+pub note_reference : (g : ℕ → Bool) (old new : Uses) → new.direct ≡ true → uses_hold g new ≡ (uses_hold g old || true)
+note_reference g old new d = ap (λ a. a || list_any g new.records.items) d ∙ sym (or_true (uses_hold g old))
+  where
+    or_true : (b : Bool) → (b || true) ≡ true
+    or_true true = refl
+    or_true false = refl
+
+pub note_nothing : (g : ℕ → Bool) (old : Uses) → uses_hold g old ≡ (uses_hold g old || false)
+note_nothing g old = sym (or_false (uses_hold g old))
+
+-- one field after another
+pub fields_step : (p : List ℕ → Bool) (fs : List Param) (i : ℕ) (f : Param) (old new total : Bool) → i < length fs → f ≡ get_or fs i f → new ≡ (old || holds_by p (type_of f.ty))
+    → (old || fields_hold p (map field_row (params_of (drop i fs)))) ≡ total → (new || fields_hold p (map field_row (params_of (drop (i + 1) fs)))) ≡ total
+fields_step p fs i f old new total lt at n h =
+    let rest = fields_hold p (map field_row (params_of (drop (i + 1) fs))) in
+    ap (λ b. b || rest) n ∙ or_or old (holds_by p (type_of f.ty)) rest ∙ ap (λ l. old || fields_hold p (map field_row (params_of l))) (sym (drop_more fs i f lt at)) ∙ h
+
+pub fields_end : (p : List ℕ → Bool) (fs : List Param) (i : ℕ) (old total : Bool) → length fs ≤ i → (old || fields_hold p (map field_row (params_of (drop i fs)))) ≡ total → old ≡ total
+fields_end p fs i old total le h = sym (or_false old) ∙ ap (λ l. old || fields_hold p (map field_row (params_of l))) (sym (drop_all fs i le)) ∙ h
+
+-- one meaning after another
+map_last : {A B : Type 0} (f : A → B) (xs : List A) (x : A) → map f (xs ++ x ∷ []) ≡ map f xs ++ f x ∷ []
+map_last f [] x = refl
+map_last f (y ∷ ys) x = ap (λ l. f y ∷ l) (map_last f ys x)
+
+pub uses_step : {E : Type 0} (h : Uses → Bool) (k : E → Bool) (old new : List Uses) (u : Uses) (e : E) (rest : List E) (total : List Bool) → new ≡ old ++ u ∷ [] → h u ≡ k e
+    → map h old ++ map k (e ∷ rest) ≡ total → map h new ++ map k rest ≡ total
+uses_step h k old new u e rest total n is t =
+    ap (λ l. map h l ++ map k rest) n ∙ ap (λ l. l ++ map k rest) (map_last h old u) ∙ append_assoc (map h old) (h u ∷ []) (map k rest) ∙ ap (λ b. map h old ++ (b ∷ map k rest)) is ∙ t
+
+pub uses_end : {E : Type 0} (h : Uses → Bool) (k : E → Bool) (old : List Uses) (total : List Bool) → map h old ++ map k [] ≡ total → map h old ≡ total
+uses_end h k old total t = sym (append-nil (map h old)) ∙ t
+
+-- a record by its name, and by its number
+abbrev or_flag : Option Bool → Bool
+or_flag None = false
+or_flag (Some b) = b
+
+flag_some : (g : ℕ → Bool) (o : Option Uses) → some_hold g o ≡ or_flag (option_map (uses_hold g) o)
+flag_some g None = refl
+flag_some g (Some u) = refl
+
+flag_meaning : (q : List ℕ → Bool) (o : Option meant.Meaning) → or_flag (option_map (λ (m : meant.Meaning). meaning_holds q (Some (meaning_of m))) o) ≡ meaning_holds q (option_map meaning_of o)
+flag_meaning q None = refl
+flag_meaning q (Some m) = refl
+
+values_mapped : {K X Y : Type 0} (f : X → Y) (es : List (K × X)) → map (λ (e : K × X). f e.1) es ≡ map f (values_of es)
+values_mapped f [] = refl
+values_mapped f (e ∷ es) = ap (λ l. f e.1 ∷ l) (values_mapped f es)
+
+at_none : (o : Option ℕ) → at_number (λ i. false) o ≡ false
+at_none None = refl
+at_none (Some i) = refl
+
+lookup_none : {A : Type 0} (o : Option A) → is_some o ≡ false → o ≡ None
+lookup_none None h = refl
+lookup_none (Some a) h = cc
+
+abbrev Row : Type 0
+Row = Bor (List ℕ) × meant.Meaning
+
+abbrev test : List ℕ → Bor (List ℕ) → Bool
+test x k = bytes_eq x k.now
+
+number_some : (us : List Uses) (g : ℕ → Bool) (q : List ℕ → Bool) (x : List ℕ) (es : List Row) (i : ℕ)
+    → map (uses_hold g) us ≡ map (λ (e : Row). meaning_holds q (Some (meaning_of e.1))) es → position (test x) (keys_of es) ≡ Some i
+    → held us g i ≡ meaning_holds q (named (map (bound meaning_of) es) x)
+number_some us g q x es i h e =
+    let f = λ (m : meant.Meaning). meaning_holds q (Some (meaning_of m)) in
+    let value : lookup (test x) es ≡ slice_get (values_of es) i = (Found-position (test x) es i e).value in
+    let flags : option_map (uses_hold g) (slice_get us i) ≡ option_map f (slice_get (values_of es) i) =
+    sym (slice_get-map (uses_hold g) us i) ∙ ap (λ l. slice_get l i) (h ∙ values_mapped f es) ∙ slice_get-map f (values_of es) i in
+    flag_some g (slice_get us i) ∙ ap or_flag (flags ∙ ap (option_map f) (sym value)) ∙ flag_meaning q (lookup (test x) es)
+    ∙ ap (meaning_holds q) (sym (named_lookup meaning_of x es))
+
+number_by : (us : List Uses) (g : ℕ → Bool) (q : List ℕ → Bool) (x : List ℕ) (es : List Row) (r : Option ℕ)
+    → map (uses_hold g) us ≡ map (λ (e : Row). meaning_holds q (Some (meaning_of e.1))) es → position (test x) (keys_of es) ≡ r
+    → at_number (held us g) r ≡ meaning_holds q (named (map (bound meaning_of) es) x)
+number_by us g q x es None h e =
+    let missing : lookup (test x) es ≡ None = lookup_none (lookup (test x) es) (sym (some_index (test x) es) ∙ ap is_some e) in
+    sym (ap (meaning_holds q) (named_lookup meaning_of x es ∙ ap (option_map meaning_of) missing))
+number_by us g q x es (Some i) h e = number_some us g q x es i h e
+
+module _ (us : List Uses) (es : List Row)
+    (h : (g : ℕ → Bool) → map (uses_hold g) us ≡ map (λ (e : Row). meaning_holds (λ y. at_number g (position (test y) (keys_of es))) (Some (meaning_of e.1))) es) where
+  record_level : (n : ℕ) (x : List ℕ) → at_number (level us n) (position (test x) (keys_of es)) ≡ record_holds (named (map (bound meaning_of) es)) n x
+  record_level zero x = at_none (position (test x) (keys_of es))
+  record_level (suc n) x =
+      number_by us (level us n) (λ y. at_number (level us n) (position (test y) (keys_of es))) x es (position (test x) (keys_of es)) (h (level us n)) refl
+      ∙ ap (λ p. meaning_holds p (named (map (bound meaning_of) es) x)) (λ i y. record_level n y i)
+
+  same_count : length us ≡ length es
+  same_count =
+      let f = λ (e : Row). meaning_holds (λ y. at_number (λ i. false) (position (test y) (keys_of es))) (Some (meaning_of e.1)) in
+      sym (length-map (us) (uses_hold (λ i. false))) ∙ ap length (h (λ i. false)) ∙ length-map es f
+
+  at_same : (g k : ℕ → Bool) (o : Option ℕ) → ((i : ℕ) → g i ≡ k i) → at_number g o ≡ at_number k o
+  at_same g k None e = refl
+  at_same g k (Some i) e = e i
+
+  pub holders_are : (bs : List Bool) → ((n : ℕ) → length us ≤ n → (i : ℕ) → marked bs i ≡ level us n i) → (n : ℕ) → length es ≤ n → (x : List ℕ)
+      → at_number (marked bs) (position (test x) (keys_of es)) ≡ record_holds (named (map (bound meaning_of) es)) n x
+  holders_are bs s n le x =
+      let c = same_count in
+      let few : length us ≤ n = omega (arith, c, le) in
+      at_same (marked bs) (level us n) (position (test x) (keys_of es)) (s n few) ∙ record_level n x
+
+same_functions : {A B : Type 0} {f g : A → B} → ((x : A) → f x ≡ g x) → f ≡ g
+same_functions h = λ i x. h x i
+
+-- names, of several the first
+named_head : {A : Type 0} (r : List ℕ × A) (xs ys : List (List ℕ × A)) (x : List ℕ) → named (xs ++ ys) x ≡ or_else (named xs x) (named ys x) → (b : Bool) → bytes_eq x r.0 ≡ b
+    → (if bytes_eq x r.0 then Some r.1 else named (xs ++ ys) x) ≡ or_else (if bytes_eq x r.0 then Some r.1 else named xs x) (named ys x)
+named_head r xs ys x h true is =
+    ap (λ b. if b then Some r.1 else named (xs ++ ys) x) is ∙ sym (ap (λ b. or_else (if b then Some r.1 else named xs x) (named ys x)) is)
+named_head r xs ys x h false is =
+    ap (λ b. if b then Some r.1 else named (xs ++ ys) x) is ∙ h ∙ sym (ap (λ b. or_else (if b then Some r.1 else named xs x) (named ys x)) is)
+
+named_append : {A : Type 0} (xs ys : List (List ℕ × A)) (x : List ℕ) → named (xs ++ ys) x ≡ or_else (named xs x) (named ys x)
+named_append [] ys x = refl
+named_append (r ∷ xs) ys x = named_head r xs ys x (named_append xs ys x) (bytes_eq x r.0) refl
+
+first_there : {A : Type 0} (o p q : Option A) → is_there o ≡ true → or_else o p ≡ or_else o q
+first_there None p q h = cc
+first_there (Some a) p q h = refl
+
+text_same : (x y : List ℕ) → bytes_eq x y ≡ true → x ≡ y
+text_same x y is = (bytes_eq-Decides x y).0 is
+
+skip_row : {A : Type 0} (rows zs : List (List ℕ × A)) (y x : List ℕ) (m : A) → is_there (named rows y) ≡ true → (b : Bool) → bytes_eq x y ≡ b
+    → or_else (named rows x) (named zs x) ≡ or_else (named rows x) (if bytes_eq x y then Some m else named zs x)
+skip_row rows zs y x m there false is = ap (λ b. or_else (named rows x) (if b then Some m else named zs x)) (sym is)
+skip_row rows zs y x m there true is = first_there (named rows x) (named zs x) (if bytes_eq x y then Some m else named zs x) (ap (λ z. is_there (named rows z)) (text_same x y is) ∙ there)
+
+pub row_there : {A : Type 0} (rows zs : List (List ℕ × A)) (y : List ℕ) (m : A) → is_there (named rows y) ≡ true → named (rows ++ zs) ≡ named (rows ++ ((y, m) ∷ zs))
+row_there rows zs y m there = same_functions (λ x. named_append rows zs x ∙ skip_row rows zs y x m there (bytes_eq x y) refl ∙ sym (named_append rows ((y, m) ∷ zs) x))
+
+pub row_put : {A : Type 0} (old new zs : List (List ℕ × A)) (y : List ℕ) (m : A) → new ≡ old ++ (y, m) ∷ [] → named (new ++ zs) ≡ named (old ++ ((y, m) ∷ zs))
+row_put old new zs y m n = ap (λ l. named (l ++ zs)) n ∙ ap named (append_assoc old ((y, m) ∷ []) zs)
+
+pub names_step : {A : Type 0} (f : Decl → List ℕ × A) (ds : List Decl) (i : ℕ) (d : Decl) (old new : List (List ℕ × A)) (all : List ℕ → Option A) → i < length ds → d ≡ get_or ds i d
+    → named (new ++ map f (drop (i + 1) ds)) ≡ named (old ++ (f d ∷ map f (drop (i + 1) ds))) → named (old ++ map f (drop i ds)) ≡ all → named (new ++ map f (drop (i + 1) ds)) ≡ all
+names_step f ds i d old new all lt at n h = n ∙ ap (λ l. named (old ++ map f l)) (sym (drop_more ds i d lt at)) ∙ h
+
+pub names_end : {A : Type 0} (f : Decl → List ℕ × A) (ds : List Decl) (i : ℕ) (rows : List (List ℕ × A)) (all : List ℕ → Option A) → length ds ≤ i → named (rows ++ map f (drop i ds)) ≡ all → named rows ≡ all
+names_end f ds i rows all le h = sym (ap named (append-nil rows)) ∙ ap (λ l. named (rows ++ map f l)) (sym (drop_all ds i le)) ∙ h

@@ -1,0 +1,274 @@
+// The first refusal of a program.
+
+ghost use Rattle.std.specs.Prelude.{◌≡◌, ◌∷◌, [], ◌++◌, ◌||◌, not, true, false, map, None, IfOk};
+ghost use Rattle.std.specs.Option.{option_map};
+ghost use Rattle.flow_tree.specs.Tree.{IntType, VoidType};
+ghost use Rattle.flow_tree.specs.View.{type_of};
+ghost use Rattle.flow_tree.specs.DeclView.{param_of, params_of, record_of, function_of, actor_of, decl_of, program_of};
+ghost use Rattle.flow_ast.specs.Typing.{is_there, packet_fields, param_types, same_type};
+ghost use Rattle.flow_ast.specs.TypingNames.{named};
+ghost use Rattle.flow_rules.specs.Least.{lesser, unless};
+ghost use Rattle.flow_rules.specs.Known.{field_row, row_of, type_known, is_predefined};
+ghost use Rattle.flow_rules.specs.Items.{item, among};
+ghost use Rattle.flow_rules.specs.Rules.{name_fault, fields_fault, record_fault, param_fault, params_fault, header_fault, routine_refusal, decl_refusal, decls_refusal, one_int, is_main, refusal_of};
+ghost use Rattle.flow_rules.specs.View.{found_of, meaning_of};
+ghost use Rattle.flow_rules.specs.MapView.{rows_of, vars_of};
+ghost use Rattle.flow_rules.specs.SettingView.{setting_view};
+ghost use Rattle.flow_rules.specs.WalkView.{texts_of, Says};
+ghost use Rattle.flow_rules.specs.ProgramView.{routine_of, setting_by, taken_in, ParamsOnly, NewParam, ParamsIn};
+
+use crate::callee::Meaning;
+use crate::closing::ways_of;
+use crate::found::Found;
+use crate::judge::{Setting, Vars};
+use crate::known::{
+    Meanings, Names, is_known, is_predefined, meaning_of, name_of, packet_fields, predefined,
+    type_known,
+};
+use crate::rule::{FALLS_OFF, NO_MAIN, TWICE, UNKNOWN_NAME, lesser, unless};
+use crate::size::sizes;
+use crate::walk::{Around, Walk, item};
+use flow_base::memory::NoMemory;
+use flow_base::name::Name;
+use flow_base::place::Place;
+use flow_tree::decl::{ActorDecl, Decl, FunctionDecl, Param, Program, RecordDecl};
+use flow_tree::fault::SourceFault;
+use flow_tree::stmt::Stmt;
+use flow_tree::ty::{Ident, Ty};
+use indexmap::{IndexMap, IndexSet};
+use std::alloc::Global;
+
+// A name at the top is not predefined, and not that of a declaration before it.
+fn name_fault(before: &Meanings<'_>, name: &Name) -> Option<u8> {
+    let taken = is_predefined(name.bytes()) || is_known(before, name.bytes());
+    unless(!taken, TWICE)
+}
+
+// The record of a field is declared before, and its name is that of no field before it.
+fn field_fault(before: &Meanings<'_>, names: &IndexSet<&[u8]>, field: &Param) -> Option<u8> {
+    lesser(
+        unless(type_known(before, &field.ty), UNKNOWN_NAME),
+        unless(!names.contains(field.name.name.bytes()), TWICE),
+    )
+}
+
+// The records of fields are declared before, and no two fields have one name.
+fn fields_fault(
+    alloc: Global,
+    before: &Meanings<'_>,
+    fields: &[Param],
+) -> Result<Option<u8>, NoMemory> {
+    let mut names: IndexSet<&[u8]> = IndexSet::new(alloc);
+    let mut fault = None;
+    for field in fields {
+        fault = lesser(fault, field_fault(before, &names, field));
+        names.insert(field.name.name.bytes())?;
+    }
+    Ok(fault)
+}
+
+fn judge_record(
+    alloc: Global,
+    before: &Meanings<'_>,
+    declared: &RecordDecl,
+) -> Result<(), SourceFault> {
+    let fields = fields_fault(alloc, before, &declared.fields)?;
+    item(
+        declared.at,
+        lesser(name_fault(before, &declared.name.name), fields),
+    )
+}
+
+// A parameter's name is that of none before it, not predefined, and none at the top.
+fn free(setting: &Setting<'_, '_>, name: &[u8]) -> bool {
+    !(setting.has_var(name) || is_predefined(name) || setting.has_name(name))
+}
+
+// What fails at a parameter.
+fn param_fault(setting: &Setting<'_, '_>, param: &Param) -> Option<u8> {
+    lesser(
+        setting.written(&param.ty),
+        unless(free(setting, param.name.name.bytes()), TWICE),
+    )
+}
+
+// The parameter is in force from here on.
+fn add_param<'a>(
+    walk: &mut Walk<'_, 'a>,
+    param: &'a Param,
+    fault: Option<u8>,
+) -> Result<(), NoMemory> {
+    let name = param.name.name.bytes();
+    walk.setting.vars.insert(name, Found::of(&param.ty))?;
+    walk.states.insert(name)?;
+    Ok(())
+}
+
+// Parameters, which are in force from here on.
+fn params_fault<'a>(walk: &mut Walk<'_, 'a>, params: &'a [Param]) -> Result<Option<u8>, NoMemory> {
+    let mut fault = None;
+    for param in params {
+        let own = param_fault(&walk.setting, param);
+        add_param(walk, param, own)?;
+        fault = lesser(fault, own);
+    }
+    Ok(fault)
+}
+
+/// A function or an actor.
+#[derive(Clone, Copy, Debug)]
+pub struct Routine<'a> {
+    pub at: Place,
+    pub plain: bool,
+    pub returns: &'a Ty,
+    pub name: &'a Ident,
+    pub params: &'a [Param],
+    pub body: &'a [Stmt],
+    pub close: Place,
+}
+
+// A routine's header.
+fn header_fault<'a>(
+    before: &Meanings<'_>,
+    walk: &mut Walk<'_, 'a>,
+    routine: Routine<'a>,
+) -> Result<Option<u8>, NoMemory> {
+    let name = name_fault(before, &routine.name.name);
+    let returns = walk.setting.written(routine.returns);
+    let params = params_fault(walk, routine.params)?;
+    Ok(lesser(name, lesser(returns, params)))
+}
+
+// What is in force in a routine before its parameters.
+fn start<'n, 'a>(alloc: Global, names: &'n Names<'a>, routine: Routine<'a>) -> Walk<'n, 'a> {
+    let vars: Vars<'a> = IndexMap::new(alloc);
+    let setting = Setting {
+        names,
+        vars,
+        plain: routine.plain,
+    };
+    Walk {
+        setting,
+        returns: Found::of(routine.returns),
+        states: IndexSet::new(alloc),
+    }
+}
+
+// A routine's header, its body and its closing brace.
+fn judge_routine<'a>(
+    alloc: Global,
+    names: &Names<'a>,
+    before: &Meanings<'_>,
+    routine: Routine<'a>,
+) -> Result<(), SourceFault> {
+    let mut walk = start(alloc, names, routine);
+    let header = header_fault(before, &mut walk, routine)?;
+    item(routine.at, header)?;
+    let around = Around {
+        looped: false,
+        caught: false,
+    };
+    walk.body(around, routine.body)?;
+    item(routine.close, unless(!ways_of(routine.body).end, FALLS_OFF))
+}
+
+fn function_routine(function: &FunctionDecl) -> Routine<'_> {
+    Routine {
+        at: function.at,
+        plain: true,
+        returns: &function.returns,
+        name: &function.name,
+        params: &function.params,
+        body: &function.body,
+        close: function.close,
+    }
+}
+
+fn actor_routine(actor: &ActorDecl) -> Routine<'_> {
+    Routine {
+        at: actor.at,
+        plain: false,
+        returns: &actor.returns,
+        name: &actor.name,
+        params: &actor.params,
+        body: &actor.body,
+        close: actor.close,
+    }
+}
+
+fn declaration<'a>(
+    alloc: Global,
+    names: &Names<'a>,
+    before: &Meanings<'_>,
+    decl: &'a Decl,
+) -> Result<(), SourceFault> {
+    match decl {
+        Decl::Struct(declared) => judge_record(alloc, before, declared),
+        Decl::Function(function) => {
+            judge_routine(alloc, names, before, function_routine(function))
+        }
+        Decl::Actor(actor) => judge_routine(alloc, names, before, actor_routine(actor)),
+    }
+}
+
+// What this declaration declares is known from here on.
+fn declare<'a>(before: &mut Meanings<'a>, decl: &'a Decl) -> Result<(), NoMemory> {
+    before.insert(name_of(decl), meaning_of(decl))?;
+    Ok(())
+}
+
+// One declaration after another.
+fn declarations<'a>(
+    alloc: Global,
+    names: &Names<'a>,
+    packet: &'a [Param],
+    decls: &'a [Decl],
+) -> Result<(), SourceFault> {
+    let mut before = predefined(alloc, packet)?;
+    for decl in decls {
+        declaration(alloc, names, &before, decl)?;
+        declare(&mut before, decl)?;
+    }
+    Ok(())
+}
+
+// `main` is an actor with one int and the result `Void`.
+fn is_main(meaning: Option<Meaning<'_>>) -> bool {
+    match meaning {
+        Some(Meaning::Actor(params, returns)) => returns_void(returns) && is_one_int(params),
+        Some(Meaning::Record(_)) | Some(Meaning::Function(_, _)) | None => false,
+    }
+}
+
+fn returns_void(returns: &Ty) -> bool {
+    match returns {
+        Ty::Void => true,
+        Ty::Int | Ty::Bool | Ty::Str | Ty::Error | Ty::Named(_) => false,
+        Ty::Future(_) | Ty::FutureStream(_) | Ty::Promise(_) | Ty::PromiseStream(_) => false,
+    }
+}
+
+fn is_int(ty: &Ty) -> bool {
+    match ty {
+        Ty::Int => true,
+        Ty::Void | Ty::Bool | Ty::Str | Ty::Error | Ty::Named(_) => false,
+        Ty::Future(_) | Ty::FutureStream(_) | Ty::Promise(_) | Ty::PromiseStream(_) => false,
+    }
+}
+
+fn is_one_int(params: &[Param]) -> bool {
+    match params {
+        [param] => is_int(&param.ty),
+        _ => false,
+    }
+}
+
+/// The rules K1 to K12 and L8 hold in a program; or the least rule of K1 to K12 that fails at its first
+/// item in which one does, or else L8 at its first record that is too large.
+pub fn judge_program(alloc: Global, program: &Program) -> Result<(), SourceFault> {
+    let packet = packet_fields(alloc)?;
+    let names = Names::new(alloc, &packet, &program.decls)?;
+    declarations(alloc, &names, &packet, &program.decls)?;
+    item(program.end, unless(is_main(names.find(b"main")), NO_MAIN))?;
+    sizes(alloc, &program.decls)
+}

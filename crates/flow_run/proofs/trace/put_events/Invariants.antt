@@ -1,0 +1,9 @@
+use Rattle.std.proofs.Common.{◌≡◌, ◌≤◌, false}
+use Rattle.flow_run.proofs.trace.put_events.Given as goal
+
+abbrev pub invariant-events : goal.invariant-events
+invariant-events g l = record {
+  going : l.world.ended ≡ false;
+  risen : g.L.LineOut.faults l.initial.out ≤ g.L.LineOut.faults l.out;
+  same : g.L.LineOut.kept l.out ≡ g.L.LineOut.kept l.initial.out;
+}

@@ -1,0 +1,47 @@
+use super::*;
+use flow_base::mem_sink::MemSink;
+use flow_base::memory::NoMemory;
+use flow_class::class::RawClasses;
+use flow_class::program::ClassProgram;
+use flow_machine::host::RunFault;
+use flow_worldfile::read_world;
+use std::alloc::Global;
+use std::test::Fail;
+
+/// A program with no classes.
+fn without_classes(alloc: Global) -> Result<ClassProgram, NoMemory> {
+    ClassProgram::unjudged(
+        alloc,
+        RawClasses {
+            records: Vec::new(alloc),
+            functions: Vec::new(alloc),
+            classes: Vec::new(alloc),
+        },
+    )
+}
+
+#[test]
+fn a_bound_of_no_events(rt: HostRuntime) -> Result<(), Fail> {
+    let alloc = rt.alloc();
+    let Ok(world) = read_world(alloc, b"events 0\n") else {
+        return Err(Fail::from("no world"));
+    };
+    let mut sink = MemSink::new(alloc, Vec::new(alloc));
+    let ending = write_trace(alloc, without_classes(alloc)?, world, true, &mut sink)?;
+    assert!(rt; ending == Ending::Bound);
+    assert_eq!(rt; sink.bytes(), b"trace 1\nend bound\n".as_slice());
+    Ok(())
+}
+
+#[test]
+fn lines_go_out_as_they_are_made(rt: HostRuntime) -> Result<(), Fail> {
+    let alloc = rt.alloc();
+    let Ok(world) = read_world(alloc, b"at 0 kill 0\n") else {
+        return Err(Fail::from("no world"));
+    };
+    let mut sink = MemSink::new(alloc, vec![in alloc; 3]?);
+    let answer = write_trace(alloc, without_classes(alloc)?, world, false, &mut sink);
+    assert!(rt; answer == Err(RunFault::Failed));
+    assert_eq!(rt; sink.bytes(), b"trace 1\nevent 1 0 kill 0\n".as_slice());
+    Ok(())
+}

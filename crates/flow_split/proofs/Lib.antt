@@ -1,0 +1,14 @@
+pub mod Joins
+pub mod Lengths
+pub mod Steps
+pub mod Compounds
+pub mod Exits
+pub mod Bodies
+pub mod Loops
+pub mod Weights
+pub mod Choices
+pub mod Simples
+pub mod EachKind
+pub mod Sizes
+pub mod Whole
+pub mod Drops

@@ -1,0 +1,6 @@
+use Rattle.std.proofs.Common.{◌≡◌, map, take}
+use Rattle.flow_tree.specs.DeclView.{slot_of}
+use Rattle.flow_split.proofs.lower.copy_slots.Given as goal
+
+abbrev pub invariant-loop-slot : goal.invariant-loop-slot
+invariant-loop-slot l = map slot_of l.copies.items ≡ map slot_of (take l.slot-index l.slots)

@@ -1,0 +1,79 @@
+// From an actor to its class.
+
+ghost use Rattle.std.specs.Prelude.{◌≡◌, map, IfOk};
+ghost use Rattle.flow_tree.specs.View.{type_of};
+ghost use Rattle.flow_tree.specs.DeclView.{slot_of, actor_of, program_of};
+ghost use Rattle.flow_class.specs.View.{class_of};
+ghost use Rattle.flow_layout.specs.Laying.{laid};
+ghost use Rattle.flow_meaning.specs.Source.{names_of};
+ghost use Rattle.flow_split.specs.Lowered.{lowered_class};
+
+use crate::around::Around;
+use crate::context::Context;
+use crate::emitter::Emitter;
+use flow_base::memory::NoMemory;
+use flow_class::class::Class;
+use flow_layout::places::Layout;
+use flow_tree::decl::{ActorDecl, Program, Slot};
+use flow_tree::ty::Ty;
+use std::alloc::Global;
+
+// Equal slots in the same order.
+fn copy_slots(alloc: Global, slots: &[Slot]) -> Result<Vec<Slot>, NoMemory>
+    ensures { IfOk result (λ v. map slot_of v.items ≡ map slot_of slots.now) }
+{
+    let mut copies = Vec::new(alloc);
+    for slot in slots {
+        copies.push(slot.copy(alloc)?)?;
+    }
+    Ok(copies)
+}
+
+// Equal types in the same order.
+fn copy_types(alloc: Global, types: &[Ty]) -> Result<Vec<Ty>, NoMemory>
+    ensures { IfOk result (λ v. map type_of v.items ≡ map type_of types.now) }
+{
+    let mut copies = Vec::new(alloc);
+    for ty in types {
+        copies.push(ty.copy(alloc)?)?;
+    }
+    Ok(copies)
+}
+
+// The number of things. No memory holds so many that there is none.
+fn count(things: usize) -> Result<u32, NoMemory>
+    ensures { IfOk result (λ n. n ≡ things) }
+{
+    match u32::try_from(things) {
+        Ok(count) => Ok(count),
+        Err(_) => Err(NoMemory),
+    }
+}
+
+/// The class of an actor of a program, by its layout.
+pub fn lower(
+    alloc: Global,
+    program: &Program,
+    actor: &ActorDecl,
+    layout: &Layout,
+) -> Result<Class, NoMemory>
+    ensures { IfOk result (λ c. class_of c ≡ lowered_class (names_of (program_of program.now)) (laid layout.now) (actor_of actor.now)) }
+{
+    let _slots = count(layout.slots.len())?;
+    let context = Context {
+        alloc,
+        program,
+        layout,
+    };
+    let mut emitter = Emitter::new(alloc);
+    emitter.put_body(&context, &Around::text(actor.close), &actor.body)?;
+    Ok(Class {
+        name: actor.name.name.copy(alloc)?,
+        returns: actor.returns.copy(alloc)?,
+        params: count(actor.params.len())?,
+        slots: copy_slots(alloc, &layout.slots)?,
+        locals: copy_types(alloc, &layout.locals)?,
+        blocks: emitter.blocks,
+        groups: emitter.groups,
+    })
+}

@@ -1,0 +1,4 @@
+pub mod Ways
+pub mod Uses
+pub mod StateRule
+pub mod Answer

@@ -1,0 +1,344 @@
+// How walks through a body leave it.
+
+ghost use Rattle.std.specs.Prelude.{◌≡◌, ◌-◌};
+ghost use Rattle.flow_staterule.specs.Ways.{never, at_once, either, onward, both, follow, node, plain, sequence, with_step, head, looped, handled, waited_at, round, empty};
+
+use flow_ast::stmt::{Stmt, StmtKind, When};
+
+/// By which walks a point is reached: by one that passes no wait, and by one that passes some.
+#[derive(Clone, Copy, PartialEq, Eq, Debug)]
+pub struct Reached {
+    pub fresh: bool,
+    pub waited: bool,
+}
+
+/// How a body is left: at its end, by a `break` or a `continue` of the loop around it, and to the catch around it.
+#[derive(Clone, Copy, PartialEq, Eq, Debug)]
+pub struct Ways {
+    pub ends: Reached,
+    pub breaks: Reached,
+    pub continues: Reached,
+    pub throws: Reached,
+}
+
+/// The waits that are looked for: the first so many from a point on.
+#[derive(Clone, Copy, Debug)]
+pub struct Looked(pub usize);
+
+/// The ways out of a part of a body, and how many of the waits behind it are looked for.
+#[derive(Clone, Copy, Debug)]
+pub struct Passed {
+    pub ways: Ways,
+    pub looked: Looked,
+}
+
+impl Reached {
+    pub const NEVER: Reached = Reached {
+        fresh: false,
+        waited: false,
+    };
+
+    pub const AT_ONCE: Reached = Reached {
+        fresh: true,
+        waited: false,
+    };
+
+    /// By walks of either kind.
+    pub fn either(self, other: Reached) -> Reached
+        ensures { result ≡ either self other }
+    {
+        Reached {
+            fresh: self.fresh || other.fresh,
+            waited: self.waited || other.waited,
+        }
+    }
+
+    /// By walks that go on where others end.
+    pub fn onward(self, other: Reached) -> Reached
+        ensures { result ≡ onward self other }
+    {
+        Reached {
+            fresh: self.fresh && other.fresh,
+            waited: (self.waited && (other.fresh || other.waited)) || (self.fresh && other.waited),
+        }
+    }
+}
+
+impl Ways {
+    /// A node that leads so to the catch around it, and nowhere else.
+    fn node(reached: Reached) -> Ways
+        ensures { result ≡ node reached }
+    {
+        Ways {
+            ends: Reached::NEVER,
+            breaks: Reached::NEVER,
+            continues: Reached::NEVER,
+            throws: reached,
+        }
+    }
+
+    /// A node that leads so to what follows it too.
+    fn plain(reached: Reached) -> Ways
+        ensures { result ≡ plain reached }
+    {
+        Ways {
+            ends: reached,
+            ..Ways::node(reached)
+        }
+    }
+
+    /// A `break`.
+    fn breaking() -> Ways
+        ensures { result ≡ record { ends = never; breaks = at_once; continues = never; throws = at_once } }
+    {
+        Ways {
+            breaks: Reached::AT_ONCE,
+            ..Ways::node(Reached::AT_ONCE)
+        }
+    }
+
+    /// A `continue`.
+    fn continuing() -> Ways
+        ensures { result ≡ record { ends = never; breaks = never; continues = at_once; throws = at_once } }
+    {
+        Ways {
+            continues: Reached::AT_ONCE,
+            ..Ways::node(Reached::AT_ONCE)
+        }
+    }
+
+    /// An empty body.
+    fn empty() -> Ways
+        ensures { result ≡ empty }
+    {
+        Ways {
+            ends: Reached::AT_ONCE,
+            ..Ways::node(Reached::NEVER)
+        }
+    }
+
+    fn both(self, other: Ways) -> Ways
+        ensures { result ≡ both self other }
+    {
+        Ways {
+            ends: self.ends.either(other.ends),
+            breaks: self.breaks.either(other.breaks),
+            continues: self.continues.either(other.continues),
+            throws: self.throws.either(other.throws),
+        }
+    }
+
+    fn follow(self, reached: Reached) -> Ways
+        ensures { result ≡ follow reached self }
+    {
+        Ways {
+            ends: reached.onward(self.ends),
+            breaks: reached.onward(self.breaks),
+            continues: reached.onward(self.continues),
+            throws: reached.onward(self.throws),
+        }
+    }
+
+    /// One after the other.
+    fn sequence(self, other: Ways) -> Ways
+        ensures { result ≡ sequence self other }
+    {
+        Ways {
+            ends: self.ends.onward(other.ends),
+            breaks: self.breaks.either(self.ends.onward(other.breaks)),
+            continues: self.continues.either(self.ends.onward(other.continues)),
+            throws: self.throws.either(self.ends.onward(other.throws)),
+        }
+    }
+
+    /// By which walks a round of a loop comes to its end, or to the step of a `for`.
+    pub fn round(&self) -> Reached
+        ensures { result ≡ round self.now }
+    {
+        self.ends.either(self.continues)
+    }
+
+    /// A round of a `for`: its body, and then its step.
+    pub fn with_step(self, step: Ways) -> Ways
+        ensures { result ≡ with_step self step }
+    {
+        Ways {
+            ends: self.round().onward(step.ends),
+            breaks: self.breaks,
+            continues: Reached::NEVER,
+            throws: self.throws.either(self.round().onward(step.throws)),
+        }
+    }
+
+    /// By which walks the head of a loop with this round is reached.
+    pub fn head(&self) -> Reached
+        ensures { result ≡ head self.now }
+    {
+        Reached {
+            fresh: true,
+            waited: self.round().waited,
+        }
+    }
+
+    /// A loop with this round, whose head leads past it or doesn't.
+    fn looped(self, past: bool) -> Ways
+        ensures { result ≡ looped past self }
+    {
+        let head = self.head();
+        Ways {
+            ends: if past { head } else { Reached::NEVER }.either(head.onward(self.breaks)),
+            breaks: Reached::NEVER,
+            continues: Reached::NEVER,
+            throws: head.either(head.onward(self.throws)),
+        }
+    }
+
+    /// A `try` with its handler.
+    fn handled(self, handler: Ways) -> Ways
+        ensures { result ≡ handled self handler }
+    {
+        let after = handler.follow(self.throws);
+        Ways {
+            ends: self.ends.either(after.ends),
+            breaks: self.breaks.either(after.breaks),
+            continues: self.continues.either(after.continues),
+            throws: Reached::AT_ONCE.either(after.throws),
+        }
+    }
+}
+
+impl Looked {
+    /// By which walks the point behind a wait is reached.
+    pub fn waited(self) -> Reached
+        ensures { result ≡ waited_at self.0 }
+    {
+        Reached {
+            fresh: self.0 == 0,
+            waited: self.0 > 0,
+        }
+    }
+
+    /// Those behind a wait.
+    pub fn past_one(self) -> Looked
+        ensures { result.0 ≡ self.0 - 1 }
+    {
+        Looked(self.0.saturating_sub(1))
+    }
+
+    /// A part without a wait.
+    fn none_of(self, ways: Ways) -> Passed
+        ensures ways { result.ways ≡ ways }
+        ensures looked { result.looked ≡ self }
+    {
+        Passed { ways, looked: self }
+    }
+
+    /// The ways out of statements, one after another.
+    #[cycle(ways)]
+    pub fn body(self, stmts: &[Stmt]) -> Passed {
+        let mut passed = self.none_of(Ways::empty());
+        for stmt in stmts {
+            let more = passed.looked.stmt(stmt);
+            passed = Passed {
+                ways: passed.ways.sequence(more.ways),
+                looked: more.looked,
+            };
+        }
+        passed
+    }
+
+    /// The ways out of one statement.
+    #[cycle(ways)]
+    pub fn stmt(self, stmt: &Stmt) -> Passed {
+        self.kind(&stmt.kind)
+    }
+
+    #[cycle(ways)]
+    fn kind(self, kind: &StmtKind) -> Passed {
+        match kind {
+            StmtKind::Block(body) => self.joined(Ways::node(Reached::AT_ONCE), body),
+            StmtKind::If(_, chosen, None) => self.joined(Ways::plain(Reached::AT_ONCE), chosen),
+            StmtKind::If(_, chosen, Some(otherwise)) => {
+                let chosen = self.joined(Ways::node(Reached::AT_ONCE), chosen);
+                chosen.looked.joined(chosen.ways, otherwise)
+            }
+            StmtKind::While(_, body) => self.looped(true, body),
+            StmtKind::For(init, test, step, body) => {
+                let init = self.part(init);
+                let step = init.looked.part(step);
+                let body = step.looked.body(body);
+                let round = body.ways.with_step(step.ways);
+                Passed {
+                    ways: init.ways.sequence(round.looped(test.is_some())),
+                    looked: body.looked,
+                }
+            }
+            StmtKind::Loop(body) => self.looped(false, body),
+            StmtKind::Try(body, _, _, handler) => {
+                let body = self.body(body);
+                let handler = body.looked.body(handler);
+                Passed {
+                    ways: body.ways.handled(handler.ways),
+                    looked: handler.looked,
+                }
+            }
+            StmtKind::Choose(branches) => {
+                let inner = self.past_one().branches(branches);
+                let ways = Ways::node(Reached::AT_ONCE).both(inner.ways);
+                Passed {
+                    ways: ways.follow(self.waited()),
+                    looked: inner.looked,
+                }
+            }
+            StmtKind::Wait(_) => self.past_one().none_of(Ways::plain(self.waited())),
+            StmtKind::Break => self.none_of(Ways::breaking()),
+            StmtKind::Continue => self.none_of(Ways::continuing()),
+            StmtKind::Return(_) | StmtKind::Throw(_) => {
+                self.none_of(Ways::node(Reached::AT_ONCE))
+            }
+            StmtKind::Declare(_, _)
+            | StmtKind::Assign(_, _)
+            | StmtKind::Modify(_, _)
+            | StmtKind::Call(_, _) => self.none_of(Ways::plain(Reached::AT_ONCE)),
+        }
+    }
+
+    /// These ways, and those out of a body.
+    #[cycle(ways)]
+    fn joined(self, begun: Ways, body: &Vec<Stmt>) -> Passed {
+        let body = self.body(body);
+        Passed {
+            ways: begun.both(body.ways),
+            looked: body.looked,
+        }
+    }
+
+    /// A loop whose round is a body alone.
+    #[cycle(ways)]
+    fn looped(self, past: bool, body: &Vec<Stmt>) -> Passed {
+        let body = self.body(body);
+        Passed {
+            ways: body.ways.looped(past),
+            looked: body.looked,
+        }
+    }
+
+    /// The init or the step of a `for`, where it is there.
+    #[cycle(ways)]
+    pub fn part(self, part: &Option<Box<Stmt>>) -> Passed {
+        match part {
+            Some(stmt) => self.stmt(stmt),
+            None => self.none_of(Ways::empty()),
+        }
+    }
+
+    /// The branches of a `choose`.
+    #[cycle(ways)]
+    fn branches(self, branches: &[When]) -> Passed {
+        let mut passed = self.none_of(Ways::node(Reached::NEVER));
+        for branch in branches {
+            passed = passed.looked.joined(passed.ways, &branch.body);
+        }
+        passed
+    }
+}

@@ -1,0 +1,134 @@
+// Call statements: messages, sends, cancelling, and calls of functions.
+
+use crate::call::{Call, Step};
+use crate::effects::{int_at, take_text};
+use crate::errors::Fault;
+use crate::process::Process;
+use flow_ast::predefined::{Method, Predefined, predefined_call, predefined_method};
+use flow_base::errors::ALREADY_SET;
+use flow_base::ids::{ActorId, CellId};
+use flow_cancel::task::Task;
+use flow_trace::line::Line;
+use flow_value::value::{Kind, Outcome, Value};
+
+/// Takes the first argument out of the arguments.
+fn first(args: Vec<Value>) -> Option<Value> {
+    args.into_iter().next()
+}
+
+/// The line of a printed value.
+fn print_line(actor: ActorId, value: Value) -> Result<Line, Fault> {
+    match value {
+        Value::Int(n) => Ok(Line::PrintInt(actor, n)),
+        Value::Bool(b) => Ok(Line::PrintBool(actor, b)),
+        Value::Text(text) => Ok(Line::PrintText(actor, text)),
+        Value::Void | Value::Error(_) | Value::Struct(_, _) | Value::Ref(_, _) => {
+            Err(Fault::Astray)
+        }
+    }
+}
+
+/// What a method sends: `send` a value, `sendError` an error.
+fn sent(method: Method, args: Vec<Value>) -> Result<Outcome, Fault> {
+    match (method, first(args)) {
+        (Method::Send, Some(value)) => Ok(Outcome::Value(value)),
+        (Method::SendError, Some(Value::Error(error))) => Ok(Outcome::Error(error)),
+        _ => Err(Fault::Astray),
+    }
+}
+
+/// A text that is sent to a port of a process.
+fn send_to(actor: ActorId, args: Vec<Value>) -> Result<Step, Fault> {
+    let mut args = args;
+    let process = int_at(&args, 0)?;
+    let port = int_at(&args, 1)?;
+    let text = take_text(&mut args, 2)?;
+    Ok(Some(Call::SendTo(actor, process, port, text)))
+}
+
+impl Process {
+    // A value is printed.
+    fn print(&mut self, actor: ActorId, args: Vec<Value>) -> Result<Step, Fault> {
+        let Some(value) = first(args) else {
+            return Err(Fault::Astray);
+        };
+        let line = print_line(actor, value)?;
+        self.heap.push(Task::Run(actor))?;
+        Ok(Some(Call::Line(line)))
+    }
+
+    /// A call statement of a predefined name.
+    pub(crate) fn predefined_act(
+        &mut self,
+        actor: ActorId,
+        call: Predefined,
+        args: Vec<Value>,
+    ) -> Result<Step, Fault> {
+        match call {
+            Predefined::Trace => self.print(actor, args),
+            Predefined::SendTo => send_to(actor, args),
+            _ => Err(Fault::Astray),
+        }
+    }
+
+    // Whether nothing more can be sent into the cell of a kind of reference, if there is one.
+    fn is_complete(&self, kind: Kind, cell: CellId) -> Result<bool, Fault> {
+        match kind {
+            Kind::Promise | Kind::Future => {
+                if self.heap.cells().references(cell).is_none() {
+                    return Err(Fault::Astray);
+                }
+                Ok(self.heap.cells().content(cell).is_some())
+            }
+            Kind::PromiseStream | Kind::FutureStream => {
+                if self.heap.streams().references(cell).is_none() {
+                    return Err(Fault::Astray);
+                }
+                Ok(self.heap.streams().ended(cell))
+            }
+        }
+    }
+
+    // A send into a cell to which nothing more can be sent throws that; otherwise a turn, and the cell fires.
+    fn send_into(
+        &mut self,
+        actor: ActorId,
+        kind: Kind,
+        cell: CellId,
+        outcome: Outcome,
+    ) -> Result<Step, Fault> {
+        if self.is_complete(kind, cell)? {
+            self.throw(actor, ALREADY_SET)?;
+            return Ok(None);
+        }
+        if !self.turn() {
+            return Ok(None);
+        }
+        self.hold_outcome(&outcome)?;
+        self.heap.push(Task::Run(actor))?;
+        self.fill(kind, cell, outcome)?;
+        Ok(None)
+    }
+
+    /// A call statement on a reference.
+    pub(crate) fn method_act(
+        &mut self,
+        actor: ActorId,
+        method: Method,
+        kind: Kind,
+        cell: CellId,
+        args: Vec<Value>,
+    ) -> Result<Step, Fault> {
+        match kind {
+            Kind::Promise | Kind::PromiseStream => {
+                let outcome = sent(method, args)?;
+                self.send_into(actor, kind, cell, outcome)
+            }
+            Kind::Future if method == Method::Cancel => {
+                self.heap.push(Task::Run(actor))?;
+                self.cancel_owner(cell)
+            }
+            Kind::Future | Kind::FutureStream => Err(Fault::Astray),
+        }
+    }
+}

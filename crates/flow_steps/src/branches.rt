@@ -1,0 +1,248 @@
+// Waits: operands, the branch that is taken, and suspending.
+
+ghost use Rattle.std.specs.Prelude.{◌∷◌, OnOk};
+ghost use Rattle.flow_steps.specs.Drops.{DropsOver};
+
+use crate::call::{Call, Step};
+use crate::errors::Fault;
+use crate::process::Process;
+use flow_base::errors::{OPERATION_CANCELLED, SECOND_WAITER};
+use flow_base::ids::{ActorId, CellId};
+use flow_cancel::task::Task;
+use flow_cell::waiter::Waiter;
+use flow_class::class::{Block, Last};
+use flow_class::program::ClassProgram;
+use flow_frame::held::Held;
+use flow_stream::head::{Head, Wait};
+use flow_trace::line::Line;
+use flow_value::value::{Kind, Outcome};
+
+/// The group of the wait that ends a block.
+fn group_at(block: &Block) -> Result<u32, Fault> {
+    match &block.last {
+        Last::Choose(group) => Ok(*group),
+        _ => Err(Fault::Astray),
+    }
+}
+
+impl Process {
+    /// The group of the wait at which an actor stands or waits.
+    pub(crate) fn group_of(&self, classes: &ClassProgram, actor: ActorId) -> Result<u32, Fault> {
+        let (_, block) = self.block_of(classes, actor)?;
+        group_at(block)
+    }
+
+    // What a branch takes from a cell that is ready: a copy of the outcome, the first element, or else the end.
+    fn taken_from(&mut self, cell: CellId) -> Result<Outcome, Fault> {
+        match self.kind_at(cell) {
+            Some(Kind::Future | Kind::Promise) => self.copied_from(cell),
+            Some(Kind::FutureStream | Kind::PromiseStream) => self.popped_from(cell),
+            None => Err(Fault::Astray),
+        }
+    }
+
+    // A copy of what a single result holds, whose references count.
+    fn copied_from(&mut self, cell: CellId) -> Result<Outcome, Fault> {
+        if self.heap.cells().references(cell).is_none() {
+            return Err(Fault::Astray);
+        }
+        let copy = match self.heap.cells().content(cell) {
+            Some(outcome) => outcome.copy(self.alloc)?,
+            None => return Err(Fault::Astray),
+        };
+        self.hold_outcome(&copy)?;
+        Ok(copy)
+    }
+
+    // The first element of a stream, or else its end.
+    fn popped_from(&mut self, cell: CellId) -> Result<Outcome, Fault> {
+        if self.heap.streams().references(cell).is_none() {
+            return Err(Fault::Astray);
+        }
+        match self.heap.streams_mut().pop(cell) {
+            Head::Item(value) => Ok(Outcome::Value(value)),
+            Head::End(error) => Ok(Outcome::Error(error)),
+            Head::Nothing => Err(Fault::Astray),
+        }
+    }
+
+    /// An actor leaves its wait for a task: its operands are dropped, then its locals, and then the task comes.
+    pub(crate) fn leave_for(
+        &mut self,
+        classes: &ClassProgram,
+        actor: ActorId,
+        task: Task,
+    ) -> Result<(), Fault>
+        ensures { OnOk result (DropsOver (task ∷ self.old.heap.tasks) self.new.heap.tasks) }
+    {
+        let class = self.class_of(classes, actor)?;
+        let (place, block) = self.block_of(classes, actor)?;
+        self.heap.push(task)?;
+        self.lose_locals(class, actor)?;
+        self.leave(actor)?;
+        let last = u32::try_from(block.body.len()).unwrap_or(u32::MAX);
+        self.go(actor, place, last)?;
+        Ok(())
+    }
+
+    /// A branch, numbered from 0 in its group, takes what its cell gives: a turn, the line; then the actor leaves its wait.
+    pub(crate) fn take(
+        &mut self,
+        classes: &ClassProgram,
+        actor: ActorId,
+        branch: u32,
+        cell: CellId,
+    ) -> Result<Step, Fault> {
+        if !self.turn() {
+            return Ok(None);
+        }
+        let group = self.group_of(classes, actor)?;
+        let outcome = Box::new(self.alloc, self.taken_from(cell)?)?;
+        self.leave_for(classes, actor, Task::Give(actor, branch, outcome))?;
+        Ok(Some(Call::Line(Line::Take(actor, group, branch))))
+    }
+
+    /// An operand that counts already is kept. A marked actor then leaves its wait and is thrown that it was cancelled; an
+    /// operand that is ready is taken; otherwise the actor goes on.
+    pub(crate) fn keep(
+        &mut self,
+        classes: &ClassProgram,
+        actor: ActorId,
+        callback: u32,
+        cell: CellId,
+    ) -> Result<Step, Fault> {
+        if !self.heap.unfinished(actor) || !self.heap.frames().contains(actor) {
+            return Err(Fault::Astray);
+        }
+        let held = Held { callback, cell };
+        self.heap.frames_mut().add_callback(actor, held)?;
+        if self.heap.marked(actor) {
+            self.pop_run(actor)?;
+            let thrown = Task::Throw(actor, OPERATION_CANCELLED);
+            self.leave_for(classes, actor, thrown)?;
+            return Ok(None);
+        }
+        if !self.is_ready(cell) {
+            return Ok(None);
+        }
+        self.pop_run(actor)?;
+        let branch = self.branch_of(classes, actor, callback)?;
+        self.take(classes, actor, branch, cell)
+    }
+
+    // Takes the actor's own task off the stack.
+    fn pop_run(&mut self, actor: ActorId) -> Result<(), Fault> {
+        match self.heap.next_task() {
+            Some(Task::Run(top)) if top == actor => Ok(()),
+            _ => Err(Fault::Astray),
+        }
+    }
+
+    /// The number of a branch in its group, from its number through the class.
+    pub(crate) fn branch_of(
+        &self,
+        classes: &ClassProgram,
+        actor: ActorId,
+        callback: u32,
+    ) -> Result<u32, Fault> {
+        let group = self.group_of(classes, actor)?;
+        let home = self.home_of(classes, actor, group)?;
+        match callback.checked_sub(home.first) {
+            Some(branch) => Ok(branch),
+            None => Err(Fault::Astray),
+        }
+    }
+
+    // The first operand that is ready.
+    fn first_ready(&self, actor: ActorId) -> Option<Held> {
+        if !self.heap.frames().contains(actor) {
+            return None;
+        }
+        for held in self.heap.frames().callbacks(actor) {
+            if self.is_ready(held.cell) {
+                return Some(*held);
+            }
+        }
+        None
+    }
+
+    // A callback waits at its cell: false where a stream refuses it.
+    fn register(&mut self, actor: ActorId, held: Held) -> Result<bool, Fault> {
+        let waiter = Waiter {
+            actor,
+            callback: held.callback,
+        };
+        if self.heap.cells().references(held.cell).is_some() {
+            self.heap.cells_mut().add_waiter(held.cell, waiter)?;
+            return Ok(true);
+        }
+        if self.heap.streams().references(held.cell).is_none() {
+            return Err(Fault::Astray);
+        }
+        match self.heap.streams_mut().add_waiter(held.cell, waiter) {
+            Wait::Added => Ok(true),
+            Wait::Busy => Ok(false),
+        }
+    }
+
+    // The callback of an actor at a place among its operands.
+    fn held_at(&self, actor: ActorId, place: usize) -> Option<Held> {
+        if !self.heap.frames().contains(actor) {
+            return None;
+        }
+        self.heap.frames().callbacks(actor).get(place).copied()
+    }
+
+    // How many operands an actor has.
+    pub(crate) fn operands(&self, actor: ActorId) -> usize {
+        if !self.heap.frames().contains(actor) {
+            return 0;
+        }
+        self.heap.frames().callbacks(actor).len()
+    }
+
+    // All operands wait at their cells in order: false where a stream refuses one.
+    fn register_all(&mut self, actor: ActorId) -> Result<bool, Fault> {
+        for place in 0..self.operands(actor) {
+            let Some(held) = self.held_at(actor, place) else {
+                return Err(Fault::Astray);
+            };
+            if !self.register(actor, held)? {
+                return Ok(false);
+            }
+        }
+        Ok(true)
+    }
+
+    // The frame of an actor goes into a state.
+    fn suspend(&mut self, actor: ActorId, group: u32) -> Result<(), Fault> {
+        if !self.heap.frames().contains(actor) {
+            return Err(Fault::Astray);
+        }
+        self.heap.frames_mut().set_state(actor, group);
+        Ok(())
+    }
+
+    /// All operands are kept. The first that is ready is taken. Otherwise the actor waits for all of them, and its locals
+    /// are dropped; where a stream refuses, that is thrown.
+    pub(crate) fn wait(
+        &mut self,
+        classes: &ClassProgram,
+        actor: ActorId,
+        group: u32,
+    ) -> Result<Step, Fault> {
+        if let Some(held) = self.first_ready(actor) {
+            let branch = self.branch_of(classes, actor, held.callback)?;
+            return self.take(classes, actor, branch, held.cell);
+        }
+        if !self.register_all(actor)? {
+            let thrown = Task::Throw(actor, SECOND_WAITER);
+            self.leave_for(classes, actor, thrown)?;
+            return Ok(None);
+        }
+        let class = self.class_of(classes, actor)?;
+        self.lose_locals(class, actor)?;
+        self.suspend(actor, group)?;
+        Ok(Some(Call::Line(Line::Wait(actor, group))))
+    }
+}

@@ -1,0 +1,38 @@
+// Why a step broke off.
+
+ghost use Rattle.std.specs.Prelude.{◌≡◌};
+ghost use Rattle.flow_steps.specs.declared.errors.Fault.TheVariants.{OutOfMemory};
+
+use flow_base::memory::NoMemory;
+use std::alloc::{AllocError, AllocFailed};
+
+/// Why a process broke off a step: there was no memory, or no valid class comes here.
+#[derive(Clone, Copy, PartialEq, Eq, Debug)]
+pub enum Fault {
+    OutOfMemory,
+    Astray,
+}
+
+impl From<NoMemory> for Fault {
+    ghost from_gives = { λ _ e. e ≡ OutOfMemory };
+
+    fn from(_error: NoMemory) -> Fault {
+        Fault::OutOfMemory
+    }
+}
+
+impl From<AllocError> for Fault {
+    ghost from_gives = { λ _ e. e ≡ OutOfMemory };
+
+    fn from(_error: AllocError) -> Fault {
+        Fault::OutOfMemory
+    }
+}
+
+impl<T: Drop> From<AllocFailed<T>> for Fault {
+    ghost from_gives = { λ _ e. e ≡ OutOfMemory };
+
+    fn from(_error: AllocFailed<T>) -> Fault {
+        Fault::OutOfMemory
+    }
+}

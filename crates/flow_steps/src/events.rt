@@ -1,0 +1,65 @@
+// What the world brings to a process at the begin of an event.
+
+use crate::call::Step;
+use crate::effects::class_named;
+use crate::errors::Fault;
+use crate::process::Process;
+use flow_base::ids::{CellId, ProcId};
+use flow_cancel::task::Task;
+use flow_class::program::ClassProgram;
+use flow_value::value::{Kind, Outcome, Value};
+
+impl Process {
+    /// Calls `main` with the process's number, where no result of `main` is held: this one is from the moment that its cell
+    /// is made.
+    pub fn call_main(&mut self, classes: &ClassProgram, me: ProcId) -> Result<Step, Fault> {
+        if self.heap.main().is_some() {
+            return Err(Fault::Astray);
+        }
+        if !self.turn() {
+            return Ok(None);
+        }
+        let Some(class) = class_named(&classes.raw().classes, b"main") else {
+            return Err(Fault::Astray);
+        };
+        let args = vec![in self.alloc; Value::Int(i64::from(me.0))]?;
+        let (actor, cell) = self.enrol(classes, class, args)?;
+        self.hold(Kind::Future, cell)?;
+        self.heap.set_main(Some(cell));
+        self.heap.push(Task::Run(actor))?;
+        self.start_line(classes, class, actor)
+    }
+
+    /// The answer to an open request: its cell is set and fires, and then the request's promise is dropped.
+    pub fn answer(&mut self, cell: CellId, outcome: Outcome) -> Result<(), Fault> {
+        if !self.heap.is_requested(cell) {
+            return Err(Fault::Astray);
+        }
+        self.heap.end_request(cell);
+        self.heap.push(Task::Drop(Kind::Promise, cell))?;
+        self.give_in(Kind::Promise, cell, outcome)
+    }
+
+    /// An element comes to a port's stream, which fires.
+    pub fn bring(&mut self, cell: CellId, item: Value) -> Result<(), Fault> {
+        self.give_in(Kind::PromiseStream, cell, Outcome::Value(item))
+    }
+
+    // A turn, and a cell gets content from outside.
+    fn give_in(&mut self, kind: Kind, cell: CellId, outcome: Outcome) -> Result<(), Fault> {
+        if !self.turn() {
+            return Ok(());
+        }
+        self.hold_outcome(&outcome)?;
+        self.fill(kind, cell, outcome)
+    }
+
+    /// The hold on the result of `main` is dropped, if there is one.
+    pub fn drop_main(&mut self) -> Result<(), Fault> {
+        if let Some(cell) = self.heap.main() {
+            self.heap.set_main(None);
+            self.heap.push(Task::Drop(Kind::Future, cell))?;
+        }
+        Ok(())
+    }
+}

@@ -1,0 +1,264 @@
+// The steps of a process: the newest task is done.
+
+ghost use Rattle.std.specs.Prelude.{◌≡◌, OnOk, slice_get};
+ghost use Rattle.std.specs.Option.{ForSome};
+ghost use Rattle.flow_numbered.specs.Numbered.{thing};
+ghost use Rattle.flow_steps.specs.Doing.{departed};
+ghost use Rattle.flow_steps.specs.Drops.{DropsOver};
+
+use crate::call::{Call, Step};
+use crate::errors::Fault;
+use crate::frames::group_of;
+use crate::process::Process;
+use flow_base::ids::{ActorId, CellId, ErrorCode};
+use flow_cancel::task::Task;
+use flow_cell::counts::Side;
+use flow_cell::waiter::Waiter;
+use flow_class::class::{Callback, Catcher, Class, Instr};
+use flow_class::program::ClassProgram;
+use flow_trace::line::Line;
+use flow_value::value::{Kind, Outcome, Value};
+
+/// The line of an actor's end.
+fn end_line(actor: ActorId, outcome: &Outcome) -> Line {
+    match outcome {
+        Outcome::Value(_) => Line::Finish(actor),
+        Outcome::Error(error) => Line::Fail(actor, *error),
+    }
+}
+
+/// The callback of a branch of a group.
+fn callback_at(class: &Class, group: u32, branch: u32) -> Option<&Callback> {
+    group_of(class, group)?.callbacks.get(branch as usize)
+}
+
+impl Process {
+    /// Does a task that was the newest, and says what it asks of the world.
+    pub(crate) fn do_task(&mut self, classes: &ClassProgram, task: Task) -> Result<Step, Fault> {
+        match task {
+            Task::Run(actor) => self.run(classes, actor),
+            Task::Give(actor, branch, outcome) => {
+                self.give(classes, actor, branch, Box::into_inner(outcome))
+            }
+            Task::Throw(actor, error) => self.raise(classes, actor, error),
+            Task::Catch(actor, error) => {
+                self.heap.push(Task::Run(actor))?;
+                Ok(Some(Call::Line(Line::Catch(actor, error))))
+            }
+            Task::Fire(cell) => self.fire(classes, cell),
+            Task::Drop(kind, cell) => {
+                if !self.turn() {
+                    return Ok(None);
+                }
+                self.lose(kind, cell)
+            }
+            Task::Store(actor, value) => self.store(classes, actor, Box::into_inner(value)),
+            Task::Keep(actor, callback, cell) => self.keep(classes, actor, callback, cell),
+            Task::Close(actor, outcome) => self.close(actor, Box::into_inner(outcome)),
+        }
+    }
+
+    // A branch was taken: its value goes to it, and an error is thrown.
+    fn give(
+        &mut self,
+        classes: &ClassProgram,
+        actor: ActorId,
+        branch: u32,
+        outcome: Outcome,
+    ) -> Result<Step, Fault> {
+        let value = match outcome {
+            Outcome::Value(value) => value,
+            Outcome::Error(error) => {
+                self.throw(actor, error)?;
+                return Ok(None);
+            }
+        };
+        let class = self.class_of(classes, actor)?;
+        let group = self.group_of(classes, actor)?;
+        let Some(callback) = callback_at(class, group, branch) else {
+            return Err(Fault::Astray);
+        };
+        self.heap.push(Task::Run(actor))?;
+        self.bind(classes, actor, callback, value)?;
+        self.go(actor, callback.block, 0)?;
+        Ok(None)
+    }
+
+    // The value of a branch goes into the place of its callback, or is dropped.
+    fn bind(
+        &mut self,
+        classes: &ClassProgram,
+        actor: ActorId,
+        callback: &Callback,
+        value: Value,
+    ) -> Result<(), Fault> {
+        let class = self.class_of(classes, actor)?;
+        match callback.into {
+            Some(place) => {
+                let place = self.number_of(class, place)?;
+                self.replace(actor, place, value)
+            }
+            None => Ok(self.heap.push_drops(&value)?),
+        }
+    }
+
+    // The result of an effect goes into the place of the instruction.
+    fn store(
+        &mut self,
+        classes: &ClassProgram,
+        actor: ActorId,
+        value: Value,
+    ) -> Result<Step, Fault> {
+        let class = self.class_of(classes, actor)?;
+        let (_, block) = self.block_of(classes, actor)?;
+        let (_, instruction) = self.position(actor)?;
+        match block.body.get(instruction as usize) {
+            Some(Instr::Effect(target, _)) => self.assign(classes, actor, target, value)?,
+            Some(Instr::New(place)) => {
+                let place = self.number_of(class, *place)?;
+                self.replace(actor, place, value)?;
+            }
+            _ => return Err(Fault::Astray),
+        }
+        self.go_on(actor)?;
+        Ok(None)
+    }
+
+    // The line; then the operands that are kept are dropped in order, and the values that leave the variables; then the
+    // handler begins, or the actor ends.
+    fn raise(
+        &mut self,
+        classes: &ClassProgram,
+        actor: ActorId,
+        error: ErrorCode,
+    ) -> Result<Step, Fault> {
+        let (_, block) = self.block_of(classes, actor)?;
+        match &block.catcher {
+            Some(catcher) => self.caught(classes, actor, catcher, error)?,
+            None => {
+                let outcome = Box::new(self.alloc, Outcome::Error(error))?;
+                self.heap.push(Task::Close(actor, outcome))?;
+                self.lose_all(actor)?;
+                self.leave(actor)?;
+            }
+        }
+        Ok(Some(Call::Line(Line::Throw(actor, error))))
+    }
+
+    fn caught(
+        &mut self,
+        classes: &ClassProgram,
+        actor: ActorId,
+        catcher: &Catcher,
+        error: ErrorCode,
+    ) -> Result<(), Fault> {
+        let class = self.class_of(classes, actor)?;
+        self.heap.push(Task::Catch(actor, error))?;
+        self.drop_locals(class, actor, &catcher.drops)?;
+        if let Some(local) = catcher.error {
+            self.put_error(class, actor, local, error)?;
+        }
+        self.leave(actor)?;
+        self.go(actor, catcher.block, 0)
+    }
+
+    /// The operands of an actor leave all cells, and are dropped.
+    pub(crate) fn leave(&mut self, actor: ActorId) -> Result<(), Fault>
+        ensures left { OnOk result (self.new ≡ departed actor.0 self.old) }
+        ensures drops { OnOk result (DropsOver self.old.heap.tasks self.new.heap.tasks) }
+    {
+        if !self.heap.frames().contains(actor) {
+            return Err(Fault::Astray);
+        }
+        Ok(self.heap.withdraw(actor)?)
+    }
+
+    // The oldest waiter of a cell, where it has content.
+    fn next_waiter(&self, kind: Kind, cell: CellId) -> Option<Waiter> {
+        if !self.is_ready(cell) {
+            return None;
+        }
+        match kind {
+            Kind::Promise | Kind::Future => self.first_waiter(cell),
+            Kind::PromiseStream | Kind::FutureStream => self.stream_waiter(cell),
+        }
+    }
+
+    fn first_waiter(&self, cell: CellId) -> Option<Waiter>
+        ensures { ForSome (thing self.now.heap.cells.things cell.0) (λ c. result ≡ slice_get c.waiters 0) }
+    {
+        self.heap.cells().references(cell)?;
+        self.heap.cells().first_waiter(cell)
+    }
+
+    fn stream_waiter(&self, cell: CellId) -> Option<Waiter>
+        ensures { ForSome (thing self.now.heap.streams.things cell.0) (λ s. result ≡ s.waiter) }
+    {
+        self.heap.streams().references(cell)?;
+        self.heap.streams().waiter(cell)
+    }
+
+    // The oldest waiter takes its branch, and the fire goes on after it. It ends, without a turn, where no waiter is left
+    // or, on a stream, neither element nor end.
+    fn fire(&mut self, classes: &ClassProgram, cell: CellId) -> Result<Step, Fault> {
+        let Some(kind) = self.kind_at(cell) else {
+            return Err(Fault::Astray);
+        };
+        let Some(waiter) = self.next_waiter(kind, cell) else {
+            return self.lose(kind, cell);
+        };
+        self.heap.push(Task::Fire(cell))?;
+        let branch = self.branch_of(classes, waiter.actor, waiter.callback)?;
+        self.take(classes, waiter.actor, branch, cell)
+    }
+
+    // The actor is gone: a turn and the line; then its result is set, where a future refers to it, and otherwise the cell
+    // goes and the value is dropped.
+    fn close(&mut self, actor: ActorId, outcome: Outcome) -> Result<Step, Fault> {
+        let result = self.forget(actor)?;
+        if !self.turn() {
+            return Ok(None);
+        }
+        let line = Call::Line(end_line(actor, &outcome));
+        match result {
+            Some(cell) if self.futures(cell) > 0 => self.set_result(cell, outcome)?,
+            Some(cell) => {
+                self.lose(Kind::Promise, cell)?;
+                self.drop_outcome(&outcome)?;
+            }
+            None => self.drop_outcome(&outcome)?,
+        }
+        Ok(Some(line))
+    }
+
+    // The frame of an actor is closed, and its result is told.
+    fn forget(&mut self, actor: ActorId) -> Result<Option<CellId>, Fault> {
+        if !self.heap.unfinished(actor) || !self.heap.may_finish(actor) {
+            return Err(Fault::Astray);
+        }
+        let result = self.heap.result(actor);
+        self.heap.finish(actor);
+        Ok(result)
+    }
+
+    // A turn, and the result is set and fires. The actor's own promise counts no more.
+    fn set_result(&mut self, cell: CellId, outcome: Outcome) -> Result<(), Fault> {
+        if !self.turn() {
+            return Ok(());
+        }
+        self.end_promise(cell)?;
+        self.fill(Kind::Future, cell, outcome)
+    }
+
+    // A promise of a single result counts no more, where others or futures do.
+    fn end_promise(&mut self, cell: CellId) -> Result<(), Fault> {
+        let Some(references) = self.heap.cells().references(cell) else {
+            return Err(Fault::Astray);
+        };
+        if references.count(Side::Promise) == 0 {
+            return Err(Fault::Astray);
+        }
+        self.heap.cells_mut().release(cell, Side::Promise);
+        Ok(())
+    }
+}

@@ -1,0 +1,256 @@
+// What a process does to its own state: turns, tasks, counts of references, cells, waits and cancelling.
+
+ghost use Rattle.std.specs.Prelude.{◌≡◌, nat_lt, OnOk};
+ghost use Rattle.flow_cancel.specs.declared.task.Task.TheVariants.{Run, Throw};
+ghost use Rattle.flow_steps.specs.Doing.{turned, doing, stopped};
+
+use crate::call::{Call, Goal, Step};
+use crate::errors::Fault;
+use crate::process::Process;
+use flow_base::errors::BROKEN_PROMISE;
+use flow_base::ids::{ActorId, CellId, ErrorCode};
+use flow_cancel::heap::side_of;
+use flow_cancel::task::{Dropped, Task};
+use flow_cell::counts::Side;
+use flow_trace::line::Line;
+use flow_value::value::{Kind, Outcome, Value};
+
+/// A count of references may rise where it is below this.
+const COUNTS: u128 = (1 << 100) - 1;
+
+impl Process {
+    /// Takes a turn, and says whether one was left; where none was, the event is spent.
+    pub(crate) fn turn(&mut self) -> bool
+        ensures taken { result ≡ nat_lt 0 self.old.left }
+        ensures left { self.new ≡ turned self.old }
+    {
+        match self.left.checked_sub(1) {
+            Some(left) => {
+                self.left = left;
+                true
+            }
+            None => {
+                self.spent = true;
+                false
+            }
+        }
+    }
+
+    /// An error is thrown where an actor stands.
+    pub fn throw(&mut self, actor: ActorId, error: ErrorCode) -> Result<(), Fault>
+        ensures { OnOk result (self.new ≡ doing (Throw actor error) self.old) }
+    {
+        Ok(self.heap.push(Task::Throw(actor, error))?)
+    }
+
+    /// An actor takes its next step after all that comes on top.
+    pub fn run_on(&mut self, actor: ActorId) -> Result<(), Fault>
+        ensures { OnOk result (self.new ≡ doing (Run actor) self.old) }
+    {
+        Ok(self.heap.push(Task::Run(actor))?)
+    }
+
+    // A reference to a side of a single result counts.
+    fn hold_cell(&mut self, side: Side, cell: CellId) -> Result<(), Fault> {
+        let Some(references) = self.heap.cells().references(cell) else {
+            return Err(Fault::Astray);
+        };
+        if references.count(side) >= COUNTS {
+            return Err(Fault::OutOfMemory);
+        }
+        self.heap.cells_mut().hold(cell, side);
+        Ok(())
+    }
+
+    // A reference to a side of a stream counts.
+    fn hold_stream(&mut self, side: Side, cell: CellId) -> Result<(), Fault> {
+        let Some(references) = self.heap.streams().references(cell) else {
+            return Err(Fault::Astray);
+        };
+        if references.count(side) >= COUNTS {
+            return Err(Fault::OutOfMemory);
+        }
+        self.heap.streams_mut().hold(cell, side);
+        Ok(())
+    }
+
+    /// A reference is stored: it counts.
+    pub(crate) fn hold(&mut self, kind: Kind, cell: CellId) -> Result<(), Fault> {
+        match kind {
+            Kind::Promise | Kind::Future => self.hold_cell(side_of(kind), cell),
+            Kind::PromiseStream | Kind::FutureStream => self.hold_stream(side_of(kind), cell),
+        }
+    }
+
+    /// A value is stored: its references count.
+    pub(crate) fn hold_value(&mut self, value: &Value) -> Result<(), Fault> {
+        match value {
+            Value::Struct(_, fields) => {
+                for field in fields {
+                    self.hold_value(field)?;
+                }
+                Ok(())
+            }
+            Value::Ref(kind, cell) => self.hold(*kind, *cell),
+            Value::Int(_) | Value::Bool(_) | Value::Text(_) | Value::Void | Value::Error(_) => {
+                Ok(())
+            }
+        }
+    }
+
+    pub(crate) fn hold_outcome(&mut self, outcome: &Outcome) -> Result<(), Fault> {
+        match outcome {
+            Outcome::Value(value) => self.hold_value(value),
+            Outcome::Error(_) => Ok(()),
+        }
+    }
+
+    /// What an outcome holds is dropped.
+    pub(crate) fn drop_outcome(&mut self, outcome: &Outcome) -> Result<(), Fault> {
+        match outcome {
+            Outcome::Value(value) => Ok(self.heap.push_drops(value)?),
+            Outcome::Error(_) => Ok(()),
+        }
+    }
+
+    // A single result is set.
+    fn set(&mut self, cell: CellId, outcome: Outcome) -> Result<(), Fault> {
+        if self.heap.cells().references(cell).is_none()
+            || self.heap.cells().content(cell).is_some()
+        {
+            return Err(Fault::Astray);
+        }
+        self.heap.cells_mut().set(cell, outcome);
+        Ok(())
+    }
+
+    // A stream without an end gets an element.
+    fn send(&mut self, cell: CellId, value: Value) -> Result<(), Fault> {
+        if self.heap.streams().references(cell).is_none() {
+            return Err(Fault::Astray);
+        }
+        if self.heap.streams().end_error(cell).is_some() {
+            return Err(Fault::Astray);
+        }
+        self.heap.streams_mut().push(cell, value)?;
+        Ok(())
+    }
+
+    // A stream without an end gets one.
+    fn end(&mut self, cell: CellId, error: ErrorCode) -> Result<(), Fault> {
+        if self.heap.streams().references(cell).is_none() {
+            return Err(Fault::Astray);
+        }
+        if self.heap.streams().end_error(cell).is_some() {
+            return Err(Fault::Astray);
+        }
+        self.heap.streams_mut().end(cell, error);
+        Ok(())
+    }
+
+    /// The cell of a kind of reference, to which more can be sent, gets content that counts already, and fires.
+    pub(crate) fn fill(&mut self, kind: Kind, cell: CellId, outcome: Outcome) -> Result<(), Fault> {
+        match kind {
+            Kind::Promise | Kind::Future => {
+                self.set(cell, outcome)?;
+                self.hold(Kind::Future, cell)?;
+            }
+            Kind::PromiseStream | Kind::FutureStream => {
+                match outcome {
+                    Outcome::Value(value) => self.send(cell, value)?,
+                    Outcome::Error(error) => self.end(cell, error)?,
+                }
+                self.hold(Kind::FutureStream, cell)?;
+            }
+        }
+        Ok(self.heap.push(Task::Fire(cell))?)
+    }
+
+    /// The result of an effect goes where it belongs, and the actor goes on after that.
+    pub fn gives(&mut self, actor: ActorId, goal: Goal, value: Value) -> Result<(), Fault> {
+        self.hold_value(&value)?;
+        self.heap.push(Task::Run(actor))?;
+        match (goal, value) {
+            (Goal::Stored, value) => {
+                let value = Box::new(self.alloc, value)?;
+                self.heap.push(Task::Store(actor, value))?;
+            }
+            (Goal::Kept(callback), Value::Ref(_, cell)) => {
+                self.heap.push(Task::Keep(actor, callback, cell))?;
+            }
+            (Goal::Kept(_), _) => return Err(Fault::Astray),
+        }
+        Ok(())
+    }
+
+    /// A reference counts no more, and what that leads to is done.
+    pub(crate) fn lose(&mut self, kind: Kind, cell: CellId) -> Result<Step, Fault> {
+        if !self.heap.may_drop(kind, cell) {
+            return Err(Fault::Astray);
+        }
+        match self.heap.drop_ref(kind, cell)? {
+            Dropped::Nothing | Dropped::Freed => Ok(None),
+            Dropped::Broken => self.break_cell(kind, cell),
+            Dropped::Cancel(actor) => self.cancel(actor),
+            Dropped::PortFreed => Ok(Some(Call::Unlisten(cell))),
+        }
+    }
+
+    // A cell is broken: a turn, the line, and the error of a broken promise.
+    fn break_cell(&mut self, kind: Kind, cell: CellId) -> Result<Step, Fault> {
+        if !self.turn() {
+            return Ok(None);
+        }
+        self.fill(kind, cell, Outcome::Error(BROKEN_PROMISE))?;
+        Ok(Some(Call::Line(Line::Broken(cell))))
+    }
+
+    /// An unfinished and unmarked actor is cancelled.
+    pub(crate) fn cancel(&mut self, actor: ActorId) -> Result<Step, Fault>
+        ensures { OnOk result (self.new ≡ stopped actor.0 self.old) }
+    {
+        if !self.heap.unfinished(actor) || !self.heap.frames().contains(actor) {
+            return Err(Fault::Astray);
+        }
+        self.heap.cancel(actor)?;
+        Ok(Some(Call::Line(Line::Cancel(actor))))
+    }
+
+    /// The unfinished and unmarked actor whose result a cell is, if there is one, is cancelled.
+    pub(crate) fn cancel_owner(&mut self, cell: CellId) -> Result<Step, Fault> {
+        let Some(actor) = self.heap.owner(cell) else {
+            return Ok(None);
+        };
+        if !self.heap.unfinished(actor) || self.heap.marked(actor) {
+            return Ok(None);
+        }
+        self.cancel(actor)
+    }
+
+    /// The kind of a reference to wait at a cell, if there is such a cell.
+    pub(crate) fn kind_at(&self, cell: CellId) -> Option<Kind> {
+        if self.heap.cells().references(cell).is_some() {
+            return Some(Kind::Future);
+        }
+        if self.heap.streams().references(cell).is_some() {
+            return Some(Kind::FutureStream);
+        }
+        None
+    }
+
+    /// Whether a wait at a cell needn't suspend.
+    pub(crate) fn is_ready(&self, cell: CellId) -> bool {
+        if self.heap.cells().references(cell).is_some() {
+            return self.heap.cells().content(cell).is_some();
+        }
+        self.heap.streams().references(cell).is_some() && self.heap.streams().ready(cell)
+    }
+
+    /// How many futures of a single result count.
+    pub(crate) fn futures(&self, cell: CellId) -> u128 {
+        match self.heap.cells().references(cell) {
+            Some(references) => references.count(Side::Future),
+            None => 0,
+        }
+    }
+}

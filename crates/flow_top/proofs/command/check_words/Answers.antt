@@ -1,0 +1,12 @@
+use Rattle.std.proofs.Common.{sym, ◌∙◌, codes, arith}
+use Rattle.std.specs.Prelude.{string_bytes}
+use Rattle.std.specs.declared.alloc.Global.{Global}
+use Rattle.flow_top.proofs.Deciding.{two, bytes_same}
+use Rattle.flow_top.proofs.command.check_words.Goals as goal
+
+pub returns : goal.returns
+returns c = record {
+  are = two (string_bytes {Z = Global}) c.args.words.now c.index-words-0.result c.index-words-1.result (codes "check") c.as_str-program.result.now (omega arith) c.index-words-0.is c.index-words-1.is
+      (sym (bytes_same c.as_str.result.now (codes "check") (sym c.if-not-is_command.ensures)) ∙ c.as_str.ensures.value) c.as_str-program.ensures.value;
+  program_name = sym c.if-is_dashed.ensures;
+}

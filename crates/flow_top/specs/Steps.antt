@@ -1,0 +1,74 @@
+-- What the steps of a command come to.
+use Rattle.std.specs.Prelude.{◌≡◌, ℕ, Bool, false, ◌⊎◌, List, [], ◌∷◌, Result, Ok, Err}
+use Rattle.std.specs.declared.option.Option.{Option}
+use Rattle.std.specs.declared.option.Option.TheVariants.{None, Some}
+use Rattle.std.specs.declared.vec.Vec.{Vec}
+use Rattle.std.specs.declared.alloc.Global.{Global}
+use Rattle.flow_base.specs.Faults.{next_count}
+use Rattle.flow_base.specs.Seen.{FilesSeen}
+use Rattle.flow_base.specs.declared.place.Place.{Place}
+use Rattle.flow_tree.specs.declared.decl.Program.{Program}
+use Rattle.flow_tree.specs.declared.fault.SourceFault.TheVariants as source
+use Rattle.flow_tree.specs.declared.fault.Rule.{Rule}
+use Rattle.flow_tree.specs.DeclView.{program_of}
+use Rattle.flow_tree.specs.Decls.{ProgramTree}
+use Rattle.flow_class.specs.declared.program.ClassProgram.{ClassProgram}
+use Rattle.flow_compile.specs.Verdict.{IsRefused}
+use Rattle.flow_compile.specs.Compiled.{Has}
+use Rattle.flow_staterule.specs.declared.sound.Sound.{Sound}
+use Rattle.flow_worldfile.specs.declared.world.World0.{World0}
+use Rattle.flow_worldfile.specs.declared.world.WorldFault.{WorldFault}
+use Rattle.flow_worldfile.specs.Reading as reading
+use Rattle.flow_top.specs.declared.outcome.Outcome.{Outcome}
+use Rattle.flow_top.specs.declared.outcome.Outcome.TheVariants.{Told, Run}
+use Rattle.flow_top.specs.declared.outcome.Told as told
+use Rattle.flow_top.specs.declared.outcome.Told.TheVariants.{ReadFault, OutOfMemory, Refused, NoWorld, Printed}
+use Rattle.flow_top.specs.Form.{PrintsOnly}
+use Rattle.flow_top.specs.Run.{IsText, HasProgram, AsksNames, IsNoPrint, heavy_outcome}
+
+-- What reading the file of this name came to: a call of the files failed exactly where it is unread.
+pub data FileRead (name : List ℕ) (before after : FilesSeen) : Result (Vec ℕ Global) told.Told → Type 0 where
+  is_read : (v : Vec ℕ Global) → IsText before.content name v.items → AsksNames before after (name ∷ []) → after.faults ≡ before.faults
+      → FileRead name before after (Ok v)
+  is_unread : AsksNames before after (name ∷ []) → after.faults ≡ next_count before.faults → FileRead name before after (Err ReadFault)
+  unasked : AsksNames before after [] → after.faults ≡ before.faults → FileRead name before after (Err OutOfMemory)
+  starved : AsksNames before after (name ∷ []) → after.faults ≡ before.faults → FileRead name before after (Err OutOfMemory)
+
+-- What reading and judging the program of this name came to.
+pub data Loaded (name : List ℕ) (before after : FilesSeen) : Result Sound told.Told → Type 0 where
+  is_loaded : (s : Sound) → HasProgram before.content name s.typed.program → AsksNames before after (name ∷ []) → after.faults ≡ before.faults
+      → Loaded name before after (Ok s)
+  is_refused : (text : List ℕ) (rule : Rule) (at : Place) → IsText before.content name text → IsRefused text rule at
+      → AsksNames before after (name ∷ []) → after.faults ≡ before.faults → Loaded name before after (Err (Refused (source.Refused rule at)))
+  is_lost : (p : Program) (at declared wait : Place) → HasProgram before.content name p
+      → AsksNames before after (name ∷ []) → after.faults ≡ before.faults → Loaded name before after (Err (Refused (source.AcrossWait at declared wait)))
+  no_text : AsksNames before after (name ∷ []) → after.faults ≡ next_count before.faults → Loaded name before after (Err ReadFault)
+  no_room : (names : List (List ℕ)) → AsksNames before after names → (names ≡ []) ⊎ (names ≡ name ∷ []) → after.faults ≡ before.faults
+      → Loaded name before after (Err OutOfMemory)
+
+-- the classes of a program, or that an actor weighs too much
+pub data ClassesOf (p : ProgramTree) : Result ClassProgram told.Told → Type 0 where
+  are_classes : (c : ClassProgram) → Has p c → ClassesOf p (Ok c)
+  is_heavy : (at : Place) → ClassesOf p (Err (heavy_outcome at))
+  no_classes : ClassesOf p (Err OutOfMemory)
+
+-- the world of a text, or its refusal
+pub data WorldOf (text : List ℕ) : Result World0 told.Told → Type 0 where
+  is_world : (w : World0) → reading.Answers text (Ok w) → WorldOf text (Ok w)
+  is_none : (fault : WorldFault) → reading.Answers text (Err fault) → WorldOf text (Err (NoWorld fault))
+  no_room_for_it : WorldOf text (Err OutOfMemory)
+
+-- the texts that are printed, where that is all that is done
+pub data PrintedOf (frames : Bool) (world : List ℕ) (p : Program) : Result (Option (Vec (List ℕ) Global)) told.Told → Type 0 where
+  are_texts : (texts : Vec (List ℕ) Global) → frames ≡ false → world ≡ [] → PrintsOnly (program_of p) texts.items
+      → PrintedOf frames world p (Ok (Some texts))
+  is_another : IsNoPrint frames world p → PrintedOf frames world p (Ok None)
+  no_room_for_texts : PrintedOf frames world p (Err OutOfMemory)
+
+-- what a run of classes in the world of a text comes to
+pub data RunIn (frames : Bool) (text : List ℕ) (p : Program) (classes : ClassProgram) : Result Outcome told.Told → Type 0 where
+  it_prints : (texts : Vec (List ℕ) Global) → frames ≡ false → text ≡ [] → PrintsOnly (program_of p) texts.items
+      → RunIn frames text p classes (Ok (Told (Printed texts)))
+  it_runs : (w : World0) → reading.Answers text (Ok w) → IsNoPrint frames text p → RunIn frames text p classes (Ok (Run classes w frames))
+  not_there : (fault : WorldFault) → reading.Answers text (Err fault) → RunIn frames text p classes (Err (NoWorld fault))
+  no_room_to_run : RunIn frames text p classes (Err OutOfMemory)

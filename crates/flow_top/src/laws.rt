@@ -1,9 +1,0 @@
-// Laws of the verdict on a program text.
-
-ghost use Rattle.std.specs.Prelude.{ℕ, List};
-ghost use Rattle.flow_top.specs.Laws.{OneVerdict};
-
-/// A text is one program at most, it is refused by one rule at one place at most, and never both.
-pub fn one_verdict()
-    ensures { (text : List ℕ) → OneVerdict text }
-{}

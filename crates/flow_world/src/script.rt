@@ -1,0 +1,56 @@
+// The script of a world.
+
+ghost use Rattle.std.specs.Prelude.{◌≡◌};
+ghost use Rattle.flow_world.specs.Ending.{script_time};
+
+use flow_base::memory::NoMemory;
+use flow_worldfile::{Act, At};
+use std::marker::Model;
+
+/// The lines of a script that are left, in the order in which they come: by time, and at one time in the order of the
+/// file. Contracts see the list of them.
+#[derive(Drop)]
+pub struct Script {
+    lines: Vec<At>,
+    done: usize,
+}
+
+impl Model for Script {
+    ghost use Rattle.std.specs.Prelude.{List, drop};
+    ghost use Rattle.flow_worldfile.specs.declared.world.At.{At};
+
+    ghost Value = { List At };
+
+    ghost view = { λ s. drop s.done s.lines.items };
+}
+
+impl Script {
+    /// These lines, in the order of the file.
+    pub fn new(lines: Vec<At>) -> Result<Script, NoMemory> {
+        let mut lines = lines;
+        lines.sort_by_key(|line| line.time)?;
+        Ok(Script { lines, done: 0 })
+    }
+
+    /// The time of the next line, where one is left.
+    pub fn first(&self) -> Option<u64>
+        ensures { result ≡ script_time self.now }
+    {
+        if self.done < self.lines.len() {
+            Some(self.lines[self.done].time)
+        } else {
+            None
+        }
+    }
+
+    /// Takes the next line's act, where one is left.
+    pub fn next(&mut self) -> Option<Act> {
+        if self.done < self.lines.len() {
+            let act = self.lines[self.done].act;
+            self.done += 1;
+            Some(act)
+        } else {
+            None
+        }
+    }
+}
