@@ -1,15 +1,16 @@
 -- Numbered things in a slab: each call on them as what it does to their list.
-use Rattle.std.proofs.Common.{◌≡◌, ◌≢◌, ℕ, ◌<◌, ◌≤◌, nat_eq, nat_lt, Bool, true, false, List, [], ◌∷◌, ◌++◌, length, Option, Some, None, refl, sym, ap, ap₂, ◌∙◌, subst, arith, if◌then◌else◌}
+use Rattle.std.proofs.Common.{◌≡◌, ◌≢◌, ℕ, zero, suc, ◌<◌, ◌≤◌, nat_eq, nat_lt, Bool, true, false, List, [], ◌∷◌, ◌++◌, length, Option, Some, None, refl, sym, ap, ap₂, ◌∙◌, subst, arith, if◌then◌else◌}
 use Rattle.std.specs.Option.{IsSome}
 use Rattle.std.proofs.lemmas.Bool.Decides.{nat_tests}
 use Rattle.slab.specs.Slab.{Slab, get, ContainsKey, with_value, Updates}
 use Rattle.slab.proofs.SlabLemmas.{Updates-with_value}
 use Rattle.flow_numbered.specs.declared.links.Link.{Link}
 use Rattle.flow_numbered.specs.declared.links.Ends.{Ends}
-use Rattle.flow_numbered.specs.Links.{Slots, longer, placed, pushed, unlinked, shorter, walk}
+use Rattle.flow_numbered.specs.Links.{Slots, longer, placed, pushed, unlinked, shorter, walk, walk_on}
 use Rattle.flow_numbered.specs.Lists.{first_of, last_of, IsChain, IsList}
 use Rattle.flow_numbered.specs.Numbered.{Numbered, thing, added, put, removed, next_above, IsRising}
-use Rattle.flow_numbered.specs.Stores.{things_of, key_of, IsNumbered}
+use Rattle.flow_numbered.specs.declared.numbered.Recent.{Recent}
+use Rattle.flow_numbered.specs.Stores.{IsRecent, things_of, key_of, IsNumbered}
 use Rattle.flow_numbered.proofs.Chains.{length_more, walked_far, put_list, agreed, agree_all, back_of, pushed_list, unlinked_list}
 
 same_number : (n : ℕ) → nat_eq n n ≡ true
@@ -312,3 +313,25 @@ module _ {A : Type 0} (keys : ℕ → Option ℕ) (at : Slots (ℕ × A)) (e : E
 
     pub put_view : walk new_at e.length e.first ≡ put things_in n a
     put_view = list_read new_at e _ put_in ∙ sym (put_here spot_put.front n key spot_put.here a spot_put.back spot_put.first) ∙ ap (λ xs. put xs n a) (sym (read ∙ ap things_of spot_put.whole))
+
+-- what was found last stays where the keys stay
+pub recent_same : {keys new_keys : ℕ → Option ℕ} (recent : Option Recent) → ((n : ℕ) → new_keys n ≡ keys n) → IsRecent keys recent
+    → IsRecent new_keys recent
+recent_same None same is = is
+recent_same (Some f) same is = same f.number ∙ is
+
+module _ {T : Type 0} where
+  goes_on : (link : Option (Link T)) (r s : Option ℕ → List T) → ((next : Option ℕ) → r next ≡ s next) → walk_on link r ≡ walk_on link s
+  goes_on None r s same = refl
+  goes_on (Some l) r s same = ap (λ xs. l.item ∷ xs) (same l.after)
+
+  -- the same links give the same list
+  same_walk : (at new_at : Slots T) → ((k : ℕ) → new_at k ≡ at k) → (most : ℕ) (key : Option ℕ) → walk new_at most key ≡ walk at most key
+  same_walk at new_at same zero key = refl
+  same_walk at new_at same (suc n) None = refl
+  same_walk at new_at same (suc n) (Some key) =
+      ap (λ link. walk_on link (λ next. walk new_at n next)) (same key) ∙ goes_on (at key) _ _ (same_walk at new_at same n)
+
+  pub same_items : (at new_at : Slots T) (e new_e : Ends) → ((k : ℕ) → new_at k ≡ at k) → new_e ≡ e
+      → walk new_at new_e.length new_e.first ≡ walk at e.length e.first
+  same_items at new_at e new_e same same_e = rw same_e (same_walk at new_at same e.length e.first)

@@ -3,6 +3,7 @@ use Rattle.std.specs.Prelude.{◌≡◌, ℕ, nat_eq, List, [], ◌∷◌, map, 
 use Rattle.std.specs.declared.option.Option.{Option}
 use Rattle.std.specs.declared.option.Option.TheVariants.{None, Some}
 use Rattle.flow_numbered.specs.declared.links.Ends.{Ends}
+use Rattle.flow_numbered.specs.declared.numbered.Recent.{Recent}
 use Rattle.flow_numbered.specs.Links.{Slots}
 use Rattle.flow_numbered.specs.Lists.{IsList}
 use Rattle.flow_numbered.specs.Numbered.{Numbered, IsRising}
@@ -23,3 +24,14 @@ module _ {A : Type 0} where
     pub linked : IsList at e list
     pub keyed : (n : ℕ) → keys n ≡ key_of list n
     pub rising : IsRising 0 (things_of list) greatest
+
+-- what was found last is still at its key
+abbrev pub IsRecent : (keys : ℕ → Option ℕ) → Option Recent → Type 0
+IsRecent keys None = Unit {0}
+IsRecent keys (Some f) = keys f.number ≡ Some f.key
+
+module _ {A : Type 0} where
+  -- some things stand in the slab, and one of them may have been found last
+  pub record IsStored (keys : ℕ → Option ℕ) (at : Slots (ℕ × A)) (e : Ends) (greatest : ℕ) (latest : Option Recent) : Type 0 where
+    pub numbered : IsNumbered keys at e greatest
+    pub recent : IsRecent keys latest

@@ -1,9 +1,11 @@
 // Things by number.
 
-ghost use Rattle.std.specs.Prelude.{◌≡◌, ℕ, ◌<◌, [], Some, IsSome, is_some, OnOk, OnErr, option_copied};
+ghost use Rattle.std.specs.Prelude.{◌≡◌, ℕ, ◌<◌, nat_eq, [], Some, IsSome, is_some, OnOk, OnErr, option_copied};
 ghost use Rattle.std.specs.Borrow.{sem};
+ghost use Rattle.std.specs.HashMap as hash;
 ghost use Rattle.slab.specs.Slab.{get};
 ghost use Rattle.flow_numbered.specs.Links.{walk};
+ghost use Rattle.flow_numbered.specs.Stores.{IsRecent};
 ghost use Rattle.flow_numbered.specs.Numbered.{thing, added, removed, next_above, IsRising};
 
 use crate::links::{Ends, Link, push_last, unlink};
@@ -13,11 +15,19 @@ use std::alloc::Global;
 use std::collections::HashMap;
 use std::marker::Model;
 
+// A number that was found, and the key of its thing.
+#[derive(Clone, Copy)]
+struct Recent {
+    number: u64,
+    key: usize,
+}
+
 /// Things by number. Each is found, added and removed in constant time, and the next one in the order of
-/// numbers too. Contracts see the list of numbers and things, and the greatest number that was ever added, 0 at first.
+/// numbers too; the thing last added or lent for writing is found at once, since most look-ups are for it. Contracts see the list of numbers and things, and the greatest number that was ever added, 0 at first.
 #[derive(Drop)]
 pub struct Numbered<V> {
     keys: HashMap<u64, usize>,
+    recent: Option<Recent>,
     links: Slab<Link<(u64, V)>>,
     ends: Ends,
     greatest: u64,
@@ -34,14 +44,14 @@ impl<V> Model for Numbered<V> {
     ghost coded = { store_code V.code };
 
     ghost use Rattle.flow_numbered.specs.Links.{walk};
-    ghost use Rattle.flow_numbered.specs.Stores.{IsNumbered};
+    ghost use Rattle.flow_numbered.specs.Stores.{IsStored};
 
     ghost view = { λ s. record {
       things = walk (λ k. slab.get s.links k) s.ends.length s.ends.first;
       greatest = s.greatest;
     } };
 
-    ghost invariant = { λ s. IsNumbered (λ n. hash.get nat_eq s.keys n) (λ k. slab.get s.links k) s.ends s.greatest };
+    ghost invariant = { λ s. IsStored (λ n. hash.get nat_eq s.keys n) (λ k. slab.get s.links k) s.ends s.greatest s.recent };
 }
 
 // The thing of a link.
@@ -49,6 +59,17 @@ fn value_of<V>(link: &Link<(u64, V)>) -> &V
     ensures { result.now ≡ link.now.item.1 }
 {
     &link.item.1
+}
+
+// The key of the thing with a number, if there is one.
+fn key_of(keys: &HashMap<u64, usize>, recent: Option<Recent>, number: u64) -> Option<usize>
+    requires { IsRecent (hash.get nat_eq keys.now) recent }
+    ensures { result ≡ hash.get nat_eq keys.now number }
+{
+    match recent {
+        Some(recent) if recent.number == number => Some(recent.key),
+        _ => keys.get(&number).copied(),
+    }
 }
 
 // The first number above this one along the links from a key on, at most so many of them.
@@ -80,6 +101,7 @@ impl<V> Numbered<V> {
     {
         Numbered {
             keys: HashMap::new(alloc),
+            recent: None,
             links: Slab::new(alloc),
             ends: Ends::new(),
             greatest: 0,
@@ -98,6 +120,7 @@ impl<V> Numbered<V> {
         self.keys.reserve(1)?;
         let key = push_last(&mut self.links, &mut self.ends, (number, value))?;
         self.greatest = number;
+        self.recent = Some(Recent { number, key });
         match self.keys.insert(number, key) {
             Ok(_) => Ok(()),
             Err(_) => unreachable!(),
@@ -109,8 +132,8 @@ impl<V> Numbered<V> {
         ensures value { option_copied result ≡ thing self.now.things number }
         ensures rising { IsRising 0 self.now.things self.now.greatest }
     {
-        let key = self.keys.get(&number)?;
-        Some(value_of(&self.links[*key]))
+        let key = key_of(&self.keys, self.recent, number)?;
+        Some(value_of(&self.links[key]))
     }
 
     /// Whether there is a thing with a number.
@@ -127,7 +150,8 @@ impl<V> Numbered<V> {
         ensures value { thing self.old.things number ≡ Some result.now }
         ensures rising { IsRising 0 self.old.things self.old.greatest }
     {
-        let key = *self.keys.get(&number).unwrap();
+        let key = key_of(&self.keys, self.recent, number).unwrap();
+        self.recent = Some(Recent { number, key });
         let link = &mut self.links[key];
         &mut link.item.1
     }
@@ -139,6 +163,7 @@ impl<V> Numbered<V> {
         ensures rest { self.new ≡ record self.old { things = removed self.old.things number } }
         ensures rising { IsRising 0 self.old.things self.old.greatest }
     {
+        self.recent = None;
         let key = self.keys.remove(&number).unwrap();
         let (_, value) = unlink(&mut self.links, &mut self.ends, key);
         value
@@ -148,9 +173,9 @@ impl<V> Numbered<V> {
     pub fn next_above(&self, number: u64) -> Option<u64>
         ensures { result ≡ next_above self.now.things number }
     {
-        match self.keys.get(&number) {
+        match key_of(&self.keys, self.recent, number) {
             Some(key) => {
-                let link = &self.links[*key];
+                let link = &self.links[key];
                 first_above(&self.links, link.after, self.ends.length, number)
             }
             None => first_above(&self.links, self.ends.first, self.ends.length, number),
@@ -171,6 +196,7 @@ impl<V> Numbered<V> {
         ensures { self.new ≡ record self.old { things = [] } }
     {
         self.keys.clear();
+        self.recent = None;
         self.links.clear();
         self.ends = Ends::new();
     }
