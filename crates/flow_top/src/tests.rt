@@ -2,7 +2,7 @@
 // formats' own pages.
 
 use crate::samples::{
-    EXAMPLES, INSIDES, LOCAL_ACROSS_LOOP, LOCAL_ACROSS_WAIT, STOP_CANCELS_IN_ORDER,
+    EXAMPLES, INSIDES, LOCAL_ACROSS_LOOP, LOCAL_ACROSS_WAIT, REQUEST_SERVER, STOP_CANCELS_IN_ORDER,
 };
 use crate::top::flow_main;
 use crate::traces::{RUNS, STOP_CANCELS_IN_ORDER_TRACE, STOP_CANCELS_IN_ORDER_WORLD};
@@ -210,6 +210,19 @@ fn refuses_worlds(rt: HostRuntime) -> Result<(), AllocError> {
     }
     let bound = b"trace 1\nend bound\n";
     assert!(rt; runs_in(alloc, &words, HELLO, b"events 0\n", 0, bound)?);
+    Ok(())
+}
+
+// With one turn the line goes out and nothing is left for the end of the actor, with two nothing for its result.
+#[test]
+fn budgets_of_turns(rt: HostRuntime) -> Result<(), AllocError> {
+    let alloc = rt.alloc();
+    let words = ["run", "p", "w"];
+    let printed = b"trace 1\nevent 1 0 boot 0\nstart 1 main\nprint 1 \"hello\"\nend spent\n";
+    assert!(rt; runs_in(alloc, &words, HELLO, b"turns 1\n", 4, printed)?);
+    let done = b"trace 1\nevent 1 0 boot 0\nstart 1 main\nprint 1 \"hello\"\ndone 1\nend spent\n";
+    assert!(rt; runs_in(alloc, &words, HELLO, b"turns 2\n", 4, done)?);
+    assert!(rt; runs_in(alloc, &words, HELLO, b"turns 3\n", 0, HELLO_TRACE)?);
     Ok(())
 }
 
@@ -437,6 +450,18 @@ fn failing_sink(rt: HostRuntime) -> Result<(), AllocError> {
     assert!(rt; breaks_off(alloc, &["format", "p"], HELLO, 3, lines)?);
     assert!(rt; breaks_off(alloc, &["format", "p"], b"#", 1, b"")?);
     assert!(rt; breaks_off(alloc, &["format", "p"], b"#", 2, b"refused S1 at 1:1\n")?);
+    Ok(())
+}
+
+// The lines of a run go out as they are made: what stood before the call that failed has gone out.
+#[test]
+fn streams_to_the_sink(rt: HostRuntime) -> Result<(), AllocError> {
+    let alloc = rt.alloc();
+    let words = ["run", "p", "w"];
+    let first = b"trace 1\n";
+    assert!(rt; breaks_off(alloc, &words, REQUEST_SERVER, 2, first)?);
+    let head = b"trace 1\nevent 1 0 boot 0\nstart 1 main\n";
+    assert!(rt; breaks_off(alloc, &words, REQUEST_SERVER, 4, head)?);
     Ok(())
 }
 

@@ -15,7 +15,7 @@ invariant_of-self-2 g c =
     let above : c.self.inside.greatest < c.args.number = omega (arith, c.requires, ap (λ (s : Store g.row.V.Denot). s.greatest) c.self.view_is) in
     record {
       numbered = added_store _ _ _ _ c.self.invariant.numbered c.args.number _ c.args.value _ _ _ above c.in_ok-key.ensures.vacant c.in_ok-key.ensures.links c.in_ok-key.ensures.ends
-      (λ m. c.in-Ok.ensures.updates.0 m ∙ ap (cond (nat_eq c.args.number m) (Some c.in_ok-key.key)) (c.reserve.ensures.entries.2 m));
+          (λ m. c.in-Ok.ensures.updates.0 m ∙ ap (cond (nat_eq c.args.number m) (Some c.in_ok-key.key)) (c.reserve.ensures.entries.2 m));
       recent = c.in-Ok.ensures.updates.1;
     }
 
