@@ -1,5 +1,5 @@
 -- The place of a number among events of rising numbers.
-use Rattle.std.proofs.Common.{◌≡◌, ◌≢◌, ℕ, zero, suc, ◌+◌, ◌<◌, ◌≤◌, List, [], ◌∷◌, length, get_or, sym, ap, ◌∙◌, refl, ltb-true, ltb-false, zero-le, le_refl, None, Some, arith}
+use Rattle.std.proofs.Common.{◌≡◌, ◌≢◌, ℕ, zero, suc, ◌+◌, ◌-◌, ◌<◌, ◌≤◌, List, [], ◌∷◌, length, get_or, sym, ap, ◌∙◌, refl, ltb-true, ltb-false, zero-le, le_refl, None, Some, arith}
 use Rattle.std.specs.Prelude.{Bool, true, false, nat_lt, nat_eq, if◌then◌else◌}
 use Rattle.std.specs.List.{insert, remove, AllWithin}
 use Rattle.std.specs.List.Sorted.{IsNonDecreasingBy}
@@ -94,3 +94,18 @@ nothing_at {A} n xs k x bound rises below from is other = nothing_there n xs (λ
         let low = from k d (le_refl k) bound in
         let same : get_or xs k d ≡ x = any_default xs k d x bound ∙ sym is in
         other (ap (λ y. y.number) (sym same) ∙ omega (arith, up, low, e))
+
+-- where the last number is no greater than a number, all are, and where the first is no less, none is
+pub all_up_to : {A : Type 0} (n : ℕ) (xs : List (Event A)) (x : Event A) → IsNonDecreasingBy (λ e. e.number) xs → x ≡ get_or xs (length xs - 1) x → x.number ≤ n
+    → AllWithin (λ e. e.number ≤ n) xs 0 (length xs)
+all_up_to n xs x rises is up k d low high =
+    let last = any_default xs (length xs - 1) x d (omega (arith, high)) in
+    let most = rises k (length xs - 1) d (omega (arith, high)) (omega (arith, high)) in
+    omega (arith, most, ap (λ e. e.number) (is ∙ last), up)
+
+pub all_from : {A : Type 0} (n : ℕ) (xs : List (Event A)) (x : Event A) → IsNonDecreasingBy (λ e. e.number) xs → x ≡ get_or xs 0 x → n ≤ x.number
+    → AllWithin (λ e. n ≤ e.number) xs 0 (length xs)
+all_from n xs x rises is low k d from high =
+    let first = any_default xs 0 x d (omega (arith, high)) in
+    let least = rises 0 k d from high in
+    omega (arith, least, ap (λ e. e.number) (is ∙ first), low)

@@ -1,6 +1,6 @@
 -- Pending events: what comes at which time, numbered in the order of making.
-use Rattle.std.specs.Prelude.{ℕ, suc, Bool, ◌&&◌, ◌||◌, List, [], ◌∷◌, nat_eq, nat_lt, if◌then◌else◌}
-use Rattle.std.specs.List.{fold}
+use Rattle.std.specs.Prelude.{◌≡◌, ℕ, suc, Bool, false, ◌&&◌, ◌||◌, List, [], ◌∷◌, nat_eq, nat_lt, if◌then◌else◌}
+use Rattle.std.specs.List.{fold, AllByRecursion}
 use Rattle.std.specs.declared.option.Option.{Option}
 use Rattle.std.specs.declared.option.Option.TheVariants.{None, Some}
 
@@ -53,3 +53,12 @@ next_event (x ∷ xs) = Some (x.time, x.number)
 -- events in any order, each put in its place
 abbrev pub in_order : {A : Type 0} → List (Pending A) → List (Pending A)
 in_order xs = fold (λ ys x. placed x ys) [] xs
+
+-- events in the order in which they come: none comes before one ahead of it
+abbrev pub StandInOrder : {A : Type 0} → List (Pending A) → Type 0
+StandInOrder [] = Unit {0}
+StandInOrder (x ∷ xs) = AllByRecursion (λ y. comes_before y x ≡ false) xs × StandInOrder xs
+
+-- a queue that is restored from its entries is equal to it
+abbrev pub Restores : Type 0 → Type 0
+Restores A = (q : Queue A) → StandInOrder q.pending → in_order q.pending ≡ q.pending

@@ -2,6 +2,7 @@
 //! time, and at one time with the least number, comes next.
 #![tactic(auto)]
 
+pub mod laws;
 mod moment;
 #[cfg(test)]
 mod tests;

@@ -55,8 +55,22 @@ impl<T: Drop> Moment<T> {
         Ok(())
     }
 
-    /// How many events have a number up to this.
+    /// How many events have a number up to this: mostly all of them, which only the last one is asked for.
     fn place_after(&self, number: u64) -> usize
+        ensures bound { result ≤ length self.now }
+        ensures place { IsPartitionPoint (λ e. e.number ≤ number) (λ e. number < e.number) self.now result }
+    {
+        let Some(last) = self.events.back() else {
+            return 0;
+        };
+        if last.number <= number {
+            return self.events.len();
+        }
+        self.search_after(number)
+    }
+
+    // How many events have a number up to this.
+    fn search_after(&self, number: u64) -> usize
         ensures bound { result ≤ length self.now }
         ensures place { IsPartitionPoint (λ e. e.number ≤ number) (λ e. number < e.number) self.now result }
     {
@@ -81,8 +95,22 @@ impl<T> Moment<T> {
         Some(event.what)
     }
 
-    /// How many events have a number below this.
+    /// How many events have a number below this: mostly none of them, which only the first one is asked for.
     fn place_from(&self, number: u64) -> usize
+        ensures bound { result ≤ length self.now }
+        ensures place { IsPartitionPoint (λ e. e.number < number) (λ e. number ≤ e.number) self.now result }
+    {
+        let Some(first) = self.events.front() else {
+            return 0;
+        };
+        if number <= first.number {
+            return 0;
+        }
+        self.search_from(number)
+    }
+
+    // How many events have a number below this.
+    fn search_from(&self, number: u64) -> usize
         ensures bound { result ≤ length self.now }
         ensures place { IsPartitionPoint (λ e. e.number < number) (λ e. number ≤ e.number) self.now result }
     {

@@ -2,7 +2,7 @@
 
 ghost use Rattle.std.specs.Prelude.{◌≡◌, ◌+◌, ◌<◌, ◌^◌, [], OnErr, OnOk, IfOk, map};
 ghost use Rattle.flow_timers.specs.Moments.{pending_of, event_of};
-ghost use Rattle.flow_timers.specs.Pending.{no_events, with_event, placed, event_at, without_event, next_event, in_order};
+ghost use Rattle.flow_timers.specs.Pending.{no_events, with_event, placed, event_at, without_event, next_event, in_order, StandInOrder};
 
 use crate::moment::Moment;
 use flow_base::memory::NoMemory;
@@ -23,14 +23,14 @@ pub struct Timers<T> {
 impl<T> Model for Timers<T> {
     ghost use Rattle.std.specs.Prelude.{List, [], ◌≢◌};
     ghost use Rattle.std.specs.List.{All};
-    ghost use Rattle.flow_timers.specs.Pending.{Queue};
+    ghost use Rattle.flow_timers.specs.Pending.{Queue, StandInOrder};
     ghost use Rattle.flow_timers.specs.Moments.{events_of};
 
     ghost Value = { Queue T };
 
     ghost view = { λ t. record { made = t.made; pending = events_of t.moments.entries } };
 
-    ghost invariant = { λ t. All (λ m. m.1 ≢ []) t.moments.entries };
+    ghost invariant = { λ t. All (λ m. m.1 ≢ []) t.moments.entries × StandInOrder (events_of t.moments.entries) };
 }
 
 impl<T: Drop> Timers<T> {
@@ -134,7 +134,8 @@ impl<T> Timers<T> {
 
     /// Time, number and content of each pending event, in the order in which they come.
     pub fn entries(&self) -> Result<Vec<(u64, u64, &T)>, NoMemory>
-        ensures { IfOk result (λ es. map pending_of es.items ≡ self.now.pending) }
+        ensures all { IfOk result (λ es. map pending_of es.items ≡ self.now.pending) }
+        ensures in_order { StandInOrder self.now.pending }
     {
         let mut entries = Vec::new(self.alloc);
         for (time, moment) in self.moments.iter() {

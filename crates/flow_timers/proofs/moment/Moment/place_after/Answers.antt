@@ -1,12 +1,12 @@
-use Rattle.std.proofs.Common.{rules, leb-true, leb-false}
-use Rattle.std.proofs.lemmas.List.Sorted.{IsPartitionPoint-from_clause, IsPartitionedBy-leb}
-use Rattle.std.specs.Prelude.{nat_le}
+use Rattle.std.proofs.Common.{◌≡◌, ◌-◌, ◌∙◌, ap, sym, arith, length, get_or}
+use Rattle.flow_timers.proofs.Numbering.{all_up_to}
 use Rattle.flow_timers.proofs.moment.Moment.place_after.Goals as goal
 
-pub returns-clause-place : goal.returns-clause-place
-returns-clause-place g c =
-    let n = c.args.number in
-    let (low, high) =
-    IsPartitionPoint-from_clause (λ e. nat_le e.number n) c.self.inside.events.items _ c.partition_point.ensures.partitioned
-    (IsPartitionedBy-leb (λ e. e.number) c.self.inside.events.items n c.self.invariant) (λ a r q k. search rules) in
-    rw (← c.self.view_is) ((λ k d from below. leb-true _ _ (low k d from below)), (λ k d from below. leb-false _ _ (high k d from below)))
+pub returns-then-last-number-clause-place : goal.returns-then-last-number-clause-place
+returns-then-last-number-clause-place g c =
+    let es = c.self.inside.events.items in
+    let x = c.in-Some.last.now in
+    let size : c.len.result ≡ length es = omega (arith, c.len.ensures, c.self.inside.events.ok) in
+    let is = c.in-Some.ensures.lookup ∙ ap (λ n. get_or es (n - 1) x) (sym c.len.ensures ∙ size) in
+    let low = all_up_to c.args.number es x c.self.invariant is c.if-last-number.true in
+    rw (← c.self.view_is) ((λ k d from below. low k d from (omega (arith, below, size))), (λ k d from below. absurd (omega (arith, from, below, size))))

@@ -2,9 +2,10 @@ use Rattle.std.proofs.Common.{◌≡◌, ◌≢◌, [], ◌∙◌, ap, sym, subs
 use Rattle.std.specs.Ordering.{nat_cmp}
 use Rattle.std.specs.BTreeMap.{is_at}
 use Rattle.std.specs.Map.{set_value, remove_entry}
-use Rattle.flow_timers.specs.Pending.{event_at, without_event}
+use Rattle.flow_timers.specs.Pending.{event_at, without_event, StandInOrder}
 use Rattle.flow_timers.specs.Moments.{events_of}
 use Rattle.flow_timers.proofs.Filled.{all_set, all_taken, all_found}
+use Rattle.flow_timers.proofs.Ordered.{without_stands}
 use Rattle.flow_timers.proofs.Taking.{elsewhere, at_its_time, left_empty, none_numbered, left_none, left_some}
 use Rattle.flow_timers.proofs.timers.Timers.remove.Goals as goal
 use Rattle.flow_timers.proofs.timers.Timers.remove.Goals.{then-is_empty+in-Some-1, then-is_empty+in-None-1, else-is_empty}
@@ -29,9 +30,11 @@ invariant_of-self-in_err-what g c =
     let w = c.take.new.self in
     let old = c.in_ok-moment.moment.now in
     let written = (c.get_mut.follows.holds w).0 in
-    let old_some = all_found (λ xs. xs ≢ []) test ms old c.self.invariant (sym c.in_ok-moment.ensures.value) in
+    let old_some = all_found (λ xs. xs ≢ []) test ms old c.self.invariant.0 (sym c.in_ok-moment.ensures.value) in
     let kept : w ≡ old = c.in_err-what.ensures.left ∙ none_numbered c.args.number old (sym c.in_err-what.ensures.what) in
-    rw written (all_set (λ xs. xs ≢ []) test ms w c.self.invariant (subst (λ xs. xs ≢ []) (sym kept) old_some))
+    let taken = at_its_time c.args.time c.args.number ms old c.in_ok-moment.ensures.ordered (sym c.in_ok-moment.ensures.value) in
+    let order = subst (λ xs. StandInOrder (events_of (set_value test ms xs))) (sym c.in_err-what.ensures.left) (subst StandInOrder taken.1 (without_stands c.args.time c.args.number (events_of ms) c.self.invariant.1)) in
+    rw written (all_set (λ xs. xs ≢ []) test ms w c.self.invariant.0 (subst (λ xs. xs ≢ []) (sym kept) old_some), order)
 
 pub returns-in_err-what-clause-what : goal.returns-in_err-what-clause-what
 returns-in_err-what-clause-what g c =
@@ -53,16 +56,23 @@ pub invariant_of-self-then-is_empty : goal.invariant_of-self-then-is_empty
 invariant_of-self-then-is_empty g c =
     let test = is_at (nat_cmp c.args.time) in
     let ms = c.self.inside.moments.entries in
-    let written = (c.get_mut.follows.holds c.take.new.self).0 in
-    rw c.remove.ensures.entries (rw written (all_taken (λ xs. xs ≢ []) test ms c.take.new.self c.self.invariant))
+    let w = c.take.new.self in
+    let taken = at_its_time c.args.time c.args.number ms c.in_ok-moment.moment.now c.in_ok-moment.ensures.ordered (sym c.in_ok-moment.ensures.value) in
+    let written = (c.get_mut.follows.holds w).0 in
+    let empty = left_none w c.is_empty.result c.is_empty.ensures c.if-is_empty.true in
+    let gone = subst (λ xs. events_of (remove_entry test (set_value test ms xs)) ≡ events_of (set_value test ms xs)) (sym empty) (left_empty test ms) in
+    let left = subst (λ xs. StandInOrder (events_of (set_value test ms xs))) (sym c.in_ok-what.ensures.left) (subst StandInOrder taken.1 (without_stands c.args.time c.args.number (events_of ms) c.self.invariant.1)) in
+    rw c.remove.ensures.entries (rw written (all_taken (λ xs. xs ≢ []) test ms w c.self.invariant.0, subst StandInOrder (sym gone) left))
 
 pub invariant_of-self-else-is_empty : goal.invariant_of-self-else-is_empty
 invariant_of-self-else-is_empty g c =
     let test = is_at (nat_cmp c.args.time) in
     let ms = c.self.inside.moments.entries in
     let w = c.take.new.self in
+    let taken = at_its_time c.args.time c.args.number ms c.in_ok-moment.moment.now c.in_ok-moment.ensures.ordered (sym c.in_ok-moment.ensures.value) in
     let written = (c.get_mut.follows.holds w).0 in
-    rw written (all_set (λ xs. xs ≢ []) test ms w c.self.invariant (left_some w c.is_empty.result c.is_empty.ensures c.if-is_empty.false))
+    let left = subst (λ xs. StandInOrder (events_of (set_value test ms xs))) (sym c.in_ok-what.ensures.left) (subst StandInOrder taken.1 (without_stands c.args.time c.args.number (events_of ms) c.self.invariant.1)) in
+    rw written (all_set (λ xs. xs ≢ []) test ms w c.self.invariant.0 (left_some w c.is_empty.result c.is_empty.ensures c.if-is_empty.false), left)
 
 pub returns-clause-what : goal.returns-clause-what
 returns-clause-what g c =
