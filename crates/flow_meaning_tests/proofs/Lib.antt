@@ -8,3 +8,4 @@ pub mod RowsViews
 pub mod RowsOrder
 mod CarriedExamples
 mod CarriedMore
+mod Edges
