@@ -14,8 +14,8 @@ use Rattle.flow_ast.specs.TypingNames.{named, call_names, method_names}
 use Rattle.flow_ast.specs.Typing.{routine_named}
 use Rattle.flow_value.specs.Values.{ValueTree}
 use Rattle.flow_eval.specs.Eval.{Res, then, Done}
-use Rattle.flow_eval.specs.Functions.{Call, read_in}
-use Rattle.flow_meaning.specs.Asks.{Act, Goes}
+use Rattle.flow_eval.specs.Functions.{read_in}
+use Rattle.flow_meaning.specs.Asks.{Goes}
 use Rattle.flow_meaning.specs.Process.{View}
 use Rattle.flow_meaning.specs.Evaluating.{Names, Look, setting, StepOf, given, evaluated, Effectful, effectful, effect_in, value, values, call_act, function_act, plain_act, based_act, before_last, last_of}
 use Rattle.flow_meaning.proofs.BareParts.{routine_bare, read_in_bare}

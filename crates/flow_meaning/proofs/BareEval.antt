@@ -1,18 +1,16 @@
 -- Evaluation doesn't depend on places.
-use Rattle.std.proofs.Common.{◌≡◌, ℕ, zero, suc, List, [], ◌∷◌, map, pos, refl, ap, ap₂, ◌∙◌}
+use Rattle.std.proofs.Common.{◌≡◌, ℕ, zero, suc, List, [], ◌∷◌, map, refl, ap, ap₂, ◌∙◌}
 use Rattle.std.proofs.Math.Path.{fun_ext}
 use Rattle.std.specs.Prelude.{position, slice_get, slice_set, option_map}
 use Rattle.std.specs.Str.{bytes_eq}
 use Rattle.std.specs.declared.option.Option.{Option}
 use Rattle.std.specs.declared.option.Option.TheVariants.{None, Some}
 use Rattle.flow_tree.specs.declared.ty.Ident.{Ident}
-use Rattle.flow_tree.specs.declared.expr.Op.{Op}
 use Rattle.flow_tree.specs.Tree.{ExprTree, ExprTrees, IntExpr, TextExpr, BoolExpr, VoidExpr, VarExpr, CallExpr, FieldExpr, MethodExpr, NotExpr, NegExpr, BinaryExpr, ParenExpr, NoExprs, MoreExprs}
 use Rattle.flow_tree.specs.Body.{IntoTree, ChangeTree, PlusChange, MinusChange, UpChange, DownChange, Body, End, BlockStmt, IfStmt, IfElseStmt, WhileStmt, ForStmt, LoopStmt, BreakStmt, ContinueStmt, ReturnStmt, ThrowStmt, TryStmt, ChooseStmt, DeclareStmt, AssignStmt, ModifyStmt, CallStmt, WaitStmt}
 use Rattle.flow_tree.specs.Decls.{ParamTree, RoutineTree}
-use Rattle.flow_tree.specs.Canon.{bare_ident, bare_expr, bare_exprs, bare_into, bare_change, bare_body, bare_param, bare_record, bare_routine}
+use Rattle.flow_tree.specs.Canon.{bare_ident, bare_expr, bare_exprs, bare_into, bare_change, bare_body, bare_param, bare_routine}
 use Rattle.flow_ast.specs.declared.predefined.Predefined.{Predefined}
-use Rattle.flow_ast.specs.declared.predefined.Method.{Method}
 use Rattle.flow_ast.specs.TypingNames.{named, call_names, method_names}
 use Rattle.flow_ast.specs.Typing.{routine_named}
 use Rattle.flow_value.specs.declared.value.RecordId.{RecordId}
@@ -21,7 +19,7 @@ use Rattle.flow_eval.specs.Answers.{bool_of, error_of}
 use Rattle.flow_eval.specs.Operators.{operated, negated, inverted}
 use Rattle.flow_eval.specs.Records.{record_id, field, field_answer}
 use Rattle.flow_eval.specs.Eval.{Res, Done, Fails, Spent, Meaningless, Setting, Runner, then, at_once, second, method_called, function_called, declared_called, called, eval, eval_all}
-use Rattle.flow_eval.specs.Functions.{Locals, Run, Goes, Breaks, Continues, Returns, after, valued, chosen, looped, stepped, thrown, rethrown, declared, put_at_var, put_place, put_path, put_in, read_in, read_path, assigned, with_first, entered, finished, scope, skip, leave_loop, change_sign, try_run, evaluated, if_run, pass_run, turn_run, loop_run, for_run, throw_run, declare_run, assign_run, change_operand, changed, modify_run, call_by, call_run, return_run, exec, body_run, run_function, deepest, Eval, Call}
+use Rattle.flow_eval.specs.Functions.{Locals, Run, Goes, Returns, after, valued, chosen, looped, stepped, thrown, declared, put_at_var, put_place, put_path, read_path, assigned, with_first, entered, finished, scope, skip, leave_loop, change_sign, try_run, if_run, turn_run, loop_run, for_run, throw_run, declare_run, assign_run, change_operand, changed, modify_run, call_by, call_run, return_run, exec, body_run, run_function, deepest, Eval, Call}
 use Rattle.flow_meaning.specs.Bare.{bare_setting}
 use Rattle.flow_meaning.proofs.BareParts.{routine_bare, record_bare, field_bare, put_in_bare, read_in_bare}
 

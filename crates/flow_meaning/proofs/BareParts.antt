@@ -1,5 +1,5 @@
 -- What evaluation reads of records, functions and paths doesn't depend on places.
-use Rattle.std.proofs.Common.{◌≡◌, ℕ, zero, suc, ◌+◌, List, [], ◌∷◌, Bool, true, false, cond, not, map, length, refl, ap, ◌∙◌, ap₂, arith, if◌then◌else◌}
+use Rattle.std.proofs.Common.{◌≡◌, ℕ, zero, suc, ◌+◌, List, [], ◌∷◌, Bool, true, false, cond, not, map, refl, ap, ◌∙◌, ap₂, arith, if◌then◌else◌}
 use Rattle.std.specs.Prelude.{position, slice_get, option_map}
 use Rattle.std.specs.List.{position_or_len}
 use Rattle.std.specs.Str.{bytes_eq}

@@ -11,13 +11,12 @@ use Rattle.flow_tree.specs.Canon.{bare_ident, bare_expr, bare_into, bare_wait, b
 use Rattle.flow_ast.specs.Slots.{into_slots, body_slots, branch_slots}
 use Rattle.flow_value.specs.Values.{ValueTree, RefValue}
 use Rattle.flow_eval.specs.Answers.{bool_of, error_of}
-use Rattle.flow_eval.specs.Eval.{Res}
-use Rattle.flow_eval.specs.Functions.{default_value, put_in, read_in}
+use Rattle.flow_eval.specs.Functions.{default_value}
 use Rattle.flow_class.specs.Scopes.{Local, scope, outside}
 use Rattle.flow_meaning.specs.Cells.{is_some}
-use Rattle.flow_meaning.specs.Asks.{Spot, Goal, Stored, Kept, Goes, Drops, Effects, Operand, Returns, Throws}
+use Rattle.flow_meaning.specs.Asks.{Spot, Goal, Stored, Kept, Effects, Returns}
 use Rattle.flow_meaning.specs.Process.{View}
-use Rattle.flow_meaning.specs.Evaluating.{Names, bind, StepOf, asks, quietly, given, evaluated, Effectful, effect_in, effect_of, value, values, call_act}
+use Rattle.flow_meaning.specs.Evaluating.{Names, bind, StepOf, asks, quietly, given, Effectful, effect_in, effect_of, value, values, call_act}
 use Rattle.flow_meaning.specs.Variables.{Vars, look, place_in}
 use Rattle.flow_meaning.specs.Text.{branch_count, next_spot, past, past_branches}
 use Rattle.flow_meaning.specs.Items.{Site, Loop, Single, OneOf, Target, Declared, Path, Item, Do, Leave, Round, Check, Made, Handler, Over, Actor, actor, over, site_past, site_at, entered, with_locals, is_there, leave_scope, left_scope, everything, declare, assign_root, assign_at, assign_old, assign, put_goal, path_from, modified, change, branch_operand, operand, Unwound, unwind, raised}

@@ -1,5 +1,5 @@
 -- At the boundaries of related runs the same is seen: where related actors that wait do so at the same place.
-use Rattle.std.proofs.Common.{◌≡◌, ℕ, suc, ◌++◌, nat_eq, Bool, true, false, List, [], ◌∷◌, map, refl, sym, ap, ap₂, ◌∙◌, subst, if◌then◌else◌}
+use Rattle.std.proofs.Common.{◌≡◌, ℕ, ◌++◌, nat_eq, Bool, true, false, List, [], ◌∷◌, map, refl, sym, ap, ap₂, ◌∙◌, subst, if◌then◌else◌}
 use Rattle.std.specs.declared.option.Option.{Option}
 use Rattle.std.specs.declared.option.Option.TheVariants.{None, Some}
 use Rattle.flow_worldfile.specs.Worlds as file
@@ -7,11 +7,11 @@ use Rattle.flow_trace.specs.declared.line.Line.{Line}
 use Rattle.flow_meaning.specs.Numbered.{Numbered, thing}
 use Rattle.flow_meaning.specs.Asks.{Spot}
 use Rattle.flow_meaning.specs.Process.{Entry, Task, Core, Engine}
-use Rattle.flow_meaning.specs.Orderly.{Phase, Waiting, phase_by, phase_of, is_suspended, tasks_of}
+use Rattle.flow_meaning.specs.Orderly.{Phase, Waiting, phase_by, is_suspended, tasks_of}
 use Rattle.flow_meaning.specs.Law.{BothOrNone, Simulates, Related, AtRest}
 use Rattle.flow_meaning.specs.World.{Place, World}
 use Rattle.flow_meaning.specs.RunLaw.{SamePlace, SamePlaces, SameWorld, SameStates}
-use Rattle.flow_meaning.specs.Views.{Unfinished, WaitingBranch, spot_at, unfinished, branches_from, waiting}
+use Rattle.flow_meaning.specs.Views.{spot_at, unfinished, branches_from, waiting}
 use Rattle.flow_meaning.specs.Bare.{Sight, Seen}
 use Rattle.flow_meaning.proofs.Posture.{same_number}
 use Rattle.flow_meaning.proofs.LiftRuns.{traces_follow, traces_return}

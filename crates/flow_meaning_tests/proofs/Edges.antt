@@ -1,24 +1,24 @@
 -- What the edges of the definitions come to, computed: drops that name a local twice, branches that aren't there, and
 -- assignments to what is no variable.
 use Rattle.std.proofs.Common.{◌≡◌, ℕ, suc, List, [], ◌∷◌, refl}
-use Rattle.std.specs.Prelude.{pos, true, false, codes}
+use Rattle.std.specs.Prelude.{pos, false, codes}
 use Rattle.std.specs.Fmt.{digits}
 use Rattle.std.specs.declared.option.Option.{Option}
 use Rattle.std.specs.declared.option.Option.TheVariants.{None, Some}
 use Rattle.flow_tree.specs.Tree.{IntType, VoidType, IntExpr, VoidExpr, VarExpr}
-use Rattle.flow_tree.specs.Body.{WaitTree, Body, End, AssignStmt, WaitStmt}
+use Rattle.flow_tree.specs.Body.{End, AssignStmt, WaitStmt}
 use Rattle.flow_value.specs.declared.value.Kind.TheVariants as kind
 use Rattle.flow_value.specs.Values.{ValueTree, IntValue, RefValue}
-use Rattle.flow_class.specs.Classes.{CallbackTree, InstrTree, SetInstr, DropInstr, LastTree, ChooseLast, ReturnLast, ClassTree}
+use Rattle.flow_class.specs.Classes.{InstrTree, SetInstr, DropInstr, ChooseLast, ReturnLast, ClassTree}
 use Rattle.flow_class.specs.Code.{Last}
 use Rattle.flow_class.specs.Scopes.{path_over}
 use Rattle.flow_meaning.specs.Asks.{Drops}
 use Rattle.flow_meaning.specs.Process.{View}
 use Rattle.flow_meaning.specs.Evaluating.{Names, asks, stuck}
-use Rattle.flow_meaning.specs.Items.{Site, Item, Do, Actor, actor}
+use Rattle.flow_meaning.specs.Items.{Do, Actor, actor}
 use Rattle.flow_meaning.specs.SourceStep as text
 use Rattle.flow_meaning.specs.Source as source
-use Rattle.flow_meaning.specs.Frame.{Memory, Frame, held_in, emptied, next_instr}
+use Rattle.flow_meaning.specs.Frame.{Memory, Frame, held_in, next_instr}
 use Rattle.flow_meaning.specs.Class as class
 use Rattle.flow_meaning_tests.proofs.RowTerms.{nowhere, id}
 
