@@ -18,3 +18,11 @@ pub mod Relating
 pub mod Alike
 pub mod Lift
 pub mod LiftRuns
+pub mod BareParts
+pub mod BareEval
+pub mod BareActs
+pub mod Mirrors
+pub mod BareSource
+pub mod BareClass
+pub mod Sights
+pub mod PlacesAside

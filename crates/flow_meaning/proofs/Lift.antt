@@ -10,7 +10,7 @@ use Rattle.flow_meaning.specs.Process.{Task, Run, Halt, Core, Engine}
 use Rattle.flow_meaning.specs.Step.{Stepped, proc, view, answer, run_next, run, popped, do_task, step_tasks, step_if, step}
 use Rattle.flow_meaning.specs.Burst.{Host, Live, live, add_lines, serve, advanced, advance, Burst, rests, steps}
 use Rattle.flow_meaning.specs.Orderly.{Orderly, InOrder, UnlessStopped, Phase, Free}
-use Rattle.flow_meaning.specs.Law.{Quietly, still, quiet, Answers, BothOrNone, Simulates, Related, Same, BurstsFollow, BurstsReturn}
+use Rattle.flow_meaning.specs.Law.{Quietly, still, quiet, Moves, Answers, BothOrNone, Simulates, Related, Same, BurstsFollow, BurstsReturn}
 use Rattle.flow_meaning.proofs.Posture.{thing_put, same_rank, Unless, unless, unless_map, unless_both}
 use Rattle.flow_meaning.proofs.Shifts.{run_of}
 use Rattle.flow_meaning.proofs.TaskShifts.{popped_at}
@@ -82,12 +82,20 @@ quiet_many d h w c i ts {b = b} {g = g} eh et (quiet m e q) ys k =
     after (live (proc c (put ys i m)) w) (ap (advanced h w) (step_runs d (h.supply w) c ys i ts b (None, m) eh et k e))
     (subst (λ l. Many d h (live (proc c (put ys i m)) w) (live (proc c l) w)) (put_put ys i m g) (quiet_many d h w c i ts eh et q (put ys i m) (thing_put ys i b m k)))
 
+-- at least one quiet step of an actor is at least one of its process
+moves_many : {W B : Type 0} (d : Engine B) (h : Host W) (w : W) (c : Core) (i : ℕ) (ts : List Task) {b g : B} → c.halted ≡ None → c.tasks ≡ Run i ∷ ts → Moves d (view (h.supply w) i c) b g → (ys : Numbered B) → thing ys i ≡ Some b → Many1 d h (live (proc c ys) w) (live (proc c (put ys i g)) w)
+moves_many d h w c i ts {b = b} {g = g} eh et m ys k = (
+  live (proc c (put ys i m.0)) w,
+  ap (advanced h w) (step_runs d (h.supply w) c ys i ts b (None, m.0) eh et k m.1),
+  subst (λ l. Many d h (live (proc c (put ys i m.0)) w) (live (proc c l) w)) (put_put ys i m.0 g) (quiet_many d h w c i ts eh et m.2 (put ys i m.0) (thing_put ys i b m.0 k)),
+)
+
 module _ {W A B : Type 0} (e : Engine A) (d : Engine B) (h : Host W) (R : Phase → A → B → Type 0) (sim : Simulates e d R) where
   -- the second moves, or the first has become lighter
-  abbrev Moves : Numbered A → Live W B → Live W A → Live W B → Type 0
-  Moves xs u l m = Many1 d h u m ⊎ (Many d h u m × (load sim.weight l.proc.actors < load sim.weight xs))
+  abbrev Advances : Numbered A → Live W B → Live W A → Live W B → Type 0
+  Advances xs u l m = Many1 d h u m ⊎ (Many d h u m × (load sim.weight l.proc.actors < load sim.weight xs))
 
-  moved : (xs : Numbered A) (u : Live W B) (l : Live W A) (m : Live W B) → Moves xs u l m → Many d h u m
+  moved : (xs : Numbered A) (u : Live W B) (l : Live W A) (m : Live W B) → Advances xs u l m → Many d h u m
   moved xs u l m (inl k) = many_of d h k
   moved xs u l m (inr k) = k.0
 
@@ -98,7 +106,7 @@ module _ {W A B : Type 0} (e : Engine A) (d : Engine B) (h : Host W) (R : Phase 
   -- what the second does for a step of the first
   abbrev Does : Numbered A → Live W B → Option (Live W A) → Type 0
   Does xs u None = advance d h u ≡ None
-  Does xs u (Some l) = (m : Live W B) × Moves xs u l m × Near l m
+  Does xs u (Some l) = (m : Live W B) × Advances xs u l m × Near l m
 
   -- lines don't matter to what is related
   lines_related : (ls : List Line) (c : Core) (xs : Numbered A) (ys : Numbered B) → Related R c xs ys → Related R (add_lines ls c) xs ys
@@ -128,15 +136,21 @@ module _ {W A B : Type 0} (e : Engine A) (d : Engine B) (h : Host W) (R : Phase 
       let pop = popped_at i c.left (Run i) ts c o et (run_of i) in
       related_shifts e d R sim i Free c c xs ys a0 a b0 b ex en rs (same_rank pop.phase, λ j n. omega arith) r
 
+  quiet_advances : (w : W) (c : Core) (xs : Numbered A) (ys : Numbered B) (i : ℕ) (ts : List Task) (b g : B) (a0 a : A) → c.halted ≡ None → c.tasks ≡ Run i ∷ ts → thing xs i ≡ Some a0 → thing ys i ≡ Some b
+      → Moves d (view (h.supply w) i c) b g ⊎ (Quietly d (view (h.supply w) i c) b g × (sim.weight a < sim.weight a0))
+      → Advances xs (live (proc c ys) w) (live (proc c (put xs i a)) w) (live (proc c (put ys i g)) w)
+  quiet_advances w c xs ys i ts b g a0 a eh et ex en (inl m) = inl (moves_many d h w c i ts eh et m ys en)
+  quiet_advances w c xs ys i ts b g a0 a eh et ex en (inr m) = inr (quiet_many d h w c i ts eh et m.0 ys en, load_put sim.weight xs i a0 a ex m.1)
+
   answered : (w : W) (c : Core) (xs : Numbered A) (ys : Numbered B) (i : ℕ) (ts : List Task) (b : B) (k : Option Ask) (a0 a : A) → Orderly c → c.halted ≡ None → c.tasks ≡ Run i ∷ ts → Related R c xs ys
-      → thing xs i ≡ Some a0 → thing ys i ≡ Some b → (k ≡ None → sim.weight a < sim.weight a0) → Answers R d (view (h.supply w) i c) k a b
+      → thing xs i ≡ Some a0 → thing ys i ≡ Some b → Answers R d (view (h.supply w) i c) (sim.weight a < sim.weight a0) k a b
       → Does_at c xs ys w (advanced h w (Some (run_next e (h.supply w) i ts (k, a) (proc c xs))))
-  answered w c xs ys i ts b None a0 a o eh et rs ex en lt ans = (
+  answered w c xs ys i ts b None a0 a o eh et rs ex en ans = (
     live (proc c (put ys i ans.0)) w,
-    inr (quiet_many d h w c i ts eh et ans.1 ys en, load_put sim.weight xs i a0 a ex (lt refl)),
+    quiet_advances w c xs ys i ts b ans.0 a0 a eh et ex en ans.1,
     (refl, refl, unless c.halted (quiet_related i ts c xs ys a0 a b ans.0 o et rs ex en ans.2)),
   )
-  answered w c xs ys i ts b (Some ask) a0 a o eh et rs ex en lt ans =
+  answered w c xs ys i ts b (Some ask) a0 a o eh et rs ex en ans =
       let m = ans.0 in let g = ans.1 in
       let c2 = record c { tasks = ts; left = ask.left } in
       let r = answer e (h.supply w) i ask.act (proc c2 (put xs i a)) in
@@ -163,7 +177,7 @@ module _ {W A B : Type 0} (e : Engine A) (d : Engine B) (h : Host W) (R : Phase 
   run_does w c xs ys i ts (Some a) None o eh et rs ex en k = absurd k
   run_does w c xs ys i ts (Some a) (Some b) o eh et rs ex en k =
       let v = view (h.supply w) i c in
-      answered w c xs ys i ts b (e.next v a).0 a (e.next v a).1 o eh et rs ex en (sim.falls v a) (sim.next v a b k)
+      answered w c xs ys i ts b (e.next v a).0 a (e.next v a).1 o eh et rs ex en (sim.next v a b k)
 
   -- a task but the step of an actor
   task_does : (w : W) (c : Core) (xs : Numbered A) (ys : Numbered B) (t : Task) (ts : List Task) → Orderly c → c.tasks ≡ t ∷ ts → Related R c xs ys
@@ -198,7 +212,7 @@ module _ {W A B : Type 0} (e : Engine A) (d : Engine B) (h : Host W) (R : Phase 
   -- and the process stays in order
   abbrev Steps : Numbered A → Live W B → Option (Live W A) → Type 0
   Steps xs u None = advance d h u ≡ None
-  Steps xs u (Some l) = (m : Live W B) × Moves xs u l m × Same R l m
+  Steps xs u (Some l) = (m : Live W B) × Advances xs u l m × Same R l m
 
   ordered : (xs : Numbered A) (u : Live W B) (o : Option (Live W A)) → ((l : Live W A) → o ≡ Some l → InOrder l.proc.core) → Does xs u o → Steps xs u o
   ordered xs u None f k = k
@@ -262,7 +276,7 @@ module _ {W A B : Type 0} (e : Engine A) (d : Engine B) (h : Host W) (R : Phase 
   back_step n s u v k b prev same_n None a g = at_rest n s u v k a g b
   back_step n s u v k b prev same_n (Some r) a g = stepped s r v a (by_moves g.1)
     where
-      by_moves : Moves s.proc.actors u r g.0 → Found r v
+      by_moves : Advances s.proc.actors u r g.0 → Found r v
       by_moves (inl m) =
           let j = many1_rest u g.0 m n v b in
           prev j.0 j.1 (load sim.weight r.proc.actors) r g.0 v g.2 (omega arith) j.2

@@ -17,7 +17,7 @@ use Rattle.flow_meaning.specs.Burst.{Live, Burst}
 use Rattle.flow_meaning.specs.Orderly.{Orderly, InOrder, UnlessStopped, Phase, Free}
 use Rattle.flow_meaning.specs.Law.{BothOrNone, Simulates, Related, SameProc, Same, AtRest}
 use Rattle.flow_meaning.specs.Outside.{What, Boots, Rings, Arrives, Answers, Outside, host}
-use Rattle.flow_meaning.specs.World.{Place, World, Begun, Next, Nothing, Script, Event, next_of, with_core, booted, ordered, packet, arrived, listener, happened, process_of, process_in, ready, counted, begun_by, ending, at_start}
+use Rattle.flow_meaning.specs.World.{Place, World, Begun, Next, Nothing, Script, Event, next_of, with_core, booted, ordered, packet, arrived, listener, happened, process_of, process_in, ready, counted, with_left, begun_by, ending, at_start}
 use Rattle.flow_meaning.specs.Runs.{before, after, lines_of, Runs, ends, spent, event}
 use Rattle.flow_meaning.specs.RunLaw.{SamePlace, SamePlaces, SameWorld, SameStates, RunsFollow, RunsReturn, TracesFollow, TracesReturn}
 use Rattle.flow_meaning.proofs.Posture.{Unless, unless, unless_map, unless_both, Eases}
@@ -155,7 +155,7 @@ module _ {A B : Type 0} (e : Engine A) (d : Engine B) (R : Phase → A → B →
   begun_at (Script t o left) w v h =
       ordered_at o (ready w (process_of o)) (ready v (process_of o)) _ _ (ready_same w v (process_of o) h) (ap (λ x. counted t (process_of o) (record x { script = left })) h.0)
   begun_at (Event p left) w v h =
-      happened_at p.what (ready w (process_in p.what)) (ready v (process_in p.what)) _ _ (ready_same w v (process_in p.what) h) (ap (λ x. counted p.time (process_in p.what) (record x { pending = left })) h.0)
+      happened_at p.what (ready w (process_in p.what)) (ready v (process_in p.what)) _ _ (ready_same w v (process_in p.what) h) (ap (λ x. counted p.time (process_in p.what) (with_left x left)) h.0)
 
   begun_same : (w : World A) (v : World B) → SameWorld R w v → BegunBoth (begun_by e w (next_of w.out)) (begun_by d v (next_of v.out))
   begun_same w v h = subst (λ n. BegunBoth (begun_by e w (next_of w.out)) (begun_by d v n)) (ap next_of h.0) (begun_at (next_of w.out) w v h)

@@ -13,7 +13,7 @@ use Rattle.flow_meaning.specs.Burst.{Live, Burst}
 use Rattle.flow_meaning.specs.Orderly.{Orderly, InOrder, UnlessStopped}
 use Rattle.flow_meaning.specs.Law.{AtRest}
 use Rattle.flow_meaning.specs.Outside.{What, Boots, Rings, Arrives, Answers, Outside, host}
-use Rattle.flow_meaning.specs.World.{Place, World, Begun, Next, Nothing, Script, Event, next_of, booted, ordered, packet, arrived, listener, happened, process_of, process_in, ready, counted, begun_by, at_start}
+use Rattle.flow_meaning.specs.World.{Place, World, Begun, Next, Nothing, Script, Event, next_of, booted, ordered, packet, arrived, listener, happened, process_of, process_in, ready, counted, with_left, begun_by, at_start}
 use Rattle.flow_meaning.specs.Runs.{before, after, ends, spent, event}
 use Rattle.flow_meaning.specs.RunLaw.{WorldAtRest, RunsRest, TracesRest}
 use Rattle.flow_meaning.proofs.Posture.{unless}
@@ -80,7 +80,7 @@ module _ {A : Type 0} (e : Engine A) where
   begun_begins (Script t o left) w b h g =
       subst Begins (same_of g) (ordered_begins o (ready w (process_of o)) (counted t (process_of o) (record w.out { script = left })) (ready_orderly w (process_of o) h))
   begun_begins (Event p left) w b h g =
-      subst Begins (same_of g) (happened_begins p.what (ready w (process_in p.what)) (counted p.time (process_in p.what) (record w.out { pending = left })) (ready_orderly w (process_in p.what) h))
+      subst Begins (same_of g) (happened_begins p.what (ready w (process_in p.what)) (counted p.time (process_in p.what) (with_left w.out left)) (ready_orderly w (process_in p.what) h))
 
   after_rests : (w : World A) (b : Begun A) (l : Live Outside A) → WorldAtRest w → begun_by e w (next_of w.out) ≡ Some b → Burst e host (before b) l → l.proc.core.halted ≡ None → WorldAtRest (after w b l)
   after_rests w b l h g r x =

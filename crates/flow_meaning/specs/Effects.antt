@@ -7,7 +7,7 @@ use Rattle.flow_base.specs.ErrorNumbers.{bad_argument, out_of_range, port_in_use
 use Rattle.flow_value.specs.declared.value.Kind.{Kind}
 use Rattle.flow_value.specs.declared.value.Kind.TheVariants as kind
 use Rattle.flow_value.specs.Values.{ValueTree, IntValue, RefValue}
-use Rattle.flow_draw.specs.Words.{scaled}
+pub use Rattle.flow_draw.specs.Words.{scaled}
 use Rattle.flow_eval.specs.Predefined.{natural}
 use Rattle.flow_meaning.specs.Numbered.{added, thing}
 use Rattle.flow_meaning.specs.Cells.{Cell, Single, Stream}

@@ -17,7 +17,8 @@ use Rattle.flow_value.specs.declared.value.Kind.TheVariants as kind
 use Rattle.flow_value.specs.Values.{ValueTree, RefValue, OutcomeTree, GoodOutcome, BadOutcome}
 use Rattle.flow_eval.specs.Answers.{int_of, text_of, error_of, arg}
 use Rattle.flow_eval.specs.Eval.{Res, Done, Fails, Spent, Meaningless, Setting, then, eval_all}
-use Rattle.flow_eval.specs.Functions.{Eval, Call, run_function, deepest, read_in}
+pub use Rattle.flow_eval.specs.Functions.{Eval, Call}
+use Rattle.flow_eval.specs.Functions.{run_function, deepest, read_in}
 use Rattle.flow_meaning.specs.Asks.{ReadCall, WriteCall, SyncCall, SizeCall, Effect, Start, Draw, Delay, Never, Listen, Disk, Act, Goes, Sends, Cancels, Prints, SendsTo, Throws, RunsOut, Stuck, Ask}
 use Rattle.flow_meaning.specs.Process.{View}
 

@@ -1,5 +1,5 @@
 -- Two kinds of actors whose steps ask alike: what that is, and what it means for whole bursts.
-use Rattle.std.specs.Prelude.{◌≡◌, ℕ, ◌<◌, true, List, [], ◌∷◌}
+use Rattle.std.specs.Prelude.{◌≡◌, ◌⊎◌, ℕ, ◌<◌, true, List, [], ◌∷◌}
 use Rattle.std.specs.declared.option.Option.{Option}
 use Rattle.std.specs.declared.option.Option.TheVariants.{None, Some}
 use Rattle.flow_value.specs.Values.{ValueTree}
@@ -25,10 +25,15 @@ phase_after (SendsTo q port text) = Risky
 phase_after (Throws e) = Risky
 phase_after _ = Free
 
--- An ask is answered by quiet steps and then the same ask; a quiet step by quiet steps.
-abbrev pub Answers : {A B : Type 0} → (Phase → A → B → Type 0) → Engine B → View → Option Ask → A → B → Type 0
-Answers R d v None a b = (c : _) × Quietly d v b c × R Free a c
-Answers R d v (Some ask) a b = (c : _) × (g : _) × Quietly d v b c × (d.next v c ≡ (Some ask, g)) × R (phase_after ask.act) a g
+-- at least one of them
+abbrev pub Moves : {A : Type 0} → Engine A → View → A → A → Type 0
+Moves {A} e v a c = (b : A) × (e.next v a ≡ (None, b)) × Quietly e v b c
+
+-- An ask is answered by quiet steps and then the same ask; a quiet step by quiet steps, at least one, unless the first
+-- kind has become lighter.
+abbrev pub Answers : {A B : Type 0} → (Phase → A → B → Type 0) → Engine B → View → (lighter : Type 0) → Option Ask → A → B → Type 0
+Answers R d v lighter None a b = (c : _) × (Moves d v b c ⊎ (Quietly d v b c × lighter)) × R Free a c
+Answers R d v lighter (Some ask) a b = (c : _) × (g : _) × Quietly d v b c × (d.next v c ≡ (Some ask, g)) × R (phase_after ask.act) a g
 
 -- both hand out the same, and are related afterwards
 abbrev pub Alike : {X A B : Type 0} → (A → B → Type 0) → X × A → X × B → Type 0
@@ -50,10 +55,9 @@ pub record Simulates {A B : Type 0} (e : Engine A) (d : Engine B) (R : Phase →
   pub waits : (a : A) (b : B) → R Waiting a b → R Due a b
   pub dues : (a : A) (b : B) → R Due a b → R Risky a b
   pub risks : (a : A) (b : B) → R Risky a b → R Free a b
-  -- what falls with each quiet step of the first kind
+  -- what falls with each quiet step of the first kind for which the second stays where it is
   pub weight : A → ℕ
-  pub falls : (v : View) (a : A) → (e.next v a).0 ≡ None → weight (e.next v a).1 < weight a
-  pub next : (v : View) (a : A) (b : B) → R Free a b → Answers R d v (e.next v a).0 (e.next v a).1 b
+  pub next : (v : View) (a : A) (b : B) → R Free a b → Answers R d v (weight (e.next v a).1 < weight a) (e.next v a).0 (e.next v a).1 b
   pub lose : (a : A) (b : B) → R Due a b → Alike (R Due) (e.lose a) (d.lose b)
   pub store : (u : ValueTree) (a : A) (b : B) → R Due a b → Alike (R Free) (e.store u a) (d.store u b)
   pub take : (n : ℕ) (u : ValueTree) (a : A) (b : B) → R Due a b → Alike (R Free) (e.take n u a) (d.take n u b)

@@ -31,3 +31,4 @@ pub mod Shape
 pub mod Carry
 pub mod Carries
 pub mod RunLaw
+pub mod Bare

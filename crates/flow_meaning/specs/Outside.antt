@@ -1,12 +1,16 @@
 -- What the world holds beside its processes: time, pending events, the script, links, disks and drawn
 -- words; and how it serves what a process asks.
-use Rattle.std.specs.Prelude.{ℕ, suc, ◌+◌, ◌-◌, ◌%◌, Bool, true, false, ◌&&◌, ◌||◌, List, [], ◌∷◌, ◌++◌, nat_eq, nat_lt, if◌then◌else◌}
+use Rattle.std.specs.Prelude.{ℕ, suc, ◌+◌, Bool, false, ◌&&◌, ◌||◌, List, [], ◌∷◌, nat_eq, if◌then◌else◌}
 use Rattle.flow_base.specs.declared.ids.ProcId.{ProcId}
 use Rattle.flow_trace.specs.declared.line.Line.{Line}
 use Rattle.flow_trace.specs.declared.line.Line.TheVariants as line
 use Rattle.flow_worldfile.specs.Worlds as file
 use Rattle.flow_worldfile.specs.declared.directive.Order.{Order}
-use Rattle.flow_draw.specs.Words.{word_at}
+pub use Rattle.flow_draw.specs.Words.{word_at}
+use Rattle.flow_timers.specs.Pending.{Queue, with_event}
+use Rattle.flow_simnet.specs.declared.packet.Fate.{Fate}
+use Rattle.flow_simnet.specs.declared.packet.Fate.TheVariants.{Cut, Drawn as LostDraw, At}
+use Rattle.flow_simnet.specs.Links.{draw_in, fate_by}
 use Rattle.flow_meaning.specs.Asks.{DiskCall, Request, Drew, Timer, Packet, Disks, Supply}
 use Rattle.flow_meaning.specs.Burst.{Host}
 use Rattle.flow_simdisk.specs.Disk.{Disk}
@@ -19,24 +23,17 @@ pub data What : Type 0 where
   Arrives : (number from to port : ℕ) → (text : List ℕ) → What
   Answers : (process cell : ℕ) → DiskCall ℕ → What
 
--- a pending event; events are numbered from 1 in the order of making
-pub record Pending : Type 0 where
-  pub time : ℕ
-  pub number : ℕ
-  pub what : What
-
--- The world without its processes: what its file says; the time; how many events have run and how many were
--- made; how many packets were sent and words drawn; the pending events in the order of making; the lines of
--- the script that are left, in the order of the file; the links that are cut, by their two processes; the disk
--- of each process; and the process of the event in progress.
+-- The world without its processes: what its file says; the time; how many events have run; how many packets were
+-- sent and words drawn; how many events were made, and those that are pending, in the order in which they come; the
+-- lines of the script that are left, in the order of the file; the links that are cut, by their two processes; the
+-- disk of each process; and the process of the event in progress.
 pub record Outside : Type 0 where
   pub file : file.World
   pub time : ℕ
   pub ran : ℕ
-  pub made : ℕ
   pub sent : ℕ
   pub drawn : ℕ
-  pub pending : List Pending
+  pub events : Queue What
   pub script : List (ℕ × Order)
   pub cuts : List (ℕ × ℕ)
   pub disks : List Disk
@@ -49,17 +46,12 @@ process_id p = record { 0 = p }
 abbrev pub word_in : Outside → ℕ → ℕ
 word_in w k = word_at w.file.seed w.file.words (w.drawn + k)
 
--- what a word gives in a range: the first number of the range, and as many more as the remainder by its width says
-abbrev pub draw_in : ℕ × ℕ → ℕ → ℕ
-draw_in range word = range.0 + word % (range.1 - range.0)
-
 abbrev pub with_drawn : Outside → ℕ → Outside
 with_drawn w n = record w { drawn = w.drawn + n }
 
 -- one more pending event
 abbrev pub with_pending : Outside → ℕ → What → Outside
-with_pending w time what =
-    record w { made = suc w.made; pending = w.pending ++ record { time = time; number = suc w.made; what = what } ∷ [] }
+with_pending w time what = record w { events = with_event w.events time what }
 
 -- a link is cut for both directions
 abbrev pub is_link : ℕ → ℕ → ℕ × ℕ → Bool
@@ -73,27 +65,22 @@ abbrev pub healed : List (ℕ × ℕ) → ℕ → ℕ → List (ℕ × ℕ)
 healed [] p q = []
 healed (c ∷ cs) p q = if is_link p q c then healed cs p q else c ∷ healed cs p q
 
--- A packet is numbered. Over a cut link it is lost without a draw; else a word below the permille of the
--- file loses it; else the next word gives its delay.
-abbrev pub arriving : Outside → (number to port : ℕ) → List ℕ → Outside
-arriving w m q port text =
-    with_pending (with_drawn w 2) (w.time + draw_in w.file.latency (word_in w 1)) (Arrives m w.active q port text)
+-- A packet is numbered. Over a cut link it is lost without a draw; else a drawn word loses it, or the next one says when it
+-- arrives.
+abbrev pub sent_by : Fate → Outside → (number to port : ℕ) → List ℕ → List Line × Outside
+sent_by Cut w m q port text = (line.LostCut m ∷ [], w)
+sent_by LostDraw w m q port text = (line.LostDraw m ∷ [], with_drawn w 1)
+sent_by (At time) w m q port text = ([], with_pending (with_drawn w 2) time (Arrives m w.active q port text))
 
-abbrev pub over_link : Bool → Bool → Outside → (number to port : ℕ) → List ℕ → List Line × Outside
-over_link true lost w m q port text = (line.LostCut m ∷ [], w)
-over_link false true w m q port text = (line.LostDraw m ∷ [], with_drawn w 1)
-over_link false false w m q port text = ([], arriving w m q port text)
-
-abbrev pub is_lost : Outside → Bool
-is_lost w = nat_lt (word_in w 0 % 1000) w.file.loss
+abbrev pub fate_in : Outside → (to : ℕ) → Fate
+fate_in w q = fate_by (is_cut w.cuts w.active q) w.file.loss w.file.latency w.time (word_in w)
 
 abbrev pub after_line : Line → List Line × Outside → List Line × Outside
 after_line l r = (l ∷ r.0, r.1)
 
 abbrev pub send_packet : Outside → (to port : ℕ) → List ℕ → List Line × Outside
 send_packet w q port text =
-    after_line (line.Send w.sent (process_id q) port text)
-    (over_link (is_cut w.cuts w.active q) (is_lost w) w w.sent q port text)
+    after_line (line.Send w.sent (process_id q) port text) (sent_by (fate_in w q) w w.sent q port text)
 
 -- the world after a request of the process of its event, and the lines that this writes
 abbrev pub serve : Request → Outside → List Line × Outside

@@ -16,11 +16,12 @@ use Rattle.flow_meaning.specs.Numbered.{thing}
 use Rattle.flow_meaning.specs.Asks.{DiskCall, ReadCall, WriteCall, SyncCall, SizeCall}
 use Rattle.flow_meaning.specs.Process.{Core, Proc, Engine}
 use Rattle.flow_meaning.specs.Deliver.{begin, boot, stop, deliver, arrive, vanish, idle}
+use Rattle.flow_timers.specs.Pending.{Pending}
 use Rattle.flow_simdisk.specs.declared.ask.DiskReply.{DiskReply}
 use Rattle.flow_simdisk.specs.declared.ask.DiskReply.TheVariants.{Text, Done, Size, Failed}
 use Rattle.flow_simdisk.specs.declared.write.Kept.{Kept}
 use Rattle.flow_simdisk.specs.Disk.{Disk, File, Losing, served, power_lost}
-use Rattle.flow_meaning.specs.Outside.{What, Boots, Rings, Arrives, Answers, Pending, Outside, process_id, healed}
+use Rattle.flow_meaning.specs.Outside.{What, Boots, Rings, Arrives, Answers, Outside, process_id, healed}
 
 -- a process is up from its boot to its kill
 pub record Place (A : Type 0) : Type 0 where
@@ -37,10 +38,9 @@ outside_at_start w = record {
   file = w;
   time = 0;
   ran = 0;
-  made = w.processes;
   sent = 0;
   drawn = 0;
-  pending = map (λ p. record { time = 0; number = suc p; what = Boots p }) (range_with_len 0 w.processes);
+  events = record { made = w.processes; pending = map (λ p. record { time = 0; number = suc p; what = Boots p }) (range_with_len 0 w.processes) };
   script = w.script;
   cuts = [];
   disks = replicate w.processes (record { fails = 0; files = [] });
@@ -50,32 +50,35 @@ outside_at_start w = record {
 abbrev pub at_start : {A : Type 0} → file.World → World A
 at_start w = record { places = replicate w.processes (record { up = false; proc = idle }); out = outside_at_start w }
 
--- The first of some things with the least time, and the others in their order. Among pending events, which stand in the
--- order of their numbers, it is the one with the least number too; among lines of a script the first in the file.
-abbrev pub sooner : {X : Type 0} → (X → ℕ) → X → List X → Option (X × List X) → X × List X
-sooner time x xs None = (x, xs)
-sooner time x xs (Some y) = if nat_lt (time y.0) (time x) then (y.0, x ∷ y.1) else (x, xs)
+-- the first line of a script with the least time, and the others in their order
+abbrev pub sooner : ℕ × Order → List (ℕ × Order) → Option ((ℕ × Order) × List (ℕ × Order)) → (ℕ × Order) × List (ℕ × Order)
+sooner x xs None = (x, xs)
+sooner x xs (Some y) = if nat_lt y.0.0 x.0 then (y.0, x ∷ y.1) else (x, xs)
 
-abbrev pub soonest : {X : Type 0} → (X → ℕ) → List X → Option (X × List X)
-soonest time [] = None
-soonest time (x ∷ xs) = Some (sooner time x xs (soonest time xs))
+abbrev pub soonest : List (ℕ × Order) → Option ((ℕ × Order) × List (ℕ × Order))
+soonest [] = None
+soonest (x ∷ xs) = Some (sooner x xs (soonest xs))
 
 -- what comes next: nothing, a line of the script, or a pending event, with what is left of the script or of
 -- the pending events then
 pub data Next : Type 0 where
   Nothing : Next
   Script : (time : ℕ) → Order → List (ℕ × Order) → Next
-  Event : Pending → List Pending → Next
+  Event : Pending What → List (Pending What) → Next
 
 -- a line of the script comes before a pending event of the same time
-abbrev pub first_of : Option ((ℕ × Order) × List (ℕ × Order)) → Option (Pending × List Pending) → Next
-first_of None None = Nothing
-first_of None (Some e) = Event e.0 e.1
-first_of (Some s) None = Script s.0.0 s.0.1 s.1
-first_of (Some s) (Some e) = if nat_le s.0.0 e.0.time then Script s.0.0 s.0.1 s.1 else Event e.0 e.1
+abbrev pub first_of : Option ((ℕ × Order) × List (ℕ × Order)) → List (Pending What) → Next
+first_of None [] = Nothing
+first_of None (e ∷ es) = Event e es
+first_of (Some s) [] = Script s.0.0 s.0.1 s.1
+first_of (Some s) (e ∷ es) = if nat_le s.0.0 e.time then Script s.0.0 s.0.1 s.1 else Event e es
 
 abbrev pub next_of : Outside → Next
-next_of w = first_of (soonest (λ s. s.0) w.script) (soonest (λ e. e.time) w.pending)
+next_of w = first_of (soonest w.script) w.events.pending
+
+-- these pending events are left
+abbrev pub with_left : Outside → List (Pending What) → Outside
+with_left w es = record w { events = record { made = w.events.made; pending = es } }
 
 -- An event that has begun: its line and those that come before its process does anything, its process with
 -- what was delivered to it, and the world outside.
@@ -109,7 +112,7 @@ is_of p (Rings q cell) = nat_eq p q
 is_of p (Arrives m from to port text) = false
 is_of p (Answers q cell call) = nat_eq p q
 
-abbrev pub without_requests : ℕ → List Pending → List Pending
+abbrev pub without_requests : ℕ → List (Pending What) → List (Pending What)
 without_requests p es = filter (λ e. not (is_of p e.what)) es
 
 abbrev pub kept_line : Kept → Line
@@ -119,7 +122,7 @@ abbrev pub lost : {A : Type 0} → List Line → ℕ → Place A → Outside →
 lost head p at w l = record {
   head = head ++ map kept_line l.fates;
   place = record { up = false; proc = vanish at.proc };
-  out = with_disk (record w { pending = without_requests p w.pending; drawn = l.taken }) p (record { fails = (disk_of w p).fails; files = l.left });
+  out = with_disk (record (with_left w (without_requests p w.events.pending)) { drawn = l.taken }) p (record { fails = (disk_of w p).fails; files = l.left });
 }
 
 -- a kill: the disk loses what it may, and the process is gone
@@ -208,7 +211,7 @@ begun_by e w Nothing = None
 begun_by e w (Script t order left) =
     Some (ordered e order (ready w (process_of order)) (counted t (process_of order) (record w.out { script = left })))
 begun_by e w (Event p left) =
-    Some (happened e p.what (ready w (process_in p.what)) (counted p.time (process_in p.what) (record w.out { pending = left })))
+    Some (happened e p.what (ready w (process_in p.what)) (counted p.time (process_in p.what) (with_left w.out left)))
 
 -- how a run ends before its next event: idle where nothing comes, by the bound where as many events have run
 abbrev pub ending : Outside → Next → Option Line

@@ -8,6 +8,7 @@ ghost use Rattle.flow_meaning.specs.Turns.{Thrifty, WritesFirst};
 ghost use Rattle.flow_meaning.specs.Runs.{RunsOnce};
 ghost use Rattle.flow_meaning.specs.Source.{source};
 ghost use Rattle.flow_meaning.specs.Class.{classes};
+ghost use Rattle.flow_meaning.specs.Bare.{EvaluatesAlike, ProgramsAlike, ClassesAlike};
 
 /// Two kinds of actors, the world around a process of either, and a relation between actors of the two.
 pub trait TwoKinds {
@@ -81,4 +82,14 @@ pub fn stopped_first<K: TwoKinds>()
     ensures thrifty { Thrifty K.first → WritesFirst K.first K.host }
     ensures source { (p : ProgramTree) → WritesFirst (source p) K.host }
     ensures classes { (c : RawTree) → WritesFirst (classes c) K.host }
+{}
+
+/// Places don't matter. An expression comes to the same whatever its places are; and of two programs that
+/// are equal but for places the same is seen in every world: the lines of the trace, and at each boundary
+/// of events the unfinished actors and the branches at which they wait. So it is with classes, which come
+/// back with other places when they are printed and read.
+pub fn places_aside()
+    ensures expressions { EvaluatesAlike }
+    ensures programs { ProgramsAlike }
+    ensures classes { ClassesAlike }
 {}

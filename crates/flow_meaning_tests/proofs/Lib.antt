@@ -8,3 +8,5 @@ pub mod RowsViews
 pub mod RowsOrder
 mod CarriedExamples
 mod CarriedMore
+mod Instance
+mod Edges

@@ -1,17 +1,17 @@
 -- Runs that turn on the order of things, computed.
-use Rattle.std.proofs.Common.{◌≡◌, ℕ, List, [], ◌∷◌, refl}
-use Rattle.std.specs.Prelude.{ℤ, pos, negsuc, Bool, true, false, codes}
+use Rattle.std.proofs.Common.{List, [], ◌∷◌, refl}
+use Rattle.std.specs.Prelude.{pos, negsuc, true, false, codes}
 use Rattle.std.specs.declared.option.Option.TheVariants.{None, Some}
 use Rattle.flow_trace.specs.declared.line.Line.{Line}
 use Rattle.flow_trace.specs.declared.line.Line.TheVariants as line
 use Rattle.flow_worldfile.specs.Worlds.{World}
 use Rattle.flow_worldfile.specs.declared.directive.Order.TheVariants as order
-use Rattle.flow_tree.specs.declared.expr.Op.TheVariants.{Or, And, Eq, Ne, Lt, Le, Gt, Ge, Add, Sub, Mul, Div, Rem}
-use Rattle.flow_tree.specs.Tree.{IntType, BoolType, StringType, VoidType, ErrorType, NamedType, FutureType, FutureStreamType, PromiseType, PromiseStreamType, IntExpr, TextExpr, BoolExpr, VoidExpr, VarExpr, CallExpr, FieldExpr, MethodExpr, NotExpr, NegExpr, BinaryExpr, ParenExpr, NoExprs, MoreExprs}
-use Rattle.flow_tree.specs.Body.{PlusChange, MinusChange, UpChange, DownChange, End, BlockStmt, IfStmt, IfElseStmt, WhileStmt, ForStmt, LoopStmt, BreakStmt, ContinueStmt, ReturnStmt, ThrowStmt, TryStmt, ChooseStmt, DeclareStmt, AssignStmt, ModifyStmt, CallStmt, WaitStmt, NoBranches, MoreBranches}
-use Rattle.flow_tree.specs.Decls.{StructDecl, FunctionDecl, ActorDecl, ProgramTree}
-use Rattle.flow_meaning.specs.Runs.{SourceTrace, ClassTrace}
-use Rattle.flow_meaning.proofs.Following.{lines_for, source_trace, class_trace}
+use Rattle.flow_tree.specs.declared.expr.Op.TheVariants.{Eq, Lt, Gt, Sub, Div}
+use Rattle.flow_tree.specs.Tree.{IntType, VoidType, NamedType, FutureType, FutureStreamType, PromiseType, PromiseStreamType, IntExpr, TextExpr, VoidExpr, VarExpr, CallExpr, FieldExpr, MethodExpr, BinaryExpr, NoExprs, MoreExprs}
+use Rattle.flow_tree.specs.Body.{UpChange, End, IfStmt, IfElseStmt, WhileStmt, LoopStmt, ReturnStmt, TryStmt, ChooseStmt, DeclareStmt, AssignStmt, ModifyStmt, CallStmt, WaitStmt, NoBranches, MoreBranches}
+use Rattle.flow_tree.specs.Decls.{StructDecl, ActorDecl, ProgramTree}
+use Rattle.flow_meaning.specs.Runs.{SourceTrace}
+use Rattle.flow_meaning.proofs.Following.{source_trace}
 use Rattle.flow_meaning_tests.proofs.RowTerms.{nowhere, id, process, actor, cell, error}
 use Rattle.rand_pcg.specs.Lcg.{state_after}
 
