@@ -1,1 +1,6 @@
 mod Sequences
+mod Passing
+mod InForce
+mod Adding
+mod Growing
+mod Staler
