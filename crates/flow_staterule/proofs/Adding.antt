@@ -24,7 +24,7 @@ exprs_next vs p es i e us new whole lt got is inv =
     ∙ ap (λ x. us ++ (expr_uses vs p (expr_of x) ++ rest)) got ∙ ap (λ l. us ++ exprs_uses vs p (exprs_of l)) (sym (drop_more es i e lt)) ∙ inv
 
 pub exprs_end : (vs : List Variable) (p : Point) (es : List Expr) (i : ℕ) (us whole : List Use) → length es ≤ i → us ++ exprs_uses vs p (exprs_of (drop i es)) ≡ whole → us ≡ whole
-exprs_end vs p es i us whole le inv = sym (append-nil us) ∙ ap (λ l. us ++ exprs_uses vs p (exprs_of l)) (sym (drop_all es i le)) ∙ inv
+exprs_end vs p es i us whole le inv = sym (append-nil us) ∙ ap (λ l. us ++ exprs_uses vs p (exprs_of l)) (sym (drop_all i es le)) ∙ inv
 
 pub body_next : (f g : Finder) (h j : Here) (ss : List Stmt) (i : ℕ) (s : Stmt) (whole : List Use) → i < length ss → s ≡ get_or ss i s
     → ((k : Body) → found g j k ≡ found f h (stmt_of s k)) → found f h (body_of (drop i ss)) ≡ whole → found g j (body_of (drop (i + 1) ss)) ≡ whole
@@ -33,7 +33,7 @@ body_next f g h j ss i s whole lt got is inv =
     is rest ∙ ap (λ x. found f h (stmt_of x rest)) got ∙ ap (λ l. found f h (body_of l)) (sym (drop_more ss i s lt)) ∙ inv
 
 pub body_end : (f : Finder) (h : Here) (ss : List Stmt) (i : ℕ) (whole : List Use) → length ss ≤ i → found f h (body_of (drop i ss)) ≡ whole → f.uses.items ≡ whole
-body_end f h ss i whole le inv = sym (append-nil f.uses.items) ∙ ap (λ l. found f h (body_of l)) (sym (drop_all ss i le)) ∙ inv
+body_end f h ss i whole le inv = sym (append-nil f.uses.items) ∙ ap (λ l. found f h (body_of l)) (sym (drop_all i ss le)) ∙ inv
 
 pub branches_next : (f g : Finder) (p : Point) (h j : Here) (ws : List When) (i : ℕ) (w : When) (whole : List Use) → i < length ws → w ≡ get_or ws i w
     → ((bs : Branches) → in_branches g p j bs ≡ in_branches f p h (branch_of w bs)) → in_branches f p h (branches_of (drop i ws)) ≡ whole → in_branches g p j (branches_of (drop (i + 1) ws)) ≡ whole
@@ -42,15 +42,15 @@ branches_next f g p h j ws i w whole lt got is inv =
     is rest ∙ ap (λ x. in_branches f p h (branch_of x rest)) got ∙ ap (λ l. in_branches f p h (branches_of l)) (sym (drop_more ws i w lt)) ∙ inv
 
 pub branches_end : (f : Finder) (p : Point) (h : Here) (ws : List When) (i : ℕ) (whole : List Use) → length ws ≤ i → in_branches f p h (branches_of (drop i ws)) ≡ whole → f.uses.items ≡ whole
-branches_end f p h ws i whole le inv = sym (append-nil f.uses.items) ∙ ap (λ l. in_branches f p h (branches_of l)) (sym (drop_all ws i le)) ∙ inv
+branches_end f p h ws i whole le inv = sym (append-nil f.uses.items) ∙ ap (λ l. in_branches f p h (branches_of l)) (sym (drop_all i ws le)) ∙ inv
 
 -- one more parameter, newest first
 pub params_next : (f : Param → Variable) (ps : List Param) (i : ℕ) (p : Param) (vs new : List Variable) → i < length ps → p ≡ get_or ps i p → vs ≡ reverse (map f (take i ps)) → new ≡ f p ∷ vs
     → new ≡ reverse (map f (take (i + 1) ps))
 params_next f ps i p vs new lt got inv is =
     is ∙ ap (λ l. f p ∷ l) inv ∙ sym (
-      ap (λ l. reverse (map f l)) (take_more ps i p lt) ∙ ap (λ x. reverse (map f (take i ps ++ x ∷ []))) (sym got) ∙ ap reverse (map-append f (take i ps) (p ∷ []))
-      ∙ reverse-append (map f (take i ps)) (f p ∷ [])
+    ap (λ l. reverse (map f l)) (take_more ps i p lt) ∙ ap (λ x. reverse (map f (take i ps ++ x ∷ []))) (sym got) ∙ ap reverse (map-append f (take i ps) (p ∷ []))
+    ∙ reverse-append (map f (take i ps)) (f p ∷ [])
     )
 
 map_twice : {A B C : Type 0} (f : A → B) (g : B → C) (xs : List A) → map (λ x. g (f x)) xs ≡ map g (map f xs)

@@ -118,13 +118,13 @@ mutual
   ways_grow n m (IfElseStmt at e b c k) le =
       let le' = less (length (body_groups b)) le in
       sequence_grow _ _ _ _ (both_grow _ _ _ _ (same_ways_grow (node at_once)) (both_grow _ _ _ _ (ways_grow n m b le) (ways_grow _ _ c le')))
-        (ways_grow _ _ k (less (length (body_groups c)) le'))
+      (ways_grow _ _ k (less (length (body_groups c)) le'))
   ways_grow n m (WhileStmt at e b k) le = sequence_grow _ _ _ _ (looped_grow true _ _ (ways_grow n m b le)) (ways_grow _ _ k (less (length (body_groups b)) le))
   ways_grow n m (ForStmt at i e t b k) le =
       let le' = less (length (body_groups i)) le in
       let le'' = less (length (body_groups t)) le' in
       sequence_grow _ _ _ _ (sequence_grow _ _ _ _ (ways_grow n m i le) (looped_grow (is_there e) _ _ (with_step_grow _ _ _ _ (ways_grow _ _ b le'') (ways_grow _ _ t le'))))
-        (ways_grow _ _ k (less (length (body_groups b)) le''))
+      (ways_grow _ _ k (less (length (body_groups b)) le''))
   ways_grow n m (LoopStmt at b k) le = sequence_grow _ _ _ _ (looped_grow false _ _ (ways_grow n m b le)) (ways_grow _ _ k (less (length (body_groups b)) le))
   ways_grow n m (BreakStmt at k) le = same_ways_grow (ways n (BreakStmt at k))
   ways_grow n m (ContinueStmt at k) le = same_ways_grow (ways n (ContinueStmt at k))
@@ -136,7 +136,7 @@ mutual
   ways_grow n m (ChooseStmt at bs k) le =
       let le' = less 1 le in
       sequence_grow _ _ _ _ (follow_grow _ _ _ _ (waited_grows n m le) (both_grow _ _ _ _ (same_ways_grow (node at_once)) (branch_ways_grow _ _ bs le')))
-        (ways_grow _ _ k (less (length (branch_groups bs)) le'))
+      (ways_grow _ _ k (less (length (branch_groups bs)) le'))
   ways_grow n m (DeclareStmt at i v k) le = sequence_grow _ _ _ _ (same_ways_grow (plain at_once)) (ways_grow n m k le)
   ways_grow n m (AssignStmt at xs v k) le = sequence_grow _ _ _ _ (same_ways_grow (plain at_once)) (ways_grow n m k le)
   ways_grow n m (ModifyStmt at xs c k) le = sequence_grow _ _ _ _ (same_ways_grow (plain at_once)) (ways_grow n m k le)

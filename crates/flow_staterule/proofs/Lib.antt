@@ -4,3 +4,5 @@ mod InForce
 mod Adding
 mod Growing
 mod Staler
+mod Places
+mod Rule

@@ -10,18 +10,18 @@ use Rattle.flow_staterule.specs.declared.ways.Ways.{Ways}
 use Rattle.flow_staterule.specs.Ways.{ways, branch_ways, sequence, both, empty}
 use Rattle.flow_staterule.proofs.Sequences.{sequence_assoc, sequence_empty, both_assoc, both_none}
 
--- waits of parts, one after the other
-pub past_two : {A : Type 0} (n : ℕ) (xs ys : List A) → n - length (xs ++ ys) ≡ n - length xs - length ys
-past_two n xs ys = let e : length (xs ++ ys) ≡ length xs + length ys = length-append xs ys in omega (e, arith)
+-- the waits behind parts, one after the other
+pub past_two : {A : Type 0} (n m : ℕ) (xs ys : List A) → m ≡ n - length xs → n - length (xs ++ ys) ≡ m - length ys
+past_two n m xs ys d = let e : length (xs ++ ys) ≡ length xs + length ys = length-append xs ys in omega (d, e, arith)
 
-pub past_three : {A : Type 0} (n : ℕ) (xs ys zs : List A) → n - length (xs ++ ys ++ zs) ≡ n - length xs - length ys - length zs
-past_three n xs ys zs = past_two n (xs ++ ys) zs ∙ ap (λ m. m - length zs) (past_two n xs ys)
+pub past_three : {A : Type 0} (n m l : ℕ) (xs ys zs : List A) → m ≡ n - length xs → l ≡ m - length ys → n - length (xs ++ ys ++ zs) ≡ l - length zs
+past_three n m l xs ys zs d c = past_two n l (xs ++ ys) zs (c ∙ sym (past_two n m xs ys d))
 
-pub past_four : {A : Type 0} (n : ℕ) (ws xs ys zs : List A) → n - length (ws ++ xs ++ ys ++ zs) ≡ n - length ws - length xs - length ys - length zs
-past_four n ws xs ys zs = past_two n (ws ++ xs ++ ys) zs ∙ ap (λ m. m - length zs) (past_three n ws xs ys)
+pub past_four : {A : Type 0} (n m l k : ℕ) (ws xs ys zs : List A) → m ≡ n - length ws → l ≡ m - length xs → k ≡ l - length ys → n - length (ws ++ xs ++ ys ++ zs) ≡ k - length zs
+past_four n m l k ws xs ys zs d c b = past_two n k (ws ++ xs ++ ys) zs (b ∙ sym (past_three n m l ws xs ys d c))
 
-pub past_choose : {A : Type 0} (n : ℕ) (x : A) (xs ys : List A) → n - length (x ∷ (xs ++ ys)) ≡ n - 1 - length xs - length ys
-past_choose n x xs ys = let e : length (xs ++ ys) ≡ length xs + length ys = length-append xs ys in omega (e, arith)
+pub past_choose : {A : Type 0} (n m l : ℕ) (x : A) (xs ys : List A) → m ≡ n - 1 → l ≡ m - length xs → n - length (x ∷ (xs ++ ys)) ≡ l - length ys
+past_choose n m l x xs ys d c = let e : length (xs ++ ys) ≡ length xs + length ys = length-append xs ys in omega (d, c, e, arith)
 
 -- a body is its next statement before the others
 split_body : (ss : List Stmt) (i : ℕ) (s : Stmt) → i < length ss → s ≡ get_or ss i s → body_of (drop i ss) ≡ stmt_of s (body_of (drop (i + 1) ss))

@@ -1,9 +1,10 @@
 -- The more waits are looked for, the more uses are stale: points, and the uses at them.
 use Rattle.std.proofs.Common.{◌≡◌, ℕ, zero, suc, ◌+◌, ◌-◌, ◌<◌, ◌≤◌, Bool, true, false, ◌&&◌, ◌||◌, List, [], ◌∷◌, ◌++◌, length, refl, sym, ap, ◌∙◌, arith, rules}
-use Rattle.std.specs.Prelude.{nat_le, nat_lt}
+use Rattle.std.specs.Prelude.{nat_le, nat_lt, slice_get, if◌then◌else◌, ⊤}
 use Rattle.std.specs.Str.{bytes_eq}
 use Rattle.std.specs.declared.option.Option.{Option}
 use Rattle.std.specs.declared.option.Option.TheVariants.{None, Some}
+use Rattle.std.proofs.lemmas.Bool.{false≢true, true≢false}
 use Rattle.flow_base.specs.declared.place.Place.{Place}
 use Rattle.flow_tree.specs.declared.ty.Ident.{Ident}
 use Rattle.flow_tree.specs.Tree.{ExprTree, ExprTrees, IntExpr, TextExpr, BoolExpr, VoidExpr, VarExpr, CallExpr, FieldExpr, MethodExpr, NotExpr, NegExpr, BinaryExpr, ParenExpr, NoExprs, MoreExprs}
@@ -16,7 +17,7 @@ use Rattle.flow_staterule.specs.declared.ways.Reached.{Reached}
 use Rattle.flow_staterule.specs.declared.ways.Ways.{Ways}
 use Rattle.flow_staterule.specs.Ways.{ways, never, with_step, head, round, waited_at}
 use Rattle.flow_staterule.specs.Uses.{Variable, behind, is_stale, use_of, mention, named, expr_uses, exprs_uses, maybe_uses, target_uses, base_uses, change_uses, declaring, declared, caught_as, with_into, left, beyond, thrown_uses, uses, branch_uses}
-use Rattle.flow_staterule.specs.StateRule.{use_at, stale_there}
+use Rattle.flow_staterule.specs.StateRule.{is_stale_use}
 use Rattle.flow_staterule.proofs.Growing.{Grows, WaysGrow, same_grows, ways_grow, waited_grows, with_step_grow, head_grows, round_grows, less}
 
 -- a point with at least as many stale variables, of d in force
@@ -31,16 +32,13 @@ one_more d p q s = record { from = s.from; stale = s.stale; within = let w = s.w
 behind_cases : (d f a b : ℕ) (x y u v : Bool) → a ≤ b → b ≤ d → x || y ≡ u || v → y && v ≡ y
     → Staler d (behind d (record { from = f; stale = a }) (record { fresh = x; waited = y })) (behind d (record { from = f; stale = b }) (record { fresh = u; waited = v }))
 behind_cases d f a b x true u true ab bd e g = record { from = refl; stale = omega arith; within = omega arith }
-behind_cases d f a b x true u false ab bd e ()
+behind_cases d f a b x true u false ab bd e g = absurd (false≢true g)
 behind_cases d f a b true false u true ab bd e g = record { from = refl; stale = omega (arith, ab, bd); within = omega arith }
 behind_cases d f a b true false true false ab bd e g = record { from = refl; stale = ab; within = bd }
-behind_cases d f a b true false false false ab bd () g
-behind_cases d f a b false false u true ab bd e g = absurd (clash u e)
-  where
-    clash : (u : Bool) → false ≡ u || true → ⊥
-    clash true ()
-    clash false ()
-behind_cases d f a b false false true false ab bd () g
+behind_cases d f a b true false false false ab bd e g = absurd (true≢false e)
+behind_cases d f a b false false true true ab bd e g = absurd (false≢true e)
+behind_cases d f a b false false false true ab bd e g = absurd (false≢true e)
+behind_cases d f a b false false true false ab bd e g = absurd (false≢true e)
 behind_cases d f a b false false false false ab bd e g = record { from = refl; stale = omega arith; within = omega arith }
 
 behind_staler : (d : ℕ) (p q : Point) (r s : Reached) → Staler d p q → Grows r s → Staler d (behind d p r) (behind d q s)
@@ -61,7 +59,7 @@ then_more [] (v ∷ vs) ws xs m n = absurd m
 then_more (u ∷ us) [] ws xs m n = absurd m
 then_more (u ∷ us) (v ∷ vs) ws xs m n = (m.0, then_more us vs ws xs m.1 n)
 
-pub stale_still : (i : ℕ) (us vs : List Use) → MoreStale us vs → stale_there (use_at i us) ≡ true → stale_there (use_at i vs) ≡ true
+pub stale_still : (i : ℕ) (us vs : List Use) → MoreStale us vs → is_stale_use (slice_get us i) ≡ true → is_stale_use (slice_get vs i) ≡ true
 stale_still i [] [] m e = e
 stale_still i [] (v ∷ vs) m e = absurd m
 stale_still i (u ∷ us) [] m e = absurd m
@@ -79,7 +77,7 @@ below n a b ab e = lt_is n b (let l = lt_true n a e in omega (arith, l, ab))
 
 both_true : (x y z : Bool) → (y ≡ true → z ≡ true) → x && y ≡ true → x && z ≡ true
 both_true true y z f e = f e
-both_true false y z f ()
+both_true false y z f e = absurd (false≢true e)
 
 still_stale : (d : ℕ) (p q : Point) (n : ℕ) → Staler d p q → is_stale p n ≡ true → is_stale q n ≡ true
 still_stale d p q n s e =
@@ -189,34 +187,34 @@ mutual
   uses_more n m vs p q c (IfStmt at e b k) le s =
       let f = IfStmt at e b End in
       then_more _ _ _ _ (then_more _ _ _ _ (expr_more (length vs) vs p q e s) (uses_more n m vs p q c b le s))
-        (uses_more (left n f) (left m f) vs (beyond n vs p f) (beyond m vs q f) c k (left_less f le) (beyond_staler n m vs p q f le s))
+      (uses_more (left n f) (left m f) vs (beyond n vs p f) (beyond m vs q f) c k (left_less f le) (beyond_staler n m vs p q f le s))
   uses_more n m vs p q c (IfElseStmt at e b d k) le s =
       let f = IfElseStmt at e b d End in
       then_more _ _ _ _ (then_more _ _ _ _ (then_more _ _ _ _ (expr_more (length vs) vs p q e s) (uses_more n m vs p q c b le s)) (uses_more (left n b) (left m b) vs p q c d (left_less b le) s))
-        (uses_more (left n f) (left m f) vs (beyond n vs p f) (beyond m vs q f) c k (left_less f le) (beyond_staler n m vs p q f le s))
+      (uses_more (left n f) (left m f) vs (beyond n vs p f) (beyond m vs q f) c k (left_less f le) (beyond_staler n m vs p q f le s))
   uses_more n m vs p q c (WhileStmt at e b k) le s =
       let f = WhileStmt at e b End in
       let h = head_staler n m (length vs) p q b le s in
       then_more _ _ _ _ (then_more _ _ _ _ (expr_more (length vs) vs _ _ e h) (uses_more n m vs _ _ c b le h))
-        (uses_more (left n f) (left m f) vs (beyond n vs p f) (beyond m vs q f) c k (left_less f le) (beyond_staler n m vs p q f le s))
+      (uses_more (left n f) (left m f) vs (beyond n vs p f) (beyond m vs q f) c k (left_less f le) (beyond_staler n m vs p q f le s))
   uses_more n m vs p q c (ForStmt at i e t b k) le s =
       let f = ForStmt at i e t b End in
       let ws = declaring vs i in
       let li = left_less i le in
       let lt = left_less t li in
       let h = behind_staler (length ws) (beyond n vs p i) (beyond m vs q i) (head (with_step (ways (left (left n i) t) b) (ways (left n i) t))) (head (with_step (ways (left (left m i) t) b) (ways (left m i) t)))
-        (wider _ _ (declaring_wider vs i) (beyond_staler n m vs p q i le s))
-        (head_grows _ _ (with_step_grow _ _ _ _ (ways_grow (left (left n i) t) (left (left m i) t) b lt) (ways_grow (left n i) (left m i) t li))) in
+      (wider _ _ (declaring_wider vs i) (beyond_staler n m vs p q i le s))
+      (head_grows _ _ (with_step_grow _ _ _ _ (ways_grow (left (left n i) t) (left (left m i) t) b lt) (ways_grow (left n i) (left m i) t li))) in
       let r = behind_staler (length ws) _ _ (round (ways (left (left n i) t) b)) (round (ways (left (left m i) t) b)) h (round_grows _ _ (ways_grow (left (left n i) t) (left (left m i) t) b lt)) in
       then_more _ _ _ _
-        (then_more _ _ _ _
-          (then_more _ _ _ _ (then_more _ _ _ _ (uses_more n m vs p q c i le s) (maybe_more (length ws) ws _ _ e h)) (uses_more (left n i) (left m i) ws _ _ c t li r))
-          (uses_more (left (left n i) t) (left (left m i) t) ws _ _ c b lt h))
-        (uses_more (left n f) (left m f) vs (beyond n vs p f) (beyond m vs q f) c k (left_less f le) (beyond_staler n m vs p q f le s))
+      (then_more _ _ _ _
+      (then_more _ _ _ _ (then_more _ _ _ _ (uses_more n m vs p q c i le s) (maybe_more (length ws) ws _ _ e h)) (uses_more (left n i) (left m i) ws _ _ c t li r))
+      (uses_more (left (left n i) t) (left (left m i) t) ws _ _ c b lt h))
+      (uses_more (left n f) (left m f) vs (beyond n vs p f) (beyond m vs q f) c k (left_less f le) (beyond_staler n m vs p q f le s))
   uses_more n m vs p q c (LoopStmt at b k) le s =
       let f = LoopStmt at b End in
       then_more _ _ _ _ (uses_more n m vs _ _ c b le (head_staler n m (length vs) p q b le s))
-        (uses_more (left n f) (left m f) vs (beyond n vs p f) (beyond m vs q f) c k (left_less f le) (beyond_staler n m vs p q f le s))
+      (uses_more (left n f) (left m f) vs (beyond n vs p f) (beyond m vs q f) c k (left_less f le) (beyond_staler n m vs p q f le s))
   uses_more n m vs p q c (BreakStmt at k) le s = uses_more n m vs _ _ c k le (never_staler (length vs) p q s)
   uses_more n m vs p q c (ContinueStmt at k) le s = uses_more n m vs _ _ c k le (never_staler (length vs) p q s)
   uses_more n m vs p q c (ReturnStmt at v k) le s = then_more _ _ _ _ (expr_more (length vs) vs p q v s) (uses_more n m vs _ _ c k le (never_staler (length vs) p q s))
@@ -225,13 +223,13 @@ mutual
       let f = TryStmt at b o x h End in
       let t = behind_staler (length vs) p q (ways n b).throws (ways m b).throws s (ways_grow n m b le).throws in
       then_more _ _ _ _
-        (then_more _ _ _ _ (uses_more n m vs p q c b le s)
-          (uses_more (left n b) (left m b) (caught_as x ∷ vs) _ _ (Some (record { number = length vs; declared = x.at })) h (left_less b le) (one_more (length vs) _ _ t)))
-        (uses_more (left n f) (left m f) vs (beyond n vs p f) (beyond m vs q f) c k (left_less f le) (beyond_staler n m vs p q f le s))
+      (then_more _ _ _ _ (uses_more n m vs p q c b le s)
+      (uses_more (left n b) (left m b) (caught_as x ∷ vs) _ _ (Some (record { number = length vs; declared = x.at })) h (left_less b le) (one_more (length vs) _ _ t)))
+      (uses_more (left n f) (left m f) vs (beyond n vs p f) (beyond m vs q f) c k (left_less f le) (beyond_staler n m vs p q f le s))
   uses_more n m vs p q c (ChooseStmt at bs k) le s =
       let f = ChooseStmt at bs End in
       then_more _ _ _ _ (branches_more (n - 1) (m - 1) vs p q _ _ c bs (less 1 le) s (behind_staler (length vs) p q (waited_at n) (waited_at m) s (waited_grows n m le)))
-        (uses_more (left n f) (left m f) vs (beyond n vs p f) (beyond m vs q f) c k (left_less f le) (beyond_staler n m vs p q f le s))
+      (uses_more (left n f) (left m f) vs (beyond n vs p f) (beyond m vs q f) c k (left_less f le) (beyond_staler n m vs p q f le s))
   uses_more n m vs p q c (DeclareStmt at i v k) le s = then_more _ _ _ _ (maybe_more (length vs) vs p q v s) (uses_more n m (declared i ∷ vs) p q c k le (one_more (length vs) p q s))
   uses_more n m vs p q c (AssignStmt at xs v k) le s =
       then_more _ _ _ _ (then_more _ _ _ _ (target_more (length vs) vs p q xs s) (expr_more (length vs) vs p q v s)) (uses_more n m vs p q c k le s)
@@ -242,11 +240,11 @@ mutual
   uses_more n m vs p q c (WaitStmt at w k) le s =
       let f = WaitStmt at w End in
       then_more _ _ _ _ (expr_more (length vs) vs p q w.operand s)
-        (uses_more (left n f) (left m f) (with_into vs w.into) (beyond n vs p f) (beyond m vs q f) c k (left_less f le) (wider _ _ (into_wider vs w.into) (beyond_staler n m vs p q f le s)))
+      (uses_more (left n f) (left m f) (with_into vs w.into) (beyond n vs p f) (beyond m vs q f) c k (left_less f le) (wider _ _ (into_wider vs w.into) (beyond_staler n m vs p q f le s)))
 
   branches_more : (n m : ℕ) (vs : List Variable) (p q x y : Point) (c : Option Caught) (bs : Branches) → n ≤ m → Staler (length vs) p q → Staler (length vs) x y
       → MoreStale (branch_uses n vs p x c bs) (branch_uses m vs q y c bs)
   branches_more n m vs p q x y c NoBranches le s t = tt
   branches_more n m vs p q x y c (MoreBranches at w b bs) le s t =
       then_more _ _ _ _ (then_more _ _ _ _ (expr_more (length vs) vs p q w.operand s) (uses_more n m (with_into vs w.into) x y c b le (wider x y (into_wider vs w.into) t)))
-        (branches_more (left n b) (left m b) vs p q x y c bs (left_less b le) s t)
+      (branches_more (left n b) (left m b) vs p q x y c bs (left_less b le) s t)

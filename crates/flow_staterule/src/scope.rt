@@ -133,6 +133,7 @@ impl<'a> Variables<'a> {
     }
 
     /// The use that a mention of a name is at a point, if the newest variable of this name is a local.
+    #[tactic(auto, using(crate::proofs::InForce::mention_all, crate::proofs::InForce::mention_next, crate::proofs::InForce::mention_here))]
     pub fn mention(&self, point: Point, name: &Ident) -> Option<Use>
         ensures { listed result ≡ named (in_force self.now) point name.now }
     {

@@ -13,7 +13,7 @@ ghost use Rattle.flow_staterule.specs.View.{in_force, Extends, found, known_behi
 
 use crate::mentions::{add, add_base, add_change, add_expr, add_exprs, add_maybe, add_target};
 use crate::scope::{Point, Use, Variables, use_of};
-use crate::ways::{Looked, Reached};
+use crate::ways::Looked;
 use flow_ast::decl::Param;
 use flow_ast::expr::Expr;
 use flow_ast::stmt::{Stmt, StmtKind, Waiting, When};
@@ -53,7 +53,6 @@ pub struct Finder<'a> {
 }
 
 /// The uses of locals in a body with these parameters, in the order of the text.
-#[tactic(auto, using(crate::proofs::Adding::params_end))]
 pub fn uses_in<'a>(
     alloc: Global,
     looked: Looked,
@@ -76,7 +75,7 @@ pub fn uses_in<'a>(
 }
 
 // The parameters, which are no locals.
-#[tactic(auto, using(crate::proofs::Adding::params_end))]
+#[tactic(auto, using(crate::proofs::Adding::params_next, crate::proofs::Adding::params_end))]
 fn declared_params<'a>(alloc: Global, params: &'a [Param]) -> Result<Variables<'a>, NoMemory>
     ensures { IfOk result (λ v. in_force v ≡ reverse (map parameter (map param_of params.now))) }
 {
@@ -113,7 +112,7 @@ impl Here {
 
 impl<'a> Finder<'a> {
     /// Statements one after another.
-    #[tactic(auto, using(crate::proofs::Adding::body_end))]
+    #[tactic(auto, using(crate::proofs::Adding::body_next, crate::proofs::Adding::body_end, crate::proofs::InForce::take_twice, crate::proofs::InForce::take_all))]
     #[cycle(uses)]
     fn body(&mut self, here: Here, stmts: &'a [Stmt]) -> Result<(), NoMemory>
         ensures uses { IfOk result (λ _. self.new.uses.items ≡ found self.old here (body_of stmts.now)) }
@@ -363,7 +362,7 @@ impl<'a> Finder<'a> {
     }
 
     /// A `choose`: the operands of its branches are read before it is left.
-    #[tactic(auto, using(crate::proofs::Adding::branches_end))]
+    #[tactic(auto, using(crate::proofs::Adding::branches_next, crate::proofs::Adding::branches_end))]
     #[cycle(uses)]
     fn choose(&mut self, here: Here, branches: &'a [When]) -> Result<(), NoMemory>
         ensures uses { IfOk result (λ _. self.new.uses.items ≡ self.old.uses.items ++ choose_uses here.looked.0 (in_force self.old.variables) here.point here.caught (branches_of branches.now)) }

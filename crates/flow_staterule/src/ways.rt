@@ -1,11 +1,15 @@
 // How walks through a body leave it.
 
 ghost use Rattle.std.specs.Prelude.{◌≡◌, ◌-◌, length};
+ghost use Rattle.std.specs.Option.{option_map};
+ghost use Rattle.flow_tree.specs.View.{expr_of};
+ghost use Rattle.flow_ast.specs.Typing.{is_there};
 ghost use Rattle.flow_tree.specs.Body.{Body, Branches};
 ghost use Rattle.flow_tree.specs.StmtView.{stmt_of, body_of, branch_of, branches_of, simple_of, else_of};
 ghost use Rattle.flow_ast.specs.Slots.{body_groups, branch_groups};
 ghost use Rattle.flow_staterule.specs.Ways.{ways, branch_ways, branching, else_waits, never, at_once, either, onward, both, follow, node, plain, sequence, with_step, head, looped, handled, waited_at, round, empty};
 
+use flow_ast::expr::Expr;
 use flow_ast::stmt::{Stmt, StmtKind, When};
 
 /// By which walks a point is reached: by one that passes no wait, and by one that passes some.
@@ -210,6 +214,16 @@ impl Ways {
     }
 }
 
+/// Whether a `for` leads past its body: it does where it has a condition.
+fn leads_past(test: &Option<Expr>) -> bool
+    ensures { result ≡ is_there (option_map expr_of test.now) }
+{
+    match test {
+        None => false,
+        Some(_) => true,
+    }
+}
+
 impl Looked {
     /// By which walks the point behind a wait is reached.
     pub fn waited(self) -> Reached
@@ -237,7 +251,7 @@ impl Looked {
     }
 
     /// The ways out of statements, one after another.
-    #[tactic(auto, using(crate::proofs::Passing::ways_end, crate::proofs::Passing::looked_end))]
+    #[tactic(auto, using(crate::proofs::Passing::ways_next, crate::proofs::Passing::looked_next, crate::proofs::Passing::ways_end, crate::proofs::Passing::looked_end))]
     #[cycle(ways)]
     pub fn body(self, stmts: &[Stmt]) -> Passed
         ensures ways { result.ways ≡ ways self.0 (body_of stmts.now) }
@@ -274,7 +288,7 @@ impl Looked {
                 let body = step.looked.body(body);
                 let round = body.ways.with_step(step.ways);
                 Passed {
-                    ways: init.ways.sequence(round.looped(test.is_some())),
+                    ways: init.ways.sequence(round.looped(leads_past(test))),
                     looked: body.looked,
                 }
             }
@@ -365,7 +379,7 @@ impl Looked {
     }
 
     /// The branches of a `choose`.
-    #[tactic(auto, using(crate::proofs::Passing::branch_ways_end, crate::proofs::Passing::branch_looked_end))]
+    #[tactic(auto, using(crate::proofs::Passing::branch_ways_next, crate::proofs::Passing::branch_looked_next, crate::proofs::Passing::branch_ways_end, crate::proofs::Passing::branch_looked_end))]
     #[cycle(ways)]
     fn branches(self, branches: &[When]) -> Passed
         ensures ways { result.ways ≡ branch_ways self.0 (branches_of branches.now) }
