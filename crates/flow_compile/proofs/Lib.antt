@@ -1,4 +1,4 @@
 mod Judging
 mod OneVerdict
 mod Collecting
-mod Weighing
+mod Weights

@@ -54,7 +54,7 @@ fn heavy(decl: &Decl) -> Option<Place>
 }
 
 /// The place of the first actor whose weight is above 60,000.
-#[tactic(auto, using(crate::proofs::Weighing::heavy_more, crate::proofs::Weighing::heavy_found, crate::proofs::Weighing::heavy_over))]
+#[tactic(auto, using(crate::proofs::Weights::heavy_more, crate::proofs::Weights::heavy_found, crate::proofs::Weights::heavy_over))]
 pub fn first_heavy(decls: &[Decl]) -> Option<Place>
     ensures { result ≡ first_heavy (map decl_of decls.now) }
 {

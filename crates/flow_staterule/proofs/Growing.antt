@@ -1,8 +1,6 @@
 -- The more waits are looked for, the more uses are stale.
-use Rattle.std.proofs.Common.{◌≡◌, ℕ, zero, suc, ◌+◌, ◌-◌, ◌<◌, ◌≤◌, Bool, true, false, ◌&&◌, ◌||◌, List, [], ◌∷◌, ◌++◌, length, refl, sym, ap, ◌∙◌, arith, rules}
-use Rattle.std.specs.declared.option.Option.{Option}
-use Rattle.std.specs.declared.option.Option.TheVariants.{None, Some}
-use Rattle.flow_tree.specs.Tree.{ExprTree, ExprTrees, IntExpr, TextExpr, BoolExpr, VoidExpr, VarExpr, CallExpr, FieldExpr, MethodExpr, NotExpr, NegExpr, BinaryExpr, ParenExpr, NoExprs, MoreExprs}
+use Rattle.std.proofs.Common.{◌≡◌, ℕ, zero, suc, ◌+◌, ◌-◌, ◌<◌, ◌≤◌, Bool, true, false, ◌&&◌, ◌||◌, List, [], ◌∷◌, ◌++◌, length, refl, sym, ap, ap₂, subst, ◌∙◌, arith, rules}
+use Rattle.std.proofs.lemmas.Bool.{false≢true}
 use Rattle.flow_tree.specs.Body.{Body, End, BlockStmt, IfStmt, IfElseStmt, WhileStmt, ForStmt, LoopStmt, BreakStmt, ContinueStmt, ReturnStmt, ThrowStmt, TryStmt, ChooseStmt, DeclareStmt, AssignStmt, ModifyStmt, CallStmt, WaitStmt, Branches, NoBranches, MoreBranches}
 use Rattle.flow_ast.specs.Slots.{body_groups, branch_groups}
 use Rattle.flow_ast.specs.Typing.{is_there}
@@ -15,14 +13,57 @@ pub record Grows (r s : Reached) : Type 0 where
   pub reached : is_reached r ≡ is_reached s
   pub waited : r.waited && s.waited ≡ r.waited
 
+or_true : (a : Bool) → a || true ≡ true
+or_true true = refl
+or_true false = refl
+
+and_self : (a : Bool) → a && a ≡ a
+and_self true = refl
+and_self false = refl
+
+and_or : (a b : Bool) → b && (a || b) ≡ b
+and_or a true = or_true a
+and_or a false = refl
+
+or_shuffle : (a b c d : Bool) → (a || b) || (c || d) ≡ (a || c) || (b || d)
+or_shuffle a b c d = grind rules
+
+or_kept : (a b c d : Bool) → a && c ≡ a → b && d ≡ b → (a || b) && (c || d) ≡ a || b
+or_kept true b c d e f = ap (λ x. x || d) e
+or_kept false true c d e f = ap (λ x. c || x) f ∙ or_true c
+or_kept false false c d e f = refl
+
+reached_onward : (r s : Reached) → is_reached (onward r s) ≡ is_reached r && is_reached s
+reached_onward r s = grind rules
+
+-- behind a wait on the first part of the way, or on the second
+onward_kept : (f w r v g x y : Bool) → f || w ≡ g || x → w && x ≡ w → v && r ≡ v → v && y ≡ v
+    → ((w && r) || (f && v)) && ((x && r) || (g && y)) ≡ (w && r) || (f && v)
+onward_kept f true true v g x y a b c d = ap (λ z. (z && true) || (g && y)) b
+onward_kept f true false true g x y a b c d = absurd (false≢true c)
+onward_kept true true false false g x y a b c d = refl
+onward_kept false true false false g x y a b c d = refl
+onward_kept false false r v g x y a b c d = refl
+onward_kept true false r false g x y a b c d = refl
+onward_kept true false r true true x y a b c d = ap (λ z. (x && r) || z) d ∙ or_true (x && r)
+onward_kept true false r true false x y a b c d = ap₂ (λ z t. (z && t) || false) (sym a) c
+
 same_grows : (r : Reached) → Grows r r
-same_grows r = record { reached = refl; waited = grind rules }
+same_grows r = record { reached = refl; waited = and_self r.waited }
 
 either_grows : (r s t u : Reached) → Grows r s → Grows t u → Grows (either r t) (either s u)
-either_grows r s t u g h = record { reached = grind (rules, g.reached, h.reached); waited = grind (rules, g.waited, h.waited) }
+either_grows r s t u g h = record {
+  reached = or_shuffle r.fresh t.fresh r.waited t.waited ∙ ap₂ (λ x y. x || y) g.reached h.reached ∙ sym (or_shuffle s.fresh u.fresh s.waited u.waited);
+  waited = or_kept r.waited t.waited s.waited u.waited g.waited h.waited;
+}
 
 onward_grows : (r s t u : Reached) → Grows r s → Grows t u → Grows (onward r t) (onward s u)
-onward_grows r s t u g h = record { reached = grind (rules, g.reached, h.reached); waited = grind (rules, g.reached, g.waited, h.reached, h.waited) }
+onward_grows r s t u g h = record {
+  reached = reached_onward r t ∙ ap₂ (λ x y. x && y) g.reached h.reached ∙ sym (reached_onward s u);
+  waited =
+      subst (λ x. ((r.waited && is_reached t) || (r.fresh && t.waited)) && ((s.waited && x) || (s.fresh && u.waited)) ≡ (r.waited && is_reached t) || (r.fresh && t.waited)) h.reached
+      (onward_kept r.fresh r.waited (is_reached t) t.waited s.fresh s.waited u.waited g.reached g.waited (and_or t.fresh t.waited) h.waited);
+}
 
 pub record WaysGrow (w v : Ways) : Type 0 where
   pub ends : Grows w.ends v.ends

@@ -5,4 +5,5 @@ mod Adding
 mod Growing
 mod Staler
 mod Places
-mod Rule
+mod FirstLost
+mod Kinds

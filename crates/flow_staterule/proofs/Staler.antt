@@ -1,6 +1,6 @@
 -- The more waits are looked for, the more uses are stale: points, and the uses at them.
-use Rattle.std.proofs.Common.{◌≡◌, ℕ, zero, suc, ◌+◌, ◌-◌, ◌<◌, ◌≤◌, Bool, true, false, ◌&&◌, ◌||◌, List, [], ◌∷◌, ◌++◌, length, refl, sym, ap, ◌∙◌, arith, rules}
-use Rattle.std.specs.Prelude.{nat_le, nat_lt, slice_get, if◌then◌else◌, ⊤}
+use Rattle.std.proofs.Common.{◌≡◌, ℕ, zero, suc, ◌+◌, ◌-◌, ◌<◌, ◌≤◌, Bool, true, false, ◌&&◌, ◌||◌, List, [], ◌∷◌, ◌++◌, length, refl, sym, ap, subst, ◌∙◌, arith}
+use Rattle.std.specs.Prelude.{nat_le, nat_lt, slice_get, if◌then◌else◌}
 use Rattle.std.specs.Str.{bytes_eq}
 use Rattle.std.specs.declared.option.Option.{Option}
 use Rattle.std.specs.declared.option.Option.TheVariants.{None, Some}
@@ -43,12 +43,12 @@ behind_cases d f a b false false false false ab bd e g = record { from = refl; s
 
 behind_staler : (d : ℕ) (p q : Point) (r s : Reached) → Staler d p q → Grows r s → Staler d (behind d p r) (behind d q s)
 behind_staler d p q r s st g =
-    let e : q ≡ record { from = p.from; stale = q.stale } = ap (λ x. record { from = x; stale = q.stale }) (sym st.from) in
-    rw e (behind_cases d p.from p.stale q.stale r.fresh r.waited s.fresh s.waited st.stale st.within g.reached g.waited)
+    subst (λ x. Staler d (behind d p r) (behind d (record q { from = x }) s)) st.from
+    (behind_cases d p.from p.stale q.stale r.fresh r.waited s.fresh s.waited st.stale st.within g.reached g.waited)
 
 -- the same uses, of which at least as many are stale
 abbrev pub MoreStale : List Use → List Use → Type 0
-MoreStale [] [] = ⊤
+MoreStale [] [] = Unit {0}
 MoreStale [] (v ∷ vs) = ⊥
 MoreStale (u ∷ us) [] = ⊥
 MoreStale (u ∷ us) (v ∷ vs) = (u.stale ≡ true → v.stale ≡ true) × MoreStale us vs

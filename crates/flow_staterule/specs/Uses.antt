@@ -16,8 +16,7 @@ use Rattle.flow_staterule.specs.declared.scope.Point.{Point}
 use Rattle.flow_staterule.specs.declared.scope.Use.{Use}
 use Rattle.flow_staterule.specs.declared.uses.Caught.{Caught}
 use Rattle.flow_staterule.specs.declared.ways.Reached.{Reached}
-use Rattle.flow_ast.specs.Slots.{body_groups, branch_groups}
-use Rattle.flow_ast.specs.Typing.{is_there}
+use Rattle.flow_ast.specs.Slots.{body_groups}
 use Rattle.flow_staterule.specs.Ways.{ways, never, with_step, head, round, waited_at}
 
 -- A variable in force, and where it is declared if it is a local. The variables in force stand newest first.

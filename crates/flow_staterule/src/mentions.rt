@@ -1,6 +1,6 @@
 // The uses of locals in an expression and in the parts of a statement.
 
-ghost use Rattle.std.specs.Prelude.{◌≡◌, ◌++◌, map, IfOk};
+ghost use Rattle.std.specs.Prelude.{◌≡◌, ◌++◌, IfOk};
 ghost use Rattle.std.specs.Option.{option_map};
 ghost use Rattle.flow_tree.specs.View.{expr_of, exprs_of};
 ghost use Rattle.flow_tree.specs.StmtView.{change_of};

@@ -1,6 +1,6 @@
 // The rule on state.
 
-ghost use Rattle.std.specs.Prelude.{◌≡◌, ℕ, ◌<◌, List, true, map, length, slice_get, IfOk};
+ghost use Rattle.std.specs.Prelude.{◌≡◌, List, true, map, length, slice_get, IfOk};
 ghost use Rattle.flow_base.specs.declared.place.Place.{Place};
 ghost use Rattle.flow_tree.specs.StmtView.{body_of};
 ghost use Rattle.flow_tree.specs.DeclView.{params_of, decl_of};
@@ -25,7 +25,7 @@ pub struct Lost {
 }
 
 /// The first use of a local after a wait, in the order of the text.
-#[tactic(auto, using(crate::proofs::Rule::decls_more, crate::proofs::Rule::decls_found, crate::proofs::Rule::decls_over))]
+#[tactic(auto, using(crate::proofs::FirstLost::decls_more, crate::proofs::FirstLost::decls_found, crate::proofs::FirstLost::decls_over))]
 pub fn first_lost(alloc: Global, decls: &[Decl]) -> Result<Option<Lost>, NoMemory>
     ensures { IfOk result (λ l. l ≡ first_lost (map decl_of decls.now)) }
 {
@@ -47,7 +47,7 @@ fn lost_in(alloc: Global, decl: &Decl) -> Result<Option<Lost>, NoMemory>
     }
 }
 
-#[tactic(auto, using(crate::proofs::Rule::first_is_stale))]
+#[tactic(auto, using(crate::proofs::FirstLost::first_is_stale))]
 fn lost_in_body(alloc: Global, params: &[Param], body: &[Stmt]) -> Result<Option<Lost>, NoMemory>
     ensures { IfOk result (λ l. l ≡ lost_in (params_of params.now) (body_of body.now)) }
 {
@@ -71,7 +71,7 @@ fn lost_in_body(alloc: Global, params: &[Param], body: &[Stmt]) -> Result<Option
 }
 
 /// The number of the first stale use.
-#[tactic(auto, using(crate::proofs::Rule::stale_more, crate::proofs::Rule::stale_found, crate::proofs::Rule::stale_over))]
+#[tactic(auto, using(crate::proofs::FirstLost::stale_more, crate::proofs::FirstLost::stale_found, crate::proofs::FirstLost::stale_over))]
 fn first_stale(uses: &[Use]) -> Option<usize>
     ensures { result ≡ first_stale 0 uses.now }
 {
@@ -84,7 +84,7 @@ fn first_stale(uses: &[Use]) -> Option<usize>
 }
 
 /// The number of the first of so many waits that makes the use with this number stale, if it is stale with all of them.
-#[tactic(auto, using(crate::proofs::Rule::halved))]
+#[tactic(auto, using(crate::proofs::FirstLost::halved))]
 fn first_wait(
     alloc: Global,
     params: &[Param],

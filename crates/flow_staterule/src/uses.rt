@@ -163,6 +163,7 @@ impl<'a> Finder<'a> {
     }
 
     /// The uses in a statement, and what it declares.
+    #[tactic(auto, using(crate::proofs::Kinds::after_block, crate::proofs::Kinds::after_if, crate::proofs::Kinds::after_while, crate::proofs::Kinds::after_loop, crate::proofs::Kinds::after_for, crate::proofs::Kinds::after_break, crate::proofs::Kinds::after_continue, crate::proofs::Kinds::after_return, crate::proofs::Kinds::after_throw, crate::proofs::Kinds::after_try, crate::proofs::Kinds::after_choose, crate::proofs::Kinds::after_declare, crate::proofs::Kinds::after_assign, crate::proofs::Kinds::after_modify, crate::proofs::Kinds::after_call, crate::proofs::Kinds::after_wait))]
     #[cycle(uses)]
     fn inside(&mut self, here: Here, stmt: &'a Stmt) -> Result<(), NoMemory>
         ensures uses { IfOk result (λ _. (k : Body) → found self.new (known_behind (in_force self.old.variables) here (stmt_of stmt.now End)) k ≡ found self.old here (stmt_of stmt.now k)) }

@@ -27,11 +27,13 @@ first_at : (holds : ℕ → Bool) (n low : ℕ) (ws : List Place) → ((j : ℕ)
     → slice_get ws low ≡ first_with holds n ws
 first_at holds n low [] no it lt = absurd (omega (arith, lt))
 first_at holds n zero (w ∷ ws) no it lt =
-    let e : holds (n + 1) ≡ true = it in
+    let z : n + 0 + 1 ≡ n + 1 = omega arith in
+    let e : holds (n + 1) ≡ true = ap holds (sym z) ∙ it in
     sym (ap (λ b. if b then Some w else first_with holds (n + 1) ws) e)
 first_at holds n (suc low) (w ∷ ws) no it lt =
     let z : 0 < suc low = omega arith in
-    let e : holds (n + 1) ≡ false = no 0 z in
+    let o : n + 0 + 1 ≡ n + 1 = omega arith in
+    let e : holds (n + 1) ≡ false = ap holds (sym o) ∙ no 0 z in
     let lt' : low < length ws = omega (arith, lt) in
     let s : n + 1 + low + 1 ≡ n + suc low + 1 = omega arith in
     first_at holds (n + 1) low ws
