@@ -3,7 +3,7 @@ use Rattle.std.specs.Prelude.{◌≡◌, ℕ, List, [], ◌∷◌, ◌++◌, tak
 use Rattle.std.specs.declared.option.Option.{Option}
 use Rattle.std.specs.declared.option.Option.TheVariants.{None, Some}
 use Rattle.flow_tree.specs.declared.ty.Ident.{Ident}
-use Rattle.flow_tree.specs.Body.{Body, Branches}
+use Rattle.flow_tree.specs.Body.{Body, Branches, End}
 use Rattle.flow_staterule.specs.declared.scope.Variable as code
 use Rattle.flow_staterule.specs.declared.scope.Variables.{Variables}
 use Rattle.flow_staterule.specs.declared.scope.Use.{Use}
@@ -11,7 +11,7 @@ use Rattle.flow_staterule.specs.declared.scope.Point.{Point}
 use Rattle.flow_staterule.specs.declared.uses.Here.{Here}
 use Rattle.flow_staterule.specs.declared.uses.Finder.{Finder}
 use Rattle.flow_staterule.specs.Ways.{ways, head, round, with_step}
-use Rattle.flow_staterule.specs.Uses.{Variable, uses, branch_uses, behind, beyond, left}
+use Rattle.flow_staterule.specs.Uses.{Variable, uses, branch_uses, behind, beyond, declaring, left}
 
 abbrev pub variable_of : code.Variable → Variable
 variable_of v = record { name = v.name.now; local = v.local }
@@ -57,3 +57,9 @@ in_handler d h b x = record {
   point = behind d h.point (ways h.looked.0 b).throws;
   caught = Some (record { number = d; declared = x.at });
 }
+
+-- A statement is found: with any body behind it the uses are those that the statement and this body make, and the variables
+-- in force are those behind it.
+pub record Finds (old new : Finder) (h : Here) (put : Body → Body) : Type 0 where
+  pub uses : (k : Body) → found new (known_behind (in_force old.variables) h (put End)) k ≡ found old h (put k)
+  pub variables : in_force new.variables ≡ declaring (in_force old.variables) (put End)

@@ -3,13 +3,13 @@
 ghost use Rattle.std.specs.Prelude.{◌≡◌, ◌∷◌, ◌++◌, map, reverse, length, IfOk};
 ghost use Rattle.std.specs.Option.{option_map};
 ghost use Rattle.std.specs.declared.option.Option.TheVariants.{None};
-ghost use Rattle.flow_tree.specs.Body.{Body, Branches, End};
+ghost use Rattle.flow_tree.specs.Body.{Branches, End};
 ghost use Rattle.flow_tree.specs.View.{expr_of};
 ghost use Rattle.flow_tree.specs.StmtView.{waiting_of, stmt_of, body_of, branch_of, branches_of, simple_of, else_of};
 ghost use Rattle.flow_tree.specs.DeclView.{param_of};
 ghost use Rattle.flow_staterule.specs.Ways.{ways, head};
 ghost use Rattle.flow_staterule.specs.Uses.{uses, choose_uses, else_uses, behind, declaring, with_into, caught_as, thrown_uses, expr_uses, maybe_uses, parameter, begins, left};
-ghost use Rattle.flow_staterule.specs.View.{in_force, Extends, found, known_behind, for_body, for_step, in_handler, in_branches};
+ghost use Rattle.flow_staterule.specs.View.{in_force, Extends, Finds, found, known_behind, for_body, for_step, in_handler, in_branches};
 
 use crate::mentions::{add, add_base, add_change, add_expr, add_exprs, add_maybe, add_target};
 use crate::scope::{Point, Use, Variables, use_of};
@@ -118,9 +118,9 @@ impl<'a> Finder<'a> {
         ensures uses { IfOk result (λ _. self.new.uses.items ≡ found self.old here (body_of stmts.now)) }
         ensures keeps { IfOk result (λ _. Extends self.old.variables self.new.variables) }
     {
-        let mut here = here;
+        let mut next = here;
         for stmt in stmts {
-            here = self.stmt(here, stmt)?;
+            next = self.stmt(next, stmt)?;
         }
         Ok(())
     }
@@ -128,9 +128,8 @@ impl<'a> Finder<'a> {
     /// One statement: gives what is known behind it.
     #[cycle(uses)]
     fn stmt(&mut self, here: Here, stmt: &'a Stmt) -> Result<Here, NoMemory>
-        ensures uses { IfOk result (λ h. (k : Body) → found self.new h k ≡ found self.old here (stmt_of stmt.now k)) }
+        ensures finds { IfOk result (λ _. Finds self.old self.new here (stmt_of stmt.now)) }
         ensures behind { IfOk result (λ h. h ≡ known_behind (in_force self.old.variables) here (stmt_of stmt.now End)) }
-        ensures variables { IfOk result (λ _. in_force self.new.variables ≡ declaring (in_force self.old.variables) (stmt_of stmt.now End)) }
         ensures keeps { IfOk result (λ _. Extends self.old.variables self.new.variables) }
     {
         let behind = self.behind(here, stmt);
@@ -139,6 +138,7 @@ impl<'a> Finder<'a> {
     }
 
     /// What is known behind a statement.
+    #[tactic(auto, using(crate::proofs::Adding::behind_is))]
     fn behind(&self, here: Here, stmt: &Stmt) -> Here
         ensures { result ≡ known_behind (in_force self.now.variables) here (stmt_of stmt.now End) }
     {
@@ -163,11 +163,10 @@ impl<'a> Finder<'a> {
     }
 
     /// The uses in a statement, and what it declares.
-    #[tactic(auto, using(crate::proofs::Kinds::after_block, crate::proofs::Kinds::after_if, crate::proofs::Kinds::after_while, crate::proofs::Kinds::after_loop, crate::proofs::Kinds::after_for, crate::proofs::Kinds::after_break, crate::proofs::Kinds::after_continue, crate::proofs::Kinds::after_return, crate::proofs::Kinds::after_throw, crate::proofs::Kinds::after_try, crate::proofs::Kinds::after_choose, crate::proofs::Kinds::after_declare, crate::proofs::Kinds::after_assign, crate::proofs::Kinds::after_modify, crate::proofs::Kinds::after_call, crate::proofs::Kinds::after_wait))]
+    #[tactic(auto, using(crate::proofs::Kinds::after_block, crate::proofs::Kinds::after_if, crate::proofs::Kinds::after_while, crate::proofs::Kinds::after_loop, crate::proofs::Kinds::after_for, crate::proofs::Kinds::after_break, crate::proofs::Kinds::after_continue, crate::proofs::Kinds::after_return, crate::proofs::Kinds::after_throw, crate::proofs::Kinds::after_try, crate::proofs::Kinds::after_choose, crate::proofs::Kinds::after_declare, crate::proofs::Kinds::after_assign, crate::proofs::Kinds::after_modify, crate::proofs::Kinds::after_call, crate::proofs::Kinds::after_wait, crate::proofs::Adding::same_extends))]
     #[cycle(uses)]
     fn inside(&mut self, here: Here, stmt: &'a Stmt) -> Result<(), NoMemory>
-        ensures uses { IfOk result (λ _. (k : Body) → found self.new (known_behind (in_force self.old.variables) here (stmt_of stmt.now End)) k ≡ found self.old here (stmt_of stmt.now k)) }
-        ensures variables { IfOk result (λ _. in_force self.new.variables ≡ declaring (in_force self.old.variables) (stmt_of stmt.now End)) }
+        ensures finds { IfOk result (λ _. Finds self.old self.new here (stmt_of stmt.now)) }
         ensures keeps { IfOk result (λ _. Extends self.old.variables self.new.variables) }
     {
         match &stmt.kind {
@@ -303,6 +302,7 @@ impl<'a> Finder<'a> {
     }
 
     /// The init of a `for`, where it is there: gives what is known behind it.
+    #[tactic(auto, using(crate::proofs::Adding::none_behind, crate::proofs::Adding::none_found, crate::proofs::Adding::part_found, crate::proofs::InForce::take_all))]
     #[cycle(uses)]
     fn part(&mut self, here: Here, part: &'a Option<Box<Stmt>>) -> Result<Here, NoMemory>
         ensures uses { IfOk result (λ _. self.new.uses.items ≡ found self.old here (simple_of part.now)) }
@@ -384,10 +384,10 @@ impl<'a> Finder<'a> {
 
     /// A branch, whose operand is read at one point and whose body is run at another: gives what is known at the body of
     /// the next one.
+    #[tactic(auto, using(crate::proofs::Kinds::after_branch))]
     #[cycle(uses)]
     fn branch(&mut self, point: Point, here: Here, branch: &'a When) -> Result<Here, NoMemory>
         ensures uses { IfOk result (λ h. (bs : Branches) → in_branches self.new point h bs ≡ in_branches self.old point here (branch_of branch.now bs)) }
-        ensures next { IfOk result (λ h. (h.point ≡ here.point) × (h.caught ≡ here.caught)) }
         ensures variables { IfOk result (λ _. self.new.variables.list.items ≡ self.old.variables.list.items) }
     {
         let next = here.past(&branch.body);
