@@ -6,4 +6,4 @@ mod Growing
 mod Staler
 mod Places
 mod FirstLost
-mod Kinds
+mod EachKind

@@ -163,7 +163,7 @@ impl<'a> Finder<'a> {
     }
 
     /// The uses in a statement, and what it declares.
-    #[tactic(auto, using(crate::proofs::Kinds::after_block, crate::proofs::Kinds::after_if, crate::proofs::Kinds::after_while, crate::proofs::Kinds::after_loop, crate::proofs::Kinds::after_for, crate::proofs::Kinds::after_break, crate::proofs::Kinds::after_continue, crate::proofs::Kinds::after_return, crate::proofs::Kinds::after_throw, crate::proofs::Kinds::after_try, crate::proofs::Kinds::after_choose, crate::proofs::Kinds::after_declare, crate::proofs::Kinds::after_assign, crate::proofs::Kinds::after_modify, crate::proofs::Kinds::after_call, crate::proofs::Kinds::after_wait, crate::proofs::Adding::same_extends))]
+    #[tactic(auto, using(crate::proofs::EachKind::after_block, crate::proofs::EachKind::after_if, crate::proofs::EachKind::after_while, crate::proofs::EachKind::after_loop, crate::proofs::EachKind::after_for, crate::proofs::EachKind::after_break, crate::proofs::EachKind::after_continue, crate::proofs::EachKind::after_return, crate::proofs::EachKind::after_throw, crate::proofs::EachKind::after_try, crate::proofs::EachKind::after_choose, crate::proofs::EachKind::after_declare, crate::proofs::EachKind::after_assign, crate::proofs::EachKind::after_modify, crate::proofs::EachKind::after_call, crate::proofs::EachKind::after_wait, crate::proofs::Adding::same_extends))]
     #[cycle(uses)]
     fn inside(&mut self, here: Here, stmt: &'a Stmt) -> Result<(), NoMemory>
         ensures finds { IfOk result (λ _. Finds self.old self.new here (stmt_of stmt.now)) }
@@ -384,7 +384,7 @@ impl<'a> Finder<'a> {
 
     /// A branch, whose operand is read at one point and whose body is run at another: gives what is known at the body of
     /// the next one.
-    #[tactic(auto, using(crate::proofs::Kinds::after_branch))]
+    #[tactic(auto, using(crate::proofs::EachKind::after_branch))]
     #[cycle(uses)]
     fn branch(&mut self, point: Point, here: Here, branch: &'a When) -> Result<Here, NoMemory>
         ensures uses { IfOk result (λ h. (bs : Branches) → in_branches self.new point h bs ≡ in_branches self.old point here (branch_of branch.now bs)) }
