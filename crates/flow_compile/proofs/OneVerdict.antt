@@ -1,5 +1,5 @@
 -- A text has one verdict.
-use Rattle.std.proofs.Common.{◌≡◌, ℕ, zero, suc, ◌≤◌, ◌<◌, List, take, length, refl, sym, ap, ap₂, ◌∙◌, subst, arith, inl, inr, Ok, Err}
+use Rattle.std.proofs.Common.{◌≡◌, ℕ, zero, suc, ◌≤◌, ◌<◌, List, take, length, refl, sym, ap, ap₂, ◌∙◌, subst, arith, inl, inr, Ok, Err, Some, None}
 use Rattle.std.specs.Prelude.{slice_get, unwrap_or}
 use Rattle.std.specs.Option.{option_map}
 use Rattle.flow_base.specs.declared.place.Place.{Place}
@@ -17,7 +17,10 @@ use Rattle.flow_lex.proofs.Once.{reads_once}
 use Rattle.flow_parse.specs.Laws.{OneProgram, told}
 use Rattle.flow_parse.specs.ParseAnswer.{GoodTo, begun, whole, FailsBy, FailsLimit, LimitAnswer, ParseAnswer}
 use Rattle.flow_parse.proofs.OneAnswer.{one_answer}
-use Rattle.flow_compile.specs.Verdict.{HasTokens, IsUnread, too_long, no_tokens, no_program, IsProgram}
+use Rattle.flow_rules.specs.Rules.{refusal_of}
+use Rattle.flow_staterule.specs.declared.rule.Lost.{Lost}
+use Rattle.flow_staterule.specs.StateRule.{first_lost}
+use Rattle.flow_compile.specs.Verdict.{HasTokens, IsUnread, too_long, no_tokens, no_program, IsProgram, IsTyped, IsSound, IsRefused, unread, breaks, Loses}
 use Rattle.flow_compile.specs.Laws.{OneVerdict}
 
 -- tokens are told by their list and their end
@@ -103,5 +106,37 @@ read_or_unread text program r p a (too_long l) = absurd (omega (arith, l, a.has.
 read_or_unread text program r p a (no_tokens k f) = (reads_once text).either a.tokens.spots.items a.tokens.end r p a.has.lexes f
 read_or_unread text program r p a (no_program t h b) = never_both a.tokens program r p a.parsed (moved t a.tokens r p (same_tokens text t a.tokens h a.has) b)
 
+-- the parts of what stands for a refusal
+same_refusal : (r s : Rule) (p q : Place) → Some (r, p) ≡ Some (s, q) → (r ≡ s) × (p ≡ q)
+same_refusal r s p q e = (cc, cc)
+
+refused_once : OneProgram → (text : List ℕ) (r s : Rule) (p q : Place) → IsRefused text r p → IsRefused text s q → (r ≡ s) × (p ≡ q)
+refused_once one text r s p q (unread a) (unread b) = unread_once text r s p q a b
+refused_once one text r s p q (unread a) (breaks y j f) = absurd (read_or_unread text y r p j a)
+refused_once one text r s p q (breaks x i e) (unread b) = absurd (read_or_unread text x s q i b)
+refused_once one text r s p q (breaks x i e) (breaks y j f) = same_refusal r s p q (sym e ∙ (ap refusal_of (one_program one text x y i j) ∙ f))
+
+typed_or_refused : OneProgram → (text : List ℕ) (program : Program) (r : Rule) (p : Place) → IsTyped text program → IsRefused text r p → ⊥
+typed_or_refused one text x r p t (unread a) = read_or_unread text x r p t.read a
+typed_or_refused one text x r p t (breaks y j f) =
+    let e : None ≡ Some (r, p) = sym t.accepted ∙ (ap refusal_of (one_program one text x y t.read j) ∙ f) in cc
+
+same_lost : (l m : Lost) → Some l ≡ Some m → l ≡ m
+same_lost l m e = cc
+
+lost_once : OneProgram → (text : List ℕ) (l m : Lost) → Loses text l → Loses text m → l ≡ m
+lost_once one text l m a b =
+    same_lost l m (sym a.first ∙ (ap (λ p. first_lost p.decls) (one_program one text a.program b.program a.typed.read b.typed.read) ∙ b.first))
+
+sound_or_lost : OneProgram → (text : List ℕ) (program : Program) (l : Lost) → IsSound text program → Loses text l → ⊥
+sound_or_lost one text x l s a =
+    let e : None ≡ Some l = sym s.keeps ∙ (ap (λ p. first_lost p.decls) (one_program one text x a.program s.typed.read a.typed.read) ∙ a.first) in cc
+
 pub one_verdict : OneProgram → (text : List ℕ) → OneVerdict text
-one_verdict one text = record { program = one_program one text; refusal = unread_once text; either = read_or_unread text }
+one_verdict one text = record {
+  program = one_program one text;
+  refusal = refused_once one text;
+  lost = lost_once one text;
+  typed_or_refused = typed_or_refused one text;
+  sound_or_lost = sound_or_lost one text;
+}

@@ -11,6 +11,9 @@ use Rattle.flow_layout.specs.Laying.{layout_of}
 use Rattle.flow_meaning.specs.Evaluating.{Names}
 use Rattle.flow_meaning.specs.Source.{names_of, records_in, functions_in, actors_in}
 use Rattle.flow_split.specs.Lowered.{lowered_class}
+use Rattle.flow_compile.specs.declared.compiling.CompileFault.{CompileFault}
+use Rattle.flow_compile.specs.declared.compiling.CompileFault.TheVariants.{TooManyBlocks, OutOfMemory}
+use Rattle.flow_compile.specs.Weighing.{first_heavy}
 
 -- the class of an actor of a program with these names
 abbrev pub class_in : Names → RoutineTree → ClassTree
@@ -27,3 +30,10 @@ compiled p = record {
 -- a program has these classes
 abbrev pub Has : ProgramTree → ClassProgram → Type 0
 Has p c = raw_of c.raw ≡ compiled p
+
+-- the classes come exactly where no actor weighs too much, and otherwise the first that does is told; want of memory may come
+-- anywhere
+abbrev pub Compiles : ProgramTree → Result ClassProgram CompileFault → Type 0
+Compiles p (Ok c) = Has p c × (first_heavy p.decls ≡ None)
+Compiles p (Err (TooManyBlocks at)) = first_heavy p.decls ≡ Some at
+Compiles p (Err OutOfMemory) = Unit {0}

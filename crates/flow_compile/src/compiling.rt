@@ -4,7 +4,8 @@ ghost use Rattle.std.specs.Prelude.{◌≡◌, [], ◌∷◌, ◌++◌, map, IfO
 ghost use Rattle.flow_tree.specs.DeclView.{decl_of, record_of, function_of, actor_of, program_of};
 ghost use Rattle.flow_class.specs.View.{class_of};
 ghost use Rattle.flow_meaning.specs.Source.{records_in, functions_in, actors_in, names_of};
-ghost use Rattle.flow_compile.specs.Compiled.{class_in, Has};
+ghost use Rattle.flow_compile.specs.Compiled.{class_in, Has, Compiles};
+ghost use Rattle.flow_compile.specs.Weighing.{first_heavy};
 
 use crate::weighing::weight;
 use flow_base::memory::NoMemory;
@@ -36,16 +37,40 @@ impl From<NoMemory> for CompileFault {
     }
 }
 
-/// The place of the first actor whose weight is above 60,000.
-pub fn first_heavy(decls: &[Decl]) -> Option<Place> {
-    for decl in decls {
-        if let Decl::Actor(actor) = decl {
+// The place of a declaration, if it is an actor whose weight is above 60,000.
+fn heavy(decl: &Decl) -> Option<Place>
+    ensures { result ≡ first_heavy (decl_of decl.now ∷ []) }
+{
+    match decl {
+        Decl::Struct(_) => None,
+        Decl::Function(_) => None,
+        Decl::Actor(actor) => {
             if weight(actor) > u64::from(WEIGHT) {
                 return Some(actor.at);
             }
+            None
+        }
+    }
+}
+
+// The place of the first actor among these declarations whose weight is above 60,000.
+#[tactic(auto, using(crate::proofs::Weights::heavy_more, crate::proofs::Weights::heavy_found, crate::proofs::Weights::heavy_over))]
+fn heavy_among(decls: &[Decl]) -> Option<Place>
+    ensures { result ≡ first_heavy (map decl_of decls.now) }
+{
+    for decl in decls {
+        if let Some(at) = heavy(decl) {
+            return Some(at);
         }
     }
     None
+}
+
+/// The place of the first actor of a program whose weight is above 60,000.
+pub fn first_heavy(sound: &Sound) -> Option<Place>
+    ensures { result ≡ first_heavy (program_of sound.now.typed.program).decls }
+{
+    heavy_among(&sound.program().decls)
 }
 
 // Adds a declaration to the records, if it is one.
@@ -148,19 +173,28 @@ fn classes_of(alloc: Global, program: &Program, decls: &[Decl]) -> Result<Vec<Cl
     Ok(classes)
 }
 
-/// The classes of a sound program: those of its actors, in the order of the text, beside its records and functions. It is
-/// refused exactly where the weight of an actor is above 60,000, at the first such actor.
-pub fn compile(alloc: Global, sound: &Sound) -> Result<ClassProgram, CompileFault>
-    ensures { IfOk result (Has (program_of sound.now.typed.program)) }
+// The classes of a program's actors, in the order of the text, beside its records and functions.
+fn all_classes(alloc: Global, program: &Program) -> Result<ClassProgram, NoMemory>
+    ensures { IfOk result (Has (program_of program.now)) }
 {
-    let program = sound.program();
-    if let Some(at) = first_heavy(&program.decls) {
-        return Err(CompileFault::TooManyBlocks(at));
-    }
     let raw = RawClasses {
         records: records_of(alloc, &program.decls)?,
         functions: functions_of(alloc, &program.decls)?,
         classes: classes_of(alloc, program, &program.decls)?,
     };
-    Ok(ClassProgram::unjudged(alloc, raw)?)
+    ClassProgram::unjudged(alloc, raw)
+}
+
+/// The classes of a sound program: those of its actors, in the order of the text, beside its records and functions. It is
+/// refused exactly where the weight of an actor is above 60,000, at the first such actor.
+pub fn compile(alloc: Global, sound: &Sound) -> Result<ClassProgram, CompileFault>
+    ensures { Compiles (program_of sound.now.typed.program) result }
+{
+    match first_heavy(sound) {
+        Some(at) => Err(CompileFault::TooManyBlocks(at)),
+        None => match all_classes(alloc, sound.program()) {
+            Ok(classes) => Ok(classes),
+            Err(_) => Err(CompileFault::OutOfMemory),
+        },
+    }
 }

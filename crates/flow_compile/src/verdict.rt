@@ -1,6 +1,7 @@
 // A program text: read and judged.
 
-ghost use Rattle.flow_compile.specs.Verdict.{Reading, Verdict};
+ghost use Rattle.std.specs.Prelude.{ℕ, List};
+ghost use Rattle.flow_compile.specs.Verdict.{Reading, IsProgram, Verdict};
 
 use flow_base::place::Place;
 use flow_lex::lex::lex;
@@ -36,13 +37,25 @@ pub fn read_program(alloc: Global, bytes: &[u8]) -> Result<Program, SourceFault>
     }
 }
 
+// A program, where it keeps the rules K1 to K12, L8 and U1.
+#[tactic(auto, using(crate::proofs::Judging::checked_verdict, crate::proofs::Judging::typed_text, crate::proofs::Judging::state_verdict))]
+fn judge(alloc: Global, program: Program) -> Result<Sound, SourceFault>
+    ensures { (text : List ℕ) → IsProgram text program → Verdict text result }
+{
+    match check(alloc, program) {
+        Ok(typed) => check_state(alloc, typed),
+        Err(fault) => Err(fault),
+    }
+}
+
 /// The program of these bytes, where it keeps all rules but the limit L9 on the weight of an actor. Otherwise it is refused,
 /// by the first that fails of: the limit on its bytes, the rules on its tokens, those on its form, K1 to K12, L8 and U1.
-#[tactic(auto, using(crate::proofs::Judging::unread_verdict, crate::proofs::Judging::judged_verdict))]
+#[tactic(auto, using(crate::proofs::Judging::unread_verdict))]
 pub fn front(alloc: Global, bytes: &[u8]) -> Result<Sound, SourceFault>
     ensures { Verdict bytes.now result }
 {
-    let program = read_program(alloc, bytes)?;
-    let typed = check(alloc, program)?;
-    check_state(alloc, typed)
+    match read_program(alloc, bytes) {
+        Ok(program) => judge(alloc, program),
+        Err(fault) => Err(fault),
+    }
 }

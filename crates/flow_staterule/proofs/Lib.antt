@@ -1,1 +1,9 @@
 mod Sequences
+mod Passing
+mod InForce
+mod Adding
+mod Growing
+mod Staler
+mod Places
+mod FirstLost
+mod EachKind

@@ -21,6 +21,7 @@ use Rattle.flow_tree.specs.Decls.{ProgramTree}
 use Rattle.flow_class.specs.declared.program.ClassProgram.{ClassProgram}
 use Rattle.flow_staterule.specs.declared.sound.Sound.{Sound}
 use Rattle.flow_compile.specs.Verdict.{Reading, Verdict}
+use Rattle.flow_compile.specs.Weighing.{first_heavy}
 use Rattle.flow_compile.specs.Compiled.{Has}
 use Rattle.flow_worldfile.specs.declared.world.World0.{World0}
 use Rattle.flow_top.specs.declared.outcome.Outcome.{Outcome}
@@ -29,7 +30,7 @@ use Rattle.flow_top.specs.declared.outcome.Told as told
 use Rattle.flow_top.specs.declared.outcome.Told.TheVariants.{Formatted, Passed, Printed, OutOfMemory}
 use Rattle.flow_top.specs.Words.{AreFormat, AreCheck, AreRun, JudgeProgram, of_check, of_run, NameProgram, of_format, of_judged}
 use Rattle.flow_top.specs.Form.{PrintsOnly}
-use Rattle.flow_top.specs.Run.{IsText, HasProgram, HasWorld, IsNoPrint, AsksNames, unread, formatted, refused, lost, heavy, passed, no_world, printed, run, AskedSome, none, program, both, Decided, due, read_fault, no_memory, outcome_of, refusal_outcome_of, heavy_outcome}
+use Rattle.flow_top.specs.Run.{IsText, HasSound, HasPassing, HasWorld, IsNoPrint, AsksNames, unread, formatted, refused, lost, heavy, passed, no_world, printed, run, AskedSome, none, program, both, Decided, due, read_fault, no_memory, outcome_of, refusal_outcome_of, heavy_outcome}
 use Rattle.flow_top.specs.Steps.{FileRead, is_read, is_unread, unasked, starved, Loaded, is_loaded, is_refused, is_lost, no_text, no_room, ClassesOf, are_classes, is_heavy, no_classes, WorldOf, is_world, is_none, no_room_for_it, PrintedOf, are_texts, is_another, no_room_for_texts, RunIn, it_prints, it_runs, not_there, no_room_to_run}
 
 -- a list without length
@@ -91,7 +92,7 @@ pub judged : {before after : FilesSeen} {name : List ℕ} {o : told.Told} (text 
     → Loaded name before after (Err o)
 judged {before = b} {after = a} {name = n} text (source.Refused rule at) o is v asked same = subst (λ x. Loaded n b a (Err x)) (sym o) (is_refused text rule at is v asked same)
 judged {before = b} {after = a} {name = n} text (source.AcrossWait at declared wait) o is v asked same =
-    subst (λ x. Loaded n b a (Err x)) (sym o) (is_lost v.0 at declared wait (record { text = text; is = is; read = v.1 }) asked same)
+    subst (λ x. Loaded n b a (Err x)) (sym o) (is_lost text at declared wait is v asked same)
 judged {before = b} {after = a} {name = n} text source.OutOfMemory o is v asked same =
     subst (λ x. Loaded n b a (Err x)) (sym o) (no_room (n ∷ []) asked (inr refl) same)
 
@@ -104,17 +105,22 @@ asked_some {words} content {name = n} names judges (inr e) = subst (AskedSome wo
 pub without_program : {o : told.Told} {words : List (List ℕ)} {before after : FilesSeen} {name : List ℕ}
     → JudgeProgram words name → Loaded name before after (Err o) → Decided words before after (Told o)
 without_program {name = name} judges (is_refused text rule at is why asked same) = due _ _ (refused name text rule at judges is why) asked same
-without_program {name = name} judges (is_lost p at declared wait has asked same) = due _ _ (lost name p at declared wait judges has) asked same
+without_program {name = name} judges (is_lost text at declared wait is why asked same) = due _ _ (lost name text at declared wait judges is why) asked same
 without_program {name = name} judges (no_text asked counted) = read_fault (name ∷ []) (program name (of_judged judges)) asked counted
 without_program {words} {before = b} {name = name} judges (no_room names asked which same) = no_memory names (asked_some b.content names judges which) asked same
 
 -- the program passes
 pub loaded : {before after : FilesSeen} {name : List ℕ} {v : Vec ℕ Global} {s : Sound} → FileRead name before after (Ok v) → Verdict v.items (Ok s) → Loaded name before after (Ok s)
-loaded {v = v} {s = s} (is_read w is asked same) verdict = is_loaded s (record { text = v.items; is = is; read = verdict }) asked same
+loaded {v = v} {s = s} (is_read w is asked same) verdict = is_loaded s (record { text = v.items; is = is; sound = verdict }) asked same
 
 -- what is known where it is loaded
-pub has_program : {before after : FilesSeen} {name : List ℕ} {s : Sound} → Loaded name before after (Ok s) → HasProgram before.content name s.typed.program
-has_program (is_loaded s has asked same) = has
+pub has_sound : {before after : FilesSeen} {name : List ℕ} {s : Sound} → Loaded name before after (Ok s) → HasSound before.content name s.typed.program
+has_sound (is_loaded s has asked same) = has
+
+-- and where no actor weighs too much
+has_passing : {before after : FilesSeen} {name : List ℕ} {s : Sound} → Loaded name before after (Ok s) → first_heavy (program_of s.typed.program).decls ≡ None
+    → HasPassing before.content name s.typed.program
+has_passing l light = record { has = has_sound l; light = light }
 
 pub was_asked : {before after : FilesSeen} {name : List ℕ} {s : Sound} → Loaded name before after (Ok s) → AsksNames before after (name ∷ [])
 was_asked (is_loaded s has asked same) = asked
@@ -123,21 +129,24 @@ pub no_fault : {before after : FilesSeen} {name : List ℕ} {s : Sound} → Load
 no_fault (is_loaded s has asked same) = same
 
 pub passes : {words : List (List ℕ)} {before after : FilesSeen} {name : List ℕ} {s : Sound}
-    → AreCheck words name → Loaded name before after (Ok s) → Decided words before after (Told Passed)
-passes {name = name} {s = s} are l = due _ _ (passed name s.typed.program are (has_program l)) (was_asked l) (no_fault l)
+    → AreCheck words name → Loaded name before after (Ok s) → first_heavy (program_of s.typed.program).decls ≡ None → Decided words before after (Told Passed)
+passes {name = name} {s = s} are l light = due _ _ (passed name s.typed.program are (has_passing l light)) (was_asked l) (no_fault l)
 
 pub too_heavy : {words : List (List ℕ)} {before after : FilesSeen} {name : List ℕ} {s : Sound} {o : told.Told} (at : Place) → o ≡ heavy_outcome at
-    → JudgeProgram words name → Loaded name before after (Ok s) → Decided words before after (Told o)
-too_heavy {words} {before = b} {after = a} {name = n} {s = s} at e judges l =
-    subst (λ x. Decided words b a (Told x)) (sym e) (due _ _ (heavy n s.typed.program at judges (has_program l)) (was_asked l) (no_fault l))
+    → JudgeProgram words name → Loaded name before after (Ok s) → first_heavy (program_of s.typed.program).decls ≡ Some at → Decided words before after (Told o)
+too_heavy {words} {before = b} {after = a} {name = n} {s = s} at e judges l is =
+    subst (λ x. Decided words b a (Told x)) (sym e) (due _ _ (heavy n s.typed.program at judges (has_sound l) is) (was_asked l) (no_fault l))
 
 pub without_classes : {words : List (List ℕ)} {before after : FilesSeen} {name : List ℕ} {s : Sound} {o : told.Told}
     → JudgeProgram words name → Loaded name before after (Ok s) → ClassesOf (program_of s.typed.program) (Err o) → Decided words before after (Told o)
-without_classes {name = n} judges l (is_heavy at) = too_heavy at refl judges l
+without_classes {name = n} judges l (is_heavy at is) = too_heavy at refl judges l is
 without_classes {name = n} judges l no_classes = no_memory (n ∷ []) (program n (of_judged judges)) (was_asked l) (no_fault l)
 
 pub has_classes : {p : ProgramTree} {c : ClassProgram} → ClassesOf p (Ok c) → Has p c
-has_classes (are_classes c h) = h
+has_classes (are_classes c h light) = h
+
+pub are_light : {p : ProgramTree} {c : ClassProgram} → ClassesOf p (Ok c) → first_heavy p.decls ≡ None
+are_light (are_classes c h light) = light
 
 -- two names are equal, or they are apart
 equal_or_apart : (r : Bool) (a b : List ℕ) → Decides r (a ≡ b) → (a ≡ b) ⊎ (a ≢ b)
@@ -241,14 +250,14 @@ asked_nothing a = a.asked ∙ append-nil _
 
 -- the world couldn't be read
 pub without_world : {words : List (List ℕ)} {name world : List ℕ} {before mid after : FilesSeen} {s : Sound} {frames : Bool} {o : told.Told}
-    → AreRun words name world frames → Loaded name before mid (Ok s) → Between name world before mid after → FileRead world mid after (Err o)
-    → Decided words before after (Told o)
-without_world {name = n} {world = w} {before = b} {mid = m} {after = a} {s = s} {frames = f} are l bt (is_unread asked counted) =
-    read_fault (n ∷ (w ∷ [])) (both n w f s.typed.program are (has_program l)) (asks_both n w b m a bt asked.asked) (counted ∙ ap next_count (no_fault l))
-without_world {name = n} {world = w} {before = b} {mid = m} {after = a} {frames = f} are l bt (unasked asked same) =
+    → AreRun words name world frames → Loaded name before mid (Ok s) → first_heavy (program_of s.typed.program).decls ≡ None
+    → Between name world before mid after → FileRead world mid after (Err o) → Decided words before after (Told o)
+without_world {name = n} {world = w} {before = b} {mid = m} {after = a} {s = s} {frames = f} are l light bt (is_unread asked counted) =
+    read_fault (n ∷ (w ∷ [])) (both n w f s.typed.program are (has_passing l light)) (asks_both n w b m a bt asked.asked) (counted ∙ ap next_count (no_fault l))
+without_world {name = n} {world = w} {before = b} {mid = m} {after = a} {frames = f} are l light bt (unasked asked same) =
     no_memory (n ∷ []) (program n (of_judged (of_run w f are))) (asks_first n w b m a bt (asked_nothing asked)) (same ∙ no_fault l)
-without_world {name = n} {world = w} {before = b} {mid = m} {after = a} {s = s} {frames = f} are l bt (starved asked same) =
-    no_memory (n ∷ (w ∷ [])) (both n w f s.typed.program are (has_program l)) (asks_both n w b m a bt asked.asked) (same ∙ no_fault l)
+without_world {name = n} {world = w} {before = b} {mid = m} {after = a} {s = s} {frames = f} are l light bt (starved asked same) =
+    no_memory (n ∷ (w ∷ [])) (both n w f s.typed.program are (has_passing l light)) (asks_both n w b m a bt asked.asked) (same ∙ no_fault l)
 
 -- the text of the world, as the files were before
 world_text : (content : List ℕ → Option (List ℕ)) {mid after : FilesSeen} {world : List ℕ} {v : Vec ℕ Global} → mid.content ≡ content → FileRead world mid after (Ok v)
@@ -257,23 +266,23 @@ world_text content {world = w} {v = v} e r = subst (λ k. IsText k w v.items) e 
 
 -- what a run in that world comes to
 pub ran : {words : List (List ℕ)} {name world : List ℕ} {before mid after : FilesSeen} {s : Sound} {frames : Bool} {c : ClassProgram} {v : Vec ℕ Global} {o : Outcome}
-    → AreRun words name world frames → Loaded name before mid (Ok s) → Has (program_of s.typed.program) c → Between name world before mid after
+    → AreRun words name world frames → Loaded name before mid (Ok s) → ClassesOf (program_of s.typed.program) (Ok c) → Between name world before mid after
     → FileRead world mid after (Ok v) → RunIn frames v.items s.typed.program c (Ok o) → Decided words before after o
-ran {words} {name = n} {world = w} {before = b} {mid = m} {after = a} {s = s} {v = v} are l h bt r (it_prints texts f e prints) =
-    due _ _ (printed n w s.typed.program texts (subst (AreRun words n w) f are) (has_program l) prints (subst (IsText b.content w) e (world_text b.content bt.content r)))
+ran {words} {name = n} {world = w} {before = b} {mid = m} {after = a} {s = s} {v = v} are l cs bt r (it_prints texts f e prints) =
+    due _ _ (printed n w s.typed.program texts (subst (AreRun words n w) f are) (has_passing l (are_light cs)) prints (subst (IsText b.content w) e (world_text b.content bt.content r)))
     (asks_both n w b m a bt (asked_it r).asked) (same_faults r ∙ no_fault l)
-ran {name = n} {world = w} {before = b} {mid = m} {after = a} {s = s} {frames = f} {c = c} {v = v} are l h bt r (it_runs world answered other) =
-    due _ _ (run n w f s.typed.program c world are (has_program l) h (record { text = v.items; is = world_text b.content bt.content r; answered = answered }) other)
+ran {name = n} {world = w} {before = b} {mid = m} {after = a} {s = s} {frames = f} {c = c} {v = v} are l cs bt r (it_runs world answered other) =
+    due _ _ (run n w f s.typed.program c world are (has_passing l (are_light cs)) (has_classes cs) (record { text = v.items; is = world_text b.content bt.content r; answered = answered }) other)
     (asks_both n w b m a bt (asked_it r).asked) (same_faults r ∙ no_fault l)
 
 pub not_ran : {words : List (List ℕ)} {name world : List ℕ} {before mid after : FilesSeen} {s : Sound} {frames : Bool} {c : ClassProgram} {v : Vec ℕ Global} {o : told.Told}
-    → AreRun words name world frames → Loaded name before mid (Ok s) → Between name world before mid after
-    → FileRead world mid after (Ok v) → RunIn frames v.items s.typed.program c (Err o) → Decided words before after (Told o)
-not_ran {name = n} {world = w} {before = b} {mid = m} {after = a} {s = s} {frames = f} {v = v} are l bt r (not_there fault answered) =
-    due _ _ (no_world n w f s.typed.program fault are (has_program l) (record { text = v.items; is = world_text b.content bt.content r; answered = answered }))
+    → AreRun words name world frames → Loaded name before mid (Ok s) → ClassesOf (program_of s.typed.program) (Ok c)
+    → Between name world before mid after → FileRead world mid after (Ok v) → RunIn frames v.items s.typed.program c (Err o) → Decided words before after (Told o)
+not_ran {name = n} {world = w} {before = b} {mid = m} {after = a} {s = s} {frames = f} {v = v} are l cs bt r (not_there fault answered) =
+    due _ _ (no_world n w f s.typed.program fault are (has_passing l (are_light cs)) (record { text = v.items; is = world_text b.content bt.content r; answered = answered }))
     (asks_both n w b m a bt (asked_it r).asked) (same_faults r ∙ no_fault l)
-not_ran {name = n} {world = w} {before = b} {mid = m} {after = a} {s = s} {frames = f} are l bt r no_room_to_run =
-    no_memory (n ∷ (w ∷ [])) (both n w f s.typed.program are (has_program l)) (asks_both n w b m a bt (asked_it r).asked) (same_faults r ∙ no_fault l)
+not_ran {name = n} {world = w} {before = b} {mid = m} {after = a} {s = s} {frames = f} are l cs bt r no_room_to_run =
+    no_memory (n ∷ (w ∷ [])) (both n w f s.typed.program are (has_passing l (are_light cs))) (asks_both n w b m a bt (asked_it r).asked) (same_faults r ∙ no_fault l)
 
 -- two words, and three
 pub two : {X : Type 0} (f : X → List ℕ) (xs : List X) (x y : X) (a b : List ℕ) → length xs ≡ 2 → x ≡ get_or xs 0 x → y ≡ get_or xs 1 y → a ≡ f x → b ≡ f y → map f xs ≡ a ∷ (b ∷ [])

@@ -2,6 +2,7 @@
 use Rattle.std.specs.Prelude.{◌≡◌, ℕ, Bool, false, ◌+◌, List, [], ◌∷◌, ◌++◌, map, codes, Result, Ok, Err}
 use Rattle.std.specs.Io.KnownBytes.{Appends}
 use Rattle.std.specs.declared.option.Option.{Option}
+use Rattle.std.specs.declared.option.Option.TheVariants.{None, Some}
 use Rattle.flow_tree.specs.declared.limits.TheConstants.{PROGRAM_BYTES}
 use Rattle.flow_base.specs.Bytes.{AreFirst, AppendsPart}
 use Rattle.flow_base.specs.Faults.{Rose, next_count}
@@ -31,7 +32,8 @@ use Rattle.flow_worldfile.specs.Worlds.{IsInRange, seen}
 use Rattle.flow_machine.specs.declared.host.RunFault.{RunFault}
 use Rattle.flow_machine.specs.declared.host.RunFault.TheVariants as broken
 use Rattle.flow_class.specs.declared.program.ClassProgram.{ClassProgram}
-use Rattle.flow_compile.specs.Verdict.{IsUnread, IsRefused, IsProgram}
+use Rattle.flow_compile.specs.Verdict.{IsUnread, IsRefused, IsProgram, IsSound, Loses}
+use Rattle.flow_compile.specs.Weighing.{first_heavy}
 use Rattle.flow_compile.specs.Compiled.{Has}
 use Rattle.flow_run.specs.declared.ending.Ending.{Ending}
 use Rattle.flow_run.specs.declared.ending.Ending.TheVariants.{Idle, Bound, Spent}
@@ -134,6 +136,17 @@ pub record HasProgram (content : List ℕ → Option (List ℕ)) (name : List �
   pub is : IsText content name text
   pub read : IsProgram text p
 
+-- the file of this name has a program that keeps the rules K1 to K12, L8 and U1
+pub record HasSound (content : List ℕ → Option (List ℕ)) (name : List ℕ) (p : Program) : Type 0 where
+  pub text : List ℕ
+  pub is : IsText content name text
+  pub sound : IsSound text p
+
+-- and L9: it passes all rules
+pub record HasPassing (content : List ℕ → Option (List ℕ)) (name : List ℕ) (p : Program) : Type 0 where
+  pub has : HasSound content name p
+  pub light : first_heavy (program_of p).decls ≡ None
+
 -- what is answered for the file of a world
 pub record HasWorld (content : List ℕ → Option (List ℕ)) (name : List ℕ) (answer : Result World0 WorldFault) : Type 0 where
   pub text : List ℕ
@@ -163,21 +176,22 @@ pub data Due (words : List (List ℕ)) (content : List ℕ → Option (List ℕ)
   refused : (name text : List ℕ) (rule : Rule) (at : Place) → JudgeProgram words name → IsText content name text → IsRefused text rule at
       → Due words content (Told (Refused (source.Refused rule at))) (name ∷ [])
   -- the program uses a local after a wait
-  lost : (name : List ℕ) (p : Program) (at declared wait : Place) → JudgeProgram words name → HasProgram content name p
+  lost : (name text : List ℕ) (at declared wait : Place) → JudgeProgram words name → IsText content name text
+      → Loses text (record { at = at; declared = declared; wait = wait })
       → Due words content (Told (Refused (source.AcrossWait at declared wait))) (name ∷ [])
   -- an actor of the program weighs too much
-  heavy : (name : List ℕ) (p : Program) (at : Place) → JudgeProgram words name → HasProgram content name p
-      → Due words content (Told (heavy_outcome at)) (name ∷ [])
-  passed : (name : List ℕ) (p : Program) → AreCheck words name → HasProgram content name p → Due words content (Told Passed) (name ∷ [])
+  heavy : (name : List ℕ) (p : Program) (at : Place) → JudgeProgram words name → HasSound content name p
+      → first_heavy (program_of p).decls ≡ Some at → Due words content (Told (heavy_outcome at)) (name ∷ [])
+  passed : (name : List ℕ) (p : Program) → AreCheck words name → HasPassing content name p → Due words content (Told Passed) (name ∷ [])
   -- the world is refused
-  no_world : (name world : List ℕ) (frames : Bool) (p : Program) (fault : WorldFault) → AreRun words name world frames → HasProgram content name p
+  no_world : (name world : List ℕ) (frames : Bool) (p : Program) (fault : WorldFault) → AreRun words name world frames → HasPassing content name p
       → HasWorld content world (Err fault) → Due words content (Told (NoWorld fault)) (name ∷ (world ∷ []))
   -- the program prints texts and returns, and the world is an empty file
-  printed : (name file : List ℕ) (p : Program) (texts : Vec (List ℕ) Global) → AreRun words name file false → HasProgram content name p
+  printed : (name file : List ℕ) (p : Program) (texts : Vec (List ℕ) Global) → AreRun words name file false → HasPassing content name p
       → PrintsOnly (program_of p) texts.items → IsText content file [] → Due words content (Told (Printed texts)) (name ∷ (file ∷ []))
   -- another program, or in another world: its classes are run in the world
   run : (name file : List ℕ) (frames : Bool) (p : Program) (classes : ClassProgram) (world : World0) → AreRun words name file frames
-      → HasProgram content name p → Has (program_of p) classes → (has : HasWorld content file (Ok world)) → IsNoPrint frames has.text p
+      → HasPassing content name p → Has (program_of p) classes → (has : HasWorld content file (Ok world)) → IsNoPrint frames has.text p
       → Due words content (Run classes world frames) (name ∷ (file ∷ []))
 
 -- each of these files was read to one byte past the limit at most
@@ -195,7 +209,7 @@ pub record AsksNames (before after : FilesSeen) (names : List (List ℕ)) : Type
 pub data AskedSome (words : List (List ℕ)) (content : List ℕ → Option (List ℕ)) : List (List ℕ) → Type 0 where
   none : AskedSome words content []
   program : (name : List ℕ) → NameProgram words name → AskedSome words content (name ∷ [])
-  both : (name world : List ℕ) (frames : Bool) (p : Program) → AreRun words name world frames → HasProgram content name p
+  both : (name world : List ℕ) (frames : Bool) (p : Program) → AreRun words name world frames → HasPassing content name p
       → AskedSome words content (name ∷ (world ∷ []))
 
 -- What was decided: what is due, and no call of the files failed; or a read fault, where one call failed; or want of memory.

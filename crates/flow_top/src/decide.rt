@@ -120,7 +120,7 @@ fn check<F: Files>(alloc: Global, name: &str, files: &mut F) -> Told
         Ok(sound) => sound,
         Err(told) => return told,
     };
-    match first_heavy(&sound.program().decls) {
+    match first_heavy(&sound) {
         None => Told::Passed,
         Some(at) => too_heavy(at),
     }

@@ -4,11 +4,11 @@ use Rattle.flow_top.specs.Steps.{ClassesOf, are_classes, is_heavy, no_classes}
 use Rattle.flow_top.proofs.decide.classes_of.Goals as goal
 
 pub returns-in-Ok : goal.returns-in-Ok
-returns-in-Ok c = are_classes c.in-Ok.classes c.in-Ok.ensures
+returns-in-Ok c = are_classes c.in-Ok.classes c.in-Ok.ensures.0 c.in-Ok.ensures.1
 
 pub returns-in-Err-TooManyBlocks : goal.returns-in-Err-TooManyBlocks
 returns-in-Err-TooManyBlocks c =
-    subst (λ x. ClassesOf (program_of c.args.sound.now.typed.program) (Err x)) (sym c.too_heavy.ensures) (is_heavy c.in-Err-TooManyBlocks.at)
+    subst (λ x. ClassesOf (program_of c.args.sound.now.typed.program) (Err x)) (sym c.too_heavy.ensures) (is_heavy c.in-Err-TooManyBlocks.at c.in-Err-TooManyBlocks.ensures)
 
 pub returns-in-Err-OutOfMemory : goal.returns-in-Err-OutOfMemory
 returns-in-Err-OutOfMemory c = no_classes

@@ -1,7 +1,7 @@
 use Rattle.std.proofs.Common.{Ok, Err, subst}
 use Rattle.flow_top.specs.Words.{of_run}
 use Rattle.flow_top.specs.Steps.{RunIn}
-use Rattle.flow_top.proofs.Deciding.{Between, without_program, without_classes, without_world, has_classes, was_asked, ran, not_ran}
+use Rattle.flow_top.proofs.Deciding.{Between, without_program, without_classes, without_world, are_light, was_asked, ran, not_ran}
 use Rattle.flow_top.proofs.decide.run.Goals as goal
 
 pub returns-in-Err-clause-decided : goal.returns-in-Err-clause-decided
@@ -20,7 +20,7 @@ returns-in-Err-bytes_of-clause-decided g c = λ words are.
       others_then = c.bytes_of.ensures.others;
       within_then = c.bytes_of.ensures.within;
     } in
-    without_world are c.in-Ok.ensures.loaded between c.in-Err-bytes_of.ensures.read
+    without_world are c.in-Ok.ensures.loaded (are_light c.in-Ok-classes_of.ensures) between c.in-Err-bytes_of.ensures.read
 
 pub returns-in-Ok-run_in-clause-decided : goal.returns-in-Ok-run_in-clause-decided
 returns-in-Ok-run_in-clause-decided g c = λ words are.
@@ -32,7 +32,7 @@ returns-in-Ok-run_in-clause-decided g c = λ words are.
       within_then = c.bytes_of.ensures.within;
     } in
     let done = subst (λ b. RunIn c.args.frames b c.in-Ok.sound.typed.program c.in-Ok-classes_of.classes (Ok c.in-Ok-run_in.outcome)) c.deref.ensures.value c.in-Ok-run_in.ensures.run in
-    ran are c.in-Ok.ensures.loaded (has_classes c.in-Ok-classes_of.ensures) between c.in-Ok-bytes_of.ensures.read done
+    ran are c.in-Ok.ensures.loaded c.in-Ok-classes_of.ensures between c.in-Ok-bytes_of.ensures.read done
 
 pub returns-clause-decided : goal.returns-clause-decided
 returns-clause-decided g c = λ words are.
@@ -44,4 +44,4 @@ returns-clause-decided g c = λ words are.
       within_then = c.bytes_of.ensures.within;
     } in
     let done = subst (λ b. RunIn c.args.frames b c.in-Ok.sound.typed.program c.in-Ok-classes_of.classes (Err c.in-Err-run_in.told)) c.deref.ensures.value c.in-Err-run_in.ensures.run in
-    not_ran are c.in-Ok.ensures.loaded between c.in-Ok-bytes_of.ensures.read done
+    not_ran are c.in-Ok.ensures.loaded c.in-Ok-classes_of.ensures between c.in-Ok-bytes_of.ensures.read done
