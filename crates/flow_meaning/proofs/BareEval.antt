@@ -165,10 +165,10 @@ module _ (s : Setting) (run other : Runner) (runs : (f : RoutineTree) (vs : List
       (λ w left. valued (at_once (operated (change_sign c) v w) left) vars (λ u left. assigned (put_path s.records vars xs u) left))
       vars (change_operand b other (bare_change c) vars left) (change_operand s run c vars left) (operand_bare c vars left)
       (λ w l.
-          valued_same (λ u left. assigned (put_path b.records vars (map bare_ident xs) u) left) (λ u left. assigned (put_path s.records vars xs u) left)
-          vars (at_once (operated (change_sign (bare_change c)) v w) l) (at_once (operated (change_sign c) v w) l)
-          (ap (λ g. at_once (operated g v w) l) (sign_bare c))
-          (λ u k. ap (λ o. assigned o k) (put_path_bare vars xs u)))
+      valued_same (λ u left. assigned (put_path b.records vars (map bare_ident xs) u) left) (λ u left. assigned (put_path s.records vars xs u) left)
+      vars (at_once (operated (change_sign (bare_change c)) v w) l) (at_once (operated (change_sign c) v w) l)
+      (ap (λ g. at_once (operated g v w) l) (sign_bare c))
+      (λ u k. ap (λ o. assigned o k) (put_path_bare vars xs u)))
 
   modify_bare : (xs : List Ident) (c : ChangeTree) (vars : Locals) (left : ℕ) → modify_run b other (map bare_ident xs) (bare_change c) vars left ≡ modify_run s run xs c vars left
   modify_bare xs c vars left =

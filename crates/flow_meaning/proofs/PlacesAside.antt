@@ -1,43 +1,51 @@
 -- Of programs, and of classes, that are equal but for places the same is seen in every world.
-use Rattle.std.proofs.Common.{◌≡◌, List, sym, ap, ◌∙◌, subst}
-use Rattle.flow_trace.specs.declared.line.Line.{Line}
-use Rattle.flow_worldfile.specs.Worlds as file
+use Rattle.std.proofs.Common.{sym, ap, ◌∙◌, subst}
 use Rattle.flow_tree.specs.Decls.{ProgramTree}
 use Rattle.flow_tree.specs.Canon.{bare}
 use Rattle.flow_class.specs.Classes.{RawTree}
 use Rattle.flow_meaning.specs.Source.{source}
 use Rattle.flow_meaning.specs.Class.{classes}
 use Rattle.flow_meaning.specs.Views.{actor_spot, frame_spot}
-use Rattle.flow_meaning.specs.Bare.{bare_classes, Sight, SourceSeen, ClassSeen}
+use Rattle.flow_meaning.specs.Bare.{bare_classes, ProgramsAlike, ClassesAlike}
+use Rattle.flow_meaning.specs.Sights.{SourceSeen, ClassSeen, WaitAlike}
+use Rattle.flow_meaning.specs.Orderly.{Phase}
+use Rattle.flow_meaning.specs.Law.{Simulates}
+use Rattle.flow_meaning.specs.Items.{Actor}
+use Rattle.flow_meaning.specs.Frame.{Frame}
 use Rattle.flow_meaning.proofs.Mirrors.{Mirrored, mirrors_simulate}
 use Rattle.flow_meaning.proofs.BareSource as text
 use Rattle.flow_meaning.proofs.BareClass as class
-use Rattle.flow_meaning.proofs.Sights.{seen_follows, seen_returns}
+use Rattle.flow_meaning.proofs.Sights.{sights_follow, sights_return}
 
-module _ (p : ProgramTree) (w : file.World) (lines : List Line) (sights : List Sight) where
-  pub source_bare : SourceSeen p w lines sights → SourceSeen (bare p) w lines sights
-  source_bare =
-      seen_follows (Mirrored text.bare_actor) actor_spot actor_spot (λ a b r. text.spot_bare a ∙ sym (ap actor_spot r))
-      (source p) (source (bare p)) (mirrors_simulate (source p) (source (bare p)) text.bare_actor (text.source_mirrors p)) w lines sights
+module _ (p : ProgramTree) where
+  -- the actors of both are the same, places aside
+  abbrev Texts : Phase → Actor → Actor → Type 0
+  Texts = Mirrored text.bare_actor
 
-  pub source_back : SourceSeen (bare p) w lines sights → SourceSeen p w lines sights
-  source_back =
-      seen_returns (Mirrored text.bare_actor) actor_spot actor_spot (λ a b r. text.spot_bare a ∙ sym (ap actor_spot r))
-      (source p) (source (bare p)) (mirrors_simulate (source p) (source (bare p)) text.bare_actor (text.source_mirrors p)) w lines sights
+  texts_wait : WaitAlike Texts actor_spot actor_spot
+  texts_wait a b r = text.spot_bare a ∙ sym (ap actor_spot r)
 
-module _ (r : RawTree) (w : file.World) (lines : List Line) (sights : List Sight) where
-  pub class_bare : ClassSeen r w lines sights → ClassSeen (bare_classes r) w lines sights
-  class_bare =
-      seen_follows (Mirrored class.bare_frame) frame_spot frame_spot (λ a b h. class.spot_bare a ∙ sym (ap frame_spot h))
-      (classes r) (classes (bare_classes r)) (mirrors_simulate (classes r) (classes (bare_classes r)) class.bare_frame (class.classes_mirror r)) w lines sights
+  texts_simulate : Simulates (source p) (source (bare p)) Texts
+  texts_simulate = mirrors_simulate (source p) (source (bare p)) text.bare_actor (text.source_mirrors p)
 
-  pub class_back : ClassSeen (bare_classes r) w lines sights → ClassSeen r w lines sights
-  class_back =
-      seen_returns (Mirrored class.bare_frame) frame_spot frame_spot (λ a b h. class.spot_bare a ∙ sym (ap frame_spot h))
-      (classes r) (classes (bare_classes r)) (mirrors_simulate (classes r) (classes (bare_classes r)) class.bare_frame (class.classes_mirror r)) w lines sights
+module _ (r : RawTree) where
+  abbrev Frames : Phase → Frame → Frame → Type 0
+  Frames = Mirrored class.bare_frame
 
-pub source_aside : (p q : ProgramTree) (w : file.World) (lines : List Line) (sights : List Sight) → bare p ≡ bare q → SourceSeen p w lines sights → SourceSeen q w lines sights
-source_aside p q w lines sights e s = source_back q w lines sights (subst (λ z. SourceSeen z w lines sights) e (source_bare p w lines sights s))
+  frames_wait : WaitAlike Frames frame_spot frame_spot
+  frames_wait a b h = class.spot_bare a ∙ sym (ap frame_spot h)
 
-pub class_aside : (r s : RawTree) (w : file.World) (lines : List Line) (sights : List Sight) → bare_classes r ≡ bare_classes s → ClassSeen r w lines sights → ClassSeen s w lines sights
-class_aside r s w lines sights e h = class_back s w lines sights (subst (λ z. ClassSeen z w lines sights) e (class_bare r w lines sights h))
+  frames_simulate : Simulates (classes r) (classes (bare_classes r)) Frames
+  frames_simulate = mirrors_simulate (classes r) (classes (bare_classes r)) class.bare_frame (class.classes_mirror r)
+
+pub source_aside : ProgramsAlike
+source_aside p q w lines sights e s =
+    let same = sights_follow (source p) (source (bare p)) (Texts p) (texts_simulate p) actor_spot actor_spot (texts_wait p) w lines sights s in
+    sights_return (source q) (source (bare q)) (Texts q) (texts_simulate q) actor_spot actor_spot (texts_wait q) w lines sights
+    (subst (λ z. SourceSeen z w lines sights) e same)
+
+pub class_aside : ClassesAlike
+class_aside r s w lines sights e h =
+    let same = sights_follow (classes r) (classes (bare_classes r)) (Frames r) (frames_simulate r) frame_spot frame_spot (frames_wait r) w lines sights h in
+    sights_return (classes s) (classes (bare_classes s)) (Frames s) (frames_simulate s) frame_spot frame_spot (frames_wait s) w lines sights
+    (subst (λ z. ClassSeen z w lines sights) e same)

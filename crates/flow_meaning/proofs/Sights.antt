@@ -2,8 +2,6 @@
 use Rattle.std.proofs.Common.{◌≡◌, ℕ, ◌++◌, nat_eq, Bool, true, false, List, [], ◌∷◌, map, refl, sym, ap, ap₂, ◌∙◌, subst, if◌then◌else◌}
 use Rattle.std.specs.declared.option.Option.{Option}
 use Rattle.std.specs.declared.option.Option.TheVariants.{None, Some}
-use Rattle.flow_worldfile.specs.Worlds as file
-use Rattle.flow_trace.specs.declared.line.Line.{Line}
 use Rattle.flow_meaning.specs.Numbered.{Numbered, thing}
 use Rattle.flow_meaning.specs.Asks.{Spot}
 use Rattle.flow_meaning.specs.Process.{Entry, Task, Core, Engine}
@@ -12,13 +10,9 @@ use Rattle.flow_meaning.specs.Law.{BothOrNone, Simulates, Related, AtRest}
 use Rattle.flow_meaning.specs.World.{Place, World}
 use Rattle.flow_meaning.specs.RunLaw.{SamePlace, SamePlaces, SameWorld, SameStates}
 use Rattle.flow_meaning.specs.Views.{spot_at, unfinished, branches_from, waiting}
-use Rattle.flow_meaning.specs.Bare.{Sight, Seen}
+use Rattle.flow_meaning.specs.Sights.{sight, WaitAlike, SightsFollow, SightsReturn}
 use Rattle.flow_meaning.proofs.Posture.{same_number}
 use Rattle.flow_meaning.proofs.LiftRuns.{traces_follow, traces_return}
-
--- a world, with what its actors wait at
-abbrev pub sight_by : {A : Type 0} → (A → Spot) → World A → Sight
-sight_by spot w = record { unfinished = map (λ p. unfinished spot p.proc.actors p.proc.core.entries) w.places; branches = map (λ p. waiting spot p.proc.actors p.proc.core.entries) w.places }
 
 -- the number of an entry is given
 abbrev IsGiven : Numbered Entry → ℕ → Type 0
@@ -38,7 +32,7 @@ given_later x es i h = by_test (nat_eq i x.0)
 phase_waits : (o : Option Entry) (e : Entry) (ts : List Task) → o ≡ Some e → e.suspended ≡ true → phase_by (is_suspended o) ts ≡ Waiting
 phase_waits o e ts h s = ap (λ z. phase_by (is_suspended z) ts) h ∙ ap (λ z. phase_by (Some z) ts) s
 
-module _ {A B : Type 0} (R : Phase → A → B → Type 0) (p : A → Spot) (q : B → Spot) (same : (a : A) (b : B) → R Waiting a b → p a ≡ q b) where
+module _ {A B : Type 0} (R : Phase → A → B → Type 0) (p : A → Spot) (q : B → Spot) (same : WaitAlike R p q) where
   spot_both : (o : Option A) (u : Option B) → BothOrNone (R Waiting) o u → spot_at p o ≡ spot_at q u
   spot_both None None h = refl
   spot_both None (Some b) h = absurd h
@@ -83,23 +77,23 @@ module _ {A B : Type 0} (R : Phase → A → B → Type 0) (p : A → Spot) (q :
   all_waiting (a ∷ rest) [] h = absurd h
   all_waiting (a ∷ rest) (b ∷ bs) h = ap₂ (λ x xs. x ∷ xs) (place_waiting a b h.0) (all_waiting rest bs h.1)
 
-  world_same : (w : World A) (v : World B) → SameWorld R w v → sight_by p w ≡ sight_by q v
+  world_same : (w : World A) (v : World B) → SameWorld R w v → sight p w ≡ sight q v
   world_same w v h = ap₂ (λ us bs. record { unfinished = us; branches = bs }) (all_unfinished w.places v.places h.1) (all_waiting w.places v.places h.1)
 
-  pub sights_same : (states : List (World A)) (others : List (World B)) → SameStates R states others → map (sight_by p) states ≡ map (sight_by q) others
+  pub sights_same : (states : List (World A)) (others : List (World B)) → SameStates R states others → map (sight p) states ≡ map (sight q) others
   sights_same [] [] h = refl
   sights_same [] (v ∷ vs) h = absurd h
   sights_same (w ∷ ws) [] h = absurd h
   sights_same (w ∷ ws) (v ∷ vs) h = ap₂ (λ x xs. x ∷ xs) (world_same w v h.0) (sights_same ws vs h.1)
 
-  -- so the same is seen of runs of both kinds
-  module _ (e : Engine A) (d : Engine B) (sim : Simulates e d R) where
-    pub seen_follows : (w : file.World) (lines : List Line) (sights : List Sight) → Seen e (sight_by p) w lines sights → Seen d (sight_by q) w lines sights
-    seen_follows w lines sights s =
-        let other = traces_follow e d R sim w s.states lines s.run in
-        record { states = other.0; run = other.1; boundaries = s.boundaries ∙ sights_same s.states other.0 other.2 }
+-- so the same is seen of runs of both kinds
+module _ {A B : Type 0} (e : Engine A) (d : Engine B) (R : Phase → A → B → Type 0) (sim : Simulates e d R) where
+  pub sights_follow : SightsFollow e d R
+  sights_follow p q same w lines sights s =
+      let other = traces_follow e d R sim w s.states lines s.run in
+      record { states = other.0; run = other.1; boundaries = s.boundaries ∙ sights_same R p q same s.states other.0 other.2 }
 
-    pub seen_returns : (w : file.World) (lines : List Line) (sights : List Sight) → Seen d (sight_by q) w lines sights → Seen e (sight_by p) w lines sights
-    seen_returns w lines sights s =
-        let other = traces_return e d R sim w s.states lines s.run in
-        record { states = other.0; run = other.1; boundaries = s.boundaries ∙ sym (sights_same other.0 s.states other.2) }
+  pub sights_return : SightsReturn e d R
+  sights_return p q same w lines sights s =
+      let other = traces_return e d R sim w s.states lines s.run in
+      record { states = other.0; run = other.1; boundaries = s.boundaries ∙ sym (sights_same R p q same other.0 s.states other.2) }

@@ -1,5 +1,4 @@
--- Classes and evaluation with every place the first one, as `bare` makes programs; and what is seen of a run, in which
--- no place shows.
+-- Classes and evaluation with every place the first one, as `bare` makes programs; and that places don't matter.
 use Rattle.std.specs.Prelude.{◌≡◌, ℕ, List, map}
 use Rattle.std.specs.declared.option.Option.{Option}
 use Rattle.flow_tree.specs.Tree.{ExprTree}
@@ -11,15 +10,7 @@ use Rattle.flow_worldfile.specs.Worlds as file
 use Rattle.flow_value.specs.Values.{ValueTree}
 use Rattle.flow_eval.specs.Eval.{Setting}
 use Rattle.flow_eval.specs.Functions.{Eval}
-use Rattle.flow_meaning.specs.Process.{Engine}
-use Rattle.flow_meaning.specs.World.{World}
-use Rattle.flow_meaning.specs.Runs.{IsRun}
-use Rattle.flow_meaning.specs.Items.{Actor}
-use Rattle.flow_meaning.specs.Frame.{Frame}
-use Rattle.flow_meaning.specs.Source.{source}
-use Rattle.flow_meaning.specs.Class.{classes}
-use Rattle.flow_meaning.specs.Views.{Unfinished, WaitingBranch}
-use Rattle.flow_meaning.specs.Boundaries.{LiveIn, PendingIn, FramesIn, CallbacksIn}
+use Rattle.flow_meaning.specs.Sights.{Sight, SourceSeen, ClassSeen}
 
 abbrev pub bare_instr : InstrTree → InstrTree
 bare_instr (SetInstr xs e) = SetInstr (map bare_ident xs) (bare_expr e)
@@ -60,29 +51,6 @@ bare_classes r = record { records = map bare_record r.records; functions = map b
 -- what is the same throughout an evaluation, with every place the first one
 abbrev pub bare_setting : Setting → Setting
 bare_setting s = record { records = map bare_record s.records; functions = map bare_routine s.functions; cells = s.cells; now = s.now }
-
--- what is seen of a world at the boundary of events: by process its unfinished actors, and the branches at which they wait
-pub record Sight : Type 0 where
-  pub unfinished : List (List Unfinished)
-  pub branches : List (List WaitingBranch)
-
-abbrev pub actors_seen : World Actor → Sight
-actors_seen w = record { unfinished = LiveIn w; branches = PendingIn w }
-
-abbrev pub frames_seen : World Frame → Sight
-frames_seen w = record { unfinished = FramesIn w; branches = CallbacksIn w }
-
--- what is seen of a run from the start of a world: the lines of its trace, and each boundary
-pub record Seen {A : Type 0} (e : Engine A) (sight : World A → Sight) (w : file.World) (lines : List Line) (sights : List Sight) : Type 0 where
-  pub states : List (World A)
-  pub run : IsRun e w states lines
-  pub boundaries : sights ≡ map sight states
-
-abbrev pub SourceSeen : ProgramTree → file.World → List Line → List Sight → Type 0
-SourceSeen p = Seen (source p) actors_seen
-
-abbrev pub ClassSeen : RawTree → file.World → List Line → List Sight → Type 0
-ClassSeen r = Seen (classes r) frames_seen
 
 -- An expression comes to the same with every place the first one.
 abbrev pub EvaluatesAlike : Type 0

@@ -31,4 +31,5 @@ pub mod Shape
 pub mod Carry
 pub mod Carries
 pub mod RunLaw
+pub mod Sights
 pub mod Bare

@@ -8,6 +8,7 @@ ghost use Rattle.flow_meaning.specs.Turns.{Thrifty, WritesFirst};
 ghost use Rattle.flow_meaning.specs.Runs.{RunsOnce};
 ghost use Rattle.flow_meaning.specs.Source.{source};
 ghost use Rattle.flow_meaning.specs.Class.{classes};
+ghost use Rattle.flow_meaning.specs.Sights.{SightsFollow, SightsReturn};
 ghost use Rattle.flow_meaning.specs.Bare.{EvaluatesAlike, ProgramsAlike, ClassesAlike};
 
 /// Two kinds of actors, the world around a process of either, and a relation between actors of the two.
@@ -54,6 +55,14 @@ pub fn runs_alike<K: TwoKinds>()
     ensures back { Simulates K.first K.second K.related → RunsReturn K.first K.second K.related }
     ensures traces { Simulates K.first K.second K.related → TracesFollow K.first K.second K.related }
     ensures traces_back { Simulates K.first K.second K.related → TracesReturn K.first K.second K.related }
+{}
+
+/// Where related actors that wait do so at the same place of their texts, the same is seen of both kinds
+/// in the world of a world file: the lines of a trace, and at each boundary of events the unfinished
+/// actors and the branches at which they wait.
+pub fn sights_alike<K: TwoKinds>()
+    ensures follow { Simulates K.first K.second K.related → SightsFollow K.first K.second K.related }
+    ensures back { Simulates K.first K.second K.related → SightsReturn K.first K.second K.related }
 {}
 
 /// From a process in order, in which each unfinished actor is suspended or has exactly one thing to do, a

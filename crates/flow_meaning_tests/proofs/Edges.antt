@@ -1,5 +1,5 @@
--- What the edges of the definitions come to, computed: drops that name a local twice, branches that aren't there, and
--- assignments to what is no variable.
+-- What the edges of the definitions come to, computed: drops that name a local twice, branches that aren't there,
+-- assignments to what is no variable, and what is seen at a boundary.
 use Rattle.std.proofs.Common.{◌≡◌, ℕ, suc, List, [], ◌∷◌, refl}
 use Rattle.std.specs.Prelude.{pos, false, codes}
 use Rattle.std.specs.Fmt.{digits}
@@ -20,6 +20,10 @@ use Rattle.flow_meaning.specs.SourceStep as text
 use Rattle.flow_meaning.specs.Source as source
 use Rattle.flow_meaning.specs.Frame.{Memory, Frame, held_in, next_instr}
 use Rattle.flow_meaning.specs.Class as class
+use Rattle.flow_meaning.specs.World.{World}
+use Rattle.flow_meaning.specs.Views.{actor_spot, frame_spot}
+use Rattle.flow_meaning.specs.Boundaries.{LiveIn, PendingIn, FramesIn, CallbacksIn}
+use Rattle.flow_meaning.specs.Sights.{sight}
 use Rattle.flow_meaning_tests.proofs.RowTerms.{nowhere, id}
 
 abbrev no_names : Names
@@ -78,3 +82,10 @@ setting = SetInstr (path_over (record { ty = IntType; name = codes "a" } ∷ [])
 no_place : (v : View) (m : Memory) → class.next_step no_names v (framed setting m) ≡ stuck (framed setting m)
 unfolding digits
 no_place v m = refl
+
+-- what is seen at a boundary is what the views say, by texts and by frames
+seen_by_texts : (w : World Actor) → sight actor_spot w ≡ record { unfinished = LiveIn w; branches = PendingIn w }
+seen_by_texts w = refl
+
+seen_by_frames : (w : World Frame) → sight frame_spot w ≡ record { unfinished = FramesIn w; branches = CallbacksIn w }
+seen_by_frames w = refl

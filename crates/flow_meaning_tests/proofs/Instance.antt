@@ -21,8 +21,8 @@ use Rattle.flow_meaning.specs.Frame as frame
 use Rattle.flow_meaning.specs.Source.{source}
 use Rattle.flow_meaning.specs.Class.{begun, classes}
 use Rattle.flow_meaning.specs.Views.{actor_spot, frame_spot}
-use Rattle.flow_meaning.specs.Bare.{Sight, SourceSeen, ClassSeen}
-use Rattle.flow_meaning.proofs.Sights.{seen_follows, seen_returns}
+use Rattle.flow_meaning.specs.Sights.{Sight, SourceSeen, ClassSeen, WaitAlike}
+use Rattle.flow_meaning.proofs.Sights.{sights_follow, sights_return}
 use Rattle.flow_trace.specs.declared.line.Line.{Line}
 use Rattle.flow_worldfile.specs.Worlds as file
 use Rattle.flow_meaning_tests.proofs.RowTerms.{nowhere, id}
@@ -321,12 +321,12 @@ spots_at Awaits x y err st h = subst (λ n. actor_spot (source_at Awaits x y err
 spots_at Chooses x y err st h = subst (λ n. actor_spot (source_at Chooses x y err) ≡ frame_spot (frame_at Chooses x y err n)) (sym h) refl
 spots_at s x y err st h = absurd h
 
-spots_same : (a : Actor) (f : frame.Frame) → Stands Waiting a f → actor_spot a ≡ frame_spot f
+spots_same : WaitAlike Stands actor_spot frame_spot
 spots_same a f r = everywhere Waiting (λ p q. actor_spot p ≡ frame_spot q) a f r (spots_at r.0 r.1 r.2 r.3 r.4 r.5)
 
 -- So in every world the class writes what the program writes, with the same at each boundary, and nothing else.
 small_follows : (w : file.World) (lines : List Line) (sights : List Sight) → SourceSeen small_program w lines sights → ClassSeen small_classes w lines sights
-small_follows = seen_follows Stands actor_spot frame_spot spots_same (source small_program) (classes small_classes) small_simulated
+small_follows = sights_follow (source small_program) (classes small_classes) Stands small_simulated actor_spot frame_spot spots_same
 
 small_returns : (w : file.World) (lines : List Line) (sights : List Sight) → ClassSeen small_classes w lines sights → SourceSeen small_program w lines sights
-small_returns = seen_returns Stands actor_spot frame_spot spots_same (source small_program) (classes small_classes) small_simulated
+small_returns = sights_return (source small_program) (classes small_classes) Stands small_simulated actor_spot frame_spot spots_same
