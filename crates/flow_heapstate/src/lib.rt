@@ -1,4 +1,4 @@
-//! The state of a heap that rests, as data of its own that can be kept, and the heap that such a state tells.
+//! The state of a heap that rests, as data of its own that can be kept.
 #![tactic(auto)]
 
 pub mod listing;
