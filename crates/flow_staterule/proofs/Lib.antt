@@ -7,3 +7,4 @@ mod Staler
 mod Places
 mod FirstLost
 mod EachKind
+mod EachWay

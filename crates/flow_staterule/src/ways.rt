@@ -269,7 +269,7 @@ impl Looked {
     }
 
     /// The ways out of one statement.
-    #[tactic(auto, using(crate::proofs::Passing::past_two, crate::proofs::Passing::past_three, crate::proofs::Passing::past_four, crate::proofs::Passing::past_choose))]
+    #[tactic(auto, using(crate::proofs::Passing::past_two, crate::proofs::EachWay::waits_while, crate::proofs::EachWay::waits_loop, crate::proofs::EachWay::waits_try, crate::proofs::EachWay::waits_for, crate::proofs::EachWay::waits_choose, crate::proofs::EachWay::waits_if, crate::proofs::EachWay::ways_if, crate::proofs::EachWay::ways_for, crate::proofs::EachWay::ways_choose))]
     #[cycle(ways)]
     pub fn stmt(self, stmt: &Stmt) -> Passed
         ensures ways { (k : Body) → ways self.0 (stmt_of stmt.now k) ≡ sequence result.ways (ways result.looked.0 k) }
