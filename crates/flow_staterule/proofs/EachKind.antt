@@ -53,8 +53,8 @@ same_force : (v w : Variables) → w.list.items ≡ v.list.items → in_force w 
 same_force v w e = ap (declared_after []) e
 
 -- what is added in two parts
-two : (u v w : List Use) {a b : List Use} → v ≡ u ++ a → w ≡ v ++ b → w ≡ u ++ (a ++ b)
-two u v w {a} {b} e f = f ∙ ap (λ l. l ++ b) e ∙ append_assoc u a b
+two : (u v w a b : List Use) → v ≡ u ++ a → w ≡ v ++ b → w ≡ u ++ (a ++ b)
+two u v w a b e f = f ∙ ap (λ l. l ++ b) e ∙ append_assoc u a b
 
 -- a part that is found in a scope of its own, behind what was found before
 scope_is : (f f' : Finder) (h : Here) (b : Body) (us : List Use) → us ≡ found f' h b → f'.variables.list.items ≡ f.variables.list.items → us ≡ f'.uses.items ++ uses_at h (in_force f.variables) b
@@ -73,14 +73,14 @@ pub after_if : (f f1 f2 g : Finder) (h : Here) (s : Stmt) (e : Expr) (b : Vec St
 after_if f f1 f2 g h s e b None items i is d us1 vs1 us2 vs2 ie us3 vs3 =
     let vs = in_force f.variables in
     after f g h s (IfStmt s.at (expr_of e) (body_of b.items)) vs (expr_uses vs h.point (expr_of e) ++ uses_at h vs (body_of b.items)) (λ k. is_if s e b k is)
-    (us3 ∙ append-nil f2.uses.items ∙ two f.uses.items f1.uses.items f2.uses.items us1 (scope_is f f1 h (body_of b.items) f2.uses.items (us2 ∙ ap (λ l. found f1 h (body_of l)) d) vs1))
+    (us3 ∙ append-nil f2.uses.items ∙ two f.uses.items f1.uses.items f2.uses.items _ _ us1 (scope_is f f1 h (body_of b.items) f2.uses.items (us2 ∙ ap (λ l. found f1 h (body_of l)) d) vs1))
     (same_force f.variables g.variables (vs3 ∙ vs2 ∙ vs1)) (λ k. refl) refl
 after_if f f1 f2 g h s e b (Some o) items i is d us1 vs1 us2 vs2 ie us3 vs3 =
     let vs = in_force f.variables in
     after f g h s (IfElseStmt s.at (expr_of e) (body_of b.items) (body_of o.items)) vs
     (expr_uses vs h.point (expr_of e) ++ uses_at h vs (body_of b.items) ++ uses (left h.looked.0 (body_of b.items)) vs h.point h.caught (body_of o.items)) (λ k. is_if_else s e b o k is)
-    (two f.uses.items f2.uses.items g.uses.items
-    (two f.uses.items f1.uses.items f2.uses.items us1 (scope_is f f1 h (body_of b.items) f2.uses.items (us2 ∙ ap (λ l. found f1 h (body_of l)) d) vs1))
+    (two f.uses.items f2.uses.items g.uses.items _ _
+    (two f.uses.items f1.uses.items f2.uses.items _ _ us1 (scope_is f f1 h (body_of b.items) f2.uses.items (us2 ∙ ap (λ l. found f1 h (body_of l)) d) vs1))
     (us3 ∙ ap (λ x. f2.uses.items ++ uses x.looked.0 (in_force f2.variables) x.point x.caught (body_of o.items)) ie
     ∙ ap₂ (λ l v. f2.uses.items ++ uses (left h.looked.0 (body_of l)) (declared_after [] v) h.point h.caught (body_of o.items)) d (vs2 ∙ vs1)))
     (same_force f.variables g.variables (vs3 ∙ vs2 ∙ vs1)) (λ k. refl) refl
@@ -98,7 +98,7 @@ after_while f f1 g h r s e b items n is d ne re us1 vs1 us2 vs2 =
     let x = round_at h vs (body_of b.items) in
     let rx : r ≡ round_at h vs (body_of b.items) = re ∙ ap₂ (λ m l. record h { point = behind m h.point (head (ways h.looked.0 (body_of l))) }) ne d in
     after f g h s (WhileStmt s.at (expr_of e) (body_of b.items)) vs (expr_uses vs x.point (expr_of e) ++ uses_at x vs (body_of b.items)) (λ k. is_while s e b k is)
-    (two f.uses.items f1.uses.items g.uses.items (us1 ∙ ap (λ y. f.uses.items ++ expr_uses vs y.point (expr_of e)) rx)
+    (two f.uses.items f1.uses.items g.uses.items _ _ (us1 ∙ ap (λ y. f.uses.items ++ expr_uses vs y.point (expr_of e)) rx)
     (scope_is f f1 x (body_of b.items) g.uses.items (us2 ∙ ap₂ (λ y l. found f1 y (body_of l)) rx d) vs1))
     (same_force f.variables g.variables (vs2 ∙ vs1)) (λ k. refl) refl
 
@@ -151,7 +151,7 @@ after_assign f f1 g h s t e is us vs us2 vs2 =
     let force = in_force f.variables in
     let inner = target_uses force h.point t.path.items ++ expr_uses force h.point (expr_of e) in
     after f g h s (AssignStmt s.at t.path.items (expr_of e)) force inner (λ k. is_assign s t e k is)
-    (two f.uses.items f1.uses.items g.uses.items us (us2 ∙ ap (λ l. f1.uses.items ++ expr_uses (declared_after [] l) h.point (expr_of e)) vs)) (same_force f.variables g.variables (vs2 ∙ vs))
+    (two f.uses.items f1.uses.items g.uses.items _ _ us (us2 ∙ ap (λ l. f1.uses.items ++ expr_uses (declared_after [] l) h.point (expr_of e)) vs)) (same_force f.variables g.variables (vs2 ∙ vs))
     (λ k. ap (λ l. inner ++ l) (simple h force force _ k)) refl
 
 pub after_modify : (f f1 g : Finder) (h : Here) (s : Stmt) (t : Target) (d : Change) → s.kind ≡ kind.Modify t d → f1.uses.items ≡ f.uses.items ++ target_uses (in_force f.variables) h.point t.path.items
@@ -160,7 +160,7 @@ after_modify f f1 g h s t d is us vs us2 vs2 =
     let force = in_force f.variables in
     let inner = target_uses force h.point t.path.items ++ change_uses force h.point (change_of d) in
     after f g h s (ModifyStmt s.at t.path.items (change_of d)) force inner (λ k. is_modify s t d k is)
-    (two f.uses.items f1.uses.items g.uses.items us (us2 ∙ ap (λ l. f1.uses.items ++ change_uses (declared_after [] l) h.point (change_of d)) vs)) (same_force f.variables g.variables (vs2 ∙ vs))
+    (two f.uses.items f1.uses.items g.uses.items _ _ us (us2 ∙ ap (λ l. f1.uses.items ++ change_uses (declared_after [] l) h.point (change_of d)) vs)) (same_force f.variables g.variables (vs2 ∙ vs))
     (λ k. ap (λ l. inner ++ l) (simple h force force _ k)) refl
 
 pub after_call : (f f1 g : Finder) (h : Here) (s : Stmt) (t : Target) (es : Vec Expr Global) (items : List Expr) → s.kind ≡ kind.Call t es → items ≡ es.items → f1.uses.items ≡ f.uses.items ++ base_uses (in_force f.variables) h.point t.path.items
@@ -169,7 +169,7 @@ after_call f f1 g h s t es items is d us vs us2 vs2 =
     let force = in_force f.variables in
     let inner = base_uses force h.point t.path.items ++ exprs_uses force h.point (exprs_of es.items) in
     after f g h s (CallStmt s.at t.path.items (exprs_of es.items)) force inner (λ k. is_call s t es k is)
-    (two f.uses.items f1.uses.items g.uses.items us (us2 ∙ ap₂ (λ l i. f1.uses.items ++ exprs_uses (declared_after [] l) h.point (exprs_of i)) vs d)) (same_force f.variables g.variables (vs2 ∙ vs))
+    (two f.uses.items f1.uses.items g.uses.items _ _ us (us2 ∙ ap₂ (λ l i. f1.uses.items ++ exprs_uses (declared_after [] l) h.point (exprs_of i)) vs d)) (same_force f.variables g.variables (vs2 ∙ vs))
     (λ k. ap (λ l. inner ++ l) (simple h force force _ k)) refl
 
 pub after_wait : (f f1 g : Finder) (h : Here) (s : Stmt) (w : Waiting) → s.kind ≡ kind.Wait w → f1.uses.items ≡ f.uses.items ++ expr_uses (in_force f.variables) h.point (expr_of w.operand) → f1.variables.list.items ≡ f.variables.list.items
@@ -193,7 +193,7 @@ after_try f f1 g h i s b q x o items hands is d c us vs ie us2 vs2 =
     let j = in_handler (length force) h (body_of b.items) x in
     let ij : i ≡ in_handler (length (in_force f.variables)) h (body_of b.items) x = ie ∙ ap₂ (λ l v. in_handler (length (declared_after [] v)) h (body_of l) x) d vs in
     after f g h s (TryStmt s.at (body_of b.items) q x (body_of o.items)) force (uses_at h force (body_of b.items) ++ uses_at j (caught_as x ∷ force) (body_of o.items)) (λ k. is_try s b q x o k is)
-    (two f.uses.items f1.uses.items g.uses.items (us ∙ ap (λ l. found f h (body_of l)) d)
+    (two f.uses.items f1.uses.items g.uses.items _ _ (us ∙ ap (λ l. found f h (body_of l)) d)
     (us2 ∙ ap (λ y. f1.uses.items ++ uses y.looked.0 (caught_as x ∷ in_force f1.variables) y.point y.caught (body_of hands)) ij
     ∙ ap₂ (λ l v. f1.uses.items ++ uses_at j (caught_as x ∷ declared_after [] v) (body_of l)) c vs))
     (same_force f.variables g.variables (vs2 ∙ vs)) (λ k. refl) refl
@@ -223,9 +223,9 @@ after_for f f1 f2 f3 f4 g h i r t s init e step b items is d us1 ie vs1 re te us
     let ws3 : in_force f3.variables ≡ declaring vs (simple_of init) = same_force f2.variables f3.variables vs3 ∙ ws2 in
     after f g h s (ForStmt s.at (simple_of init) (option_map expr_of e) (simple_of step) (body_of b.items)) vs
     (uses_at h vs (simple_of init) ++ maybe_uses ws x.point (option_map expr_of e) ++ uses_at y ws (simple_of step) ++ uses_at x ws (body_of b.items)) (λ k. is_for s init e step b k is)
-    (us5 ∙ two f.uses.items f3.uses.items f4.uses.items
-    (two f.uses.items f2.uses.items f3.uses.items
-    (two f.uses.items f1.uses.items f2.uses.items us1 (us2 ∙ ap₂ (λ v j. f1.uses.items ++ maybe_uses v j.point (option_map expr_of e)) vs1 rx))
+    (us5 ∙ two f.uses.items f3.uses.items f4.uses.items _ _
+    (two f.uses.items f2.uses.items f3.uses.items _ _
+    (two f.uses.items f1.uses.items f2.uses.items _ _ us1 (us2 ∙ ap₂ (λ v j. f1.uses.items ++ maybe_uses v j.point (option_map expr_of e)) vs1 rx))
     (found_is f2 t y ws (simple_of step) f3.uses.items us3 ty ws2))
     (found_is f3 r x ws (body_of b.items) f4.uses.items (us4 ∙ ap (λ l. found f3 r (body_of l)) d) rx ws3))
     vs5 (λ k. refl) refl
@@ -244,7 +244,7 @@ after_branch f f1 f2 f3 g p h j w items d us1 vs1 us2 vs2 us3 us4 vs4 je bs =
     let rest = branch_uses (left h.looked.0 (body_of (out-When w).body.items)) (in_force f.variables) p h.point h.caught bs in
     let first = expr_uses (in_force f.variables) p (expr_of (out-When w).waiting.operand) ++ uses_at h ws (body_of (out-When w).body.items) in
     let us : g.uses.items ≡ f.uses.items ++ first =
-    two f.uses.items f1.uses.items g.uses.items us1
+    two f.uses.items f1.uses.items g.uses.items _ _ us1
     (us4 ∙ us3 ∙ ap₂ (λ l u. l ++ uses_at h u (body_of items)) us2 (vs2 ∙ ap (λ l. with_into (declared_after [] l) (waiting_of (out-When w).waiting).into) vs1)
     ∙ ap (λ l. f1.uses.items ++ uses_at h ws (body_of l)) d) in
     let jx : j ≡ record h { looked = record { 0 = left h.looked.0 (body_of (out-When w).body.items) } } = je ∙ ap (λ l. record h { looked = record { 0 = left h.looked.0 (body_of l) } }) d in

@@ -25,19 +25,19 @@ still_lost ps b u n m le e =
 -- from number n on, it first holds with the wait of number low
 first_at : (holds : ℕ → Bool) (n low : ℕ) (ws : List Place) → ((j : ℕ) → j < low → holds (n + j + 1) ≡ false) → holds (n + low + 1) ≡ true → low < length ws
     → slice_get ws low ≡ first_with holds n ws
-first_at holds n low [] no it lt = absurd (omega (arith, lt))
-first_at holds n zero (w ∷ ws) no it lt =
+first_at holds n low [] before it lt = absurd (omega (arith, lt))
+first_at holds n zero (w ∷ ws) before it lt =
     let z : n + 0 + 1 ≡ n + 1 = omega arith in
     let e : holds (n + 1) ≡ true = ap holds (sym z) ∙ it in
     sym (ap (λ b. if b then Some w else first_with holds (n + 1) ws) e)
-first_at holds n (suc low) (w ∷ ws) no it lt =
+first_at holds n (suc low) (w ∷ ws) before it lt =
     let z : 0 < suc low = omega arith in
     let o : n + 0 + 1 ≡ n + 1 = omega arith in
-    let e : holds (n + 1) ≡ false = ap holds (sym o) ∙ no 0 z in
+    let e : holds (n + 1) ≡ false = ap holds (sym o) ∙ before 0 z in
     let lt' : low < length ws = omega (arith, lt) in
     let s : n + 1 + low + 1 ≡ n + suc low + 1 = omega arith in
     first_at holds (n + 1) low ws
-    (λ j l. let t : n + 1 + j + 1 ≡ n + suc j + 1 = omega arith in let l' : suc j < suc low = omega (arith, l) in ap holds t ∙ no (suc j) l')
+    (λ j l. let t : n + 1 + j + 1 ≡ n + suc j + 1 = omega arith in let l' : suc j < suc low = omega (arith, l) in ap holds t ∙ before (suc j) l')
     (ap holds s ∙ it) lt'
     ∙ sym (ap (λ b. if b then Some w else first_with holds (n + 1) ws) e)
 
@@ -47,12 +47,12 @@ false_of false f = refl
 
 pub halved : (ps : List ParamTree) (b : Body) (u low high waits : ℕ) (ws : List Place) → low < high → high ≤ waits → high ≤ low + 1 → is_lost_with ps b u high ≡ true → (0 < low → is_lost_with ps b u low ≡ false)
     → length ws ≡ waits → slice_get ws low ≡ first_with (is_lost_with ps b u) 0 ws
-halved ps b u low high waits ws lh hw hl it no len =
+halved ps b u low high waits ws lh hw hl it before len =
     let e : high ≡ 0 + low + 1 = omega (arith, lh, hl) in
     let lt : low < length ws = omega (arith, lh, hw, len) in
     first_at (is_lost_with ps b u) 0 low ws
     (λ j l. let z : 0 < low = omega (arith, l) in let le : 0 + j + 1 ≤ low = omega (arith, l) in
-    false_of (is_lost_with ps b u (0 + j + 1)) (λ t. sym (no z) ∙ still_lost ps b u (0 + j + 1) low le t))
+    false_of (is_lost_with ps b u (0 + j + 1)) (λ t. sym (before z) ∙ still_lost ps b u (0 + j + 1) low le t))
     (ap (is_lost_with ps b u) (sym e) ∙ it) lt
 
 -- declaration by declaration
@@ -93,18 +93,20 @@ or_zero (Some n) = n
 none_some : (m : ℕ) → None ≡ Some m → ⊥
 none_some m e = false≢true (ap is_some e)
 
-mutual
-  stale_at : (us : List Use) (n m : ℕ) → first_stale n us ≡ Some m → (k : ℕ) × (m ≡ n + k) × (is_stale_use (slice_get us k) ≡ true)
-  stale_at [] n m e = absurd (none_some m e)
-  stale_at (u ∷ us) n m e = stale_here u us n m u.stale refl e
+abbrev IsStaleAt : List Use → (n m : ℕ) → Type 0
+IsStaleAt us n m = (k : ℕ) × (m ≡ n + k) × (is_stale_use (slice_get us k) ≡ true)
 
-  stale_here : (u : Use) (us : List Use) (n m : ℕ) (b : Bool) → u.stale ≡ b → (if b then Some n else first_stale (n + 1) us) ≡ Some m
-      → (k : ℕ) × (m ≡ n + k) × (is_stale_use (slice_get (u ∷ us) k) ≡ true)
-  stale_here u us n m true s e = let f : n ≡ m = ap or_zero e in (0, omega (arith, f), s)
-  stale_here u us n m false s e = let r = stale_at us (n + 1) m e in let f = r.1.0 in (suc r.0, omega (arith, f), r.1.1)
+stale_here : (u : Use) (us : List Use) (n m : ℕ) (b : Bool) → u.stale ≡ b → (if b then Some n else first_stale (n + 1) us) ≡ Some m → (first_stale (n + 1) us ≡ Some m → IsStaleAt us (n + 1) m) → IsStaleAt (u ∷ us) n m
+stale_here u us n m true s e rest = let f : n ≡ m = ap or_zero e in (0, omega (arith, f), s)
+stale_here u us n m false s e rest = let r = rest e in let f : m ≡ n + 1 + r.0 = r.1.0 in (suc r.0, omega (arith, f), r.1.1)
+
+stale_at : (us : List Use) (n m : ℕ) → first_stale n us ≡ Some m → IsStaleAt us n m
+stale_at [] n m e = absurd (none_some m e)
+stale_at (u ∷ us) n m e = stale_here u us n m u.stale refl e (stale_at us (n + 1) m)
 
 pub first_is_stale : (us : List Use) (m : ℕ) → Some m ≡ first_stale 0 us → is_stale_use (slice_get us m) ≡ true
 first_is_stale us m e =
     let r = stale_at us 0 m (sym e) in
-    let f : m ≡ r.0 = let g = r.1.0 in omega (arith, g) in
+    let g : m ≡ 0 + r.0 = r.1.0 in
+    let f : m ≡ r.0 = omega (arith, g) in
     ap (λ k. is_stale_use (slice_get us k)) f ∙ r.1.1

@@ -1,6 +1,7 @@
 -- The more waits are looked for, the more uses are stale.
 use Rattle.std.proofs.Common.{◌≡◌, ℕ, zero, suc, ◌+◌, ◌-◌, ◌<◌, ◌≤◌, Bool, true, false, ◌&&◌, ◌||◌, List, [], ◌∷◌, ◌++◌, length, refl, sym, ap, ap₂, subst, ◌∙◌, arith, rules}
-use Rattle.std.proofs.lemmas.Bool.{false≢true}
+use Rattle.std.specs.Prelude.{nat_eq, nat_lt}
+use Rattle.std.proofs.lemmas.Bool.{false≢true, lt-ltb}
 use Rattle.flow_tree.specs.Body.{Body, End, BlockStmt, IfStmt, IfElseStmt, WhileStmt, ForStmt, LoopStmt, BreakStmt, ContinueStmt, ReturnStmt, ThrowStmt, TryStmt, ChooseStmt, DeclareStmt, AssignStmt, ModifyStmt, CallStmt, WaitStmt, Branches, NoBranches, MoreBranches}
 use Rattle.flow_ast.specs.Slots.{body_groups, branch_groups}
 use Rattle.flow_ast.specs.Typing.{is_there}
@@ -48,7 +49,7 @@ onward_kept true false r false g x y a b c d = refl
 onward_kept true false r true true x y a b c d = ap (λ z. (x && r) || z) d ∙ or_true (x && r)
 onward_kept true false r true false x y a b c d = ap₂ (λ z t. (z && t) || false) (sym a) c
 
-same_grows : (r : Reached) → Grows r r
+pub same_grows : (r : Reached) → Grows r r
 same_grows r = record { reached = refl; waited = and_self r.waited }
 
 either_grows : (r s t u : Reached) → Grows r s → Grows t u → Grows (either r t) (either s u)
@@ -102,10 +103,10 @@ sequence_grow w v u t g h = record {
   throws = then_grows w.throws v.throws w.ends v.ends u.throws t.throws g.throws g.ends h.throws;
 }
 
-round_grows : (w v : Ways) → WaysGrow w v → Grows (round w) (round v)
+pub round_grows : (w v : Ways) → WaysGrow w v → Grows (round w) (round v)
 round_grows w v g = either_grows w.ends v.ends w.continues v.continues g.ends g.continues
 
-with_step_grow : (w v u t : Ways) → WaysGrow w v → WaysGrow u t → WaysGrow (with_step w u) (with_step v t)
+pub with_step_grow : (w v u t : Ways) → WaysGrow w v → WaysGrow u t → WaysGrow (with_step w u) (with_step v t)
 with_step_grow w v u t g h = record {
   ends = onward_grows (round w) (round v) u.ends t.ends (round_grows w v g) h.ends;
   breaks = g.breaks;
@@ -113,7 +114,7 @@ with_step_grow w v u t g h = record {
   throws = then_grows w.throws v.throws (round w) (round v) u.throws t.throws g.throws (round_grows w v g) h.throws;
 }
 
-head_grows : (w v : Ways) → WaysGrow w v → Grows (head w) (head v)
+pub head_grows : (w v : Ways) → WaysGrow w v → Grows (head w) (head v)
 head_grows w v g = record { reached = refl; waited = (round_grows w v g).waited }
 
 past_grows : (leads : Bool) (r s : Reached) → Grows r s → Grows (past leads r) (past leads s)
@@ -136,11 +137,24 @@ handled_grow w v u t g h = record {
   throws = then_grows at_once at_once w.throws v.throws u.throws t.throws (same_grows at_once) g.throws h.throws;
 }
 
-waited_grows : (n m : ℕ) → n ≤ m → Grows (waited_at n) (waited_at m)
+behind_wait : (n : ℕ) → nat_lt 0 (suc n) ≡ true
+behind_wait n = let some : 0 < suc n = omega arith in lt-ltb 0 (suc n) some
+
+waited_reached : (n : ℕ) → is_reached (waited_at (suc n)) ≡ true
+waited_reached n = ap (λ b. nat_eq (suc n) 0 || b) (behind_wait n) ∙ or_true (nat_eq (suc n) 0)
+
+and_true : (a : Bool) → a && true ≡ a
+and_true true = refl
+and_true false = refl
+
+pub waited_grows : (n m : ℕ) → n ≤ m → Grows (waited_at n) (waited_at m)
 waited_grows zero zero le = same_grows (waited_at zero)
-waited_grows zero (suc m) le = record { reached = refl; waited = refl }
+waited_grows zero (suc m) le = record { reached = sym (waited_reached m); waited = refl }
 waited_grows (suc n) zero le = absurd (omega (arith, le))
-waited_grows (suc n) (suc m) le = record { reached = refl; waited = refl }
+waited_grows (suc n) (suc m) le = record {
+  reached = waited_reached n ∙ sym (waited_reached m);
+  waited = ap (λ b. nat_lt 0 (suc n) && b) (behind_wait m) ∙ and_true (nat_lt 0 (suc n));
+}
 
 plain_grow : (r s : Reached) → Grows r s → WaysGrow (plain r) (plain s)
 plain_grow r s g = record { ends = g; breaks = same_grows never; continues = same_grows never; throws = g }

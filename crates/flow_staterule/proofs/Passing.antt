@@ -23,6 +23,9 @@ past_four n m l k ws xs ys zs d c b = past_two n k (ws ++ xs ++ ys) zs (b ∙ sy
 pub past_choose : {A : Type 0} (n m l : ℕ) (x : A) (xs ys : List A) → m ≡ n - 1 → l ≡ m - length xs → n - length (x ∷ (xs ++ ys)) ≡ l - length ys
 past_choose n m l x xs ys d c = let e : length (xs ++ ys) ≡ length xs + length ys = length-append xs ys in omega (d, c, e, arith)
 
+none_left : (n : ℕ) → n - 0 ≡ n
+none_left n = omega arith
+
 -- a body is its next statement before the others
 split_body : (ss : List Stmt) (i : ℕ) (s : Stmt) → i < length ss → s ≡ get_or ss i s → body_of (drop i ss) ≡ stmt_of s (body_of (drop (i + 1) ss))
 split_body ss i s lt got = ap body_of (drop_more ss i s lt) ∙ sym (ap (λ y. stmt_of y (body_of (drop (i + 1) ss))) got)
@@ -47,7 +50,7 @@ pub ways_end : (ss : List Stmt) (i : ℕ) (w whole : Ways) (n : ℕ) → length 
 ways_end ss i w whole n le inv = sym (ap (λ x. sequence w (ways n (body_of x))) (drop_all i ss le) ∙ sequence_empty w) ∙ inv
 
 pub looked_end : (ss : List Stmt) (i n whole : ℕ) → length ss ≤ i → n - length (body_groups (body_of (drop i ss))) ≡ whole → n ≡ whole
-looked_end ss i n whole le inv = sym (ap (λ x. n - length (body_groups (body_of x))) (drop_all i ss le)) ∙ inv
+looked_end ss i n whole le inv = sym (ap (λ x. n - length (body_groups (body_of x))) (drop_all i ss le) ∙ none_left n) ∙ inv
 
 pub branch_ways_next : (ws : List When) (i : ℕ) (b : When) (w v u whole : Ways) (n m : ℕ) → i < length ws → b ≡ get_or ws i b → u ≡ both w v
     → ((k : Branches) → branch_ways n (branch_of b k) ≡ both v (branch_ways m k)) → both w (branch_ways n (branches_of (drop i ws))) ≡ whole
@@ -67,4 +70,4 @@ pub branch_ways_end : (ws : List When) (i : ℕ) (w whole : Ways) (n : ℕ) → 
 branch_ways_end ws i w whole n le inv = sym (ap (λ x. both w (branch_ways n (branches_of x))) (drop_all i ws le) ∙ both_none w) ∙ inv
 
 pub branch_looked_end : (ws : List When) (i n whole : ℕ) → length ws ≤ i → n - length (branch_groups (branches_of (drop i ws))) ≡ whole → n ≡ whole
-branch_looked_end ws i n whole le inv = sym (ap (λ x. n - length (branch_groups (branches_of x))) (drop_all i ws le)) ∙ inv
+branch_looked_end ws i n whole le inv = sym (ap (λ x. n - length (branch_groups (branches_of x))) (drop_all i ws le) ∙ none_left n) ∙ inv

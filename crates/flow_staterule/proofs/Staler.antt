@@ -4,7 +4,7 @@ use Rattle.std.specs.Prelude.{nat_le, nat_lt, slice_get, if◌then◌else◌}
 use Rattle.std.specs.Str.{bytes_eq}
 use Rattle.std.specs.declared.option.Option.{Option}
 use Rattle.std.specs.declared.option.Option.TheVariants.{None, Some}
-use Rattle.std.proofs.lemmas.Bool.{false≢true, true≢false}
+use Rattle.std.proofs.lemmas.Bool.{false≢true, true≢false, ltb-true, lt-ltb}
 use Rattle.flow_base.specs.declared.place.Place.{Place}
 use Rattle.flow_tree.specs.declared.ty.Ident.{Ident}
 use Rattle.flow_tree.specs.Tree.{ExprTree, ExprTrees, IntExpr, TextExpr, BoolExpr, VoidExpr, VarExpr, CallExpr, FieldExpr, MethodExpr, NotExpr, NegExpr, BinaryExpr, ParenExpr, NoExprs, MoreExprs}
@@ -66,14 +66,8 @@ stale_still i (u ∷ us) [] m e = absurd m
 stale_still zero (u ∷ us) (v ∷ vs) m e = m.0 e
 stale_still (suc i) (u ∷ us) (v ∷ vs) m e = stale_still i us vs m.1 e
 
-lt_true : (a b : ℕ) → nat_lt a b ≡ true → a < b
-lt_true a b e = omega (arith, e)
-
-lt_is : (a b : ℕ) → a < b → nat_lt a b ≡ true
-lt_is a b lt = omega (arith, lt)
-
 below : (n a b : ℕ) → a ≤ b → nat_lt n a ≡ true → nat_lt n b ≡ true
-below n a b ab e = lt_is n b (let l = lt_true n a e in omega (arith, l, ab))
+below n a b ab e = let l : n < a = ltb-true n a e in let m : n < b = omega (arith, l, ab) in lt-ltb n b m
 
 both_true : (x y z : Bool) → (y ≡ true → z ≡ true) → x && y ≡ true → x && z ≡ true
 both_true true y z f e = f e
@@ -87,13 +81,15 @@ use_more : (d : ℕ) (p q : Point) (at : Place) (local : Option Place) (n : ℕ)
 use_more d p q at None n s = tt
 use_more d p q at (Some named) n s = (still_stale d p q n s, tt)
 
+pick_more : (b : Bool) (us vs ws xs : List Use) → MoreStale us vs → MoreStale ws xs → MoreStale (if b then us else ws) (if b then vs else xs)
+pick_more true us vs ws xs m n = m
+pick_more false us vs ws xs m n = n
+
 mention_more : (d : ℕ) (vs : List Variable) (p q : Point) (at : Place) (x : List ℕ) → Staler d p q → MoreStale (mention vs p at x) (mention vs q at x)
 mention_more d [] p q at x s = tt
-mention_more d (v ∷ vs) p q at x s = pick (bytes_eq v.name x)
-  where
-    pick : (b : Bool) → MoreStale (if b then use_of at p v.local (length vs) else mention vs p at x) (if b then use_of at q v.local (length vs) else mention vs q at x)
-    pick true = use_more d p q at v.local (length vs) s
-    pick false = mention_more d vs p q at x s
+mention_more d (v ∷ vs) p q at x s =
+    pick_more (bytes_eq v.name x) (use_of at p v.local (length vs)) (use_of at q v.local (length vs)) (mention vs p at x) (mention vs q at x)
+    (use_more d p q at v.local (length vs) s) (mention_more d vs p q at x s)
 
 mutual
   expr_more : (d : ℕ) (vs : List Variable) (p q : Point) (e : ExprTree) → Staler d p q → MoreStale (expr_uses vs p e) (expr_uses vs q e)
