@@ -98,7 +98,7 @@ IsStaleAt us n m = (k : ℕ) × (m ≡ n + k) × (is_stale_use (slice_get us k) 
 
 stale_here : (u : Use) (us : List Use) (n m : ℕ) (b : Bool) → u.stale ≡ b → (if b then Some n else first_stale (n + 1) us) ≡ Some m → (first_stale (n + 1) us ≡ Some m → IsStaleAt us (n + 1) m) → IsStaleAt (u ∷ us) n m
 stale_here u us n m true s e rest = let f : n ≡ m = ap or_zero e in (0, omega (arith, f), s)
-stale_here u us n m false s e rest = let r = rest e in let f : m ≡ n + 1 + r.0 = r.1.0 in (suc r.0, omega (arith, f), r.1.1)
+stale_here u us n m false s e rest = let r = rest e in let f : m ≡ n + 1 + r.0 = r.1 in (suc r.0, omega (arith, f), r.2)
 
 stale_at : (us : List Use) (n m : ℕ) → first_stale n us ≡ Some m → IsStaleAt us n m
 stale_at [] n m e = absurd (none_some m e)
@@ -107,6 +107,6 @@ stale_at (u ∷ us) n m e = stale_here u us n m u.stale refl e (stale_at us (n +
 pub first_is_stale : (us : List Use) (m : ℕ) → Some m ≡ first_stale 0 us → is_stale_use (slice_get us m) ≡ true
 first_is_stale us m e =
     let r = stale_at us 0 m (sym e) in
-    let g : m ≡ 0 + r.0 = r.1.0 in
+    let g : m ≡ 0 + r.0 = r.1 in
     let f : m ≡ r.0 = omega (arith, g) in
-    ap (λ k. is_stale_use (slice_get us k)) f ∙ r.1.1
+    ap (λ k. is_stale_use (slice_get us k)) f ∙ r.2
