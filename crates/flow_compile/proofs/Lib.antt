@@ -1,4 +1,3 @@
 mod Judging
 mod OneVerdict
 mod Collecting
-mod Weights

@@ -1,4 +1,3 @@
 pub mod Verdict
 pub mod Compiled
 pub mod Laws
-pub mod Weighing

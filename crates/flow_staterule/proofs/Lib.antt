@@ -1,10 +1,1 @@
 mod Sequences
-mod Passing
-mod InForce
-mod Adding
-mod Growing
-mod Staler
-mod Places
-mod FirstLost
-mod EachKind
-mod EachWay
