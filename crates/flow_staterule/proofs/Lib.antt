@@ -1,1 +1,4 @@
 mod Sequences
+mod InForce
+mod Adding
+mod Places

@@ -2,7 +2,7 @@
 use Rattle.std.proofs.Common.{◌≡◌, sym, ap, ap₂, ◌∙◌, rules}
 use Rattle.flow_staterule.specs.declared.ways.Reached.{Reached}
 use Rattle.flow_staterule.specs.declared.ways.Ways.{Ways}
-use Rattle.flow_staterule.specs.Ways.{onward, either, sequence, empty}
+use Rattle.flow_staterule.specs.Ways.{never, onward, either, node, both, sequence, empty}
 
 onward_assoc : (r s t : Reached) → onward (onward r s) t ≡ onward r (onward s t)
 onward_assoc r s t = grind rules
@@ -34,3 +34,10 @@ sequence_assoc w v u =
 
 pub sequence_empty : (w : Ways) → sequence w empty ≡ w
 sequence_empty w = grind rules
+
+pub both_assoc : (w v u : Ways) → both (both w v) u ≡ both w (both v u)
+both_assoc w v u =
+    same_ways (either_assoc w.ends v.ends u.ends) (either_assoc w.breaks v.breaks u.breaks) (either_assoc w.continues v.continues u.continues) (either_assoc w.throws v.throws u.throws)
+
+pub both_none : (w : Ways) → both w (node never) ≡ w
+both_none w = grind rules

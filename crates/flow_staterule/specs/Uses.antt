@@ -16,8 +16,7 @@ use Rattle.flow_staterule.specs.declared.scope.Point.{Point}
 use Rattle.flow_staterule.specs.declared.scope.Use.{Use}
 use Rattle.flow_staterule.specs.declared.uses.Caught.{Caught}
 use Rattle.flow_staterule.specs.declared.ways.Reached.{Reached}
-use Rattle.flow_ast.specs.Slots.{body_groups, branch_groups}
-use Rattle.flow_ast.specs.Typing.{is_there}
+use Rattle.flow_ast.specs.Slots.{body_groups}
 use Rattle.flow_staterule.specs.Ways.{ways, never, with_step, head, round, waited_at}
 
 -- A variable in force, and where it is declared if it is a local. The variables in force stand newest first.
@@ -91,10 +90,23 @@ abbrev pub with_into : List Variable → Option IntoTree → List Variable
 with_into vs None = vs
 with_into vs (Some i) = declared i ∷ vs
 
--- the variables in the rest of a `for`
-abbrev pub with_init : List Variable → Body → List Variable
-with_init vs (DeclareStmt at i v k) = declared i ∷ vs
-with_init vs b = vs
+-- the variables in force behind the first statement of a body
+abbrev pub declaring : List Variable → Body → List Variable
+declaring vs (DeclareStmt at i v k) = declared i ∷ vs
+declaring vs (WaitStmt at w k) = with_into vs w.into
+declaring vs b = vs
+
+-- of the first n waits, those that come behind a body
+abbrev pub left : ℕ → Body → ℕ
+left n b = n - length (body_groups b)
+
+-- the point behind a body
+abbrev pub beyond : ℕ → List Variable → Point → Body → Point
+beyond n vs p b = behind (length vs) p (ways n b).ends
+
+-- the variable of a catch
+abbrev pub caught_as : Ident → Variable
+caught_as x = record { name = x.name; local = Some x.at }
 
 -- `throw;` uses the variable of the innermost catch around it
 abbrev pub thrown_uses : Point → Option Caught → Place → Option ExprTree → List Variable → List Use
@@ -107,50 +119,62 @@ abbrev mutual
   pub uses : ℕ → List Variable → Point → Option Caught → Body → List Use
   uses n vs p c End = []
   uses n vs p c (BlockStmt at b k) =
-      uses n vs p c b ++ uses (n - length (body_groups b)) vs (behind (length vs) p (ways n (BlockStmt at b End)).ends) c k
+      let s = BlockStmt at b End in
+      uses n vs p c b ++ uses (left n s) vs (beyond n vs p s) c k
   uses n vs p c (IfStmt at e b k) =
-      expr_uses vs p e ++ uses n vs p c b ++ uses (n - length (body_groups b)) vs (behind (length vs) p (ways n (IfStmt at e b End)).ends) c k
+      let s = IfStmt at e b End in
+      expr_uses vs p e ++ uses n vs p c b ++ uses (left n s) vs (beyond n vs p s) c k
   uses n vs p c (IfElseStmt at e b d k) =
-      let m = n - length (body_groups b) in
-      expr_uses vs p e ++ uses n vs p c b ++ uses m vs p c d ++ uses (m - length (body_groups d)) vs (behind (length vs) p (ways n (IfElseStmt at e b d End)).ends) c k
+      let s = IfElseStmt at e b d End in
+      expr_uses vs p e ++ uses n vs p c b ++ uses (left n b) vs p c d ++ uses (left n s) vs (beyond n vs p s) c k
   uses n vs p c (WhileStmt at e b k) =
+      let s = WhileStmt at e b End in
       let h = behind (length vs) p (head (ways n b)) in
-      expr_uses vs h e ++ uses n vs h c b ++ uses (n - length (body_groups b)) vs (behind (length vs) p (ways n (WhileStmt at e b End)).ends) c k
+      expr_uses vs h e ++ uses n vs h c b ++ uses (left n s) vs (beyond n vs p s) c k
   uses n vs p c (ForStmt at i e t b k) =
-      let s = n - length (body_groups i) in
-      let m = s - length (body_groups t) in
-      let ws = with_init vs i in
-      let h = behind (length ws) (behind (length vs) p (ways n i).ends) (head (with_step (ways m b) (ways s t))) in
-      uses n vs p c i ++ maybe_uses ws h e ++
-      uses s ws (behind (length ws) h (round (ways m b))) c t ++ uses m ws h c b ++
-      uses (m - length (body_groups b)) vs (behind (length vs) p (ways n (ForStmt at i e t b End)).ends) c k
+      let s = ForStmt at i e t b End in
+      let l = left n i in
+      let m = left l t in
+      let ws = declaring vs i in
+      let h = behind (length ws) (beyond n vs p i) (head (with_step (ways m b) (ways l t))) in
+      uses n vs p c i ++ maybe_uses ws h e ++ uses l ws (behind (length ws) h (round (ways m b))) c t ++ uses m ws h c b ++
+      uses (left n s) vs (beyond n vs p s) c k
   uses n vs p c (LoopStmt at b k) =
-      let h = behind (length vs) p (head (ways n b)) in
-      uses n vs h c b ++ uses (n - length (body_groups b)) vs (behind (length vs) p (ways n (LoopStmt at b End)).ends) c k
+      let s = LoopStmt at b End in
+      uses n vs (behind (length vs) p (head (ways n b))) c b ++ uses (left n s) vs (beyond n vs p s) c k
   uses n vs p c (BreakStmt at k) = uses n vs (behind (length vs) p never) c k
   uses n vs p c (ContinueStmt at k) = uses n vs (behind (length vs) p never) c k
   uses n vs p c (ReturnStmt at v k) = expr_uses vs p v ++ uses n vs (behind (length vs) p never) c k
   uses n vs p c (ThrowStmt at v k) = thrown_uses p c at v vs ++ uses n vs (behind (length vs) p never) c k
   uses n vs p c (TryStmt at b q x h k) =
-      let m = n - length (body_groups b) in
-      let ws = record { name = x.name; local = Some x.at } ∷ vs in
-      uses n vs p c b ++ uses m ws (behind (length vs) p (ways n b).throws) (Some (record { number = length vs; declared = x.at })) h ++
-      uses (m - length (body_groups h)) vs (behind (length vs) p (ways n (TryStmt at b q x h End)).ends) c k
+      let s = TryStmt at b q x h End in
+      uses n vs p c b ++
+      uses (left n b) (caught_as x ∷ vs) (behind (length vs) p (ways n b).throws) (Some (record { number = length vs; declared = x.at })) h ++
+      uses (left n s) vs (beyond n vs p s) c k
   uses n vs p c (ChooseStmt at bs k) =
-      branch_uses (n - 1) vs p (behind (length vs) p (waited_at n)) c bs ++
-      uses (n - 1 - length (branch_groups bs)) vs (behind (length vs) p (ways n (ChooseStmt at bs End)).ends) c k
+      let s = ChooseStmt at bs End in
+      branch_uses (n - 1) vs p (behind (length vs) p (waited_at n)) c bs ++ uses (left n s) vs (beyond n vs p s) c k
   uses n vs p c (DeclareStmt at i v k) = maybe_uses vs p v ++ uses n (declared i ∷ vs) p c k
   uses n vs p c (AssignStmt at xs v k) = target_uses vs p xs ++ expr_uses vs p v ++ uses n vs p c k
   uses n vs p c (ModifyStmt at xs d k) = target_uses vs p xs ++ change_uses vs p d ++ uses n vs p c k
   uses n vs p c (CallStmt at xs es k) = base_uses vs p xs ++ exprs_uses vs p es ++ uses n vs p c k
   uses n vs p c (WaitStmt at w k) =
-      expr_uses vs p w.operand ++ uses (n - 1) (with_into vs w.into) (behind (length vs) p (waited_at n)) c k
+      let s = WaitStmt at w End in
+      expr_uses vs p w.operand ++ uses (left n s) (with_into vs w.into) (beyond n vs p s) c k
 
   -- the operands of branches are read before the `choose` is left, at p, and the branches are run behind it, at q
   pub branch_uses : ℕ → List Variable → Point → Point → Option Caught → Branches → List Use
   branch_uses n vs p q c NoBranches = []
   branch_uses n vs p q c (MoreBranches at w b bs) =
-      expr_uses vs p w.operand ++ uses n (with_into vs w.into) q c b ++ branch_uses (n - length (body_groups b)) vs p q c bs
+      expr_uses vs p w.operand ++ uses n (with_into vs w.into) q c b ++ branch_uses (left n b) vs p q c bs
+
+-- the uses in the body of an `else`, and in the branches of a `choose`
+abbrev pub else_uses : ℕ → List Variable → Point → Option Caught → Option Body → List Use
+else_uses n vs p c None = []
+else_uses n vs p c (Some b) = uses n vs p c b
+
+abbrev pub choose_uses : ℕ → List Variable → Point → Option Caught → Branches → List Use
+choose_uses n vs p c bs = branch_uses (n - 1) vs p (behind (length vs) p (waited_at n)) c bs
 
 -- a parameter is no local
 abbrev pub parameter : ParamTree → Variable

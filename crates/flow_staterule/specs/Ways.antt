@@ -90,7 +90,7 @@ abbrev mutual
   ways n (ForStmt at i e t b k) =
       let s = n - length (body_groups i) in
       let m = s - length (body_groups t) in
-      sequence (ways n i) (sequence (looped (is_there e) (with_step (ways m b) (ways s t))) (ways (m - length (body_groups b)) k))
+      sequence (sequence (ways n i) (looped (is_there e) (with_step (ways m b) (ways s t)))) (ways (m - length (body_groups b)) k)
   ways n (LoopStmt at b k) = sequence (looped false (ways n b)) (ways (n - length (body_groups b)) k)
   ways n (BreakStmt at k) = record { ends = never; breaks = at_once; continues = never; throws = at_once }
   ways n (ContinueStmt at k) = record { ends = never; breaks = never; continues = at_once; throws = at_once }
@@ -110,10 +110,10 @@ abbrev mutual
   branch_ways n NoBranches = node never
   branch_ways n (MoreBranches at w b bs) = both (ways n b) (branch_ways (n - length (body_groups b)) bs)
 
--- an `if` by its bodies, and the waits in its `else`
-abbrev pub branching : ℕ → Body → Option Body → Ways
-branching n b None = both (plain at_once) (ways n b)
-branching n b (Some c) = both (node at_once) (both (ways n b) (ways (n - length (body_groups b)) c))
+-- an `if` whose first body is left so, and the waits in its `else`
+abbrev pub branching : ℕ → Ways → Option Body → Ways
+branching n b None = both (plain at_once) b
+branching n b (Some c) = both (node at_once) (both b (ways n c))
 
 abbrev pub else_waits : Option Body → ℕ
 else_waits None = 0

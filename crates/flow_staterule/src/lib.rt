@@ -1,6 +1,7 @@
 //! The rule on state: what a local holds is lost at a wait, so no use of a local may come after one.
 #![tactic(auto)]
 
+mod mentions;
 mod rule;
 mod scope;
 pub mod sound;

@@ -4,7 +4,7 @@ use crate::scope::Use;
 use crate::uses::uses_in;
 use crate::waits::wait_places;
 use crate::ways::Looked;
-use flow_ast::decl::{Decl, Param, Program};
+use flow_ast::decl::{Decl, Param};
 use flow_ast::stmt::Stmt;
 use flow_base::memory::NoMemory;
 use flow_base::place::Place;
@@ -39,21 +39,34 @@ fn lost_in(alloc: Global, decl: &Decl) -> Result<Option<Lost>, NoMemory> {
 fn lost_in_body(alloc: Global, params: &[Param], body: &[Stmt]) -> Result<Option<Lost>, NoMemory> {
     let waits = wait_places(alloc, body)?;
     let uses = uses_in(alloc, Looked(waits.len()), params, body)?;
-    let Some(number) = uses.iter().position(|u| u.stale) else {
+    let Some(number) = first_stale(&uses) else {
         return Ok(None);
     };
-    let found = uses[number];
+    let Some(found) = uses.get(number) else {
+        return Ok(None);
+    };
     let wait = first_wait(alloc, params, body, number, waits.len())?;
-    Ok(
-        waits.get(wait).map(|wait: &Place| Lost {
-            at: found.at,
-            declared: found.declared,
-            wait: *wait,
-        }),
-    )
+    let Some(wait) = waits.get(wait) else {
+        return Ok(None);
+    };
+    Ok(Some(Lost {
+        at: found.at,
+        declared: found.declared,
+        wait: *wait,
+    }))
 }
 
-/// The number of the first of so many waits that makes the use with this number stale.
+/// The number of the first stale use.
+fn first_stale(uses: &[Use]) -> Option<usize> {
+    for number in 0..uses.len() {
+        if uses[number].stale {
+            return Some(number);
+        }
+    }
+    None
+}
+
+/// The number of the first of so many waits that makes the use with this number stale, if it is stale with all of them.
 fn first_wait(
     alloc: Global,
     params: &[Param],
@@ -61,11 +74,14 @@ fn first_wait(
     number: usize,
     waits: usize,
 ) -> Result<usize, NoMemory> {
+    if waits == 0 {
+        return Ok(0);
+    }
     let mut low = 0;
     let mut high = waits;
     while high - low > 1 {
         let middle = low + (high - low) / 2;
-        if is_stale(alloc, params, body, number, middle)? {
+        if is_lost_with(alloc, params, body, number, middle)? {
             high = middle;
         } else {
             low = middle;
@@ -75,7 +91,7 @@ fn first_wait(
 }
 
 /// Whether the use with this number is stale where the first so many waits are looked for.
-fn is_stale(
+fn is_lost_with(
     alloc: Global,
     params: &[Param],
     body: &[Stmt],
@@ -83,5 +99,8 @@ fn is_stale(
     waits: usize,
 ) -> Result<bool, NoMemory> {
     let uses = uses_in(alloc, Looked(waits), params, body)?;
-    Ok(uses.get(number).is_some_and(|u: &Use| u.stale))
+    match uses.get(number) {
+        Some(used) => Ok(used.stale),
+        None => Ok(false),
+    }
 }

@@ -1,5 +1,10 @@
 // The variables in force, and what is known of them at a point.
 
+ghost use Rattle.std.specs.Prelude.{◌≡◌, [], ◌∷◌, take, length, IfOk};
+ghost use Rattle.flow_tree.specs.StmtView.{into_of};
+ghost use Rattle.flow_staterule.specs.Uses.{behind, is_stale, use_of, named, declared};
+ghost use Rattle.flow_staterule.specs.View.{in_force, Extends, listed};
+
 use crate::ways::Reached;
 use flow_ast::stmt::Into;
 use flow_ast::ty::Ident;
@@ -36,7 +41,9 @@ impl Point {
     pub const BEGIN: Point = Point { from: 0, stale: 0 };
 
     /// The point to which these walks lead from here, with so many variables in force.
-    pub fn behind(self, variables: usize, reached: Reached) -> Point {
+    pub fn behind(self, variables: usize, reached: Reached) -> Point
+        ensures { result ≡ behind variables self reached }
+    {
         if reached.waited {
             return Point {
                 from: self.from,
@@ -53,8 +60,24 @@ impl Point {
     }
 
     /// Whether the variable of this number is stale.
-    pub fn is_stale(self, number: usize) -> bool {
+    pub fn is_stale(self, number: usize) -> bool
+        ensures { result ≡ is_stale self number }
+    {
         self.from <= number && number < self.stale
+    }
+}
+
+/// The use of the variable of a number at a point, if it is a local.
+pub fn use_of(at: Place, point: Point, local: Option<Place>, number: usize) -> Option<Use>
+    ensures { listed result ≡ use_of at point local number }
+{
+    match local {
+        None => None,
+        Some(declared) => Some(Use {
+            at,
+            declared,
+            stale: point.is_stale(number),
+        }),
     }
 }
 
@@ -66,47 +89,60 @@ pub struct Variables<'a> {
 
 impl<'a> Variables<'a> {
     /// None.
-    pub fn new(alloc: Global) -> Variables<'a> {
+    pub fn new(alloc: Global) -> Variables<'a>
+        ensures { in_force result ≡ [] }
+    {
         Variables {
             list: Vec::new(alloc),
         }
     }
 
     /// How many are in force.
-    pub fn count(&self) -> usize {
+    #[tactic(auto, using(crate::proofs::InForce::how_many))]
+    pub fn count(&self) -> usize
+        ensures items { result ≡ length self.now.list.items }
+        ensures count { result ≡ length (in_force self.now) }
+    {
         self.list.len()
     }
 
     /// Declares a variable.
-    pub fn declare(&mut self, name: &'a Name, local: Option<Place>) -> Result<(), NoMemory> {
+    #[tactic(auto, using(crate::proofs::InForce::one_more, crate::proofs::InForce::take_before))]
+    pub fn declare(&mut self, name: &'a Name, local: Option<Place>) -> Result<(), NoMemory>
+        ensures declares { IfOk result (λ _. in_force self.new ≡ record { name = name.now; local = local } ∷ in_force self.old) }
+        ensures keeps { IfOk result (λ _. Extends self.old self.new) }
+    {
         self.list.push(Variable { name, local })?;
         Ok(())
     }
 
     /// Declares a variable of a statement.
-    pub fn declare_into(&mut self, into: &'a Into) -> Result<(), NoMemory> {
+    pub fn declare_into(&mut self, into: &'a Into) -> Result<(), NoMemory>
+        ensures declares { IfOk result (λ _. in_force self.new ≡ declared (into_of into.now) ∷ in_force self.old) }
+        ensures keeps { IfOk result (λ _. Extends self.old self.new) }
+    {
         let local = if into.state { None } else { Some(into.name.at) };
         self.declare(&into.name.name, local)
     }
 
     /// Takes those out of force that were declared last, so that so many are left.
-    pub fn leave(&mut self, count: usize) {
+    pub fn leave(&mut self, count: usize)
+        ensures { self.new.list.items ≡ take count self.old.list.items }
+    {
         self.list.truncate(count);
     }
 
     /// The use that a mention of a name is at a point, if the newest variable of this name is a local.
-    pub fn mention(&self, point: Point, name: &Ident) -> Option<Use> {
+    #[tactic(auto, using(crate::proofs::InForce::mention_all, crate::proofs::InForce::mention_next, crate::proofs::InForce::mention_here))]
+    pub fn mention(&self, point: Point, name: &Ident) -> Option<Use>
+        ensures { listed result ≡ named (in_force self.now) point name.now }
+    {
         let mut number = self.list.len();
         while number > 0 {
             number -= 1;
             let variable = &self.list[number];
             if variable.name.bytes() == name.name.bytes() {
-                let declared = variable.local?;
-                return Some(Use {
-                    at: name.at,
-                    declared,
-                    stale: point.is_stale(number),
-                });
+                return use_of(name.at, point, variable.local, number);
             }
         }
         None

@@ -1,13 +1,13 @@
 // The uses of locals in a function or actor.
 
-use crate::scope::{Point, Use, Variables};
-use crate::ways::{Looked, Reached};
+use crate::mentions::{add, add_base, add_change, add_expr, add_exprs, add_maybe, add_target};
+use crate::scope::{Point, Use, Variables, use_of};
+use crate::ways::Looked;
 use flow_ast::decl::Param;
 use flow_ast::expr::Expr;
-use flow_ast::stmt::{Change, Stmt, StmtKind, Target, Waiting, When};
+use flow_ast::stmt::{Stmt, StmtKind, Waiting, When};
 use flow_ast::ty::Ident;
 use flow_base::memory::NoMemory;
-use flow_base::name::Name;
 use flow_base::place::Place;
 use std::alloc::Global;
 
@@ -34,16 +34,6 @@ struct Round {
     body: Here,
 }
 
-impl Here {
-    /// What is known behind a body that leads to none of what follows it: how many waits are looked for.
-    fn past(self, body: &[Stmt]) -> Here {
-        Here {
-            looked: self.looked.body(body).looked,
-            ..self
-        }
-    }
-}
-
 /// Collects the uses of locals, in the order of the text.
 #[derive(Drop, Debug)]
 pub struct Finder<'a> {
@@ -59,12 +49,9 @@ pub fn uses_in<'a>(
     body: &'a [Stmt],
 ) -> Result<Vec<Use>, NoMemory> {
     let mut finder = Finder {
-        variables: Variables::new(alloc),
+        variables: declared_params(alloc, params)?,
         uses: Vec::new(alloc),
     };
-    for param in params {
-        finder.variables.declare(&param.name.name, None)?;
-    }
     let here = Here {
         looked,
         point: Point::BEGIN,
@@ -74,13 +61,42 @@ pub fn uses_in<'a>(
     Ok(finder.uses)
 }
 
+// The parameters, which are no locals.
+fn declared_params<'a>(alloc: Global, params: &'a [Param]) -> Result<Variables<'a>, NoMemory> {
+    let mut variables = Variables::new(alloc);
+    for param in params {
+        variables.declare(&param.name.name, None)?;
+    }
+    Ok(variables)
+}
+
+impl Here {
+    /// What is known behind a body that leads to none of what follows it: how many waits are looked for.
+    fn past(self, body: &[Stmt]) -> Here {
+        Here {
+            looked: self.looked.body(body).looked,
+            ..self
+        }
+    }
+
+    /// What is known in the rounds of a loop, with so many variables in force.
+    fn round(self, variables: usize, body: &[Stmt]) -> Here {
+        Here {
+            point: self
+                .point
+                .behind(variables, self.looked.body(body).ways.head()),
+            ..self
+        }
+    }
+}
+
 impl<'a> Finder<'a> {
     /// Statements one after another.
     #[cycle(uses)]
     fn body(&mut self, here: Here, stmts: &'a [Stmt]) -> Result<(), NoMemory> {
-        let mut here = here;
+        let mut next = here;
         for stmt in stmts {
-            here = self.stmt(here, stmt)?;
+            next = self.stmt(next, stmt)?;
         }
         Ok(())
     }
@@ -88,19 +104,19 @@ impl<'a> Finder<'a> {
     /// One statement: gives what is known behind it.
     #[cycle(uses)]
     fn stmt(&mut self, here: Here, stmt: &'a Stmt) -> Result<Here, NoMemory> {
-        let passed = here.looked.stmt(stmt);
-        let behind = Here {
-            looked: passed.looked,
-            point: self.behind(here.point, passed.ways.ends),
-            caught: here.caught,
-        };
-        self.kind(here, stmt.at, &stmt.kind)?;
+        let behind = self.behind(here, stmt);
+        self.inside(here, stmt)?;
         Ok(behind)
     }
 
-    /// The point to which these walks lead.
-    fn behind(&self, point: Point, reached: Reached) -> Point {
-        point.behind(self.variables.count(), reached)
+    /// What is known behind a statement.
+    fn behind(&self, here: Here, stmt: &Stmt) -> Here {
+        let passed = here.looked.stmt(stmt);
+        Here {
+            looked: passed.looked,
+            point: here.point.behind(self.variables.count(), passed.ways.ends),
+            caught: here.caught,
+        }
     }
 
     /// Statements in a scope of their own.
@@ -112,94 +128,119 @@ impl<'a> Finder<'a> {
         Ok(())
     }
 
+    /// The uses in a statement, and what it declares.
     #[cycle(uses)]
-    fn kind(&mut self, here: Here, at: Place, kind: &'a StmtKind) -> Result<(), NoMemory> {
-        match kind {
-            StmtKind::Block(body) => self.scope(here, body),
-            StmtKind::If(test, chosen, None) => {
-                self.expr(here.point, test)?;
-                self.scope(here, chosen)
+    fn inside(&mut self, here: Here, stmt: &'a Stmt) -> Result<(), NoMemory> {
+        match &stmt.kind {
+            StmtKind::Block(body) => {
+                self.scope(here, body)?;
+                Ok(())
             }
-            StmtKind::If(test, chosen, Some(otherwise)) => {
-                self.expr(here.point, test)?;
+            StmtKind::If(test, chosen, otherwise) => {
+                self.expr(here, test)?;
                 self.scope(here, chosen)?;
-                self.scope(here.past(chosen), otherwise)
+                self.otherwise(here.past(chosen), otherwise)?;
+                Ok(())
             }
-            StmtKind::While(test, body) => self.looped(here, Some(test), body),
+            StmtKind::While(test, body) => {
+                let round = here.round(self.variables.count(), body);
+                self.expr(round, test)?;
+                self.scope(round, body)?;
+                Ok(())
+            }
             StmtKind::For(init, test, step, body) => {
                 let count = self.variables.count();
                 let begun = self.part(here, init)?;
                 let round = self.round(begun, step, body);
-                self.maybe(round.body.point, test)?;
+                self.maybe(round.body, test)?;
                 self.step(round.step, step)?;
                 self.scope(round.body, body)?;
                 self.variables.leave(count);
                 Ok(())
             }
-            StmtKind::Loop(body) => self.looped(here, None, body),
+            StmtKind::Loop(body) => {
+                let round = here.round(self.variables.count(), body);
+                self.scope(round, body)?;
+                Ok(())
+            }
+            StmtKind::Break => Ok(()),
+            StmtKind::Continue => Ok(()),
+            StmtKind::Return(value) => {
+                self.expr(here, value)?;
+                Ok(())
+            }
+            StmtKind::Throw(value) => {
+                self.thrown(here, stmt.at, value)?;
+                Ok(())
+            }
             StmtKind::Try(body, _, error, handler) => {
                 self.scope(here, body)?;
-                let inner = self.caught(here, body, error);
-                self.handled(inner, error, handler)
+                let caught = self.caught(here, body, error);
+                self.handled(caught, error, handler)?;
+                Ok(())
             }
-            StmtKind::Choose(branches) => self.choose(here, branches),
-            _ => self.simple(here, at, kind),
-        }
-    }
-
-    /// A statement without a body.
-    fn simple(&mut self, here: Here, at: Place, kind: &'a StmtKind) -> Result<(), NoMemory> {
-        match kind {
-            StmtKind::Return(value) => self.expr(here.point, value),
-            StmtKind::Throw(Some(error)) => self.expr(here.point, error),
-            StmtKind::Throw(None) => self.rethrown(here, at),
+            StmtKind::Choose(branches) => {
+                self.choose(here, branches)?;
+                Ok(())
+            }
             StmtKind::Declare(into, value) => {
-                self.maybe(here.point, value)?;
-                self.variables.declare_into(into)
+                self.maybe(here, value)?;
+                self.variables.declare_into(into)?;
+                Ok(())
             }
             StmtKind::Assign(target, value) => {
-                self.target(here.point, target)?;
-                self.expr(here.point, value)
+                add_target(&self.variables, here.point, target, &mut self.uses)?;
+                self.expr(here, value)?;
+                Ok(())
             }
             StmtKind::Modify(target, change) => {
-                self.target(here.point, target)?;
-                self.change(here.point, change)
+                add_target(&self.variables, here.point, target, &mut self.uses)?;
+                add_change(&self.variables, here.point, change, &mut self.uses)?;
+                Ok(())
             }
             StmtKind::Call(target, args) => {
-                self.base(here.point, target)?;
-                self.exprs(here.point, args)
+                add_base(&self.variables, here.point, target, &mut self.uses)?;
+                add_exprs(&self.variables, here.point, args, &mut self.uses)?;
+                Ok(())
             }
             StmtKind::Wait(waiting) => {
-                self.expr(here.point, &waiting.operand)?;
-                self.bind(waiting)
+                self.expr(here, &waiting.operand)?;
+                self.bind(waiting)?;
+                Ok(())
             }
-            _ => Ok(()),
         }
     }
 
-    /// A `while`, or a `loop` without a condition.
+    /// The uses in an expression.
+    fn expr(&mut self, here: Here, expr: &Expr) -> Result<(), NoMemory> {
+        add_expr(&self.variables, here.point, expr, &mut self.uses)
+    }
+
+    /// The uses in an expression, where it is there.
+    fn maybe(&mut self, here: Here, expr: &Option<Expr>) -> Result<(), NoMemory> {
+        add_maybe(&self.variables, here.point, expr, &mut self.uses)
+    }
+
+    /// The body of an `else`, where it is there.
     #[cycle(uses)]
-    fn looped(
-        &mut self,
-        here: Here,
-        test: Option<&Expr>,
-        body: &'a Vec<Stmt>,
-    ) -> Result<(), NoMemory> {
-        let point = self.behind(here.point, here.looked.body(body).ways.head());
-        if let Some(test) = test {
-            self.expr(point, test)?;
+    fn otherwise(&mut self, here: Here, body: &'a Option<Vec<Stmt>>) -> Result<(), NoMemory> {
+        match body {
+            Some(body) => self.scope(here, body),
+            None => Ok(()),
         }
-        self.scope(Here { point, ..here }, body)
     }
 
-    /// What is known at the condition and the body of a `for`, and at its step.
+    /// What is known in the rounds of a `for`, behind its init.
     fn round(&self, begun: Here, step: &Option<Box<Stmt>>, body: &Vec<Stmt>) -> Round {
         let stepped = begun.looked.part(step);
         let inner = stepped.looked.body(body).ways;
-        let head = self.behind(begun.point, inner.with_step(stepped.ways).head());
+        let count = self.variables.count();
+        let head = begun
+            .point
+            .behind(count, inner.with_step(stepped.ways).head());
         Round {
             step: Here {
-                point: self.behind(head, inner.round()),
+                point: head.behind(count, inner.round()),
                 ..begun
             },
             body: Here {
@@ -228,14 +269,15 @@ impl<'a> Finder<'a> {
         Ok(())
     }
 
-    /// What is known at the begin of a handler of this body.
-    fn caught(&self, here: Here, body: &Vec<Stmt>, error: &Ident) -> Here {
+    /// What is known in the handler of a `try` with this body.
+    fn caught(&self, here: Here, body: &[Stmt], error: &Ident) -> Here {
         let passed = here.looked.body(body);
+        let number = self.variables.count();
         Here {
             looked: passed.looked,
-            point: self.behind(here.point, passed.ways.throws),
+            point: here.point.behind(number, passed.ways.throws),
             caught: Some(Caught {
-                number: self.variables.count(),
+                number,
                 declared: error.at,
             }),
         }
@@ -259,29 +301,35 @@ impl<'a> Finder<'a> {
     /// A `choose`: the operands of its branches are read before it is left.
     #[cycle(uses)]
     fn choose(&mut self, here: Here, branches: &'a [When]) -> Result<(), NoMemory> {
-        let point = self.behind(here.point, here.looked.waited());
-        let mut looked = here.looked.past_one();
+        let count = self.variables.count();
+        let point = here.point.behind(count, here.looked.waited());
+        let mut inner = Here {
+            looked: here.looked.past_one(),
+            point,
+            caught: here.caught,
+        };
         for branch in branches {
-            self.expr(here.point, &branch.waiting.operand)?;
-            let inner = Here {
-                looked,
-                point,
-                caught: here.caught,
-            };
-            self.branch(inner, branch)?;
-            looked = looked.body(&branch.body).looked;
+            inner = self.branch(here.point, inner, branch)?;
         }
         Ok(())
     }
 
-    /// The body of a branch, after its wait.
+    /// A branch, whose operand is read at one point and whose body is run at another: gives what is known at the body of
+    /// the next one.
     #[cycle(uses)]
-    fn branch(&mut self, here: Here, branch: &'a When) -> Result<(), NoMemory> {
+    fn branch(&mut self, point: Point, here: Here, branch: &'a When) -> Result<Here, NoMemory> {
+        let next = here.past(&branch.body);
         let count = self.variables.count();
+        add_expr(
+            &self.variables,
+            point,
+            &branch.waiting.operand,
+            &mut self.uses,
+        )?;
         self.bind(&branch.waiting)?;
         self.scope(here, &branch.body)?;
         self.variables.leave(count);
-        Ok(())
+        Ok(next)
     }
 
     /// Declares the variable of a wait.
@@ -292,84 +340,17 @@ impl<'a> Finder<'a> {
         }
     }
 
-    /// `throw;` uses the variable of the innermost catch.
-    fn rethrown(&mut self, here: Here, at: Place) -> Result<(), NoMemory> {
-        let Some(caught) = here.caught else {
-            return Ok(());
-        };
-        self.uses.push(Use {
-            at,
-            declared: caught.declared,
-            stale: here.point.is_stale(caught.number),
-        })?;
-        Ok(())
-    }
-
-    /// The variable of a target.
-    fn target(&mut self, point: Point, target: &Target) -> Result<(), NoMemory> {
-        match target.path.first() {
-            Some(name) => self.named(point, name),
-            None => Ok(()),
+    /// A `throw`: without a value it uses the variable of the innermost catch.
+    fn thrown(&mut self, here: Here, at: Place, value: &Option<Expr>) -> Result<(), NoMemory> {
+        match value {
+            Some(value) => self.expr(here, value),
+            None => match here.caught {
+                Some(caught) => add(
+                    &mut self.uses,
+                    use_of(at, here.point, Some(caught.declared), caught.number),
+                ),
+                None => Ok(()),
+            },
         }
-    }
-
-    /// The base of a call; the name of what is called is no variable.
-    fn base(&mut self, point: Point, target: &Target) -> Result<(), NoMemory> {
-        if target.path.len() > 1 {
-            return self.target(point, target);
-        }
-        Ok(())
-    }
-
-    fn change(&mut self, point: Point, change: &Change) -> Result<(), NoMemory> {
-        match change {
-            Change::Plus(expr) | Change::Minus(expr) => self.expr(point, expr),
-            Change::Up | Change::Down => Ok(()),
-        }
-    }
-
-    fn maybe(&mut self, point: Point, expr: &Option<Expr>) -> Result<(), NoMemory> {
-        match expr {
-            Some(expr) => self.expr(point, expr),
-            None => Ok(()),
-        }
-    }
-
-    /// The mentions in an expression.
-    #[cycle(mentions)]
-    fn expr(&mut self, point: Point, expr: &Expr) -> Result<(), NoMemory> {
-        match expr {
-            Expr::Int(_) | Expr::Text(_) | Expr::Bool(_) | Expr::VoidValue => Ok(()),
-            Expr::Var(name) => self.named(point, name),
-            Expr::Call(_, args) => self.exprs(point, args),
-            Expr::Field(base, _) => self.expr(point, base),
-            Expr::Method(base, _, args) => {
-                self.expr(point, base)?;
-                self.exprs(point, args)
-            }
-            Expr::Not(operand) => self.expr(point, operand),
-            Expr::Neg(operand) => self.expr(point, operand),
-            Expr::Binary(_, left, right) => {
-                self.expr(point, left)?;
-                self.expr(point, right)
-            }
-            Expr::Paren(inner) => self.expr(point, inner),
-        }
-    }
-
-    #[cycle(mentions)]
-    fn exprs(&mut self, point: Point, exprs: &[Expr]) -> Result<(), NoMemory> {
-        for expr in exprs {
-            self.expr(point, expr)?;
-        }
-        Ok(())
-    }
-
-    /// A mention of a name.
-    fn named(&mut self, point: Point, name: &Ident) -> Result<(), NoMemory> {
-        if let Some(used) = self.variables.mention(point, name) {
-            self.uses.push(used)?;
-        }
-        Ok(())
     }
 }

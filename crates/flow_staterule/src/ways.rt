@@ -1,8 +1,12 @@
 // How walks through a body leave it.
 
 ghost use Rattle.std.specs.Prelude.{◌≡◌, ◌-◌};
+ghost use Rattle.std.specs.Option.{option_map};
+ghost use Rattle.flow_tree.specs.View.{expr_of};
+ghost use Rattle.flow_ast.specs.Typing.{is_there};
 ghost use Rattle.flow_staterule.specs.Ways.{never, at_once, either, onward, both, follow, node, plain, sequence, with_step, head, looped, handled, waited_at, round, empty};
 
+use flow_ast::expr::Expr;
 use flow_ast::stmt::{Stmt, StmtKind, When};
 
 /// By which walks a point is reached: by one that passes no wait, and by one that passes some.
@@ -207,6 +211,16 @@ impl Ways {
     }
 }
 
+/// Whether a `for` leads past its body: it does where it has a condition.
+fn leads_past(test: &Option<Expr>) -> bool
+    ensures { result ≡ is_there (option_map expr_of test.now) }
+{
+    match test {
+        None => false,
+        Some(_) => true,
+    }
+}
+
 impl Looked {
     /// By which walks the point behind a wait is reached.
     pub fn waited(self) -> Reached
@@ -250,17 +264,11 @@ impl Looked {
     /// The ways out of one statement.
     #[cycle(ways)]
     pub fn stmt(self, stmt: &Stmt) -> Passed {
-        self.kind(&stmt.kind)
-    }
-
-    #[cycle(ways)]
-    fn kind(self, kind: &StmtKind) -> Passed {
-        match kind {
+        match &stmt.kind {
             StmtKind::Block(body) => self.joined(Ways::node(Reached::AT_ONCE), body),
-            StmtKind::If(_, chosen, None) => self.joined(Ways::plain(Reached::AT_ONCE), chosen),
-            StmtKind::If(_, chosen, Some(otherwise)) => {
-                let chosen = self.joined(Ways::node(Reached::AT_ONCE), chosen);
-                chosen.looked.joined(chosen.ways, otherwise)
+            StmtKind::If(_, chosen, otherwise) => {
+                let chosen = self.body(chosen);
+                chosen.looked.branching(chosen.ways, otherwise)
             }
             StmtKind::While(_, body) => self.looped(true, body),
             StmtKind::For(init, test, step, body) => {
@@ -269,11 +277,15 @@ impl Looked {
                 let body = step.looked.body(body);
                 let round = body.ways.with_step(step.ways);
                 Passed {
-                    ways: init.ways.sequence(round.looped(test.is_some())),
+                    ways: init.ways.sequence(round.looped(leads_past(test))),
                     looked: body.looked,
                 }
             }
             StmtKind::Loop(body) => self.looped(false, body),
+            StmtKind::Break => self.none_of(Ways::breaking()),
+            StmtKind::Continue => self.none_of(Ways::continuing()),
+            StmtKind::Return(_) => self.none_of(Ways::node(Reached::AT_ONCE)),
+            StmtKind::Throw(_) => self.none_of(Ways::node(Reached::AT_ONCE)),
             StmtKind::Try(body, _, _, handler) => {
                 let body = self.body(body);
                 let handler = body.looked.body(handler);
@@ -290,16 +302,26 @@ impl Looked {
                     looked: inner.looked,
                 }
             }
+            StmtKind::Declare(_, _) => self.none_of(Ways::plain(Reached::AT_ONCE)),
+            StmtKind::Assign(_, _) => self.none_of(Ways::plain(Reached::AT_ONCE)),
+            StmtKind::Modify(_, _) => self.none_of(Ways::plain(Reached::AT_ONCE)),
+            StmtKind::Call(_, _) => self.none_of(Ways::plain(Reached::AT_ONCE)),
             StmtKind::Wait(_) => self.past_one().none_of(Ways::plain(self.waited())),
-            StmtKind::Break => self.none_of(Ways::breaking()),
-            StmtKind::Continue => self.none_of(Ways::continuing()),
-            StmtKind::Return(_) | StmtKind::Throw(_) => {
-                self.none_of(Ways::node(Reached::AT_ONCE))
+        }
+    }
+
+    /// An `if` whose first body is left so.
+    #[cycle(ways)]
+    fn branching(self, chosen: Ways, otherwise: &Option<Vec<Stmt>>) -> Passed {
+        match otherwise {
+            None => self.none_of(Ways::plain(Reached::AT_ONCE).both(chosen)),
+            Some(otherwise) => {
+                let inner = self.joined(chosen, otherwise);
+                Passed {
+                    ways: Ways::node(Reached::AT_ONCE).both(inner.ways),
+                    looked: inner.looked,
+                }
             }
-            StmtKind::Declare(_, _)
-            | StmtKind::Assign(_, _)
-            | StmtKind::Modify(_, _)
-            | StmtKind::Call(_, _) => self.none_of(Ways::plain(Reached::AT_ONCE)),
         }
     }
 
@@ -337,8 +359,18 @@ impl Looked {
     fn branches(self, branches: &[When]) -> Passed {
         let mut passed = self.none_of(Ways::node(Reached::NEVER));
         for branch in branches {
-            passed = passed.looked.joined(passed.ways, &branch.body);
+            let more = passed.looked.branch(branch);
+            passed = Passed {
+                ways: passed.ways.both(more.ways),
+                looked: more.looked,
+            };
         }
         passed
+    }
+
+    /// A branch, behind its wait.
+    #[cycle(ways)]
+    fn branch(self, branch: &When) -> Passed {
+        self.body(&branch.body)
     }
 }
