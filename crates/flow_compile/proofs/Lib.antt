@@ -1,3 +1,4 @@
 mod Judging
 mod OneVerdict
 mod Collecting
+mod Weights

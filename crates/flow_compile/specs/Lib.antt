@@ -1,3 +1,4 @@
 pub mod Verdict
 pub mod Compiled
 pub mod Laws
+pub mod Weighing

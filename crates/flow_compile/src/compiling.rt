@@ -5,6 +5,7 @@ ghost use Rattle.flow_tree.specs.DeclView.{decl_of, record_of, function_of, acto
 ghost use Rattle.flow_class.specs.View.{class_of};
 ghost use Rattle.flow_meaning.specs.Source.{records_in, functions_in, actors_in, names_of};
 ghost use Rattle.flow_compile.specs.Compiled.{class_in, Has};
+ghost use Rattle.flow_compile.specs.Weighing.{first_heavy};
 
 use crate::weighing::weight;
 use flow_base::memory::NoMemory;
@@ -36,13 +37,30 @@ impl From<NoMemory> for CompileFault {
     }
 }
 
-/// The place of the first actor whose weight is above 60,000.
-pub fn first_heavy(decls: &[Decl]) -> Option<Place> {
-    for decl in decls {
-        if let Decl::Actor(actor) = decl {
+// The place of a declaration, if it is an actor whose weight is above 60,000.
+fn heavy(decl: &Decl) -> Option<Place>
+    ensures { result ≡ first_heavy (decl_of decl.now ∷ []) }
+{
+    match decl {
+        Decl::Struct(_) => None,
+        Decl::Function(_) => None,
+        Decl::Actor(actor) => {
             if weight(actor) > u64::from(WEIGHT) {
                 return Some(actor.at);
             }
+            None
+        }
+    }
+}
+
+/// The place of the first actor whose weight is above 60,000.
+#[tactic(auto, using(crate::proofs::Weights::heavy_more, crate::proofs::Weights::heavy_found, crate::proofs::Weights::heavy_over))]
+pub fn first_heavy(decls: &[Decl]) -> Option<Place>
+    ensures { result ≡ first_heavy (map decl_of decls.now) }
+{
+    for decl in decls {
+        if let Some(at) = heavy(decl) {
+            return Some(at);
         }
     }
     None

@@ -1,4 +1,4 @@
-use Rattle.std.proofs.Common.{ℕ, ◌-◌, ◌≤◌}
+use Rattle.std.proofs.Common.{◌-◌, ◌≤◌}
 use Rattle.flow_staterule.proofs.rule.first_wait.Given as goal
 
 abbrev pub invariant-loop-high : goal.invariant-loop-high

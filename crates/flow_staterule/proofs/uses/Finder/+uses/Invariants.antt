@@ -1,4 +1,4 @@
-use Rattle.std.proofs.Common.{ℕ, ◌+◌, ◌*◌}
+use Rattle.std.proofs.Common.{◌+◌, ◌*◌}
 use Rattle.flow_staterule.proofs.uses.Finder.+uses.Given as goal
 
 -- nodes, then lists and parts, then what joins them
