@@ -1,9 +1,4 @@
 mod Sequences
-mod Passing
 mod InForce
 mod Adding
-mod Growing
-mod Staler
 mod Places
-mod FirstLost
-mod EachKind

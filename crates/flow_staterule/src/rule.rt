@@ -1,11 +1,5 @@
 // The rule on state.
 
-ghost use Rattle.std.specs.Prelude.{◌≡◌, List, true, map, length, slice_get, IfOk};
-ghost use Rattle.flow_base.specs.declared.place.Place.{Place};
-ghost use Rattle.flow_tree.specs.StmtView.{body_of};
-ghost use Rattle.flow_tree.specs.DeclView.{params_of, decl_of};
-ghost use Rattle.flow_staterule.specs.StateRule.{routine_uses, first_stale, is_lost_with, first_with, lost_in, lost_in_decl, first_lost};
-
 use crate::scope::Use;
 use crate::uses::uses_in;
 use crate::waits::wait_places;
@@ -25,10 +19,7 @@ pub struct Lost {
 }
 
 /// The first use of a local after a wait, in the order of the text.
-#[tactic(auto, using(crate::proofs::FirstLost::decls_more, crate::proofs::FirstLost::decls_found, crate::proofs::FirstLost::decls_over))]
-pub fn first_lost(alloc: Global, decls: &[Decl]) -> Result<Option<Lost>, NoMemory>
-    ensures { IfOk result (λ l. l ≡ first_lost (map decl_of decls.now)) }
-{
+pub fn first_lost(alloc: Global, decls: &[Decl]) -> Result<Option<Lost>, NoMemory> {
     for decl in decls {
         if let Some(lost) = lost_in(alloc, decl)? {
             return Ok(Some(lost));
@@ -37,9 +28,7 @@ pub fn first_lost(alloc: Global, decls: &[Decl]) -> Result<Option<Lost>, NoMemor
     Ok(None)
 }
 
-fn lost_in(alloc: Global, decl: &Decl) -> Result<Option<Lost>, NoMemory>
-    ensures { IfOk result (λ l. l ≡ lost_in_decl (decl_of decl.now)) }
-{
+fn lost_in(alloc: Global, decl: &Decl) -> Result<Option<Lost>, NoMemory> {
     match decl {
         Decl::Struct(_) => Ok(None),
         Decl::Function(f) => lost_in_body(alloc, &f.params, &f.body),
@@ -47,10 +36,7 @@ fn lost_in(alloc: Global, decl: &Decl) -> Result<Option<Lost>, NoMemory>
     }
 }
 
-#[tactic(auto, using(crate::proofs::FirstLost::first_is_stale))]
-fn lost_in_body(alloc: Global, params: &[Param], body: &[Stmt]) -> Result<Option<Lost>, NoMemory>
-    ensures { IfOk result (λ l. l ≡ lost_in (params_of params.now) (body_of body.now)) }
-{
+fn lost_in_body(alloc: Global, params: &[Param], body: &[Stmt]) -> Result<Option<Lost>, NoMemory> {
     let waits = wait_places(alloc, body)?;
     let uses = uses_in(alloc, Looked(waits.len()), params, body)?;
     let Some(number) = first_stale(&uses) else {
@@ -71,10 +57,7 @@ fn lost_in_body(alloc: Global, params: &[Param], body: &[Stmt]) -> Result<Option
 }
 
 /// The number of the first stale use.
-#[tactic(auto, using(crate::proofs::FirstLost::stale_more, crate::proofs::FirstLost::stale_found, crate::proofs::FirstLost::stale_over))]
-fn first_stale(uses: &[Use]) -> Option<usize>
-    ensures { result ≡ first_stale 0 uses.now }
-{
+fn first_stale(uses: &[Use]) -> Option<usize> {
     for number in 0..uses.len() {
         if uses[number].stale {
             return Some(number);
@@ -84,18 +67,13 @@ fn first_stale(uses: &[Use]) -> Option<usize>
 }
 
 /// The number of the first of so many waits that makes the use with this number stale, if it is stale with all of them.
-#[tactic(auto, using(crate::proofs::FirstLost::halved))]
 fn first_wait(
     alloc: Global,
     params: &[Param],
     body: &[Stmt],
     number: usize,
     waits: usize,
-) -> Result<usize, NoMemory>
-    requires { is_lost_with (params_of params.now) (body_of body.now) number waits ≡ true }
-    ensures { IfOk result (λ w. (places : List Place) → length places ≡ waits
-        → slice_get places w ≡ first_with (is_lost_with (params_of params.now) (body_of body.now) number) 0 places) }
-{
+) -> Result<usize, NoMemory> {
     if waits == 0 {
         return Ok(0);
     }
@@ -119,9 +97,7 @@ fn is_lost_with(
     body: &[Stmt],
     number: usize,
     waits: usize,
-) -> Result<bool, NoMemory>
-    ensures { IfOk result (λ b. b ≡ is_lost_with (params_of params.now) (body_of body.now) number waits) }
-{
+) -> Result<bool, NoMemory> {
     let uses = uses_in(alloc, Looked(waits), params, body)?;
     match uses.get(number) {
         Some(used) => Ok(used.stale),
