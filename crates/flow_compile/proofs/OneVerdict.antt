@@ -18,9 +18,7 @@ use Rattle.flow_parse.specs.Laws.{OneProgram, told}
 use Rattle.flow_parse.specs.ParseAnswer.{GoodTo, begun, whole, FailsBy, FailsLimit, LimitAnswer, ParseAnswer}
 use Rattle.flow_parse.proofs.OneAnswer.{one_answer}
 use Rattle.flow_rules.specs.Rules.{refusal_of}
-use Rattle.flow_staterule.specs.declared.rule.Lost.{Lost}
-use Rattle.flow_staterule.specs.StateRule.{first_lost}
-use Rattle.flow_compile.specs.Verdict.{HasTokens, IsUnread, too_long, no_tokens, no_program, IsProgram, IsTyped, IsSound, IsRefused, unread, breaks, Loses}
+use Rattle.flow_compile.specs.Verdict.{HasTokens, IsUnread, too_long, no_tokens, no_program, IsProgram, IsTyped, IsRefused, unread, breaks}
 use Rattle.flow_compile.specs.Laws.{OneVerdict}
 
 -- tokens are told by their list and their end
@@ -121,22 +119,9 @@ typed_or_refused one text x r p t (unread a) = read_or_unread text x r p t.read 
 typed_or_refused one text x r p t (breaks y j f) =
     let e : None ≡ Some (r, p) = sym t.accepted ∙ (ap refusal_of (one_program one text x y t.read j) ∙ f) in cc
 
-same_lost : (l m : Lost) → Some l ≡ Some m → l ≡ m
-same_lost l m e = cc
-
-lost_once : OneProgram → (text : List ℕ) (l m : Lost) → Loses text l → Loses text m → l ≡ m
-lost_once one text l m a b =
-    same_lost l m (sym a.first ∙ (ap (λ p. first_lost p.decls) (one_program one text a.program b.program a.typed.read b.typed.read) ∙ b.first))
-
-sound_or_lost : OneProgram → (text : List ℕ) (program : Program) (l : Lost) → IsSound text program → Loses text l → ⊥
-sound_or_lost one text x l s a =
-    let e : None ≡ Some l = sym s.keeps ∙ (ap (λ p. first_lost p.decls) (one_program one text x a.program s.typed.read a.typed.read) ∙ a.first) in cc
-
 pub one_verdict : OneProgram → (text : List ℕ) → OneVerdict text
 one_verdict one text = record {
   program = one_program one text;
   refusal = refused_once one text;
-  lost = lost_once one text;
-  typed_or_refused = typed_or_refused one text;
-  sound_or_lost = sound_or_lost one text;
+  either = typed_or_refused one text;
 }

@@ -32,7 +32,7 @@ use Rattle.flow_worldfile.specs.Worlds.{IsInRange, seen}
 use Rattle.flow_machine.specs.declared.host.RunFault.{RunFault}
 use Rattle.flow_machine.specs.declared.host.RunFault.TheVariants as broken
 use Rattle.flow_class.specs.declared.program.ClassProgram.{ClassProgram}
-use Rattle.flow_compile.specs.Verdict.{IsUnread, IsRefused, IsProgram, IsSound, Loses}
+use Rattle.flow_compile.specs.Verdict.{IsUnread, IsRefused, IsProgram, IsTyped}
 use Rattle.flow_compile.specs.Weighing.{first_heavy}
 use Rattle.flow_compile.specs.Compiled.{Has}
 use Rattle.flow_run.specs.declared.ending.Ending.{Ending}
@@ -136,15 +136,15 @@ pub record HasProgram (content : List ℕ → Option (List ℕ)) (name : List �
   pub is : IsText content name text
   pub read : IsProgram text p
 
--- the file of this name has a program that keeps the rules K1 to K12, L8 and U1
-pub record HasSound (content : List ℕ → Option (List ℕ)) (name : List ℕ) (p : Program) : Type 0 where
+-- the file of this name has a program that none of the rules K1 to K12 and L8 refuses
+pub record HasTyped (content : List ℕ → Option (List ℕ)) (name : List ℕ) (p : Program) : Type 0 where
   pub text : List ℕ
   pub is : IsText content name text
-  pub sound : IsSound text p
+  pub typed : IsTyped text p
 
--- and L9: it passes all rules
+-- nor does L9
 pub record HasPassing (content : List ℕ → Option (List ℕ)) (name : List ℕ) (p : Program) : Type 0 where
-  pub has : HasSound content name p
+  pub has : HasTyped content name p
   pub light : first_heavy (program_of p).decls ≡ None
 
 -- what is answered for the file of a world
@@ -176,11 +176,10 @@ pub data Due (words : List (List ℕ)) (content : List ℕ → Option (List ℕ)
   refused : (name text : List ℕ) (rule : Rule) (at : Place) → JudgeProgram words name → IsText content name text → IsRefused text rule at
       → Due words content (Told (Refused (source.Refused rule at))) (name ∷ [])
   -- the program uses a local after a wait
-  lost : (name text : List ℕ) (at declared wait : Place) → JudgeProgram words name → IsText content name text
-      → Loses text (record { at = at; declared = declared; wait = wait })
+  lost : (name : List ℕ) (p : Program) (at declared wait : Place) → JudgeProgram words name → HasTyped content name p
       → Due words content (Told (Refused (source.AcrossWait at declared wait))) (name ∷ [])
   -- an actor of the program weighs too much
-  heavy : (name : List ℕ) (p : Program) (at : Place) → JudgeProgram words name → HasSound content name p
+  heavy : (name : List ℕ) (p : Program) (at : Place) → JudgeProgram words name → HasTyped content name p
       → first_heavy (program_of p).decls ≡ Some at → Due words content (Told (heavy_outcome at)) (name ∷ [])
   passed : (name : List ℕ) (p : Program) → AreCheck words name → HasPassing content name p → Due words content (Told Passed) (name ∷ [])
   -- the world is refused
