@@ -1,5 +1,5 @@
 -- The records of a program that hold a reference.
-use Rattle.std.proofs.Common.{◌≡◌, ℕ, zero, suc, ◌+◌, ◌≤◌, ◌<◌, Bool, true, false, ◌||◌, List, [], ◌∷◌, ◌++◌, length, map, drop, get_or, slice_get, position, is_some, if◌then◌else◌, refl, sym, ap, ap₂, subst, ◌∙◌, arith, append_assoc, append-nil}
+use Rattle.std.proofs.Common.{◌≡◌, ℕ, zero, suc, ◌+◌, ◌≤◌, ◌<◌, Bool, true, false, ◌||◌, List, [], ◌∷◌, ◌++◌, length, map, drop, take, get_or, slice_get, position, is_some, if◌then◌else◌, Result, Ok, Err, IfOk, refl, sym, ap, ap₂, subst, ◌∙◌, arith, append_assoc, append-nil}
 use Rattle.std.specs.List.{list_any}
 use Rattle.std.specs.Option.{option_map}
 use Rattle.std.specs.Str.{bytes_eq}
@@ -10,6 +10,9 @@ use Rattle.std.proofs.lemmas.Slice.Eq.{bytes_eq-Decides}
 use Rattle.std.proofs.lemmas.Option.{slice_get-map}
 use lib.ListN.{length-map}
 use Rattle.indexmap.proofs.MapLemmas.{Found-position, some_index}
+use Rattle.std.specs.declared.alloc.Global.{Global}
+use Rattle.std.specs.declared.vec.Vec.{Vec}
+use Rattle.flow_base.specs.declared.memory.NoMemory.{NoMemory}
 use denote.Ref.{Bor}
 use Rattle.flow_tree.specs.declared.decl.Param.{Param}
 use Rattle.flow_tree.specs.declared.decl.Decl.{Decl}
@@ -26,6 +29,8 @@ use Rattle.flow_rules.specs.View.{meaning_of}
 use Rattle.flow_rules.specs.MapView.{bound, at_number}
 use Rattle.flow_rules.proofs.Steps.{drop_more, drop_all}
 use Rattle.flow_rules.proofs.Lookups.{named_lookup}
+use Rattle.flow_rules.proofs.Inserts.{row_inserted}
+use Rattle.indexmap.specs.IndexMap.{insert_entry}
 
 or_or : (a b c : Bool) → ((a || b) || c) ≡ (a || (b || c))
 or_or true b c = refl
@@ -40,9 +45,13 @@ any_last g [] n = or_false (g n)
 any_last g (m ∷ ns) n = ap (λ b. g m || b) (any_last g ns n) ∙ sym (or_or (g m) (list_any g ns) (g n))
 
 -- a field that is a record, a reference, or neither
-pub note_record : (g : ℕ → Bool) (old new : Uses) (n : ℕ) → new.direct ≡ old.direct → new.records.items ≡ old.records.items ++ n ∷ [] → uses_hold g new ≡ (uses_hold g old || g n)
+note_record : (g : ℕ → Bool) (old new : Uses) (n : ℕ) → new.direct ≡ old.direct → new.records.items ≡ old.records.items ++ n ∷ [] → uses_hold g new ≡ (uses_hold g old || g n)
 note_record g old new n d r =
     ap₂ (λ a ns. a || list_any g ns) d r ∙ ap (λ b. old.direct || b) (any_last g old.records.items n) ∙ sym (or_or old.direct (list_any g old.records.items) (g n))
+
+pub note_found : (g : ℕ → Bool) (old new : Uses) (n : ℕ) (r : Option ℕ) → Some n ≡ r → new.direct ≡ old.direct → new.records.items ≡ old.records.items ++ n ∷ []
+    → uses_hold g new ≡ (uses_hold g old || at_number g r)
+note_found g old new n r is d more = note_record g old new n d more ∙ ap (λ o. uses_hold g old || at_number g o) is
 
 pub note_reference : (g : ℕ → Bool) (old new : Uses) → new.direct ≡ true → uses_hold g new ≡ (uses_hold g old || true)
 note_reference g old new d = ap (λ a. a || list_any g new.records.items) d ∙ sym (or_true (uses_hold g old))
@@ -53,6 +62,9 @@ note_reference g old new d = ap (λ a. a || list_any g new.records.items) d ∙ 
 
 pub note_nothing : (g : ℕ → Bool) (old : Uses) → uses_hold g old ≡ (uses_hold g old || false)
 note_nothing g old = sym (or_false (uses_hold g old))
+
+pub note_missing : (g : ℕ → Bool) (old : Uses) (r : Option ℕ) → None ≡ r → uses_hold g old ≡ (uses_hold g old || at_number g r)
+note_missing g old r is = note_nothing g old ∙ ap (λ o. uses_hold g old || at_number g o) is
 
 -- one field after another
 pub fields_step : (p : List ℕ → Bool) (fs : List Param) (i : ℕ) (f : Param) (old new total : Bool) → i < length fs → f ≡ get_or fs i f → new ≡ (old || holds_by p (type_of f.ty))
@@ -65,17 +77,28 @@ pub fields_end : (p : List ℕ → Bool) (fs : List Param) (i : ℕ) (old total 
 fields_end p fs i old total le h = sym (or_false old) ∙ ap (λ l. old || fields_hold p (map field_row (params_of l))) (sym (drop_all fs i le)) ∙ h
 
 -- one meaning after another
+take_some : {E : Type 0} (k : E → Bool) (es : List E) (n : ℕ) (b : Bool) → Some b ≡ option_map k (slice_get es n) → map k (take (n + 1) es) ≡ map k (take n es) ++ b ∷ []
+take_some k [] n b h = cc
+take_some k (e ∷ es) zero b h = let same : k e ≡ b = cc in ap (λ c. c ∷ []) same
+take_some k (e ∷ es) (suc n) b h =
+    let m : suc n + 1 ≡ suc (n + 1) = omega arith in
+    ap (λ i. map k (take i (e ∷ es))) m ∙ ap (λ l. k e ∷ l) (take_some k es n b h)
+
 map_last : {A B : Type 0} (f : A → B) (xs : List A) (x : A) → map f (xs ++ x ∷ []) ≡ map f xs ++ f x ∷ []
 map_last f [] x = refl
 map_last f (y ∷ ys) x = ap (λ l. f y ∷ l) (map_last f ys x)
 
-pub uses_step : {E : Type 0} (h : Uses → Bool) (k : E → Bool) (old new : List Uses) (u : Uses) (e : E) (rest : List E) (total : List Bool) → new ≡ old ++ u ∷ [] → h u ≡ k e
-    → map h old ++ map k (e ∷ rest) ≡ total → map h new ++ map k rest ≡ total
-uses_step h k old new u e rest total n is t =
-    ap (λ l. map h l ++ map k rest) n ∙ ap (λ l. l ++ map k rest) (map_last h old u) ∙ append_assoc (map h old) (h u ∷ []) (map k rest) ∙ ap (λ b. map h old ++ (b ∷ map k rest)) is ∙ t
+take_own : {A : Type 0} (xs : List A) → take (length xs) xs ≡ xs
+take_own [] = refl
+take_own (x ∷ xs) = ap (λ l. x ∷ l) (take_own xs)
 
-pub uses_end : {E : Type 0} (h : Uses → Bool) (k : E → Bool) (old : List Uses) (total : List Bool) → map h old ++ map k [] ≡ total → map h old ≡ total
-uses_end h k old total t = sym (append-nil (map h old)) ∙ t
+pub uses_more : {E : Type 0} (h : Uses → Bool) (k : E → Bool) (old new : List Uses) (u : Uses) (es : List E) (n : ℕ) → new ≡ old ++ u ∷ [] → Some (h u) ≡ option_map k (slice_get es n)
+    → map h old ≡ map k (take n es) → map h new ≡ map k (take (n + 1) es)
+uses_more h k old new u es n is at t =
+    ap (map h) is ∙ map_last h old u ∙ ap (λ l. l ++ h u ∷ []) t ∙ sym (take_some k es n (h u) at)
+
+pub uses_all : {E : Type 0} (h : Uses → Bool) (k : E → Bool) (us : List Uses) (es : List E) (n : ℕ) → n ≡ length es → map h us ≡ map k (take n es) → map h us ≡ map k es
+uses_all h k us es n is t = t ∙ ap (λ i. map k (take i es)) is ∙ ap (map k) (take_own es)
 
 -- a record by its name, and by its number
 abbrev or_flag : Option Bool → Bool
@@ -151,7 +174,14 @@ module _ (us : List Uses) (es : List Row)
       let few : length us ≤ n = omega (arith, c, le) in
       at_same (marked bs) (level us n) (position (test x) (keys_of es)) (s n few) ∙ record_level n x
 
-same_functions : {A B : Type 0} {f g : A → B} → ((x : A) → f x ≡ g x) → f ≡ g
+pub holders_all : (us : List Uses) (es : List Row)
+    → ((g : ℕ → Bool) → map (uses_hold g) us ≡ map (λ (e : Row). meaning_holds (λ y. at_number g (position (test y) (keys_of es))) (Some (meaning_of e.1))) es)
+    → (ts : List Uses) → ts ≡ us → (r : Result (Vec Bool Global) NoMemory) → IfOk r (λ v. (n : ℕ) → length ts ≤ n → (i : ℕ) → marked v.items i ≡ level ts n i)
+    → IfOk r (λ v. (n : ℕ) → length es ≤ n → (x : List ℕ) → at_number (marked v.items) (position (test x) (keys_of es)) ≡ record_holds (named (map (bound meaning_of) es)) n x)
+holders_all us es h ts same (Ok v) s = λ n le x. holders_are us es h v.items (subst (λ l. (n : ℕ) → length l ≤ n → (i : ℕ) → marked v.items i ≡ level l n i) same s) n le x
+holders_all us es h ts same (Err e) s = s
+
+pub same_functions : {A B : Type 0} {f g : A → B} → ((x : A) → f x ≡ g x) → f ≡ g
 same_functions h = λ i x. h x i
 
 -- names, of several the first
@@ -183,6 +213,27 @@ row_there rows zs y m there = same_functions (λ x. named_append rows zs x ∙ s
 
 pub row_put : {A : Type 0} (old new zs : List (List ℕ × A)) (y : List ℕ) (m : A) → new ≡ old ++ (y, m) ∷ [] → named (new ++ zs) ≡ named (old ++ ((y, m) ∷ zs))
 row_put old new zs y m n = ap (λ l. named (l ++ zs)) n ∙ ap named (append_assoc old ((y, m) ∷ []) zs)
+
+-- what a declaration declares is put in where its name is new
+pub put_known : {A : Type 0} (rows zs : List (List ℕ × A)) (r : List ℕ × A) → is_there (named rows r.0) ≡ true → named (rows ++ zs) ≡ named (rows ++ (r ∷ zs))
+put_known rows zs r h = row_there rows zs r.0 r.1 h
+
+absent_none : {A : Type 0} (o : Option A) → is_there o ≡ false → o ≡ None
+absent_none None h = refl
+absent_none (Some a) h = cc
+
+pub put_new : {A X : Type 0} (f : A → X) (k : Bor (List ℕ)) (v : A) (es new : List (Bor (List ℕ) × A)) (r : List ℕ × X) (zs : List (List ℕ × X))
+    → new ≡ insert_entry (λ (x y : Bor (List ℕ)). bytes_eq x.now y.now) es k v → is_there (named (map (bound f) es) k.now) ≡ false → k.now ≡ r.0 → f v ≡ r.1
+    → named (map (bound f) new ++ zs) ≡ named (map (bound f) es ++ (r ∷ zs))
+put_new f k v es new r zs is free x m =
+    row_put (map (bound f) es) (map (bound f) new) zs r.0 r.1
+    (ap (map (bound f)) is ∙ row_inserted f k v es (absent_none _ free) ∙ ap₂ (λ y t. map (bound f) es ++ (y, t) ∷ []) x m)
+
+pub known_step : (ds : List Decl) (i : ℕ) (d : Decl) (old new : List (List ℕ × Meaning)) (all : List ℕ → Option Meaning) → i < length ds → d ≡ get_or ds i d
+    → ((zs : List DeclTree) → named (new ++ map row_of zs) ≡ named (old ++ (row_of (decl_of d) ∷ map row_of zs))) → named (old ++ map row_of (map decl_of (drop i ds))) ≡ all
+    → named (new ++ map row_of (map decl_of (drop (i + 1) ds))) ≡ all
+known_step ds i d old new all lt at n h =
+    n (map decl_of (drop (i + 1) ds)) ∙ ap (λ l. named (old ++ map row_of (map decl_of l))) (sym (drop_more ds i d lt at)) ∙ h
 
 pub names_step : {A : Type 0} (f : Decl → List ℕ × A) (ds : List Decl) (i : ℕ) (d : Decl) (old new : List (List ℕ × A)) (all : List ℕ → Option A) → i < length ds → d ≡ get_or ds i d
     → named (new ++ map f (drop (i + 1) ds)) ≡ named (old ++ (f d ∷ map f (drop (i + 1) ds))) → named (old ++ map f (drop i ds)) ≡ all → named (new ++ map f (drop (i + 1) ds)) ≡ all

@@ -1,5 +1,5 @@
 -- What sweeps over records mark is what holds a reference.
-use Rattle.std.proofs.Common.{◌≡◌, ℕ, zero, suc, ◌+◌, ◌-◌, ◌≤◌, ◌<◌, Bool, true, false, ◌||◌, List, [], ◌∷◌, length, drop, get_or, slice_get, unwrap_or, refl, sym, ap, subst, ◌∙◌, arith, add-one, ◌⊎◌, inl, inr, ⊎_elim}
+use Rattle.std.proofs.Common.{◌≡◌, ℕ, zero, suc, ◌+◌, ◌-◌, ◌≤◌, ◌<◌, Bool, true, false, ◌||◌, List, [], ◌∷◌, length, drop, set, replicate, get_or, slice_get, unwrap_or, refl, sym, ap, subst, ◌∙◌, arith, add-one, ◌⊎◌, inl, inr, ⊎_elim}
 use Rattle.std.specs.List.{list_any}
 use Rattle.std.specs.declared.option.Option.{Option}
 use Rattle.std.specs.declared.option.Option.TheVariants.{None, Some}
@@ -85,7 +85,7 @@ length_set [] i = refl
 length_set (b ∷ bs) zero = refl
 length_set (b ∷ bs) (suc i) = ap suc (length_set bs i)
 
-trues_length : (bs : List Bool) → trues bs ≤ length bs
+pub trues_length : (bs : List Bool) → trues bs ≤ length bs
 trues_length [] = omega arith
 trues_length (true ∷ bs) = let e = trues_length bs in omega (arith, e)
 trues_length (false ∷ bs) = let e = trues_length bs in omega (arith, e)
@@ -98,10 +98,15 @@ sound_set us bs i lt unheld is s j e =
     (λ m. subst (λ k. level us (suc (trues bs)) k ≡ true) m (held_under us (marked bs) (level us (trues bs)) s i is))
     (marked_set bs i j e))
 
-get_at : {A : Type 0} (xs : List A) (i : ℕ) (x : A) → i < length xs → x ≡ get_or xs i x → slice_get xs i ≡ Some x
+pub get_at : {A : Type 0} (xs : List A) (i : ℕ) (x : A) → i < length xs → x ≡ get_or xs i x → slice_get xs i ≡ Some x
 get_at [] i x lt e = absurd (omega arith)
 get_at (y ∷ ys) zero x lt e = ap Some (sym e)
 get_at (y ∷ ys) (suc i) x lt e = let m : i < length ys = omega arith in get_at ys i x m e
+
+pub get_none : {A : Type 0} (xs : List A) (i : ℕ) → length xs ≤ i → slice_get xs i ≡ None
+get_none [] i le = refl
+get_none (y ∷ ys) zero le = absurd (omega arith)
+get_none (y ∷ ys) (suc i) le = let m : length ys ≤ i = omega arith in get_none ys i m
 
 absurd_false : {A : Type 0} → false ≡ true → A
 absurd_false h = cc
@@ -198,3 +203,30 @@ settled_is us bs n i len s c le =
     let t = trues_length bs in
     let few : trues bs ≤ n = omega (arith, t, len, le) in
     both (marked bs i) (level us n i) (λ e. level_upto us (trues bs) n few i (s i e)) (level_closed us bs c n i)
+
+-- marks in the words of the library
+pub set_marked : (bs : List Bool) (i : ℕ) → set bs i true ≡ set_mark bs i
+set_marked [] i = refl
+set_marked (b ∷ bs) zero = refl
+set_marked (b ∷ bs) (suc i) = ap (λ l. b ∷ l) (set_marked bs i)
+
+pub replicated_marks : (n : ℕ) → replicate n false ≡ replicated n
+replicated_marks zero = refl
+replicated_marks (suc n) = ap (λ l. false ∷ l) (replicated_marks n)
+
+length_marks : (n : ℕ) → length (replicated n) ≡ n
+length_marks zero = refl
+length_marks (suc n) = ap suc (length_marks n)
+
+-- one more sweep that marks a record, and the last
+pub sweeps_start : (us : List Uses) (bs : List Bool) (n : ℕ) → n ≡ length us → bs ≡ replicated n → (length bs ≡ length us) × Sound us bs
+sweeps_start us bs n len is = (ap length is ∙ length_marks n ∙ len, subst (Sound us) (sym is) (sound_none us n))
+
+pub sweeps_less : (us : List Uses) (old new : List Bool) → length old ≡ length us → length new ≡ length us → Swept us old new true → length us - trues new < length us - trues old
+sweeps_less us old new h n w =
+    let few = trues_length new in
+    let more = (w 0).marks_more refl in
+    omega (arith, few, more, n)
+
+pub sweeps_end : (us : List Uses) (old new : List Bool) → length new ≡ length us → Sound us old → Swept us old new false → (n : ℕ) → length us ≤ n → (i : ℕ) → marked new i ≡ level us n i
+sweeps_end us old new len s w n le i = settled_is us new n i len ((w 0).sound s) (λ k. (w k).done refl) le

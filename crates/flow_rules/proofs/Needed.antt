@@ -1,5 +1,5 @@
 -- What is needed, by number.
-use Rattle.std.proofs.Common.{◌≡◌, ℕ, zero, suc, Bool, true, false, List, [], ◌∷◌, length, map, slice_get, refl, ap, ◌∙◌, arith}
+use Rattle.std.proofs.Common.{◌≡◌, ℕ, zero, suc, Bool, true, false, List, [], ◌∷◌, length, map, slice_get, refl, sym, ap, ◌∙◌, arith}
 use Rattle.std.specs.Option.{option_map}
 use Rattle.std.specs.declared.option.Option.{Option}
 use Rattle.std.specs.declared.option.Option.TheVariants.{None, Some}
@@ -40,3 +40,10 @@ as_many_other [] [] h = absurd (h refl)
 as_many_other [] (n ∷ ns) h = refl
 as_many_other (e ∷ es) [] h = refl
 as_many_other (e ∷ es) (n ∷ ns) h = as_many_other es ns (λ k. h (ap suc k))
+
+-- a parameter by its number, and a need of a predefined call
+pub param_there : (ps : List Param) (i : ℕ) (p : Param) → slice_get ps i ≡ Some p → Some (Exactly (type_of p.ty)) ≡ slice_get (map Exactly (param_types (params_of ps))) i
+param_there ps i p h = sym (needs_params ps i ∙ ap (option_map (λ (q : Param). Exactly (type_of q.ty))) h)
+
+pub param_none : (ps : List Param) (i : ℕ) → slice_get ps i ≡ None → None ≡ slice_get (map Exactly (param_types (params_of ps))) i
+param_none ps i h = sym (needs_params ps i ∙ ap (option_map (λ (q : Param). Exactly (type_of q.ty))) h)

@@ -12,3 +12,4 @@ pub mod ClosingView
 pub mod WalkView
 pub mod SizeView
 pub mod ProgramView
+pub mod HoldView

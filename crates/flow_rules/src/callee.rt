@@ -80,7 +80,10 @@ fn basic_need(basic: Basic) -> Need<'static>
 }
 
 // What the parameter with this number has to be.
-fn param_need<'a>(params: &'a [Param], number: usize) -> Option<Need<'a>> {
+#[tactic(auto, using(crate::proofs::Needed::param_there, crate::proofs::Needed::param_none))]
+fn param_need<'a>(params: &'a [Param], number: usize) -> Option<Need<'a>>
+    ensures { option_map need_of result ≡ slice_get (map Exactly (param_types (params_of params.now))) number }
+{
     match params.get(number) {
         Some(param) => Some(Need::Exactly(Found::of(&param.ty))),
         None => None,
@@ -88,7 +91,10 @@ fn param_need<'a>(params: &'a [Param], number: usize) -> Option<Need<'a>> {
 }
 
 // What the argument with this number of a predefined call has to be.
-fn fixed_need<'a>(basics: &'a [Basic], number: usize) -> Option<Need<'a>> {
+#[tactic(auto, using(crate::proofs::Needed::needs_fixed))]
+fn fixed_need<'a>(basics: &'a [Basic], number: usize) -> Option<Need<'a>>
+    ensures { option_map need_of result ≡ slice_get (map basic_need basics.now) number }
+{
     match basics.get(number) {
         Some(basic) => Some(basic_need(*basic)),
         None => None,
@@ -108,7 +114,9 @@ impl<'a> Needs<'a> {
     }
 
     /// What the argument with this number, from 0, has to be, where one is needed.
-    pub fn at(&self, number: usize) -> Option<Need<'a>> {
+    pub fn at(&self, number: usize) -> Option<Need<'a>>
+        ensures { option_map need_of result ≡ slice_get (needs_view self.now) number }
+    {
         match self {
             Needs::Params(params) => param_need(params, number),
             Needs::Fixed(basics) => fixed_need(basics, number),

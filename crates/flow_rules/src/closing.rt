@@ -105,7 +105,10 @@ fn any_statement(body: &[Stmt]) -> bool
 
 /// How a body is left.
 #[cycle(ways)]
-pub fn ways_of(body: &[Stmt]) -> Ways {
+#[tactic(auto, using(crate::proofs::Steps::ways_step, crate::proofs::Steps::ways_end))]
+pub fn ways_of(body: &[Stmt]) -> Ways
+    ensures { ways_view result ≡ ways (body_of body.now) }
+{
     let mut so_far = PAST;
     for stmt in body {
         so_far = and_then(so_far, stmt_ways(stmt));
@@ -114,7 +117,9 @@ pub fn ways_of(body: &[Stmt]) -> Ways {
 }
 
 #[cycle(ways)]
-fn stmt_ways(stmt: &Stmt) -> Ways {
+fn stmt_ways(stmt: &Stmt) -> Ways
+    ensures { (k : Body) → ways (stmt_of stmt.now k) ≡ and_then (ways_view result) (ways k) }
+{
     match &stmt.kind {
         StmtKind::Block(body) => ways_of(body),
         StmtKind::If(_, then, otherwise) => either(ways_of(then), else_ways(otherwise)),
@@ -142,7 +147,9 @@ fn stmt_ways(stmt: &Stmt) -> Ways {
 
 // Without an `else` an `if` leads past it.
 #[cycle(ways)]
-fn else_ways(otherwise: &Option<Vec<Stmt>>) -> Ways {
+fn else_ways(otherwise: &Option<Vec<Stmt>>) -> Ways
+    ensures { ways_view result ≡ else_ways (else_of otherwise.now) }
+{
     match otherwise {
         Some(body) => ways_of(body),
         None => PAST,
@@ -150,12 +157,17 @@ fn else_ways(otherwise: &Option<Vec<Stmt>>) -> Ways {
 }
 
 #[cycle(ways)]
-fn when_ways(branch: &When) -> Ways {
+fn when_ways(branch: &When) -> Ways
+    ensures { (k : Branches) → branch_ways (branch_of branch.now k) ≡ either (ways_view result) (branch_ways k) }
+{
     ways_of(&branch.body)
 }
 
 #[cycle(ways)]
-fn branch_ways(branches: &[When]) -> Ways {
+#[tactic(auto, using(crate::proofs::Steps::branch_step, crate::proofs::Steps::branch_end))]
+fn branch_ways(branches: &[When]) -> Ways
+    ensures { ways_view result ≡ branch_ways (branches_of branches.now) }
+{
     let mut so_far = NOWHERE;
     for branch in branches {
         so_far = either(so_far, when_ways(branch));

@@ -43,15 +43,21 @@ fn uses_hold(uses: &Uses, marks: &[bool]) -> bool
     uses.direct || any_marked(marks, &uses.records)
 }
 
-fn mark(marks: &mut Vec<bool>, number: usize) {
-    if number < marks.len() {
-        marks[number] = true;
-    }
+#[tactic(auto, using(crate::proofs::Levels::set_marked))]
+fn mark(marks: &mut Vec<bool>, number: usize)
+    requires { number < length marks.old.items }
+    ensures { marks.new.items ≡ set_mark marks.old.items number }
+{
+    marks[number] = true;
 }
 
 // Marks, one after another, each record that holds a reference as far as the marks say, and says whether
 // one was marked anew.
-fn sweep(marks: &mut Vec<bool>, uses: &[Uses]) -> bool {
+fn sweep(marks: &mut Vec<bool>, uses: &[Uses]) -> bool
+    requires { length marks.old.items ≡ length uses.now }
+    ensures length { length marks.new.items ≡ length uses.now }
+    ensures swept { Swept uses.now marks.old.items marks.new.items result }
+{
     let mut more = false;
     for (number, used) in uses.iter().enumerate() {
         if !is_marked(marks, number) && uses_hold(used, marks) {
@@ -62,14 +68,18 @@ fn sweep(marks: &mut Vec<bool>, uses: &[Uses]) -> bool {
     more
 }
 
-/// Of these records those that hold a reference, through however many others. A sweep that marks none
-/// is the last, and no more sweeps mark one than there are records.
-pub fn settled(alloc: Global, uses: &[Uses]) -> Result<Vec<bool>, NoMemory> {
-    let mut marks = vec![in alloc; false; uses.len()]?;
-    for _ in 0..uses.len() {
-        if !sweep(&mut marks, uses) {
-            break;
-        }
-    }
+#[tactic(auto, using(crate::proofs::Levels::replicated_marks))]
+fn unmarked(alloc: Global, count: usize) -> Result<Vec<bool>, NoMemory>
+    ensures { IfOk result (λ v. v.items ≡ replicated count) }
+{
+    Ok(vec![in alloc; false; count]?)
+}
+
+/// Of these records those that hold a reference, through however many others.
+pub fn settled(alloc: Global, uses: &[Uses]) -> Result<Vec<bool>, NoMemory>
+    ensures { IfOk result (λ v. (n : ℕ) → length uses.now ≤ n → (i : ℕ) → marked v.items i ≡ level uses.now n i) }
+{
+    let mut marks = unmarked(alloc, uses.len())?;
+    'sweeps: while sweep(&mut marks, uses) {}
     Ok(marks)
 }

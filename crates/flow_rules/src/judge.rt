@@ -8,7 +8,7 @@ ghost use Rattle.flow_ast.specs.Typing.{is_there, with_type};
 ghost use Rattle.flow_ast.specs.TypingNames.{named};
 ghost use Rattle.flow_rules.specs.Least.{lesser, unless};
 ghost use Rattle.flow_rules.specs.Known.{field_row};
-ghost use Rattle.flow_rules.specs.Judged.{Traced, wants, fits, operands, sum_form, sign_form, needs_of, gives_of, not_here, placed, said, calls, calls_on, called, variable_form, field_form, field_of, of_field, form, fault, faults, wanted};
+ghost use Rattle.flow_rules.specs.Judged.{Traced, wants, fits, operands, sum_form, sign_form, needs_of, gives_of, not_here, placed, said, calls, calls_on, called, called_on, variable_form, field_form, field_of, of_field, form, fault, faults, wanted};
 ghost use Rattle.flow_rules.specs.Items.{path_form, path_fault, target_form, target_fault, base_form, base_fault, call_by_name, call_on, call_fault, written};
 ghost use Rattle.flow_rules.specs.View.{found_of, need_of, needs_view, kind_of, callee_of};
 ghost use Rattle.flow_rules.specs.MapView.{known_by, vars_of};
@@ -347,7 +347,11 @@ impl<'n, 'a> Setting<'n, 'a> {
     }
 
     // Fields behind a base, one after another.
-    fn fields(&self, base: Judged<'a>, names: &[Ident]) -> Judged<'a> {
+    #[tactic(auto, using(crate::proofs::Calls::both_step, crate::proofs::Steps::path_end, crate::proofs::Steps::fault_end))]
+    fn fields(&self, base: Judged<'a>, names: &[Ident]) -> Judged<'a>
+        ensures form { option_map found_of result.form ≡ path_form (setting_view self.now) (option_map found_of base.entry.form) names.now }
+        ensures fault { result.fault ≡ lesser base.entry.fault (path_fault (setting_view self.now) (option_map found_of base.entry.form) names.now) }
+    {
         let mut judged = base;
         for name in names {
             judged = self.field(judged, &name.name);
@@ -356,7 +360,10 @@ impl<'n, 'a> Setting<'n, 'a> {
     }
 
     /// The target of an assignment: a variable in force, or a field in one.
-    pub fn target(&self, path: &[Ident]) -> Judged<'a> {
+    pub fn target(&self, path: &[Ident]) -> Judged<'a>
+        ensures form { option_map found_of result.form ≡ target_form (setting_view self.now) path.now }
+        ensures fault { result.fault ≡ target_fault (setting_view self.now) path.now }
+    {
         match path {
             [] => Judged {
                 form: None,
@@ -367,7 +374,10 @@ impl<'n, 'a> Setting<'n, 'a> {
     }
 
     // What a method is called on in a statement: a variable, a constant, or a field in one.
-    fn base(&self, path: &[Ident]) -> Judged<'a> {
+    fn base(&self, path: &[Ident]) -> Judged<'a>
+        ensures form { option_map found_of result.form ≡ base_form (setting_view self.now) path.now }
+        ensures fault { result.fault ≡ base_fault (setting_view self.now) path.now }
+    {
         match path {
             [] => Judged {
                 form: None,
@@ -424,7 +434,10 @@ impl<'n, 'a> Setting<'n, 'a> {
 
     /// An expression; an effect may stand where it is whole.
     #[cycle(judge)]
-    pub fn judge(&self, whole: bool, expr: &'a Expr) -> Judged<'a> {
+    pub fn judge(&self, whole: bool, expr: &'a Expr) -> Judged<'a>
+        ensures form { option_map found_of result.form ≡ form (setting_view self.now) (expr_of expr.now) }
+        ensures fault { result.fault ≡ fault (setting_view self.now) whole (expr_of expr.now) }
+    {
         match expr {
             Expr::Int(_) => sound(Found::Int),
             Expr::Text(_) => sound(Found::Str),
@@ -437,12 +450,7 @@ impl<'n, 'a> Setting<'n, 'a> {
                 self.call_judged(whole, args, callee, judged)
             }
             Expr::Field(of, name) => self.field(self.judge(false, of), &name.name),
-            Expr::Method(of, name, args) => {
-                let base = self.judge(false, of);
-                let callee = called_on(base.form, name.name.bytes());
-                let judged = self.judge_args(needs_of(callee), args);
-                self.method_judged(base, args, callee, judged)
-            }
+            Expr::Method(of, name, args) => self.judge_method(of, name, args),
             Expr::Not(of) => {
                 let of = self.judge(false, of);
                 Judged {
@@ -466,9 +474,24 @@ impl<'n, 'a> Setting<'n, 'a> {
         }
     }
 
+    // A call of a method on a base.
+    #[cycle(judge)]
+    fn judge_method(&self, of: &'a Expr, name: &'a Ident, args: &'a [Expr]) -> Judged<'a>
+        ensures form { option_map found_of result.form ≡ gives_of (called_on (form (setting_view self.now) (expr_of of.now)) name.now.name) }
+        ensures fault { result.fault ≡ lesser (fault (setting_view self.now) false (expr_of of.now)) (lesser (faults (setting_view self.now) 0 (needs_of (called_on (form (setting_view self.now) (expr_of of.now)) name.now.name)) (exprs_of args.now)) (calls_on (form (setting_view self.now) (expr_of of.now)) (exprs_of args.now) (called_on (form (setting_view self.now) (expr_of of.now)) name.now.name) (placed (setting_view self.now) false))) }
+    {
+        let base = self.judge(false, of);
+        let callee = called_on(base.form, name.name.bytes());
+        let judged = self.judge_args(needs_of(callee), args);
+        self.method_judged(base, args, callee, judged)
+    }
+
     // Arguments, each judged, and compared as far as something is needed.
     #[cycle(judge)]
-    fn judge_args(&self, needs: Needs<'a>, args: &'a [Expr]) -> Option<u8> {
+    #[tactic(auto, using(crate::proofs::Steps::args_step, crate::proofs::Steps::args_end))]
+    fn judge_args(&self, needs: Needs<'a>, args: &'a [Expr]) -> Option<u8>
+        ensures { result ≡ faults (setting_view self.now) 0 (needs_view needs.entry) (exprs_of args.now) }
+    {
         let mut fault = None;
         for (number, arg) in args.iter().enumerate() {
             let judged = self.judge(false, arg);
@@ -481,13 +504,17 @@ impl<'n, 'a> Setting<'n, 'a> {
     }
 
     /// An expression of which this type is wanted.
-    pub fn wanted(&self, whole: bool, expr: &'a Expr, ty: Found<'a>) -> Option<u8> {
+    pub fn wanted(&self, whole: bool, expr: &'a Expr, ty: Found<'a>) -> Option<u8>
+        ensures { result ≡ wanted (setting_view self.now) whole (expr_of expr.now) (found_of ty.entry) }
+    {
         let judged = self.judge(whole, expr);
         lesser(judged.fault, wants(judged.form, ty))
     }
 
     // A call by a name as a statement.
-    fn named_call(&self, name: &'a Name, args: &'a [Expr]) -> Option<u8> {
+    fn named_call(&self, name: &'a Name, args: &'a [Expr]) -> Option<u8>
+        ensures { result ≡ call_by_name (setting_view self.now) name.now (exprs_of args.now) }
+    {
         let callee = self.called(name);
         lesser(
             self.judge_args(needs_of(callee), args),
@@ -496,7 +523,9 @@ impl<'n, 'a> Setting<'n, 'a> {
     }
 
     // A call of a method as a statement.
-    fn method_call(&self, path: &[Ident], name: &Name, args: &'a [Expr]) -> Option<u8> {
+    fn method_call(&self, path: &[Ident], name: &Name, args: &'a [Expr]) -> Option<u8>
+        ensures { result ≡ call_on (setting_view self.now) path.now name.now (exprs_of args.now) }
+    {
         let base = self.base(path);
         let callee = called_on(base.form, name.bytes());
         lesser(
@@ -509,7 +538,9 @@ impl<'n, 'a> Setting<'n, 'a> {
     }
 
     /// A call as a statement.
-    pub fn call(&self, path: &'a [Ident], args: &'a [Expr]) -> Option<u8> {
+    pub fn call(&self, path: &'a [Ident], args: &'a [Expr]) -> Option<u8>
+        ensures { result ≡ call_fault (setting_view self.now) path.now (exprs_of args.now) }
+    {
         match path {
             [] => None,
             [name] => self.named_call(&name.name, args),

@@ -1,7 +1,7 @@
 // The names at the top of a program.
 
 ghost use Rattle.flow_tree.specs.Decls.{DeclTree};
-ghost use Rattle.std.specs.Prelude.{◌≡◌, ◌∷◌, [], codes, map, IfOk, ℕ, List, length, ◌≤◌, ◌||◌, ◌+◌, suc, ◌++◌, Bool, Some};
+ghost use Rattle.std.specs.Prelude.{◌≡◌, ◌∷◌, [], codes, map, IfOk, ℕ, List, length, slice_get, ◌≤◌, ◌<◌, ◌||◌, ◌+◌, suc, ◌++◌, Bool, Some};
 ghost use Rattle.std.specs.Option.{option_map};
 ghost use Rattle.flow_base.specs.Names.{IsName};
 ghost use Rattle.flow_tree.specs.View.{type_of};
@@ -12,6 +12,7 @@ ghost use Rattle.flow_rules.specs.Known.{RecordOf, row_of, field_row, type_known
 ghost use Rattle.flow_rules.specs.View.{meaning_of};
 ghost use Rattle.flow_rules.specs.Holding.{marked, uses_hold};
 ghost use Rattle.flow_rules.specs.MapView.{rows_of, known_by, numbered, flag_of, HoldAs};
+ghost use Rattle.flow_rules.specs.HoldView.{row_holds};
 
 use crate::callee::Meaning;
 use crate::holding::{Uses, is_marked, settled};
@@ -133,13 +134,15 @@ pub fn is_predefined(name: &[u8]) -> bool
 }
 
 // Notes what a field of a record says of it: that it holds a reference, or which record it holds.
-fn note_field(meanings: &Meanings<'_>, ty: &Ty, uses: &mut Uses) -> Result<(), NoMemory> {
+#[tactic(auto, using(crate::proofs::Holders::note_found, crate::proofs::Holders::note_missing, crate::proofs::Holders::note_reference, crate::proofs::Holders::note_nothing))]
+fn note_field(meanings: &Meanings<'_>, ty: &Ty, uses: &mut Uses) -> Result<(), NoMemory>
+    ensures { IfOk result (λ _. (g : ℕ → Bool) → uses_hold g uses.new ≡ (uses_hold g uses.old || holds_by (numbered meanings.now g) (type_of ty.now))) }
+{
     match ty {
-        Ty::Named(name) => {
-            if let Some(number) = meanings.get_index_of(name.bytes()) {
-                uses.records.push(number)?;
-            }
-        }
+        Ty::Named(name) => match meanings.get_index_of(name.bytes()) {
+            Some(number) => uses.records.push(number)?,
+            None => {}
+        },
         Ty::Future(_) | Ty::FutureStream(_) | Ty::Promise(_) | Ty::PromiseStream(_) => {
             uses.direct = true;
         }
@@ -148,7 +151,10 @@ fn note_field(meanings: &Meanings<'_>, ty: &Ty, uses: &mut Uses) -> Result<(), N
     Ok(())
 }
 
-fn fields_uses(alloc: Global, meanings: &Meanings<'_>, fields: &[Param]) -> Result<Uses, NoMemory> {
+#[tactic(auto, using(crate::proofs::Holders::fields_step, crate::proofs::Holders::fields_end))]
+fn fields_uses(alloc: Global, meanings: &Meanings<'_>, fields: &[Param]) -> Result<Uses, NoMemory>
+    ensures { IfOk result (λ u. (g : ℕ → Bool) → uses_hold g u ≡ fields_hold (numbered meanings.now g) (map field_row (params_of fields.now))) }
+{
     let mut uses = Uses {
         direct: false,
         records: Vec::new(alloc),
@@ -163,7 +169,9 @@ fn meaning_uses(
     alloc: Global,
     meanings: &Meanings<'_>,
     meaning: Meaning<'_>,
-) -> Result<Uses, NoMemory> {
+) -> Result<Uses, NoMemory>
+    ensures { IfOk result (λ u. (g : ℕ → Bool) → uses_hold g u ≡ meaning_holds (numbered meanings.now g) (Some (meaning_of meaning.entry))) }
+{
     match meaning {
         Meaning::Record(fields) => fields_uses(alloc, meanings, fields),
         Meaning::Function(_, _) => fields_uses(alloc, meanings, &[]),
@@ -171,22 +179,42 @@ fn meaning_uses(
     }
 }
 
-fn all_uses(alloc: Global, meanings: &Meanings<'_>) -> Result<Vec<Uses>, NoMemory> {
+// What the record with this number holds; what is no record holds nothing.
+fn uses_at(alloc: Global, meanings: &Meanings<'_>, number: usize) -> Result<Uses, NoMemory>
+    requires { number < length meanings.now.entries }
+    ensures { IfOk result (λ u. (g : ℕ → Bool) → Some (uses_hold g u) ≡ option_map (row_holds meanings.now g) (slice_get meanings.now.entries number)) }
+{
+    match meanings.get_index(number) {
+        Some((_name, meaning)) => meaning_uses(alloc, meanings, *meaning),
+        None => fields_uses(alloc, meanings, &[]),
+    }
+}
+
+#[tactic(auto, using(crate::proofs::Holders::uses_more, crate::proofs::Holders::uses_all))]
+fn all_uses(alloc: Global, meanings: &Meanings<'_>) -> Result<Vec<Uses>, NoMemory>
+    ensures { IfOk result (λ v. HoldAs meanings.now v.items) }
+{
     let mut all = Vec::new(alloc);
-    for (_name, meaning) in meanings.iter() {
-        all.push(meaning_uses(alloc, meanings, *meaning)?)?;
+    for number in 0..meanings.len() {
+        all.push(uses_at(alloc, meanings, number)?)?;
     }
     Ok(all)
 }
 
 // The records that hold a reference, by their numbers.
-fn holders(alloc: Global, meanings: &Meanings<'_>) -> Result<Vec<bool>, NoMemory> {
+#[tactic(auto, using(crate::proofs::Holders::holders_are))]
+fn holders(alloc: Global, meanings: &Meanings<'_>) -> Result<Vec<bool>, NoMemory>
+    ensures { IfOk result (λ v. (n : ℕ) → length meanings.now.entries ≤ n → (x : List ℕ) → numbered meanings.now (marked v.items) x ≡ record_holds (named (rows_of meanings.now)) n x) }
+{
     let uses = all_uses(alloc, meanings)?;
     settled(alloc, &uses)
 }
 
 // Puts in what a declaration declares, where its name is new.
-fn put<'a>(meanings: &mut Meanings<'a>, decl: &'a Decl) -> Result<(), NoMemory> {
+fn put<'a>(meanings: &mut Meanings<'a>, decl: &'a Decl) -> Result<(), NoMemory>
+    ensures known { IfOk result (λ _. (ds : List DeclTree) → named (rows_of meanings.new ++ map row_of ds) ≡ named (rows_of meanings.old ++ (row_of (decl_of decl.now) ∷ map row_of ds))) }
+    ensures few { IfOk result (λ _. length meanings.new.entries ≤ length meanings.old.entries + 1) }
+{
     let name = name_of(decl);
     if is_known(meanings, name) {
         return Ok(());
@@ -196,11 +224,16 @@ fn put<'a>(meanings: &mut Meanings<'a>, decl: &'a Decl) -> Result<(), NoMemory> 
 }
 
 // What the names of these declarations and the predefined record declare.
+#[tactic(auto, using(crate::proofs::Holders::names_step, crate::proofs::Holders::names_end))]
 fn first_meanings<'a>(
     alloc: Global,
     packet: &'a [Param],
     decls: &'a [Decl],
-) -> Result<Meanings<'a>, NoMemory> {
+) -> Result<Meanings<'a>, NoMemory>
+    requires { map field_row (params_of packet.now) ≡ packet_fields }
+    ensures known { IfOk result (λ m. named (rows_of m) ≡ known (map decl_of decls.now)) }
+    ensures few { IfOk result (λ m. length m.entries ≤ suc (length decls.now)) }
+{
     let mut meanings = predefined(alloc, packet)?;
     for decl in decls {
         put(&mut meanings, decl)?;
@@ -210,11 +243,11 @@ fn first_meanings<'a>(
 
 impl<'a> Names<'a> {
     /// The names of these declarations, of several with one name the first, and the predefined record.
-    pub fn new(
-        alloc: Global,
-        packet: &'a [Param],
-        decls: &'a [Decl],
-    ) -> Result<Names<'a>, NoMemory> {
+    pub fn new(alloc: Global, packet: &'a [Param], decls: &'a [Decl]) -> Result<Names<'a>, NoMemory>
+        requires { map field_row (params_of packet.now) ≡ packet_fields }
+        ensures known { IfOk result (λ n. known_by n ≡ known (map decl_of decls.now)) }
+        ensures holds { IfOk result (λ n. flag_of n ≡ record_holds (known (map decl_of decls.now)) (suc (length decls.now))) }
+    {
         let meanings = first_meanings(alloc, packet, decls)?;
         let holds = holders(alloc, &meanings)?;
         Ok(Names { meanings, holds })

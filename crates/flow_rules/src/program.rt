@@ -27,7 +27,7 @@ use crate::known::{
 };
 use crate::rule::{FALLS_OFF, NO_MAIN, TWICE, UNKNOWN_NAME, lesser, unless};
 use crate::size::sizes;
-use crate::walk::{Around, Walk, item};
+use crate::walk::{Around, Walk, has_text, item};
 use flow_base::memory::NoMemory;
 use flow_base::name::Name;
 use flow_base::place::Place;
@@ -39,16 +39,20 @@ use indexmap::{IndexMap, IndexSet};
 use std::alloc::Global;
 
 // A name at the top is not predefined, and not that of a declaration before it.
-fn name_fault(before: &Meanings<'_>, name: &Name) -> Option<u8> {
+fn name_fault(before: &Meanings<'_>, name: &Name) -> Option<u8>
+    ensures { result ≡ name_fault (named (rows_of before.now)) name.now }
+{
     let taken = is_predefined(name.bytes()) || is_known(before, name.bytes());
     unless(!taken, TWICE)
 }
 
 // The record of a field is declared before, and its name is that of no field before it.
-fn field_fault(before: &Meanings<'_>, names: &IndexSet<&[u8]>, field: &Param) -> Option<u8> {
+fn field_fault(before: &Meanings<'_>, names: &IndexSet<&[u8]>, field: &Param) -> Option<u8>
+    ensures { result ≡ lesser (unless (type_known (named (rows_of before.now)) (type_of field.now.ty)) UNKNOWN_NAME) (unless (not (among (texts_of names.now) field.now.name.name)) TWICE) }
+{
     lesser(
         unless(type_known(before, &field.ty), UNKNOWN_NAME),
-        unless(!names.contains(field.name.name.bytes()), TWICE),
+        unless(!has_text(names, field.name.name.bytes()), TWICE),
     )
 }
 
@@ -57,7 +61,9 @@ fn fields_fault(
     alloc: Global,
     before: &Meanings<'_>,
     fields: &[Param],
-) -> Result<Option<u8>, NoMemory> {
+) -> Result<Option<u8>, NoMemory>
+    ensures { IfOk result (λ o. o ≡ fields_fault (named (rows_of before.now)) (λ x. false) (params_of fields.now)) }
+{
     let mut names: IndexSet<&[u8]> = IndexSet::new(alloc);
     let mut fault = None;
     for field in fields {
@@ -71,7 +77,9 @@ fn judge_record(
     alloc: Global,
     before: &Meanings<'_>,
     declared: &RecordDecl,
-) -> Result<(), SourceFault> {
+) -> Result<(), SourceFault>
+    ensures { Says (item declared.now.at (record_fault (named (rows_of before.now)) (record_of declared.now))) result }
+{
     let fields = fields_fault(alloc, before, &declared.fields)?;
     item(
         declared.at,
@@ -80,12 +88,16 @@ fn judge_record(
 }
 
 // A parameter's name is that of none before it, not predefined, and none at the top.
-fn free(setting: &Setting<'_, '_>, name: &[u8]) -> bool {
+fn free(setting: &Setting<'_, '_>, name: &[u8]) -> bool
+    ensures { result ≡ not (is_there (named (vars_of setting.now.vars) name.now) || is_predefined name.now || is_there ((setting_view setting.now).known name.now)) }
+{
     !(setting.has_var(name) || is_predefined(name) || setting.has_name(name))
 }
 
 // What fails at a parameter.
-fn param_fault(setting: &Setting<'_, '_>, param: &Param) -> Option<u8> {
+fn param_fault(setting: &Setting<'_, '_>, param: &Param) -> Option<u8>
+    ensures { result ≡ param_fault (setting_view setting.now) (λ x. is_there (named (vars_of setting.now.vars) x)) (param_of param.now) }
+{
     lesser(
         setting.written(&param.ty),
         unless(free(setting, param.name.name.bytes()), TWICE),
@@ -97,7 +109,11 @@ fn add_param<'a>(
     walk: &mut Walk<'_, 'a>,
     param: &'a Param,
     fault: Option<u8>,
-) -> Result<(), NoMemory> {
+) -> Result<(), NoMemory>
+    requires only { ParamsOnly walk.old }
+    requires fault { fault ≡ param_fault (setting_view walk.old.setting) (taken_in walk.old) (param_of param.now) }
+    ensures { IfOk result (λ _. NewParam walk.old walk.new param.now.name.name (type_of param.now.ty) fault) }
+{
     let name = param.name.name.bytes();
     walk.setting.vars.insert(name, Found::of(&param.ty))?;
     walk.states.insert(name)?;
@@ -105,7 +121,11 @@ fn add_param<'a>(
 }
 
 // Parameters, which are in force from here on.
-fn params_fault<'a>(walk: &mut Walk<'_, 'a>, params: &'a [Param]) -> Result<Option<u8>, NoMemory> {
+fn params_fault<'a>(walk: &mut Walk<'_, 'a>, params: &'a [Param]) -> Result<Option<u8>, NoMemory>
+    requires empty { (vars_of walk.old.setting.vars ≡ []) × (texts_of walk.old.states ≡ []) }
+    ensures fault { IfOk result (λ o. o ≡ params_fault (setting_view walk.old.setting) (λ x. false) (params_of params.now)) }
+    ensures env { IfOk result (λ o. o ≡ None → ParamsIn walk.old walk.new (params_of params.now)) }
+{
     let mut fault = None;
     for param in params {
         let own = param_fault(&walk.setting, param);
@@ -132,7 +152,11 @@ fn header_fault<'a>(
     before: &Meanings<'_>,
     walk: &mut Walk<'_, 'a>,
     routine: Routine<'a>,
-) -> Result<Option<u8>, NoMemory> {
+) -> Result<Option<u8>, NoMemory>
+    requires empty { (vars_of walk.old.setting.vars ≡ []) × (texts_of walk.old.states ≡ []) }
+    ensures fault { IfOk result (λ o. o ≡ header_fault (named (rows_of before.now)) (setting_view walk.old.setting) (routine_of routine.entry)) }
+    ensures env { IfOk result (λ o. o ≡ None → ParamsIn walk.old walk.new (params_of routine.entry.params.now)) }
+{
     let name = name_fault(before, &routine.name.name);
     let returns = walk.setting.written(routine.returns);
     let params = params_fault(walk, routine.params)?;
@@ -140,7 +164,11 @@ fn header_fault<'a>(
 }
 
 // What is in force in a routine before its parameters.
-fn start<'n, 'a>(alloc: Global, names: &'n Names<'a>, routine: Routine<'a>) -> Walk<'n, 'a> {
+fn start<'n, 'a>(alloc: Global, names: &'n Names<'a>, routine: Routine<'a>) -> Walk<'n, 'a>
+    ensures setting { setting_view result.setting ≡ setting_by names.now routine.entry.plain }
+    ensures returns { found_of result.returns ≡ type_of routine.entry.returns.now }
+    ensures empty { (vars_of result.setting.vars ≡ []) × (texts_of result.states ≡ []) }
+{
     let vars: Vars<'a> = IndexMap::new(alloc);
     let setting = Setting {
         names,
@@ -160,7 +188,9 @@ fn judge_routine<'a>(
     names: &Names<'a>,
     before: &Meanings<'_>,
     routine: Routine<'a>,
-) -> Result<(), SourceFault> {
+) -> Result<(), SourceFault>
+    ensures { Says (routine_refusal (named (rows_of before.now)) (setting_by names.now routine.entry.plain) (routine_of routine.entry)) result }
+{
     let mut walk = start(alloc, names, routine);
     let header = header_fault(before, &mut walk, routine)?;
     item(routine.at, header)?;
@@ -172,7 +202,10 @@ fn judge_routine<'a>(
     item(routine.close, unless(!ways_of(routine.body).end, FALLS_OFF))
 }
 
-fn function_routine(function: &FunctionDecl) -> Routine<'_> {
+fn function_routine(function: &FunctionDecl) -> Routine<'_>
+    ensures routine { routine_of result ≡ function_of function.now }
+    ensures plain { result.plain ≡ true }
+{
     Routine {
         at: function.at,
         plain: true,
@@ -184,7 +217,10 @@ fn function_routine(function: &FunctionDecl) -> Routine<'_> {
     }
 }
 
-fn actor_routine(actor: &ActorDecl) -> Routine<'_> {
+fn actor_routine(actor: &ActorDecl) -> Routine<'_>
+    ensures routine { routine_of result ≡ actor_of actor.now }
+    ensures plain { result.plain ≡ false }
+{
     Routine {
         at: actor.at,
         plain: false,
@@ -201,7 +237,9 @@ fn declaration<'a>(
     names: &Names<'a>,
     before: &Meanings<'_>,
     decl: &'a Decl,
-) -> Result<(), SourceFault> {
+) -> Result<(), SourceFault>
+    ensures { Says (decl_refusal (setting_by names.now) (named (rows_of before.now)) (decl_of decl.now)) result }
+{
     match decl {
         Decl::Struct(declared) => judge_record(alloc, before, declared),
         Decl::Function(function) => {
@@ -212,7 +250,11 @@ fn declaration<'a>(
 }
 
 // What this declaration declares is known from here on.
-fn declare<'a>(before: &mut Meanings<'a>, decl: &'a Decl) -> Result<(), NoMemory> {
+#[tactic(auto, using(crate::proofs::Inserts::row_inserted))]
+fn declare<'a>(before: &mut Meanings<'a>, decl: &'a Decl) -> Result<(), NoMemory>
+    requires { named (rows_of before.old) (row_of (decl_of decl.now)).0 ≡ None }
+    ensures { IfOk result (λ _. rows_of before.new ≡ rows_of before.old ++ row_of (decl_of decl.now) ∷ []) }
+{
     before.insert(name_of(decl), meaning_of(decl))?;
     Ok(())
 }
@@ -223,7 +265,10 @@ fn declarations<'a>(
     names: &Names<'a>,
     packet: &'a [Param],
     decls: &'a [Decl],
-) -> Result<(), SourceFault> {
+) -> Result<(), SourceFault>
+    requires { map field_row (params_of packet.now) ≡ packet_fields }
+    ensures { Says (decls_refusal (setting_by names.now) [] (map decl_of decls.now)) result }
+{
     let mut before = predefined(alloc, packet)?;
     for decl in decls {
         declaration(alloc, names, &before, decl)?;
@@ -233,14 +278,18 @@ fn declarations<'a>(
 }
 
 // `main` is an actor with one int and the result `Void`.
-fn is_main(meaning: Option<Meaning<'_>>) -> bool {
+fn is_main(meaning: Option<Meaning<'_>>) -> bool
+    ensures { result ≡ is_main (option_map meaning_of meaning.entry) }
+{
     match meaning {
         Some(Meaning::Actor(params, returns)) => returns_void(returns) && is_one_int(params),
         Some(Meaning::Record(_)) | Some(Meaning::Function(_, _)) | None => false,
     }
 }
 
-fn returns_void(returns: &Ty) -> bool {
+fn returns_void(returns: &Ty) -> bool
+    ensures { result ≡ same_type (type_of returns.now) VoidType }
+{
     match returns {
         Ty::Void => true,
         Ty::Int | Ty::Bool | Ty::Str | Ty::Error | Ty::Named(_) => false,
@@ -248,7 +297,9 @@ fn returns_void(returns: &Ty) -> bool {
     }
 }
 
-fn is_int(ty: &Ty) -> bool {
+fn is_int(ty: &Ty) -> bool
+    ensures { result ≡ same_type (type_of ty.now) IntType }
+{
     match ty {
         Ty::Int => true,
         Ty::Void | Ty::Bool | Ty::Str | Ty::Error | Ty::Named(_) => false,
@@ -256,7 +307,9 @@ fn is_int(ty: &Ty) -> bool {
     }
 }
 
-fn is_one_int(params: &[Param]) -> bool {
+fn is_one_int(params: &[Param]) -> bool
+    ensures { result ≡ one_int (param_types (params_of params.now)) }
+{
     match params {
         [param] => is_int(&param.ty),
         _ => false,
@@ -265,7 +318,9 @@ fn is_one_int(params: &[Param]) -> bool {
 
 /// The rules K1 to K12 and L8 hold in a program; or the least rule of K1 to K12 that fails at its first
 /// item in which one does, or else L8 at its first record that is too large.
-pub fn judge_program(alloc: Global, program: &Program) -> Result<(), SourceFault> {
+pub fn judge_program(alloc: Global, program: &Program) -> Result<(), SourceFault>
+    ensures { Says (refusal_of (program_of program.now)) result }
+{
     let packet = packet_fields(alloc)?;
     let names = Names::new(alloc, &packet, &program.decls)?;
     declarations(alloc, &names, &packet, &program.decls)?;

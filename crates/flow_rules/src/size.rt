@@ -30,11 +30,16 @@ pub struct Size {
 pub type Sizes<'a> = IndexMap<&'a [u8], Size>;
 
 // The size of the record with this name.
-fn find_size(sizes: &Sizes<'_>, name: &[u8]) -> Option<Size> {
+#[tactic(auto, using(crate::proofs::Lookups::named_lookup))]
+fn find_size(sizes: &Sizes<'_>, name: &[u8]) -> Option<Size>
+    ensures { option_map size_of result ≡ named (sizes_of sizes.now) name.now }
+{
     sizes.get(name).copied()
 }
 
-fn has_size(sizes: &Sizes<'_>, name: &[u8]) -> bool {
+fn has_size(sizes: &Sizes<'_>, name: &[u8]) -> bool
+    ensures { result ≡ is_there (named (sizes_of sizes.now) name.now) }
+{
     match find_size(sizes, name) {
         Some(_) => true,
         None => false,
@@ -47,14 +52,18 @@ const LEAF: Size = Size {
 };
 
 // The size of a record by its name, or of a field that is none.
-fn named_size(sizes: &Sizes<'_>, name: &[u8]) -> Size {
+fn named_size(sizes: &Sizes<'_>, name: &[u8]) -> Size
+    ensures { size_of result ≡ or_leaf (named (sizes_of sizes.now) name.now) }
+{
     match find_size(sizes, name) {
         Some(size) => size,
         None => LEAF,
     }
 }
 
-fn type_size(sizes: &Sizes<'_>, ty: &Ty) -> Size {
+fn type_size(sizes: &Sizes<'_>, ty: &Ty) -> Size
+    ensures { size_of result ≡ type_size (sizes_of sizes.now) (type_of ty.now) }
+{
     match ty {
         Ty::Named(name) => named_size(sizes, name.bytes()),
         Ty::Int | Ty::Bool | Ty::Str | Ty::Void | Ty::Error => LEAF,
@@ -63,7 +72,10 @@ fn type_size(sizes: &Sizes<'_>, ty: &Ty) -> Size {
 }
 
 // The size of fields, or that it is beyond the limits.
-fn fields_size(sizes: &Sizes<'_>, fields: &[Param]) -> Option<Size> {
+#[tactic(auto, using(crate::proofs::Sizes::size_step, crate::proofs::Sizes::size_end, crate::proofs::Sizes::size_over))]
+fn fields_size(sizes: &Sizes<'_>, fields: &[Param]) -> Option<Size>
+    ensures { FieldsSized (fields_size (sizes_of sizes.now) (params_of fields.now)) result }
+{
     let mut size = Size {
         nesting: 0,
         leaves: 0,
@@ -82,7 +94,9 @@ fn fields_size(sizes: &Sizes<'_>, fields: &[Param]) -> Option<Size> {
 }
 
 // The size of a record, where it is within the limits.
-fn record_size(sizes: &Sizes<'_>, declared: &RecordDecl) -> Option<Size> {
+fn record_size(sizes: &Sizes<'_>, declared: &RecordDecl) -> Option<Size>
+    ensures { RecordSized (record_size (sizes_of sizes.now) (record_of declared.now)) result }
+{
     let inner = fields_size(sizes, &declared.fields)?;
     if inner.nesting >= NESTING {
         return None;
@@ -94,7 +108,10 @@ fn record_size(sizes: &Sizes<'_>, declared: &RecordDecl) -> Option<Size> {
 }
 
 // A record is within the limits, and of several with one name the first has its size.
-fn add_size<'a>(sizes: &mut Sizes<'a>, declared: &'a RecordDecl) -> Result<(), SourceFault> {
+#[tactic(auto, using(crate::proofs::Sizes::size_kept, crate::proofs::Sizes::size_put))]
+fn add_size<'a>(sizes: &mut Sizes<'a>, declared: &'a RecordDecl) -> Result<(), SourceFault>
+    ensures { SizeAnswer (sizes_of sizes.old) (record_of declared.now) (sizes_of sizes.new) result }
+{
     let Some(size) = record_size(sizes, declared) else {
         return Err(SourceFault::Refused {
             rule: Rule::L(LARGE_RECORD),
@@ -110,7 +127,9 @@ fn add_size<'a>(sizes: &mut Sizes<'a>, declared: &'a RecordDecl) -> Result<(), S
 }
 
 // The size of the predefined record alone.
-fn packet_sizes<'a>(alloc: Global) -> Result<Sizes<'a>, NoMemory> {
+fn packet_sizes<'a>(alloc: Global) -> Result<Sizes<'a>, NoMemory>
+    ensures { IfOk result (λ m. sizes_of m ≡ (codes "Packet", packet_size) ∷ []) }
+{
     let mut sizes: Sizes<'a> = IndexMap::new(alloc);
     let packet = Size {
         nesting: 1,
@@ -121,7 +140,9 @@ fn packet_sizes<'a>(alloc: Global) -> Result<Sizes<'a>, NoMemory> {
 }
 
 /// No record of these declarations is too large; each is made of those before it.
-pub fn sizes(alloc: Global, decls: &[Decl]) -> Result<(), SourceFault> {
+pub fn sizes(alloc: Global, decls: &[Decl]) -> Result<(), SourceFault>
+    ensures { Says (first_large ((codes "Packet", packet_size) ∷ []) (map decl_of decls.now)) result }
+{
     let mut sizes = packet_sizes(alloc)?;
     for decl in decls {
         if let Decl::Struct(record) = decl {

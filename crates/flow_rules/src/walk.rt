@@ -10,7 +10,7 @@ ghost use Rattle.flow_ast.specs.Slots.{body_slots, branch_slots};
 ghost use Rattle.flow_ast.specs.TypingNames.{named};
 ghost use Rattle.flow_rules.specs.Least.{lesser};
 ghost use Rattle.flow_rules.specs.Judged.{form, fault, operands};
-ghost use Rattle.flow_rules.specs.Items.{item, among, has_default, wait_type, fresh, state_here, into_fault, maybe_into, with_var, in_catch, declared, waited, test_fault, maybe_test, throw_fault, value_fault, declare_fault, assign_fault, change_fault, modify_fault, wait_fault, body_refusal, branch_refusal};
+ghost use Rattle.flow_rules.specs.Items.{item, among, has_default, wait_type, fresh, state_here, into_fault, maybe_into, with_var, with_states, if_state, in_catch, declared, waited, test_fault, maybe_test, throw_fault, value_fault, declare_fault, assign_fault, change_fault, modify_fault, wait_fault, body_refusal, branch_refusal};
 ghost use Rattle.flow_rules.specs.View.{found_of};
 ghost use Rattle.flow_rules.specs.MapView.{vars_of};
 ghost use Rattle.flow_rules.specs.SettingView.{setting_view};
@@ -41,6 +41,13 @@ pub struct Walk<'n, 'a> {
     pub setting: Setting<'n, 'a>,
     pub returns: Found<'a>,
     pub states: IndexSet<&'a [u8]>,
+}
+
+/// Whether a text is among these.
+pub fn has_text(texts: &IndexSet<&[u8]>, text: &[u8]) -> bool
+    ensures { result ≡ among (texts_of texts.now) text.now }
+{
+    texts.contains(text)
 }
 
 /// An item at this place, with the least rule that fails in it.
@@ -104,12 +111,16 @@ impl Around {
 
 impl<'n, 'a> Walk<'n, 'a> {
     // A state variable or a parameter has this name.
-    fn has_state(&self, name: &[u8]) -> bool {
-        self.states.contains(name)
+    fn has_state(&self, name: &[u8]) -> bool
+        ensures { result ≡ among (texts_of self.now.states) name.now }
+    {
+        has_text(&self.states, name)
     }
 
     // A new variable has a name that is free.
-    fn fresh(&self, state: bool, name: &Ident) -> Option<u8> {
+    fn fresh(&self, state: bool, name: &Ident) -> Option<u8>
+        ensures { result ≡ fresh (setting_view self.now.setting) (texts_of self.now.states) state name.now.name }
+    {
         let bytes = name.name.bytes();
         let taken = self.setting.has_var(bytes)
             || is_predefined(bytes)
@@ -124,7 +135,9 @@ impl<'n, 'a> Walk<'n, 'a> {
         if state { self.setting.not_here() } else { None }
     }
 
-    fn into(&self, into: &Into) -> Option<u8> {
+    fn into(&self, into: &Into) -> Option<u8>
+        ensures { result ≡ into_fault (setting_view self.now.setting) (texts_of self.now.states) (into_of into.now) }
+    {
         lesser(
             self.setting.written(&into.ty),
             lesser(
@@ -134,7 +147,9 @@ impl<'n, 'a> Walk<'n, 'a> {
         )
     }
 
-    fn maybe_into(&self, into: &Option<Into>) -> Option<u8> {
+    fn maybe_into(&self, into: &Option<Into>) -> Option<u8>
+        ensures { result ≡ maybe_into (setting_view self.now.setting) (texts_of self.now.states) (option_map into_of into.now) }
+    {
         match into {
             Some(into) => self.into(into),
             None => None,
@@ -142,55 +157,93 @@ impl<'n, 'a> Walk<'n, 'a> {
     }
 
     // The variable is in force from here on.
-    fn declare(&mut self, name: &'a Ident, ty: Found<'a>) -> Result<(), SourceFault> {
+    #[tactic(auto, using(crate::proofs::Inserts::row_inserted))]
+    fn declare(&mut self, name: &'a Ident, ty: Found<'a>) -> Result<(), SourceFault>
+        requires { named (vars_of self.old.setting.vars) name.now.name ≡ None }
+        ensures declared { IfOk result (λ _. (around : Around) → env_of self.new around ≡ with_var (env_of self.old around) name.now.name (found_of ty.entry)) }
+        ensures memory { IfErr result (λ e. e ≡ OutOfMemory) }
+    {
         self.setting.vars.insert(name.name.bytes(), ty)?;
         Ok(())
     }
 
-    fn declared(&mut self, into: &'a Into) -> Result<(), SourceFault> {
-        if into.state {
-            self.states.insert(into.name.name.bytes())?;
+    // The name of a state variable stays taken behind the scope of the variable.
+    #[tactic(auto, using(crate::proofs::Parts::noted_none))]
+    fn note_state(&mut self, into: &'a Into) -> Result<(), SourceFault>
+        requires { fresh (setting_view self.old.setting) (texts_of self.old.states) into.now.state into.now.name.name ≡ None }
+        ensures noted { IfOk result (λ _. (around : Around) → env_of self.new around ≡ with_states (env_of self.old around) (if_state into.now.state into.now.name.name)) }
+        ensures setting { IfOk result (λ _. self.new.setting ≡ self.old.setting) }
+        ensures memory { IfErr result (λ e. e ≡ OutOfMemory) }
+    {
+        if !into.state {
+            return Ok(());
         }
+        self.states.insert(into.name.name.bytes())?;
+        Ok(())
+    }
+
+    fn declared(&mut self, into: &'a Into) -> Result<(), SourceFault>
+        requires { fresh (setting_view self.old.setting) (texts_of self.old.states) into.now.state into.now.name.name ≡ None }
+        ensures declared { IfOk result (λ _. (around : Around) → env_of self.new around ≡ declared (env_of self.old around) (into_of into.now)) }
+        ensures memory { IfErr result (λ e. e ≡ OutOfMemory) }
+    {
+        self.note_state(into)?;
         self.declare(&into.name, Found::of(&into.ty))
     }
 
-    fn waited(&mut self, into: &'a Option<Into>) -> Result<(), SourceFault> {
+    fn waited(&mut self, into: &'a Option<Into>) -> Result<(), SourceFault>
+        requires { maybe_into (setting_view self.old.setting) (texts_of self.old.states) (option_map into_of into.now) ≡ None }
+        ensures waited { IfOk result (λ _. (around : Around) → env_of self.new around ≡ waited (env_of self.old around) (option_map into_of into.now)) }
+        ensures memory { IfErr result (λ e. e ≡ OutOfMemory) }
+    {
         match into {
             Some(into) => self.declared(into),
             None => Ok(()),
         }
     }
 
-    fn test(&self, test: &'a Expr) -> Option<u8> {
+    fn test(&self, test: &'a Expr) -> Option<u8>
+        ensures { result ≡ test_fault (setting_view self.now.setting) (expr_of test.now) }
+    {
         self.setting.wanted(false, test, Found::Bool)
     }
 
-    fn maybe_test(&self, test: &'a Option<Expr>) -> Option<u8> {
+    fn maybe_test(&self, test: &'a Option<Expr>) -> Option<u8>
+        ensures { result ≡ maybe_test (setting_view self.now.setting) (option_map expr_of test.now) }
+    {
         match test {
             Some(test) => self.test(test),
             None => None,
         }
     }
 
-    fn thrown(&self, caught: bool, error: &'a Option<Expr>) -> Option<u8> {
+    fn thrown(&self, caught: bool, error: &'a Option<Expr>) -> Option<u8>
+        ensures { result ≡ throw_fault (setting_view self.now.setting) caught (option_map expr_of error.now) }
+    {
         match error {
             Some(error) => self.setting.wanted(false, error, Found::Error),
             None => unless(caught, BREAK_OUTSIDE),
         }
     }
 
-    fn value(&self, ty: &'a Ty, value: &'a Option<Expr>) -> Option<u8> {
+    fn value(&self, ty: &'a Ty, value: &'a Option<Expr>) -> Option<u8>
+        ensures { result ≡ value_fault (setting_view self.now.setting) (type_of ty.now) (option_map expr_of value.now) }
+    {
         match value {
             Some(value) => self.setting.wanted(true, value, Found::of(ty)),
             None => unless(has_default(ty), NEEDS_VALUE),
         }
     }
 
-    fn declaration(&self, into: &'a Into, value: &'a Option<Expr>) -> Option<u8> {
+    fn declaration(&self, into: &'a Into, value: &'a Option<Expr>) -> Option<u8>
+        ensures { result ≡ declare_fault (setting_view self.now.setting) (texts_of self.now.states) (into_of into.now) (option_map expr_of value.now) }
+    {
         lesser(self.into(into), self.value(&into.ty, value))
     }
 
-    fn assignment(&self, target: &Target, value: &'a Expr) -> Option<u8> {
+    fn assignment(&self, target: &Target, value: &'a Expr) -> Option<u8>
+        ensures { result ≡ assign_fault (setting_view self.now.setting) target.now.path.items (expr_of value.now) }
+    {
         let target = self.setting.target(&target.path);
         let value = self.setting.judge(true, value);
         let assigned = match target.form {
@@ -200,12 +253,16 @@ impl<'n, 'a> Walk<'n, 'a> {
         lesser(lesser(target.fault, value.fault), assigned)
     }
 
-    fn operand(&self, op: Op, target: Option<Found<'a>>, value: &'a Expr) -> Option<u8> {
+    fn operand(&self, op: Op, target: Option<Found<'a>>, value: &'a Expr) -> Option<u8>
+        ensures { result ≡ lesser (fault (setting_view self.now.setting) false (expr_of value.now)) (operands op (option_map found_of target.entry) (form (setting_view self.now.setting) (expr_of value.now))) }
+    {
         let value = self.setting.judge(false, value);
         lesser(value.fault, operands(op, target, value.form))
     }
 
-    fn change(&self, target: Option<Found<'a>>, change: &'a Change) -> Option<u8> {
+    fn change(&self, target: Option<Found<'a>>, change: &'a Change) -> Option<u8>
+        ensures { result ≡ change_fault (setting_view self.now.setting) (option_map found_of target.entry) (change_of change.now) }
+    {
         match change {
             Change::Plus(value) => self.operand(Op::Add, target, value),
             Change::Minus(value) => self.operand(Op::Sub, target, value),
@@ -213,12 +270,16 @@ impl<'n, 'a> Walk<'n, 'a> {
         }
     }
 
-    fn modification(&self, target: &Target, change: &'a Change) -> Option<u8> {
+    fn modification(&self, target: &Target, change: &'a Change) -> Option<u8>
+        ensures { result ≡ modify_fault (setting_view self.now.setting) target.now.path.items (change_of change.now) }
+    {
         let target = self.setting.target(&target.path);
         lesser(target.fault, self.change(target.form, change))
     }
 
-    fn waiting(&self, waiting: &'a Waiting) -> Option<u8> {
+    fn waiting(&self, waiting: &'a Waiting) -> Option<u8>
+        ensures { result ≡ wait_fault (setting_view self.now.setting) (texts_of self.now.states) (waiting_of waiting.now) }
+    {
         let wanted = wait_type(waiting.next, &waiting.into);
         lesser(
             self.maybe_into(&waiting.into),
@@ -231,7 +292,9 @@ impl<'n, 'a> Walk<'n, 'a> {
 
     // Statements of a body of their own, whose variables are in force in it alone.
     #[cycle(walk)]
-    fn scoped(&mut self, around: Around, body: &'a [Stmt]) -> Result<(), SourceFault> {
+    fn scoped(&mut self, around: Around, body: &'a [Stmt]) -> Result<(), SourceFault>
+        ensures leads { Leads (env_of self.old around) (env_of self.new around) (body_refusal (env_of self.old around) (body_of body.now)) (body_slots (body_of body.now)) result }
+    {
         let count = self.setting.vars.len();
         self.body(around, body)?;
         self.setting.vars.truncate(count);
@@ -240,7 +303,9 @@ impl<'n, 'a> Walk<'n, 'a> {
 
     /// Statements one after another.
     #[cycle(walk)]
-    pub fn body(&mut self, around: Around, body: &'a [Stmt]) -> Result<(), SourceFault> {
+    pub fn body(&mut self, around: Around, body: &'a [Stmt]) -> Result<(), SourceFault>
+        ensures answer { BodyAnswer (env_of self.old around) (env_of self.new around) (body_of body.now) result }
+    {
         for stmt in body {
             self.stmt(around, stmt)?;
         }
@@ -248,11 +313,9 @@ impl<'n, 'a> Walk<'n, 'a> {
     }
 
     #[cycle(walk)]
-    fn otherwise(
-        &mut self,
-        around: Around,
-        body: &'a Option<Vec<Stmt>>,
-    ) -> Result<(), SourceFault> {
+    fn otherwise(&mut self, around: Around, body: &'a Option<Vec<Stmt>>) -> Result<(), SourceFault>
+        ensures leads { Leads (env_of self.old around) (env_of self.new around) (else_refusal (env_of self.old around) (else_of body.now)) (else_slots (else_of body.now)) result }
+    {
         match body {
             Some(body) => self.scoped(around, body),
             None => Ok(()),
@@ -261,7 +324,9 @@ impl<'n, 'a> Walk<'n, 'a> {
 
     // The init or the step of a `for`.
     #[cycle(walk)]
-    fn part(&mut self, around: Around, part: &'a Option<Box<Stmt>>) -> Result<(), SourceFault> {
+    fn part(&mut self, around: Around, part: &'a Option<Box<Stmt>>) -> Result<(), SourceFault>
+        ensures answer { PartAnswer (env_of self.old around) (env_of self.new around) (simple_of part.now) result }
+    {
         match part {
             Some(stmt) => self.stmt(around, stmt),
             None => Ok(()),
@@ -275,7 +340,10 @@ impl<'n, 'a> Walk<'n, 'a> {
         around: Around,
         error: &'a Ident,
         handler: &'a [Stmt],
-    ) -> Result<(), SourceFault> {
+    ) -> Result<(), SourceFault>
+        requires { named (vars_of self.old.setting.vars) error.now.name ≡ None }
+        ensures leads { Leads (env_of self.old around) (env_of self.new around) (body_refusal (in_catch (with_var (env_of self.old around) error.now.name ErrorType)) (body_of handler.now)) (body_slots (body_of handler.now)) result }
+    {
         let count = self.setting.vars.len();
         self.declare(error, Found::Error)?;
         self.body(around.in_catch(), handler)?;
@@ -284,7 +352,9 @@ impl<'n, 'a> Walk<'n, 'a> {
     }
 
     #[cycle(walk)]
-    fn branch(&mut self, around: Around, branch: &'a When) -> Result<(), SourceFault> {
+    fn branch(&mut self, around: Around, branch: &'a When) -> Result<(), SourceFault>
+        ensures answer { BranchAnswer (env_of self.old around) (env_of self.new around) (branch_of branch.now) result }
+    {
         let count = self.setting.vars.len();
         item(branch.at, self.waiting(&branch.waiting))?;
         self.waited(&branch.waiting.into)?;
@@ -294,7 +364,9 @@ impl<'n, 'a> Walk<'n, 'a> {
     }
 
     #[cycle(walk)]
-    fn branches(&mut self, around: Around, branches: &'a [When]) -> Result<(), SourceFault> {
+    fn branches(&mut self, around: Around, branches: &'a [When]) -> Result<(), SourceFault>
+        ensures leads { Leads (env_of self.old around) (env_of self.new around) (branch_refusal (env_of self.old around) (branches_of branches.now)) (branch_slots (branches_of branches.now)) result }
+    {
         for branch in branches {
             self.branch(around, branch)?;
         }
@@ -302,7 +374,9 @@ impl<'n, 'a> Walk<'n, 'a> {
     }
 
     #[cycle(walk)]
-    fn stmt(&mut self, around: Around, stmt: &'a Stmt) -> Result<(), SourceFault> {
+    fn stmt(&mut self, around: Around, stmt: &'a Stmt) -> Result<(), SourceFault>
+        ensures answer { StmtAnswer (env_of self.old around) (env_of self.new around) (stmt_of stmt.now) result }
+    {
         let at = stmt.at;
         match &stmt.kind {
             StmtKind::Block(body) => self.scoped(around, body),

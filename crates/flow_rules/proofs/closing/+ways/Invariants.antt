@@ -1,5 +1,14 @@
 use Rattle.std.proofs.Common.{◌≡◌, ◌+◌, ◌*◌, drop}
+use Rattle.flow_tree.specs.StmtView.{body_of, branches_of}
+use Rattle.flow_rules.specs.Closing.{and_then, either, ways, branch_ways}
+use Rattle.flow_rules.specs.ClosingView.{ways_view}
 use Rattle.flow_rules.proofs.closing.+ways.Given as goal
+
+abbrev pub invariant-ways_of-loop-stmt : goal.invariant-ways_of-loop-stmt
+invariant-ways_of-loop-stmt l = and_then (ways_view l.so_far) (ways (body_of (drop l.stmt-index l.body))) ≡ ways (body_of l.body)
+
+abbrev pub invariant-branch_ways-loop-branch : goal.invariant-branch_ways-loop-branch
+invariant-branch_ways-loop-branch l = either (ways_view l.so_far) (branch_ways (branches_of (drop l.branch-index l.branches))) ≡ branch_ways (branches_of l.branches)
 
 -- a statement, then a list, then the option of a list
 abbrev pub decreases-stmt_ways : goal.decreases-stmt_ways

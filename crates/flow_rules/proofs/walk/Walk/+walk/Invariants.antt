@@ -1,5 +1,16 @@
 use Rattle.std.proofs.Common.{◌≡◌, ◌+◌, ◌*◌, drop}
+use Rattle.flow_tree.specs.StmtView.{body_of, branches_of}
+use Rattle.flow_rules.specs.WalkView.{env_of}
+use Rattle.flow_rules.proofs.Walking.{Along, Beside}
 use Rattle.flow_rules.proofs.walk.Walk.+walk.Given as goal
+
+-- along the statements of a body, and the branches of a choose
+abbrev pub invariant-body-loop-stmt : goal.invariant-body-loop-stmt
+invariant-body-loop-stmt l = Along (env_of l.initial.self l.around) (env_of l.self l.around) (body_of (drop l.stmt-index l.body)) (body_of l.body)
+
+abbrev pub invariant-branches-loop-branch : goal.invariant-branches-loop-branch
+invariant-branches-loop-branch l =
+    Beside (env_of l.initial.self l.around) (env_of l.self l.around) (branches_of (drop l.branch-index l.branches)) (branches_of l.branches)
 
 -- a statement, then a list, then a list in a scope of its own, then an option
 abbrev pub decreases-stmt : goal.decreases-stmt
