@@ -2,6 +2,7 @@
 
 ghost use Rattle.std.specs.Prelude.{◌≡◌, ◌<◌, length, map, slice_get, IfOk};
 ghost use Rattle.flow_tree.specs.DeclView.{program_of};
+ghost use Rattle.flow_types.specs.Checked.{Checked};
 ghost use Rattle.flow_types.specs.Variables.{variables_of};
 ghost use Rattle.flow_types.specs.VariablesView.{variable_list, variable_lists};
 
@@ -22,7 +23,9 @@ pub struct Typed {
 /// A program, where the rules K1 to K12 and L8 hold in it. Otherwise it is refused: by the least rule
 /// of K1 to K12 that fails at its first item in the order of the text in which one does; or, where none
 /// does, by L8 at its first record that is too large.
+#[tactic(auto, using(crate::proofs::Answering::refused_checked, crate::proofs::Answering::memory_checked))]
 pub fn check(alloc: Global, program: Program) -> Result<Typed, SourceFault>
+    ensures checked { Checked (program_of program) result }
     ensures program { IfOk result (λ t. t.program ≡ program) }
     ensures variables { IfOk result (λ t. variable_lists t.variables.items ≡ map variables_of (program_of program).decls) }
 {
