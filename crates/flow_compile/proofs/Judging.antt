@@ -1,5 +1,5 @@
 -- What reading a text comes to, by how far it was read.
-use Rattle.std.proofs.Common.{ℕ, ◌≤◌, List, length, Result, Ok, Err, sym, subst}
+use Rattle.std.proofs.Common.{ℕ, ◌≤◌, List, length, Result, Ok, Err}
 use Rattle.flow_tree.specs.declared.limits.TheConstants.{PROGRAM_BYTES}
 use Rattle.flow_tree.specs.declared.token.Tokens.{Tokens}
 use Rattle.flow_tree.specs.declared.decl.Program.{Program}
@@ -7,9 +7,6 @@ use Rattle.flow_tree.specs.declared.fault.SourceFault.{SourceFault}
 use Rattle.flow_tree.specs.declared.fault.SourceFault.TheVariants.{Refused, AcrossWait, OutOfMemory}
 use Rattle.flow_tree.specs.Lexing.{Lexes, Lexed}
 use Rattle.flow_parse.specs.ParseAnswer.{ParseAnswer}
-use Rattle.flow_types.specs.declared.check.Typed.{Typed}
-use Rattle.flow_staterule.specs.declared.sound.Sound.{Sound}
-use Rattle.flow_staterule.specs.Answer.{Answers}
 use Rattle.flow_compile.specs.Verdict.{no_tokens, no_program, Reading, IsProgram, unread, judged, Verdict}
 
 pub without_tokens : (text : List ℕ) (fault : SourceFault) → length text ≤ PROGRAM_BYTES → Lexed text (Err fault) → Reading text (Err fault)
@@ -33,8 +30,3 @@ pub judged_verdict : (text : List ℕ) (p : Program) (fault : SourceFault) → I
 judged_verdict text p (Refused rule at) i = judged p i
 judged_verdict text p (AcrossWait at declared wait) i = (p, i)
 judged_verdict text p OutOfMemory i = tt
-
--- a program that the rule on state has been asked of
-pub sound_verdict : (text : List ℕ) (t : Typed) (answer : Result Sound SourceFault) → IsProgram text t.program → Answers t answer → Verdict text answer
-sound_verdict text t (Ok s) i a = subst (λ x. IsProgram text x.program) (sym a.0) i
-sound_verdict text t (Err fault) i a = judged_verdict text t.program fault i

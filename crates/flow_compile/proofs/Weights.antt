@@ -1,6 +1,6 @@
 -- Weights are summed up, and stand still at the greatest number.
-use Rattle.std.proofs.Common.{◌≡◌, ℕ, suc, ◌+◌, ◌<◌, ◌≤◌, List, [], ◌∷◌, length, drop, get_or, map, refl, sym, ap, ◌∙◌, arith}
-use Rattle.std.specs.Prelude.{◌^◌, ◌-◌, min, Bool, true, false, nat_lt, if◌then◌else◌}
+use Rattle.std.proofs.Common.{◌≡◌, ℕ, ◌+◌, ◌<◌, ◌≤◌, List, [], ◌∷◌, length, drop, get_or, map, refl, sym, ap, ◌∙◌, arith}
+use Rattle.std.specs.Prelude.{Bool, true, false, nat_lt, if◌then◌else◌}
 use Rattle.std.specs.declared.option.Option.{Option}
 use Rattle.std.specs.declared.option.Option.TheVariants.{None, Some}
 use Rattle.std.proofs.lemmas.List.{drop_more, drop_all}
@@ -23,6 +23,9 @@ capped_left a b = omega arith
 pub capped_right : (a b : ℕ) → capped (a + capped b) ≡ capped (a + b)
 capped_right a b = omega arith
 
+pub capped_again : (a v : ℕ) → v ≡ capped a → capped v ≡ v
+capped_again a v e = omega (arith, e)
+
 more : (w s v r t whole : ℕ) → v ≡ capped (w + s) → capped t ≡ capped (s + r) → capped (w + t) ≡ whole → capped (v + r) ≡ whole
 more w s v r t whole ve te inv = omega (arith, ve, te, inv)
 
@@ -34,7 +37,7 @@ body_more ss i s w n v whole lt got ve is inv =
     let split : body_of (drop i ss) ≡ stmt_of s k = ap body_of (drop_more ss i s lt) ∙ sym (ap (λ y. stmt_of y k) got) in
     more w n v (body_weight k) (body_weight (stmt_of s k)) whole ve (is k) (ap (λ b. capped (w + body_weight b)) (sym split) ∙ inv)
 
-pub body_over : (ss : List Stmt) (i w whole : ℕ) → length ss ≤ i → capped (w + body_weight (body_of (drop i ss))) ≡ whole → w ≤ 2 ^ 64 - 1 → w ≡ whole
+pub body_over : (ss : List Stmt) (i w whole : ℕ) → length ss ≤ i → capped (w + body_weight (body_of (drop i ss))) ≡ whole → capped w ≡ w → w ≡ whole
 body_over ss i w whole le inv small =
     let e : capped (w + 0) ≡ whole = ap (λ l. capped (w + body_weight (body_of l))) (sym (drop_all i ss le)) ∙ inv in
     omega (arith, e, small)
@@ -47,7 +50,7 @@ branches_more ws i b w n v whole lt got ve is inv =
     let split : branches_of (drop i ws) ≡ branch_of b k = ap branches_of (drop_more ws i b lt) ∙ sym (ap (λ y. branch_of y k) got) in
     more w n v (branch_weight k) (branch_weight (branch_of b k)) whole ve (is k) (ap (λ x. capped (w + branch_weight x)) (sym split) ∙ inv)
 
-pub branches_over : (ws : List When) (i w whole : ℕ) → length ws ≤ i → capped (w + branch_weight (branches_of (drop i ws))) ≡ whole → w ≤ 2 ^ 64 - 1 → w ≡ whole
+pub branches_over : (ws : List When) (i w whole : ℕ) → length ws ≤ i → capped (w + branch_weight (branches_of (drop i ws))) ≡ whole → capped w ≡ w → w ≡ whole
 branches_over ws i w whole le inv small =
     let e : capped (w + 0) ≡ whole = ap (λ l. capped (w + branch_weight (branches_of l))) (sym (drop_all i ws le)) ∙ inv in
     omega (arith, e, small)

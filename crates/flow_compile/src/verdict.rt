@@ -38,7 +38,7 @@ pub fn read_program(alloc: Global, bytes: &[u8]) -> Result<Program, SourceFault>
 
 /// The program of these bytes, where it keeps all rules but the limit L9 on the weight of an actor. Otherwise it is refused,
 /// by the first that fails of: the limit on its bytes, the rules on its tokens, those on its form, K1 to K12, L8 and U1.
-#[tactic(auto, using(crate::proofs::Judging::unread_verdict, crate::proofs::Judging::judged_verdict, crate::proofs::Judging::sound_verdict))]
+#[tactic(auto, using(crate::proofs::Judging::unread_verdict, crate::proofs::Judging::judged_verdict))]
 pub fn front(alloc: Global, bytes: &[u8]) -> Result<Sound, SourceFault>
     ensures { Verdict bytes.now result }
 {

@@ -19,7 +19,7 @@ pub fn weight(actor: &ActorDecl) -> u64
     body_weight(&actor.body).saturating_add(2)
 }
 
-#[tactic(auto, using(crate::proofs::Weights::body_more, crate::proofs::Weights::body_over))]
+#[tactic(auto, using(crate::proofs::Weights::body_more, crate::proofs::Weights::body_over, crate::proofs::Weights::capped_again))]
 #[cycle(weight)]
 fn body_weight(body: &[Stmt]) -> u64
     ensures { result ≡ capped (body_weight (body_of body.now)) }
@@ -85,7 +85,7 @@ fn part_weight(part: &Option<Box<Stmt>>) -> u64
     }
 }
 
-#[tactic(auto, using(crate::proofs::Weights::branches_more, crate::proofs::Weights::branches_over))]
+#[tactic(auto, using(crate::proofs::Weights::branches_more, crate::proofs::Weights::branches_over, crate::proofs::Weights::capped_again))]
 #[cycle(weight)]
 fn branches_weight(branches: &[When]) -> u64
     ensures { result ≡ capped (branch_weight (branches_of branches.now)) }

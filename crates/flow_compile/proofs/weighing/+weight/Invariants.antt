@@ -1,15 +1,16 @@
-use Rattle.std.proofs.Common.{◌≡◌, ℕ, ◌+◌, ◌*◌, drop}
+use Rattle.std.proofs.Common.{◌≡◌, ◌+◌, ◌*◌, drop}
 use Rattle.flow_tree.specs.StmtView.{body_of, branches_of}
 use Rattle.flow_split.specs.Weight.{body_weight, branch_weight}
 use Rattle.flow_compile.specs.Weighing.{capped}
 use Rattle.flow_compile.proofs.weighing.+weight.Given as goal
 
 abbrev pub invariant-body_weight-loop-stmt : goal.invariant-body_weight-loop-stmt
-invariant-body_weight-loop-stmt l = capped (l.weight + body_weight (body_of (drop l.stmt-index l.body))) ≡ capped (body_weight (body_of l.body))
+invariant-body_weight-loop-stmt l =
+    (capped (l.weight + body_weight (body_of (drop l.stmt-index l.body))) ≡ capped (body_weight (body_of l.body))) × (capped l.weight ≡ l.weight)
 
 abbrev pub invariant-branches_weight-loop-branch : goal.invariant-branches_weight-loop-branch
 invariant-branches_weight-loop-branch l =
-    capped (l.weight + branch_weight (branches_of (drop l.branch-index l.branches))) ≡ capped (branch_weight (branches_of l.branches))
+    (capped (l.weight + branch_weight (branches_of (drop l.branch-index l.branches))) ≡ capped (branch_weight (branches_of l.branches))) × (capped l.weight ≡ l.weight)
 
 -- nodes, then lists, then options
 abbrev pub decreases-stmt_weight : goal.decreases-stmt_weight
