@@ -1,5 +1,5 @@
 -- Uses are added one after another.
-use Rattle.std.proofs.Common.{◌≡◌, ℕ, suc, ◌+◌, ◌-◌, ◌<◌, ◌≤◌, List, [], ◌∷◌, ◌++◌, length, map, drop, get_or, sym, ap, ap₂, ◌∙◌, append_assoc, append-nil, refl, reverse, take, arith}
+use Rattle.std.proofs.Common.{◌≡◌, ℕ, ◌+◌, ◌-◌, ◌<◌, ◌≤◌, List, [], ◌∷◌, ◌++◌, length, map, drop, get_or, sym, ap, ap₂, ◌∙◌, append_assoc, append-nil, refl, reverse, take, arith}
 use Rattle.std.proofs.lemmas.List.{drop_more, drop_all, take_more, take_all, map-append, reverse-append}
 use Rattle.flow_tree.specs.declared.expr.Expr.{Expr}
 use Rattle.flow_tree.specs.declared.decl.Param.{Param}

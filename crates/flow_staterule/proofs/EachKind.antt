@@ -1,5 +1,5 @@
 -- What is found in a statement of each kind, and then behind it.
-use Rattle.std.proofs.Common.{◌≡◌, ℕ, suc, ◌+◌, ◌-◌, List, [], ◌∷◌, ◌++◌, length, refl, sym, ap, ap₂, ◌∙◌, append_assoc, append-nil, arith, rules}
+use Rattle.std.proofs.Common.{◌≡◌, ℕ, ◌-◌, List, [], ◌∷◌, ◌++◌, length, refl, sym, ap, ap₂, ◌∙◌, append_assoc, append-nil, arith}
 use Rattle.std.specs.Option.{option_map}
 use Rattle.std.specs.declared.option.Option.{Option}
 use Rattle.std.specs.declared.option.Option.TheVariants.{None, Some}
@@ -23,7 +23,6 @@ use Rattle.flow_layout.proofs.StmtKinds.{is_break, is_continue, is_if, is_if_els
 use Rattle.flow_staterule.specs.declared.scope.Point.{Point}
 use Rattle.flow_staterule.specs.declared.scope.Use.{Use}
 use Rattle.flow_staterule.specs.declared.scope.Variables.{Variables}
-use Rattle.flow_staterule.specs.declared.uses.Caught.{Caught}
 use Rattle.flow_staterule.specs.declared.uses.Here.{Here}
 use Rattle.flow_staterule.specs.declared.uses.Finder.{Finder}
 use Rattle.flow_staterule.specs.Ways.{ways, head}

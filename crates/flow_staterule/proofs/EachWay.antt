@@ -1,5 +1,5 @@
 -- The ways out of a statement of each kind, and the waits behind it.
-use Rattle.std.proofs.Common.{◌≡◌, ℕ, suc, ◌+◌, ◌-◌, List, [], ◌∷◌, ◌++◌, length, refl, sym, ap, ap₂, ◌∙◌, arith}
+use Rattle.std.proofs.Common.{◌≡◌, ℕ, ◌-◌, List, length, sym, ap, ap₂, ◌∙◌, arith}
 use Rattle.std.specs.Option.{option_map}
 use Rattle.std.specs.declared.option.Option.{Option}
 use Rattle.std.specs.declared.option.Option.TheVariants.{None, Some}
@@ -19,7 +19,7 @@ use Rattle.flow_ast.specs.Slots.{body_groups, branch_groups, branch_waits}
 use Rattle.flow_ast.specs.Typing.{is_there}
 use Rattle.flow_layout.proofs.StmtKinds.{is_if, is_if_else, is_for, is_while, is_loop, is_try, is_choose}
 use Rattle.flow_staterule.specs.declared.ways.Ways.{Ways}
-use Rattle.flow_staterule.specs.Ways.{ways, branch_ways, branching, else_waits, at_once, both, follow, node, plain, sequence, with_step, looped, handled, waited_at}
+use Rattle.flow_staterule.specs.Ways.{ways, branch_ways, branching, else_waits, at_once, both, follow, node, plain, sequence, with_step, looped, waited_at}
 use Rattle.flow_staterule.proofs.Passing.{past_two, past_three, past_four, past_choose}
 
 -- the waits behind a body

@@ -1,5 +1,5 @@
 -- The first stale use, and the wait that is told of it.
-use Rattle.std.proofs.Common.{◌≡◌, ℕ, zero, suc, ◌+◌, ◌-◌, ◌<◌, ◌≤◌, Bool, true, false, List, [], ◌∷◌, length, drop, get_or, map, reverse, refl, sym, ap, ◌∙◌, arith}
+use Rattle.std.proofs.Common.{◌≡◌, ℕ, zero, suc, ◌+◌, ◌<◌, ◌≤◌, Bool, true, false, List, [], ◌∷◌, length, drop, get_or, map, reverse, refl, sym, ap, ◌∙◌, arith}
 use Rattle.std.specs.Prelude.{slice_get, is_some, if◌then◌else◌}
 use Rattle.std.specs.declared.option.Option.{Option}
 use Rattle.std.specs.declared.option.Option.TheVariants.{None, Some}
@@ -14,7 +14,7 @@ use Rattle.flow_staterule.specs.declared.rule.Lost.{Lost}
 use Rattle.flow_staterule.specs.declared.scope.Use.{Use}
 use Rattle.flow_staterule.specs.Uses.{parameter, begins}
 use Rattle.flow_staterule.specs.StateRule.{routine_uses, first_stale, is_stale_use, is_lost_with, first_with, lost_in_decl, first_of, first_lost}
-use Rattle.flow_staterule.proofs.Staler.{Staler, stale_still, uses_more}
+use Rattle.flow_staterule.proofs.Staler.{stale_still, uses_more}
 
 -- what is lost with some waits is lost with more
 still_lost : (ps : List ParamTree) (b : Body) (u n m : ℕ) → n ≤ m → is_lost_with ps b u n ≡ true → is_lost_with ps b u m ≡ true

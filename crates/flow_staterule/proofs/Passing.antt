@@ -1,5 +1,5 @@
 -- Statements and branches one after another: the ways out, and the waits that are still looked for.
-use Rattle.std.proofs.Common.{◌≡◌, ℕ, suc, ◌+◌, ◌-◌, ◌<◌, ◌≤◌, List, ◌∷◌, ◌++◌, drop, get_or, length, sym, ap, ◌∙◌, arith}
+use Rattle.std.proofs.Common.{◌≡◌, ℕ, ◌+◌, ◌-◌, ◌<◌, ◌≤◌, List, ◌∷◌, ◌++◌, drop, get_or, length, sym, ap, ◌∙◌, arith}
 use Rattle.std.proofs.lemmas.List.{length-append, drop_more, drop_all}
 use Rattle.flow_tree.specs.Body.{Body, Branches}
 use Rattle.flow_tree.specs.StmtView.{stmt_of, body_of, branch_of, branches_of}
@@ -7,7 +7,7 @@ use Rattle.flow_tree.specs.declared.stmt.Stmt.{Stmt}
 use Rattle.flow_tree.specs.declared.stmt.When.{When}
 use Rattle.flow_ast.specs.Slots.{body_groups, branch_groups}
 use Rattle.flow_staterule.specs.declared.ways.Ways.{Ways}
-use Rattle.flow_staterule.specs.Ways.{ways, branch_ways, sequence, both, empty}
+use Rattle.flow_staterule.specs.Ways.{ways, branch_ways, sequence, both}
 use Rattle.flow_staterule.proofs.Sequences.{sequence_assoc, sequence_empty, both_assoc, both_none}
 
 -- the waits behind parts, one after the other

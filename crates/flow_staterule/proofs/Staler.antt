@@ -1,5 +1,5 @@
 -- The more waits are looked for, the more uses are stale: points, and the uses at them.
-use Rattle.std.proofs.Common.{◌≡◌, ℕ, zero, suc, ◌+◌, ◌-◌, ◌<◌, ◌≤◌, Bool, true, false, ◌&&◌, ◌||◌, List, [], ◌∷◌, ◌++◌, length, refl, sym, ap, subst, ◌∙◌, arith}
+use Rattle.std.proofs.Common.{◌≡◌, ℕ, zero, suc, ◌-◌, ◌<◌, ◌≤◌, Bool, true, false, ◌&&◌, ◌||◌, List, [], ◌∷◌, ◌++◌, length, refl, sym, ap, subst, ◌∙◌, arith}
 use Rattle.std.specs.Prelude.{nat_le, nat_lt, slice_get, if◌then◌else◌}
 use Rattle.std.specs.Str.{bytes_eq}
 use Rattle.std.specs.declared.option.Option.{Option}
@@ -9,16 +9,15 @@ use Rattle.flow_base.specs.declared.place.Place.{Place}
 use Rattle.flow_tree.specs.declared.ty.Ident.{Ident}
 use Rattle.flow_tree.specs.Tree.{ExprTree, ExprTrees, IntExpr, TextExpr, BoolExpr, VoidExpr, VarExpr, CallExpr, FieldExpr, MethodExpr, NotExpr, NegExpr, BinaryExpr, ParenExpr, NoExprs, MoreExprs}
 use Rattle.flow_tree.specs.Body.{IntoTree, ChangeTree, PlusChange, MinusChange, UpChange, DownChange, Body, End, BlockStmt, IfStmt, IfElseStmt, WhileStmt, ForStmt, LoopStmt, BreakStmt, ContinueStmt, ReturnStmt, ThrowStmt, TryStmt, ChooseStmt, DeclareStmt, AssignStmt, ModifyStmt, CallStmt, WaitStmt, Branches, NoBranches, MoreBranches}
-use Rattle.flow_ast.specs.Slots.{body_groups, branch_groups}
+use Rattle.flow_ast.specs.Slots.{body_groups}
 use Rattle.flow_staterule.specs.declared.scope.Point.{Point}
 use Rattle.flow_staterule.specs.declared.scope.Use.{Use}
 use Rattle.flow_staterule.specs.declared.uses.Caught.{Caught}
 use Rattle.flow_staterule.specs.declared.ways.Reached.{Reached}
-use Rattle.flow_staterule.specs.declared.ways.Ways.{Ways}
 use Rattle.flow_staterule.specs.Ways.{ways, never, with_step, head, round, waited_at}
 use Rattle.flow_staterule.specs.Uses.{Variable, behind, is_stale, use_of, mention, named, expr_uses, exprs_uses, maybe_uses, target_uses, base_uses, change_uses, declaring, declared, caught_as, with_into, left, beyond, thrown_uses, uses, branch_uses}
 use Rattle.flow_staterule.specs.StateRule.{is_stale_use}
-use Rattle.flow_staterule.proofs.Growing.{Grows, WaysGrow, same_grows, ways_grow, waited_grows, with_step_grow, head_grows, round_grows, less}
+use Rattle.flow_staterule.proofs.Growing.{Grows, same_grows, ways_grow, waited_grows, with_step_grow, head_grows, round_grows, less}
 
 -- a point with at least as many stale variables, of d in force
 pub record Staler (d : ℕ) (p q : Point) : Type 0 where

@@ -3,7 +3,7 @@
 -- A walk leads from the declaration of a local to a use of it, passes a wait, and doesn't pass the declaration again: then the use is
 -- stale. Between its declaration and the end of its scope a walk doesn't pass the declaration again, so it is enough to look
 -- at the walks from a declaration to each point of its scope.
-use Rattle.std.specs.Prelude.{ℕ, suc, ◌-◌, Bool, true, false, ◌&&◌, nat_le, nat_lt, List, [], ◌∷◌, ◌++◌, map, length, if◌then◌else◌}
+use Rattle.std.specs.Prelude.{ℕ, ◌-◌, Bool, ◌&&◌, nat_le, nat_lt, List, [], ◌∷◌, ◌++◌, length, if◌then◌else◌}
 use Rattle.std.specs.Str.{bytes_eq}
 use Rattle.std.specs.declared.option.Option.{Option}
 use Rattle.std.specs.declared.option.Option.TheVariants.{None, Some}
@@ -11,7 +11,7 @@ use Rattle.flow_base.specs.declared.place.Place.{Place}
 use Rattle.flow_tree.specs.declared.ty.Ident.{Ident}
 use Rattle.flow_tree.specs.Tree.{ExprTree, ExprTrees, IntExpr, TextExpr, BoolExpr, VoidExpr, VarExpr, CallExpr, FieldExpr, MethodExpr, NotExpr, NegExpr, BinaryExpr, ParenExpr, NoExprs, MoreExprs}
 use Rattle.flow_tree.specs.Body.{IntoTree, ChangeTree, PlusChange, MinusChange, UpChange, DownChange, Body, End, BlockStmt, IfStmt, IfElseStmt, WhileStmt, ForStmt, LoopStmt, BreakStmt, ContinueStmt, ReturnStmt, ThrowStmt, TryStmt, ChooseStmt, DeclareStmt, AssignStmt, ModifyStmt, CallStmt, WaitStmt, Branches, NoBranches, MoreBranches}
-use Rattle.flow_tree.specs.Decls.{ParamTree, RoutineTree}
+use Rattle.flow_tree.specs.Decls.{ParamTree}
 use Rattle.flow_staterule.specs.declared.scope.Point.{Point}
 use Rattle.flow_staterule.specs.declared.scope.Use.{Use}
 use Rattle.flow_staterule.specs.declared.uses.Caught.{Caught}

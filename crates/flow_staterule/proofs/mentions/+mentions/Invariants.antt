@@ -1,4 +1,4 @@
-use Rattle.std.proofs.Common.{◌≡◌, ℕ, ◌+◌, ◌*◌, ◌++◌, drop}
+use Rattle.std.proofs.Common.{◌≡◌, ◌+◌, ◌*◌, ◌++◌, drop}
 use Rattle.flow_tree.specs.View.{exprs_of}
 use Rattle.flow_staterule.specs.Uses.{exprs_uses}
 use Rattle.flow_staterule.specs.View.{in_force}

@@ -1,4 +1,4 @@
-use Rattle.std.proofs.Common.{◌≡◌, ℕ, ◌-◌, ◌<◌, ◌≤◌, true, false}
+use Rattle.std.proofs.Common.{◌≡◌, ◌-◌, ◌<◌, ◌≤◌, true, false}
 use Rattle.flow_tree.specs.StmtView.{body_of}
 use Rattle.flow_tree.specs.DeclView.{params_of}
 use Rattle.flow_staterule.specs.StateRule.{is_lost_with}

@@ -1,4 +1,4 @@
-use Rattle.std.proofs.Common.{◌≡◌, ℕ, ◌+◌, ◌*◌, ◌++◌, drop}
+use Rattle.std.proofs.Common.{◌≡◌, ◌+◌, ◌*◌, ◌++◌, drop}
 use Rattle.flow_tree.specs.StmtView.{body_of, branches_of}
 use Rattle.flow_staterule.specs.StateRule.{wait_places, branch_places}
 use Rattle.flow_staterule.proofs.waits.+waits.Given as goal

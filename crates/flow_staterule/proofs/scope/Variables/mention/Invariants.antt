@@ -1,4 +1,4 @@
-use Rattle.std.proofs.Common.{◌≡◌, ℕ, ◌≤◌, length, take, []}
+use Rattle.std.proofs.Common.{◌≡◌, ◌≤◌, length, take, []}
 use Rattle.flow_staterule.specs.Uses.{named}
 use Rattle.flow_staterule.specs.View.{in_force, declared_after}
 use Rattle.flow_staterule.proofs.scope.Variables.mention.Given as goal

@@ -1,4 +1,4 @@
-use Rattle.std.proofs.Common.{◌≡◌, ℕ, ◌+◌, ◌*◌, ◌++◌, drop}
+use Rattle.std.proofs.Common.{◌≡◌, ◌+◌, ◌*◌, ◌++◌, drop}
 use Rattle.flow_tree.specs.StmtView.{body_of, branches_of}
 use Rattle.flow_staterule.specs.Uses.{choose_uses}
 use Rattle.flow_staterule.specs.View.{in_force, Extends, found, in_branches}

@@ -5,17 +5,19 @@ use Rattle.flow_staterule.proofs.EachWay.{waits_if, waits_for, waits_try, ways_i
 use Rattle.flow_staterule.proofs.ways.Looked.+ways.Goals as goal
 
 pub body-loop-stmt-preserved : goal.body-loop-stmt-preserved
-body-loop-stmt-preserved t c =
-    (ways_next c.args.stmts.now c.loop-stmt.stmt-index c.stmt-item.result _ _ _ _ _ _ (omega (arith, c.loop-stmt-test.true)) c.stmt-item.is c.sequence.ensures c.stmt-more.ensures.ways c.loop-stmt.invariant.0,
-    looked_next c.args.stmts.now c.loop-stmt.stmt-index c.stmt-item.result _ _ _ (omega (arith, c.loop-stmt-test.true)) c.stmt-item.is c.stmt-more.ensures.looked c.loop-stmt.invariant.1)
+body-loop-stmt-preserved t c = (
+  ways_next c.args.stmts.now c.loop-stmt.stmt-index c.stmt-item.result _ _ _ _ _ _ (omega (arith, c.loop-stmt-test.true)) c.stmt-item.is c.sequence.ensures c.stmt-more.ensures.ways c.loop-stmt.invariant.0,
+  looked_next c.args.stmts.now c.loop-stmt.stmt-index c.stmt-item.result _ _ _ (omega (arith, c.loop-stmt-test.true)) c.stmt-item.is c.stmt-more.ensures.looked c.loop-stmt.invariant.1,
+)
 
 pub body-returns-clause-ways : goal.body-returns-clause-ways
 body-returns-clause-ways t c = ways_end c.args.stmts.now c.loop-stmt.stmt-index _ _ _ (omega (arith, c.loop-stmt-test.false)) c.loop-stmt.invariant.0
 
 pub branches-loop-branch-preserved : goal.branches-loop-branch-preserved
-branches-loop-branch-preserved t c =
-    (branch_ways_next c.args.branches.now c.loop-branch.branch-index c.branch-item.result _ _ _ _ _ _ (omega (arith, c.loop-branch-test.true)) c.branch-item.is c.both.ensures c.branch-more.ensures.ways c.loop-branch.invariant.0,
-    branch_looked_next c.args.branches.now c.loop-branch.branch-index c.branch-item.result _ _ _ (omega (arith, c.loop-branch-test.true)) c.branch-item.is c.branch-more.ensures.looked c.loop-branch.invariant.1)
+branches-loop-branch-preserved t c = (
+  branch_ways_next c.args.branches.now c.loop-branch.branch-index c.branch-item.result _ _ _ _ _ _ (omega (arith, c.loop-branch-test.true)) c.branch-item.is c.both.ensures c.branch-more.ensures.ways c.loop-branch.invariant.0,
+  branch_looked_next c.args.branches.now c.loop-branch.branch-index c.branch-item.result _ _ _ (omega (arith, c.loop-branch-test.true)) c.branch-item.is c.branch-more.ensures.looked c.loop-branch.invariant.1,
+)
 
 pub branches-returns-clause-ways : goal.branches-returns-clause-ways
 branches-returns-clause-ways t c = branch_ways_end c.args.branches.now c.loop-branch.branch-index _ _ _ (omega (arith, c.loop-branch-test.false)) c.loop-branch.invariant.0

@@ -1,4 +1,4 @@
-use Rattle.std.proofs.Common.{◌≡◌, ℕ, ◌+◌, ◌*◌, ◌-◌, drop, length}
+use Rattle.std.proofs.Common.{◌≡◌, ◌+◌, ◌*◌, ◌-◌, drop, length}
 use Rattle.flow_tree.specs.StmtView.{body_of, branches_of}
 use Rattle.flow_ast.specs.Slots.{body_groups, branch_groups}
 use Rattle.flow_staterule.specs.Ways.{ways, branch_ways, sequence, both}
