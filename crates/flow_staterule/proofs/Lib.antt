@@ -1,4 +1,10 @@
 mod Sequences
+mod Passing
 mod InForce
 mod Adding
+mod Growing
+mod Staler
 mod Places
+mod FirstLost
+mod EachKind
+mod EachWay

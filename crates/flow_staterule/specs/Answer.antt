@@ -1,13 +1,16 @@
 -- What is answered for a program.
 use Rattle.std.specs.Prelude.{◌≡◌, Result, Ok, Err}
+use Rattle.std.specs.declared.option.Option.TheVariants.{None, Some}
+use Rattle.flow_tree.specs.DeclView.{program_of}
 use Rattle.flow_tree.specs.declared.fault.SourceFault.{SourceFault}
 use Rattle.flow_tree.specs.declared.fault.SourceFault.TheVariants.{Refused, AcrossWait, OutOfMemory}
 use Rattle.flow_types.specs.declared.check.Typed.{Typed}
 use Rattle.flow_staterule.specs.declared.sound.Sound.{Sound}
+use Rattle.flow_staterule.specs.StateRule.{first_lost}
 
--- the same program, or a use after a wait; that there is none, and which is told, isn't said here
+-- the same program, where no use of a local is lost, or the first use that is; want of memory may come anywhere
 abbrev pub Answers : Typed → Result Sound SourceFault → Type 0
-Answers t (Ok s) = s.typed ≡ t
+Answers t (Ok s) = (s.typed ≡ t) × (first_lost (program_of t.program).decls ≡ None)
 Answers t (Err (Refused rule at)) = ⊥
-Answers t (Err (AcrossWait at declared wait)) = Unit {0}
+Answers t (Err (AcrossWait at declared wait)) = first_lost (program_of t.program).decls ≡ Some (record { at = at; declared = declared; wait = wait })
 Answers t (Err OutOfMemory) = Unit {0}

@@ -1,5 +1,11 @@
 // The rule on state.
 
+ghost use Rattle.std.specs.Prelude.{◌≡◌, List, true, map, length, slice_get, IfOk};
+ghost use Rattle.flow_base.specs.declared.place.Place.{Place};
+ghost use Rattle.flow_tree.specs.StmtView.{body_of};
+ghost use Rattle.flow_tree.specs.DeclView.{params_of, decl_of};
+ghost use Rattle.flow_staterule.specs.StateRule.{routine_uses, first_stale, is_lost_with, first_with, lost_in, lost_in_decl, first_lost};
+
 use crate::scope::Use;
 use crate::uses::uses_in;
 use crate::waits::wait_places;
@@ -19,7 +25,10 @@ pub struct Lost {
 }
 
 /// The first use of a local after a wait, in the order of the text.
-pub fn first_lost(alloc: Global, decls: &[Decl]) -> Result<Option<Lost>, NoMemory> {
+#[tactic(auto, using(crate::proofs::FirstLost::decls_more, crate::proofs::FirstLost::decls_found, crate::proofs::FirstLost::decls_over))]
+pub fn first_lost(alloc: Global, decls: &[Decl]) -> Result<Option<Lost>, NoMemory>
+    ensures { IfOk result (λ l. l ≡ first_lost (map decl_of decls.now)) }
+{
     for decl in decls {
         if let Some(lost) = lost_in(alloc, decl)? {
             return Ok(Some(lost));
@@ -28,7 +37,9 @@ pub fn first_lost(alloc: Global, decls: &[Decl]) -> Result<Option<Lost>, NoMemor
     Ok(None)
 }
 
-fn lost_in(alloc: Global, decl: &Decl) -> Result<Option<Lost>, NoMemory> {
+fn lost_in(alloc: Global, decl: &Decl) -> Result<Option<Lost>, NoMemory>
+    ensures { IfOk result (λ l. l ≡ lost_in_decl (decl_of decl.now)) }
+{
     match decl {
         Decl::Struct(_) => Ok(None),
         Decl::Function(f) => lost_in_body(alloc, &f.params, &f.body),
@@ -36,7 +47,10 @@ fn lost_in(alloc: Global, decl: &Decl) -> Result<Option<Lost>, NoMemory> {
     }
 }
 
-fn lost_in_body(alloc: Global, params: &[Param], body: &[Stmt]) -> Result<Option<Lost>, NoMemory> {
+#[tactic(auto, using(crate::proofs::FirstLost::first_is_stale))]
+fn lost_in_body(alloc: Global, params: &[Param], body: &[Stmt]) -> Result<Option<Lost>, NoMemory>
+    ensures { IfOk result (λ l. l ≡ lost_in (params_of params.now) (body_of body.now)) }
+{
     let waits = wait_places(alloc, body)?;
     let uses = uses_in(alloc, Looked(waits.len()), params, body)?;
     let Some(number) = first_stale(&uses) else {
@@ -57,7 +71,10 @@ fn lost_in_body(alloc: Global, params: &[Param], body: &[Stmt]) -> Result<Option
 }
 
 /// The number of the first stale use.
-fn first_stale(uses: &[Use]) -> Option<usize> {
+#[tactic(auto, using(crate::proofs::FirstLost::stale_more, crate::proofs::FirstLost::stale_found, crate::proofs::FirstLost::stale_over))]
+fn first_stale(uses: &[Use]) -> Option<usize>
+    ensures { result ≡ first_stale 0 uses.now }
+{
     for number in 0..uses.len() {
         if uses[number].stale {
             return Some(number);
@@ -67,13 +84,18 @@ fn first_stale(uses: &[Use]) -> Option<usize> {
 }
 
 /// The number of the first of so many waits that makes the use with this number stale, if it is stale with all of them.
+#[tactic(auto, using(crate::proofs::FirstLost::halved))]
 fn first_wait(
     alloc: Global,
     params: &[Param],
     body: &[Stmt],
     number: usize,
     waits: usize,
-) -> Result<usize, NoMemory> {
+) -> Result<usize, NoMemory>
+    requires { is_lost_with (params_of params.now) (body_of body.now) number waits ≡ true }
+    ensures { IfOk result (λ w. (places : List Place) → length places ≡ waits
+        → slice_get places w ≡ first_with (is_lost_with (params_of params.now) (body_of body.now) number) 0 places) }
+{
     if waits == 0 {
         return Ok(0);
     }
@@ -97,7 +119,9 @@ fn is_lost_with(
     body: &[Stmt],
     number: usize,
     waits: usize,
-) -> Result<bool, NoMemory> {
+) -> Result<bool, NoMemory>
+    ensures { IfOk result (λ b. b ≡ is_lost_with (params_of params.now) (body_of body.now) number waits) }
+{
     let uses = uses_in(alloc, Looked(waits), params, body)?;
     match uses.get(number) {
         Some(used) => Ok(used.stale),

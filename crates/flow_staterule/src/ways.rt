@@ -1,10 +1,13 @@
 // How walks through a body leave it.
 
-ghost use Rattle.std.specs.Prelude.{◌≡◌, ◌-◌};
+ghost use Rattle.std.specs.Prelude.{◌≡◌, ◌-◌, length};
 ghost use Rattle.std.specs.Option.{option_map};
 ghost use Rattle.flow_tree.specs.View.{expr_of};
 ghost use Rattle.flow_ast.specs.Typing.{is_there};
-ghost use Rattle.flow_staterule.specs.Ways.{never, at_once, either, onward, both, follow, node, plain, sequence, with_step, head, looped, handled, waited_at, round, empty};
+ghost use Rattle.flow_tree.specs.Body.{Body, Branches};
+ghost use Rattle.flow_tree.specs.StmtView.{stmt_of, body_of, branch_of, branches_of, simple_of, else_of};
+ghost use Rattle.flow_ast.specs.Slots.{body_groups, branch_groups};
+ghost use Rattle.flow_staterule.specs.Ways.{ways, branch_ways, branching, else_waits, never, at_once, either, onward, both, follow, node, plain, sequence, with_step, head, looped, handled, waited_at, round, empty};
 
 use flow_ast::expr::Expr;
 use flow_ast::stmt::{Stmt, StmtKind, When};
@@ -248,8 +251,12 @@ impl Looked {
     }
 
     /// The ways out of statements, one after another.
+    #[tactic(auto, using(crate::proofs::Passing::ways_next, crate::proofs::Passing::looked_next, crate::proofs::Passing::ways_end, crate::proofs::Passing::looked_end))]
     #[cycle(ways)]
-    pub fn body(self, stmts: &[Stmt]) -> Passed {
+    pub fn body(self, stmts: &[Stmt]) -> Passed
+        ensures ways { result.ways ≡ ways self.0 (body_of stmts.now) }
+        ensures looked { result.looked.0 ≡ self.0 - length (body_groups (body_of stmts.now)) }
+    {
         let mut passed = self.none_of(Ways::empty());
         for stmt in stmts {
             let more = passed.looked.stmt(stmt);
@@ -262,8 +269,12 @@ impl Looked {
     }
 
     /// The ways out of one statement.
+    #[tactic(auto, using(crate::proofs::Passing::past_two, crate::proofs::EachWay::waits_while, crate::proofs::EachWay::waits_loop, crate::proofs::EachWay::waits_try, crate::proofs::EachWay::waits_for, crate::proofs::EachWay::waits_choose, crate::proofs::EachWay::waits_if, crate::proofs::EachWay::ways_if, crate::proofs::EachWay::ways_for, crate::proofs::EachWay::ways_choose))]
     #[cycle(ways)]
-    pub fn stmt(self, stmt: &Stmt) -> Passed {
+    pub fn stmt(self, stmt: &Stmt) -> Passed
+        ensures ways { (k : Body) → ways self.0 (stmt_of stmt.now k) ≡ sequence result.ways (ways result.looked.0 k) }
+        ensures looked { (k : Body) → self.0 - length (body_groups (stmt_of stmt.now k)) ≡ result.looked.0 - length (body_groups k) }
+    {
         match &stmt.kind {
             StmtKind::Block(body) => self.joined(Ways::node(Reached::AT_ONCE), body),
             StmtKind::If(_, chosen, otherwise) => {
@@ -312,7 +323,10 @@ impl Looked {
 
     /// An `if` whose first body is left so.
     #[cycle(ways)]
-    fn branching(self, chosen: Ways, otherwise: &Option<Vec<Stmt>>) -> Passed {
+    fn branching(self, chosen: Ways, otherwise: &Option<Vec<Stmt>>) -> Passed
+        ensures ways { result.ways ≡ branching self.0 chosen (else_of otherwise.now) }
+        ensures looked { result.looked.0 ≡ self.0 - else_waits (else_of otherwise.now) }
+    {
         match otherwise {
             None => self.none_of(Ways::plain(Reached::AT_ONCE).both(chosen)),
             Some(otherwise) => {
@@ -327,7 +341,10 @@ impl Looked {
 
     /// These ways, and those out of a body.
     #[cycle(ways)]
-    fn joined(self, begun: Ways, body: &Vec<Stmt>) -> Passed {
+    fn joined(self, begun: Ways, body: &Vec<Stmt>) -> Passed
+        ensures ways { result.ways ≡ both begun (ways self.0 (body_of body.now.items)) }
+        ensures looked { result.looked.0 ≡ self.0 - length (body_groups (body_of body.now.items)) }
+    {
         let body = self.body(body);
         Passed {
             ways: begun.both(body.ways),
@@ -337,7 +354,10 @@ impl Looked {
 
     /// A loop whose round is a body alone.
     #[cycle(ways)]
-    fn looped(self, past: bool, body: &Vec<Stmt>) -> Passed {
+    fn looped(self, past: bool, body: &Vec<Stmt>) -> Passed
+        ensures ways { result.ways ≡ looped past (ways self.0 (body_of body.now.items)) }
+        ensures looked { result.looked.0 ≡ self.0 - length (body_groups (body_of body.now.items)) }
+    {
         let body = self.body(body);
         Passed {
             ways: body.ways.looped(past),
@@ -346,8 +366,12 @@ impl Looked {
     }
 
     /// The init or the step of a `for`, where it is there.
+    #[tactic(auto, using(crate::proofs::Sequences::sequence_empty))]
     #[cycle(ways)]
-    pub fn part(self, part: &Option<Box<Stmt>>) -> Passed {
+    pub fn part(self, part: &Option<Box<Stmt>>) -> Passed
+        ensures ways { result.ways ≡ ways self.0 (simple_of part.now) }
+        ensures looked { result.looked.0 ≡ self.0 - length (body_groups (simple_of part.now)) }
+    {
         match part {
             Some(stmt) => self.stmt(stmt),
             None => self.none_of(Ways::empty()),
@@ -355,8 +379,12 @@ impl Looked {
     }
 
     /// The branches of a `choose`.
+    #[tactic(auto, using(crate::proofs::Passing::branch_ways_next, crate::proofs::Passing::branch_looked_next, crate::proofs::Passing::branch_ways_end, crate::proofs::Passing::branch_looked_end))]
     #[cycle(ways)]
-    fn branches(self, branches: &[When]) -> Passed {
+    fn branches(self, branches: &[When]) -> Passed
+        ensures ways { result.ways ≡ branch_ways self.0 (branches_of branches.now) }
+        ensures looked { result.looked.0 ≡ self.0 - length (branch_groups (branches_of branches.now)) }
+    {
         let mut passed = self.none_of(Ways::node(Reached::NEVER));
         for branch in branches {
             let more = passed.looked.branch(branch);
@@ -369,8 +397,12 @@ impl Looked {
     }
 
     /// A branch, behind its wait.
+    #[tactic(auto, using(crate::proofs::Passing::past_two))]
     #[cycle(ways)]
-    fn branch(self, branch: &When) -> Passed {
+    fn branch(self, branch: &When) -> Passed
+        ensures ways { (k : Branches) → branch_ways self.0 (branch_of branch.now k) ≡ both result.ways (branch_ways result.looked.0 k) }
+        ensures looked { (k : Branches) → self.0 - length (branch_groups (branch_of branch.now k)) ≡ result.looked.0 - length (branch_groups k) }
+    {
         self.body(&branch.body)
     }
 }
