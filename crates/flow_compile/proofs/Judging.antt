@@ -43,7 +43,7 @@ typed_text text p t i c e = subst (IsTyped text) (sym e) (record { read = i; acc
 
 -- and that the rule on state was asked of
 pub state_verdict : (text : List ℕ) (t : Typed) (answer : Result Sound SourceFault) → IsTyped text t.program → Answers t answer → Verdict text answer
-state_verdict text t (Ok s) i a = subst (λ x. IsTyped text x.program) (sym a) i
+state_verdict text t (Ok s) i a = subst (λ x. IsTyped text x.program) (sym a.0) i
 state_verdict text t (Err (Refused rule at)) i a = absurd a
 state_verdict text t (Err (AcrossWait at declared wait)) i a = (t.program, i)
 state_verdict text t (Err OutOfMemory) i a = tt
