@@ -12,7 +12,7 @@ use Rattle.flow_types.specs.declared.check.Typed.{Typed}
 use Rattle.flow_types.specs.Checked.{Checked}
 use Rattle.flow_staterule.specs.declared.sound.Sound.{Sound}
 use Rattle.flow_staterule.specs.Answer.{Answers}
-use Rattle.flow_compile.specs.Verdict.{no_tokens, no_program, Reading, IsProgram, IsTyped, unread, breaks, Verdict}
+use Rattle.flow_compile.specs.Verdict.{no_tokens, no_program, Reading, IsProgram, IsTyped, IsSound, unread, breaks, Verdict}
 
 pub without_tokens : (text : List ℕ) (fault : SourceFault) → length text ≤ PROGRAM_BYTES → Lexed text (Err fault) → Reading text (Err fault)
 without_tokens text (Refused rule at) short l = no_tokens short l
@@ -43,7 +43,7 @@ typed_text text p t i c e = subst (IsTyped text) (sym e) (record { read = i; acc
 
 -- and that the rule on state was asked of
 pub state_verdict : (text : List ℕ) (t : Typed) (answer : Result Sound SourceFault) → IsTyped text t.program → Answers t answer → Verdict text answer
-state_verdict text t (Ok s) i a = subst (λ x. IsTyped text x.program) (sym a.0) i
+state_verdict text t (Ok s) i a = subst (λ x. IsSound text x.program) (sym a.0) (record { typed = i; kept = a.1 })
 state_verdict text t (Err (Refused rule at)) i a = absurd a
-state_verdict text t (Err (AcrossWait at declared wait)) i a = (t.program, i)
+state_verdict text t (Err (AcrossWait at declared wait)) i a = (t.program, record { typed = i; first = a })
 state_verdict text t (Err OutOfMemory) i a = tt

@@ -15,6 +15,8 @@ use Rattle.flow_tree.specs.Canon.{first_place}
 use Rattle.flow_parse.specs.ParseAnswer.{ParseAnswer}
 use Rattle.flow_rules.specs.Rules.{refusal_of}
 use Rattle.flow_staterule.specs.declared.sound.Sound.{Sound}
+use Rattle.flow_staterule.specs.declared.rule.Lost.{Lost}
+use Rattle.flow_staterule.specs.StateRule.{first_lost}
 
 -- the text has at most 1,048,576 bytes, and these are its tokens
 pub record HasTokens (text : List ℕ) (tokens : Tokens) : Type 0 where
@@ -45,15 +47,24 @@ pub record IsTyped (text : List ℕ) (p : Program) : Type 0 where
   pub read : IsProgram text p
   pub accepted : refusal_of (program_of p) ≡ None
 
+-- nor is a use of a local lost in it
+pub record IsSound (text : List ℕ) (p : Program) : Type 0 where
+  pub typed : IsTyped text p
+  pub kept : first_lost (program_of p).decls ≡ None
+
+-- the text is this program, which these rules accept, and the first use of a local that is lost in it is this one
+pub record IsLost (text : List ℕ) (p : Program) (l : Lost) : Type 0 where
+  pub typed : IsTyped text p
+  pub first : first_lost (program_of p).decls ≡ Some l
+
 -- the text is refused: it is no program, or one of the rules K1 to K12 and L8 refuses the program that it is
 pub data IsRefused (text : List ℕ) : Rule → Place → Type 0 where
   unread : {rule : Rule} {at : Place} → IsUnread text rule at → IsRefused text rule at
   breaks : {rule : Rule} {at : Place} → (p : Program) → IsProgram text p → refusal_of (program_of p) ≡ Some (rule, at) → IsRefused text rule at
 
--- What the front answers; want of memory may come anywhere. Of a program that these rules accept, a use of a local after a wait may be
--- told; which one isn't said here.
+-- What the front answers; want of memory may come anywhere.
 abbrev pub Verdict : List ℕ → Result Sound SourceFault → Type 0
-Verdict text (Ok s) = IsTyped text s.typed.program
+Verdict text (Ok s) = IsSound text s.typed.program
 Verdict text (Err (Refused rule at)) = IsRefused text rule at
-Verdict text (Err (AcrossWait at declared wait)) = (p : Program) × IsTyped text p
+Verdict text (Err (AcrossWait at declared wait)) = (p : Program) × IsLost text p (record { at = at; declared = declared; wait = wait })
 Verdict text (Err OutOfMemory) = Unit {0}

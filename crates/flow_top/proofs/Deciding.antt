@@ -30,7 +30,7 @@ use Rattle.flow_top.specs.declared.outcome.Told as told
 use Rattle.flow_top.specs.declared.outcome.Told.TheVariants.{Formatted, Passed, Printed, OutOfMemory}
 use Rattle.flow_top.specs.Words.{AreFormat, AreCheck, AreRun, JudgeProgram, of_check, of_run, NameProgram, of_format, of_judged}
 use Rattle.flow_top.specs.Form.{PrintsOnly}
-use Rattle.flow_top.specs.Run.{IsText, HasTyped, HasPassing, HasWorld, IsNoPrint, AsksNames, unread, formatted, refused, lost, heavy, passed, no_world, printed, run, AskedSome, none, program, both, Decided, due, read_fault, no_memory, outcome_of, refusal_outcome_of, heavy_outcome}
+use Rattle.flow_top.specs.Run.{IsText, HasSound, HasPassing, HasWorld, IsNoPrint, AsksNames, unread, formatted, refused, lost, heavy, passed, no_world, printed, run, AskedSome, none, program, both, Decided, due, read_fault, no_memory, outcome_of, refusal_outcome_of, heavy_outcome}
 use Rattle.flow_top.specs.Steps.{FileRead, is_read, is_unread, unasked, starved, Loaded, is_loaded, is_refused, is_lost, no_text, no_room, ClassesOf, are_classes, is_heavy, no_classes, WorldOf, is_world, is_none, no_room_for_it, PrintedOf, are_texts, is_another, no_room_for_texts, RunIn, it_prints, it_runs, not_there, no_room_to_run}
 
 -- a list without length
@@ -92,7 +92,7 @@ pub judged : {before after : FilesSeen} {name : List ℕ} {o : told.Told} (text 
     → Loaded name before after (Err o)
 judged {before = b} {after = a} {name = n} text (source.Refused rule at) o is v asked same = subst (λ x. Loaded n b a (Err x)) (sym o) (is_refused text rule at is v asked same)
 judged {before = b} {after = a} {name = n} text (source.AcrossWait at declared wait) o is v asked same =
-    subst (λ x. Loaded n b a (Err x)) (sym o) (is_lost v.0 at declared wait (record { text = text; is = is; typed = v.1 }) asked same)
+    subst (λ x. Loaded n b a (Err x)) (sym o) (is_lost v.0 (record { at = at; declared = declared; wait = wait }) (record { text = text; is = is; found = v.1 }) asked same)
 judged {before = b} {after = a} {name = n} text source.OutOfMemory o is v asked same =
     subst (λ x. Loaded n b a (Err x)) (sym o) (no_room (n ∷ []) asked (inr refl) same)
 
@@ -105,22 +105,22 @@ asked_some {words} content {name = n} names judges (inr e) = subst (AskedSome wo
 pub without_program : {o : told.Told} {words : List (List ℕ)} {before after : FilesSeen} {name : List ℕ}
     → JudgeProgram words name → Loaded name before after (Err o) → Decided words before after (Told o)
 without_program {name = name} judges (is_refused text rule at is why asked same) = due _ _ (refused name text rule at judges is why) asked same
-without_program {name = name} judges (is_lost p at declared wait has asked same) = due _ _ (lost name p at declared wait judges has) asked same
+without_program {name = name} judges (is_lost p l has asked same) = due _ _ (lost name p l judges has) asked same
 without_program {name = name} judges (no_text asked counted) = read_fault (name ∷ []) (program name (of_judged judges)) asked counted
 without_program {words} {before = b} {name = name} judges (no_room names asked which same) = no_memory names (asked_some b.content names judges which) asked same
 
 -- the program passes
 pub loaded : {before after : FilesSeen} {name : List ℕ} {v : Vec ℕ Global} {s : Sound} → FileRead name before after (Ok v) → Verdict v.items (Ok s) → Loaded name before after (Ok s)
-loaded {v = v} {s = s} (is_read w is asked same) verdict = is_loaded s (record { text = v.items; is = is; typed = verdict }) asked same
+loaded {v = v} {s = s} (is_read w is asked same) verdict = is_loaded s (record { text = v.items; is = is; sound = verdict }) asked same
 
 -- what is known where it is loaded
-pub has_typed : {before after : FilesSeen} {name : List ℕ} {s : Sound} → Loaded name before after (Ok s) → HasTyped before.content name s.typed.program
-has_typed (is_loaded s has asked same) = has
+pub has_sound : {before after : FilesSeen} {name : List ℕ} {s : Sound} → Loaded name before after (Ok s) → HasSound before.content name s.typed.program
+has_sound (is_loaded s has asked same) = has
 
 -- and where no actor weighs too much
 has_passing : {before after : FilesSeen} {name : List ℕ} {s : Sound} → Loaded name before after (Ok s) → first_heavy (program_of s.typed.program).decls ≡ None
     → HasPassing before.content name s.typed.program
-has_passing l light = record { has = has_typed l; light = light }
+has_passing l light = record { has = has_sound l; light = light }
 
 pub was_asked : {before after : FilesSeen} {name : List ℕ} {s : Sound} → Loaded name before after (Ok s) → AsksNames before after (name ∷ [])
 was_asked (is_loaded s has asked same) = asked
@@ -135,7 +135,7 @@ passes {name = name} {s = s} are l light = due _ _ (passed name s.typed.program 
 pub too_heavy : {words : List (List ℕ)} {before after : FilesSeen} {name : List ℕ} {s : Sound} {o : told.Told} (at : Place) → o ≡ heavy_outcome at
     → JudgeProgram words name → Loaded name before after (Ok s) → first_heavy (program_of s.typed.program).decls ≡ Some at → Decided words before after (Told o)
 too_heavy {words} {before = b} {after = a} {name = n} {s = s} at e judges l is =
-    subst (λ x. Decided words b a (Told x)) (sym e) (due _ _ (heavy n s.typed.program at judges (has_typed l) is) (was_asked l) (no_fault l))
+    subst (λ x. Decided words b a (Told x)) (sym e) (due _ _ (heavy n s.typed.program at judges (has_sound l) is) (was_asked l) (no_fault l))
 
 pub without_classes : {words : List (List ℕ)} {before after : FilesSeen} {name : List ℕ} {s : Sound} {o : told.Told}
     → JudgeProgram words name → Loaded name before after (Ok s) → ClassesOf (program_of s.typed.program) (Err o) → Decided words before after (Told o)

@@ -32,7 +32,8 @@ use Rattle.flow_worldfile.specs.Worlds.{IsInRange, seen}
 use Rattle.flow_machine.specs.declared.host.RunFault.{RunFault}
 use Rattle.flow_machine.specs.declared.host.RunFault.TheVariants as broken
 use Rattle.flow_class.specs.declared.program.ClassProgram.{ClassProgram}
-use Rattle.flow_compile.specs.Verdict.{IsUnread, IsRefused, IsProgram, IsTyped}
+use Rattle.flow_staterule.specs.declared.rule.Lost.{Lost}
+use Rattle.flow_compile.specs.Verdict.{IsUnread, IsRefused, IsProgram, IsSound, IsLost}
 use Rattle.flow_compile.specs.Weighing.{first_heavy}
 use Rattle.flow_compile.specs.Compiled.{Has}
 use Rattle.flow_run.specs.declared.ending.Ending.{Ending}
@@ -136,16 +137,22 @@ pub record HasProgram (content : List ℕ → Option (List ℕ)) (name : List �
   pub is : IsText content name text
   pub read : IsProgram text p
 
--- the file of this name has a program that none of the rules K1 to K12 and L8 refuses
-pub record HasTyped (content : List ℕ → Option (List ℕ)) (name : List ℕ) (p : Program) : Type 0 where
+-- the file of this name has a program that none of the rules K1 to K12, L8 and U1 refuses
+pub record HasSound (content : List ℕ → Option (List ℕ)) (name : List ℕ) (p : Program) : Type 0 where
   pub text : List ℕ
   pub is : IsText content name text
-  pub typed : IsTyped text p
+  pub sound : IsSound text p
 
 -- nor does L9
 pub record HasPassing (content : List ℕ → Option (List ℕ)) (name : List ℕ) (p : Program) : Type 0 where
-  pub has : HasTyped content name p
+  pub has : HasSound content name p
   pub light : first_heavy (program_of p).decls ≡ None
+
+-- the file of this name has a program of which this use of a local is lost, the first one in the order of the text
+pub record HasLost (content : List ℕ → Option (List ℕ)) (name : List ℕ) (p : Program) (l : Lost) : Type 0 where
+  pub text : List ℕ
+  pub is : IsText content name text
+  pub found : IsLost text p l
 
 -- what is answered for the file of a world
 pub record HasWorld (content : List ℕ → Option (List ℕ)) (name : List ℕ) (answer : Result World0 WorldFault) : Type 0 where
@@ -175,11 +182,11 @@ pub data Due (words : List (List ℕ)) (content : List ℕ → Option (List ℕ)
   -- the program is refused
   refused : (name text : List ℕ) (rule : Rule) (at : Place) → JudgeProgram words name → IsText content name text → IsRefused text rule at
       → Due words content (Told (Refused (source.Refused rule at))) (name ∷ [])
-  -- the program uses a local after a wait
-  lost : (name : List ℕ) (p : Program) (at declared wait : Place) → JudgeProgram words name → HasTyped content name p
-      → Due words content (Told (Refused (source.AcrossWait at declared wait))) (name ∷ [])
+  -- a use of a local is lost in the program
+  lost : (name : List ℕ) (p : Program) (l : Lost) → JudgeProgram words name → HasLost content name p l
+      → Due words content (Told (Refused (source.AcrossWait l.at l.declared l.wait))) (name ∷ [])
   -- an actor of the program weighs too much
-  heavy : (name : List ℕ) (p : Program) (at : Place) → JudgeProgram words name → HasTyped content name p
+  heavy : (name : List ℕ) (p : Program) (at : Place) → JudgeProgram words name → HasSound content name p
       → first_heavy (program_of p).decls ≡ Some at → Due words content (Told (heavy_outcome at)) (name ∷ [])
   passed : (name : List ℕ) (p : Program) → AreCheck words name → HasPassing content name p → Due words content (Told Passed) (name ∷ [])
   -- the world is refused

@@ -17,6 +17,7 @@ use Rattle.flow_compile.specs.Verdict.{IsRefused}
 use Rattle.flow_compile.specs.Weighing.{first_heavy}
 use Rattle.flow_compile.specs.Compiled.{Has}
 use Rattle.flow_staterule.specs.declared.sound.Sound.{Sound}
+use Rattle.flow_staterule.specs.declared.rule.Lost.{Lost}
 use Rattle.flow_worldfile.specs.declared.world.World0.{World0}
 use Rattle.flow_worldfile.specs.declared.world.WorldFault.{WorldFault}
 use Rattle.flow_worldfile.specs.Reading as reading
@@ -25,7 +26,7 @@ use Rattle.flow_top.specs.declared.outcome.Outcome.TheVariants.{Told, Run}
 use Rattle.flow_top.specs.declared.outcome.Told as told
 use Rattle.flow_top.specs.declared.outcome.Told.TheVariants.{ReadFault, OutOfMemory, Refused, NoWorld, Printed}
 use Rattle.flow_top.specs.Form.{PrintsOnly}
-use Rattle.flow_top.specs.Run.{IsText, HasTyped, AsksNames, IsNoPrint, heavy_outcome}
+use Rattle.flow_top.specs.Run.{IsText, HasSound, HasLost, AsksNames, IsNoPrint, heavy_outcome}
 
 -- What reading the file of this name came to: a call of the files failed exactly where it is unread.
 pub data FileRead (name : List ℕ) (before after : FilesSeen) : Result (Vec ℕ Global) told.Told → Type 0 where
@@ -37,13 +38,13 @@ pub data FileRead (name : List ℕ) (before after : FilesSeen) : Result (Vec ℕ
 
 -- What reading and judging the program of this name came to.
 pub data Loaded (name : List ℕ) (before after : FilesSeen) : Result Sound told.Told → Type 0 where
-  is_loaded : (s : Sound) → HasTyped before.content name s.typed.program → AsksNames before after (name ∷ []) → after.faults ≡ before.faults
+  is_loaded : (s : Sound) → HasSound before.content name s.typed.program → AsksNames before after (name ∷ []) → after.faults ≡ before.faults
       → Loaded name before after (Ok s)
   is_refused : (text : List ℕ) (rule : Rule) (at : Place) → IsText before.content name text → IsRefused text rule at
       → AsksNames before after (name ∷ []) → after.faults ≡ before.faults → Loaded name before after (Err (Refused (source.Refused rule at)))
-  is_lost : (p : Program) (at declared wait : Place) → HasTyped before.content name p
+  is_lost : (p : Program) (l : Lost) → HasLost before.content name p l
       → AsksNames before after (name ∷ []) → after.faults ≡ before.faults
-      → Loaded name before after (Err (Refused (source.AcrossWait at declared wait)))
+      → Loaded name before after (Err (Refused (source.AcrossWait l.at l.declared l.wait)))
   no_text : AsksNames before after (name ∷ []) → after.faults ≡ next_count before.faults → Loaded name before after (Err ReadFault)
   no_room : (names : List (List ℕ)) → AsksNames before after names → (names ≡ []) ⊎ (names ≡ name ∷ []) → after.faults ≡ before.faults
       → Loaded name before after (Err OutOfMemory)
