@@ -1,5 +1,5 @@
 -- A text has one verdict.
-use Rattle.std.proofs.Common.{◌≡◌, ℕ, zero, suc, ◌≤◌, ◌<◌, List, take, length, refl, sym, ap, ap₂, ◌∙◌, subst, arith, inl, inr, Ok, Err, Some, None}
+use Rattle.std.proofs.Common.{◌≡◌, ℕ, zero, suc, ◌≤◌, ◌<◌, List, take, length, refl, sym, ap, ap₂, ◌∙◌, subst, arith, inl, inr, Ok, Err, Option, Some, None}
 use Rattle.std.specs.Prelude.{slice_get, unwrap_or}
 use Rattle.std.specs.Option.{option_map}
 use Rattle.flow_base.specs.declared.place.Place.{Place}
@@ -18,7 +18,9 @@ use Rattle.flow_parse.specs.Laws.{OneProgram, told}
 use Rattle.flow_parse.specs.ParseAnswer.{GoodTo, begun, whole, FailsBy, FailsLimit, LimitAnswer, ParseAnswer}
 use Rattle.flow_parse.proofs.OneAnswer.{one_answer}
 use Rattle.flow_rules.specs.Rules.{refusal_of}
-use Rattle.flow_compile.specs.Verdict.{HasTokens, IsUnread, too_long, no_tokens, no_program, IsProgram, IsTyped, IsRefused, unread, breaks}
+use Rattle.flow_staterule.specs.declared.rule.Lost.{Lost}
+use Rattle.flow_staterule.specs.StateRule.{first_lost}
+use Rattle.flow_compile.specs.Verdict.{HasTokens, IsUnread, too_long, no_tokens, no_program, IsProgram, IsTyped, IsSound, IsLost, IsRefused, unread, breaks}
 use Rattle.flow_compile.specs.Laws.{OneVerdict}
 
 -- tokens are told by their list and their end
@@ -104,9 +106,21 @@ read_or_unread text program r p a (too_long l) = absurd (omega (arith, l, a.has.
 read_or_unread text program r p a (no_tokens k f) = (reads_once text).either a.tokens.spots.items a.tokens.end r p a.has.lexes f
 read_or_unread text program r p a (no_program t h b) = never_both a.tokens program r p a.parsed (moved t a.tokens r p (same_tokens text t a.tokens h a.has) b)
 
--- the parts of what stands for a refusal
+-- the parts of what stands in an option
+rule_or : Rule → Option (Rule × Place) → Rule
+rule_or r None = r
+rule_or r (Some x) = x.0
+
+place_or : Place → Option (Rule × Place) → Place
+place_or p None = p
+place_or p (Some x) = x.1
+
+lost_or : Lost → Option Lost → Lost
+lost_or l None = l
+lost_or l (Some x) = x
+
 same_refusal : (r s : Rule) (p q : Place) → Some (r, p) ≡ Some (s, q) → (r ≡ s) × (p ≡ q)
-same_refusal r s p q e = (cc, cc)
+same_refusal r s p q e = (ap (rule_or r) e, ap (place_or p) e)
 
 refused_once : OneProgram → (text : List ℕ) (r s : Rule) (p q : Place) → IsRefused text r p → IsRefused text s q → (r ≡ s) × (p ≡ q)
 refused_once one text r s p q (unread a) (unread b) = unread_once text r s p q a b
@@ -119,9 +133,19 @@ typed_or_refused one text x r p t (unread a) = read_or_unread text x r p t.read 
 typed_or_refused one text x r p t (breaks y j f) =
     let e : None ≡ Some (r, p) = sym t.accepted ∙ (ap refusal_of (one_program one text x y t.read j) ∙ f) in cc
 
+lost_once : OneProgram → (text : List ℕ) (p q : Program) (l m : Lost) → IsLost text p l → IsLost text q m → l ≡ m
+lost_once one text p q l m a b =
+    ap (lost_or l) (sym a.first ∙ (ap (λ t. first_lost t.decls) (one_program one text p q a.typed.read b.typed.read) ∙ b.first))
+
+sound_or_lost : OneProgram → (text : List ℕ) (p q : Program) (l : Lost) → IsSound text p → IsLost text q l → ⊥
+sound_or_lost one text p q l s a =
+    let e : None ≡ Some l = sym s.kept ∙ (ap (λ t. first_lost t.decls) (one_program one text p q s.typed.read a.typed.read) ∙ a.first) in cc
+
 pub one_verdict : OneProgram → (text : List ℕ) → OneVerdict text
 one_verdict one text = record {
   program = one_program one text;
   refusal = refused_once one text;
-  either = typed_or_refused one text;
+  lost = lost_once one text;
+  typed_or_refused = typed_or_refused one text;
+  sound_or_lost = sound_or_lost one text;
 }

@@ -3,8 +3,8 @@
 ghost use Rattle.std.specs.Prelude.{ℕ, List};
 ghost use Rattle.flow_compile.specs.Laws.{OneVerdict};
 
-/// A text is one program at most, and is refused by one rule at one place at most; and it is never both accepted and refused by
-/// the rules S, K and the limits L1 to L8.
+/// A text has one verdict at most: it is one program at most, is refused by one rule at one place at most, loses a local at one
+/// use of it at most, and is never two of sound, refused and losing a local.
 pub fn one_verdict()
     ensures { (text : List ℕ) → OneVerdict text }
 {}

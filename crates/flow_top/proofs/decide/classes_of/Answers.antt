@@ -1,5 +1,6 @@
 use Rattle.std.proofs.Common.{Err, subst, sym}
 use Rattle.flow_tree.specs.DeclView.{program_of}
+use Rattle.flow_compile.specs.Compiled.{Compiles}
 use Rattle.flow_top.specs.Steps.{ClassesOf, are_classes, is_heavy, no_classes}
 use Rattle.flow_top.proofs.decide.classes_of.Goals as goal
 
@@ -8,7 +9,9 @@ returns-in-Ok c = are_classes c.in-Ok.classes c.in-Ok.ensures.0 c.in-Ok.ensures.
 
 pub returns-in-Err-TooManyBlocks : goal.returns-in-Err-TooManyBlocks
 returns-in-Err-TooManyBlocks c =
-    subst (λ x. ClassesOf (program_of c.args.sound.now.typed.program) (Err x)) (sym c.too_heavy.ensures) (is_heavy c.in-Err-TooManyBlocks.at c.in-Err-TooManyBlocks.ensures)
+    let p = program_of c.args.sound.now.typed.program in
+    let heavy = subst (λ f. Compiles p (Err f)) c.in-Err-TooManyBlocks.field-0-is c.in-Err-TooManyBlocks.ensures in
+    subst (λ x. ClassesOf p (Err x)) (sym c.too_heavy.ensures) (is_heavy c.in-Err-TooManyBlocks.at heavy)
 
 pub returns-in-Err-OutOfMemory : goal.returns-in-Err-OutOfMemory
 returns-in-Err-OutOfMemory c = no_classes
