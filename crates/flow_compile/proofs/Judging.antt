@@ -1,5 +1,5 @@
 -- What reading a text comes to, by how far it was read.
-use Rattle.std.proofs.Common.{ℕ, ◌≤◌, List, length, Result, Ok, Err, sym, subst}
+use Rattle.std.proofs.Common.{◌≡◌, ℕ, ◌≤◌, List, length, Result, Ok, Err, sym, subst}
 use Rattle.flow_tree.specs.declared.limits.TheConstants.{PROGRAM_BYTES}
 use Rattle.flow_tree.specs.declared.token.Tokens.{Tokens}
 use Rattle.flow_tree.specs.declared.decl.Program.{Program}

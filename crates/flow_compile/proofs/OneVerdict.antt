@@ -106,20 +106,23 @@ read_or_unread text program r p a (too_long l) = absurd (omega (arith, l, a.has.
 read_or_unread text program r p a (no_tokens k f) = (reads_once text).either a.tokens.spots.items a.tokens.end r p a.has.lexes f
 read_or_unread text program r p a (no_program t h b) = never_both a.tokens program r p a.parsed (moved t a.tokens r p (same_tokens text t a.tokens h a.has) b)
 
--- the parts of what stands in an option
-rule_or : Rule → Option (Rule × Place) → Rule
+-- the parts of what stands in an option, and that nothing stands in none
+abbrev rule_or : Rule → Option (Rule × Place) → Rule
 rule_or r None = r
 rule_or r (Some x) = x.0
 
-place_or : Place → Option (Rule × Place) → Place
+abbrev place_or : Place → Option (Rule × Place) → Place
 place_or p None = p
 place_or p (Some x) = x.1
 
-lost_or : Lost → Option Lost → Lost
+abbrev lost_or : Lost → Option Lost → Lost
 lost_or l None = l
 lost_or l (Some x) = x
 
-same_refusal : (r s : Rule) (p q : Place) → Some (r, p) ≡ Some (s, q) → (r ≡ s) × (p ≡ q)
+none_or_some : {A : Type 0} (x : A) → ◌≡◌ {A = Option A} None (Some x) → ⊥
+none_or_some x e = cc
+
+same_refusal : (r s : Rule) (p q : Place) → ◌≡◌ {A = Option (Rule × Place)} (Some (r, p)) (Some (s, q)) → (r ≡ s) × (p ≡ q)
 same_refusal r s p q e = (ap (rule_or r) e, ap (place_or p) e)
 
 refused_once : OneProgram → (text : List ℕ) (r s : Rule) (p q : Place) → IsRefused text r p → IsRefused text s q → (r ≡ s) × (p ≡ q)
@@ -131,7 +134,7 @@ refused_once one text r s p q (breaks x i e) (breaks y j f) = same_refusal r s p
 typed_or_refused : OneProgram → (text : List ℕ) (program : Program) (r : Rule) (p : Place) → IsTyped text program → IsRefused text r p → ⊥
 typed_or_refused one text x r p t (unread a) = read_or_unread text x r p t.read a
 typed_or_refused one text x r p t (breaks y j f) =
-    let e : None ≡ Some (r, p) = sym t.accepted ∙ (ap refusal_of (one_program one text x y t.read j) ∙ f) in cc
+    none_or_some (r, p) (sym t.accepted ∙ (ap refusal_of (one_program one text x y t.read j) ∙ f))
 
 lost_once : OneProgram → (text : List ℕ) (p q : Program) (l m : Lost) → IsLost text p l → IsLost text q m → l ≡ m
 lost_once one text p q l m a b =
@@ -139,7 +142,7 @@ lost_once one text p q l m a b =
 
 sound_or_lost : OneProgram → (text : List ℕ) (p q : Program) (l : Lost) → IsSound text p → IsLost text q l → ⊥
 sound_or_lost one text p q l s a =
-    let e : None ≡ Some l = sym s.kept ∙ (ap (λ t. first_lost t.decls) (one_program one text p q s.typed.read a.typed.read) ∙ a.first) in cc
+    none_or_some l (sym s.kept ∙ (ap (λ t. first_lost t.decls) (one_program one text p q s.typed.read a.typed.read) ∙ a.first))
 
 pub one_verdict : OneProgram → (text : List ℕ) → OneVerdict text
 one_verdict one text = record {
