@@ -1,0 +1,4 @@
+pub mod Memories
+pub mod Standing
+pub mod Weights
+pub mod Carried
