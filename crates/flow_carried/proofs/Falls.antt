@@ -49,14 +49,14 @@ exit_falls left how x k a (Check l ∷ r) w = λ e. cc
 exit_falls left how x k a (Over ∷ r) w = λ e. cc
 
 module _ (ns : Names) (v : View) where
-  choose_falls : (left : ℕ) (a : Actor) (o : Option Bool) (main other : Actor) (n : ℕ) → Falls (choose ns v left a o main other) n
+  choose_falls : (left : ℕ) (a : Actor) (o : Option Bool) (main other : Actor) (n : ℕ) → Falls (choose left a o main other) n
   choose_falls left a None main other n = λ e. cc
   choose_falls left a (Some true) main other n = λ e. cc
   choose_falls left a (Some false) main other n = λ e. cc
 
   test_falls : (a : Actor) (e : ExprTree) (main other : Actor) (n : ℕ) → Falls (test ns v a e main other) n
   test_falls a e main other n =
-      evaluated_falls a (value ns v (look a.vars) e) (λ u left. choose ns v left a (bool_of u) main other) n
+      evaluated_falls a (value ns v (look a.vars) e) (λ u left. choose left a (bool_of u) main other) n
       (λ u left. choose_falls left a (bool_of u) main other n)
 
   place_falls : (left : ℕ) (a : Actor) (goal : Target) (u : ValueTree) (r : List Item) (n : ℕ) → Falls (place ns v left a goal u r) n

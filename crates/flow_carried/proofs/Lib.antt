@@ -1,2 +1,5 @@
 pub mod Falls
 pub mod Lists
+pub mod Memory
+pub mod Places
+pub mod Seen
