@@ -6,3 +6,4 @@ pub mod Seen
 pub mod Evals
 pub mod Puts
 pub mod Row
+pub mod Parts
