@@ -7,3 +7,4 @@ pub mod Evals
 pub mod Puts
 pub mod Row
 pub mod Parts
+pub mod Points

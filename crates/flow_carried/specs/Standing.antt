@@ -19,6 +19,15 @@ use Rattle.flow_meaning.specs.Carry.{Pos, entry, Target, At, Again, Hand, Goes, 
 use Rattle.flow_meaning.specs.Carries.{ExitAt, LoopAt, BodyAt}
 use Rattle.flow_carried.specs.Memories.{vars_of, Held, frame_at}
 
+-- the first statement stores an effect, or makes a cell, or waits
+abbrev pub AsksFirst : Names → List Item → Type 0
+AsksFirst ns (Do x (DeclareStmt at i (Some e) k) ∷ r) = is_effect_in ns e ≡ true
+AsksFirst ns (Do x (DeclareStmt at i None k) ∷ r) = makes_cell i.ty ≡ true
+AsksFirst ns (Do x (AssignStmt at xs e k) ∷ r) = is_effect_in ns e ≡ true
+AsksFirst ns (Do x (WaitStmt at w k) ∷ r) = Unit {0}
+AsksFirst ns (Do x (ChooseStmt at bs k) ∷ r) = Unit {0}
+AsksFirst ns _ = ⊥
+
 module _ (ns : Names) (c : ClassTree) where
   -- a loop stands at a block: its condition, and its body, behind which a pass was made
   abbrev pub LoopStands : Scope → List Item → List Target → Loop → (block : ℕ) → Type 0
@@ -71,22 +80,13 @@ module _ (ns : Names) (c : ClassTree) where
     pub below : Below s items targets
     pub caught : CaughtAt ns c s items targets p
 
-  -- the first statement stores an effect, or makes a cell, or waits
-  abbrev pub AsksFirst : List Item → Type 0
-  AsksFirst (Do x (DeclareStmt at i (Some e) k) ∷ r) = is_effect_in ns e ≡ true
-  AsksFirst (Do x (DeclareStmt at i None k) ∷ r) = makes_cell i.ty ≡ true
-  AsksFirst (Do x (AssignStmt at xs e k) ∷ r) = is_effect_in ns e ≡ true
-  AsksFirst (Do x (WaitStmt at w k) ∷ r) = Unit {0}
-  AsksFirst (Do x (ChooseStmt at bs k) ∷ r) = Unit {0}
-  AsksFirst _ = ⊥
-
   -- by the phase of the actor: the frame comes to the point by jumps; an error there goes where the items say; the frame
   -- stands at the point, and this asks; and it waits at the same place as the actor
   abbrev pub WayTo : Phase → Scope → List Item → Actor → Frame → Pos → Pos → Type 0
   WayTo Free s rest a f p q = Goes ns c p q
   WayTo Risky s rest a f p q = Goes ns c p q × ThrowsAt s rest p
-  WayTo Due s rest a f p q = (p ≡ q) × ThrowsAt s rest p × AsksFirst rest
-  WayTo Waiting s rest a f p q = (p ≡ q) × ThrowsAt s rest p × AsksFirst rest × (actor_spot a ≡ frame_spot f)
+  WayTo Due s rest a f p q = (p ≡ q) × ThrowsAt s rest p × AsksFirst ns rest
+  WayTo Waiting s rest a f p q = (p ≡ q) × ThrowsAt s rest p × AsksFirst ns rest × (actor_spot a ≡ frame_spot f)
 
 abbrev pub pos_of : Frame → Pos
 pos_of f = record { block = f.block; instr = f.instr }
