@@ -8,3 +8,4 @@ pub mod Puts
 pub mod Row
 pub mod Parts
 pub mod Points
+pub mod Stores
