@@ -9,3 +9,9 @@ pub mod Row
 pub mod Parts
 pub mod Points
 pub mod Stores
+pub mod Controls
+pub mod Leavings
+pub mod Ends
+pub mod Waits
+pub mod Raises
+pub mod Given
