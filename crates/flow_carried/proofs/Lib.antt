@@ -15,3 +15,6 @@ pub mod Ends
 pub mod Waits
 pub mod Raises
 pub mod Given
+pub mod Fresh
+pub mod Follows
+pub mod Law

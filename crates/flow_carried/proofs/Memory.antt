@@ -68,12 +68,12 @@ emptied_length [] m = refl
 emptied_length (d ∷ ds) m = emptied_length ds (without m d) ∙ length-slice_set m.locals d None
 
 -- all at once
-pub blank : (os : List (Option ValueTree)) (n : ℕ) → at_number (blanks os) n ≡ None
+pub blank : {A : Type 0} (os : List A) (n : ℕ) → at_number (blanks os) n ≡ None
 blank [] n = refl
 blank (o ∷ os) zero = refl
 blank (o ∷ os) (suc n) = blank os n
 
-pub length-blanks : (os : List (Option ValueTree)) → length (blanks os) ≡ length os
+pub length-blanks : {A : Type 0} (os : List A) → length (blanks os) ≡ length os
 length-blanks [] = refl
 length-blanks (o ∷ os) = ap suc (length-blanks os)
 

@@ -1,0 +1,34 @@
+-- The core law, from the laws over two kinds of actors.
+use Rattle.std.specs.Prelude.{List}
+use Rattle.flow_tree.specs.Decls.{ProgramTree}
+use Rattle.flow_class.specs.Classes.{RawTree}
+use Rattle.flow_trace.specs.declared.line.Line.{Line}
+use Rattle.flow_worldfile.specs.Worlds as file
+use Rattle.flow_meaning.specs.Runs.{SourceTrace, ClassTrace}
+use Rattle.flow_meaning.specs.Source.{source, names_of}
+use Rattle.flow_meaning.specs.Class.{classes}
+use Rattle.flow_meaning.specs.Sights.{Sight, SourceSeen, ClassSeen}
+use Rattle.flow_meaning.specs.Views.{actor_spot, frame_spot}
+use Rattle.flow_meaning.proofs.LiftRuns.{traces_follow, traces_return}
+use Rattle.flow_meaning.proofs.Sights.{sights_follow, sights_return}
+use Rattle.flow_carried.specs.Standing.{Stands}
+use Rattle.flow_carried.specs.Carried.{AreCarried, TracesOfText, TracesOfClasses, SightsOfText, SightsOfClasses}
+use Rattle.flow_carried.proofs.Follows.{carried, waits_alike}
+
+pub traces_of_text : TracesOfText
+traces_of_text p r w lines h t =
+    let g = traces_follow (source p) (classes r) (Stands (names_of p)) (carried p r h) w t.0 lines t.1 in
+    (g.0, g.1)
+
+pub traces_of_classes : TracesOfClasses
+traces_of_classes p r w lines h t =
+    let g = traces_return (source p) (classes r) (Stands (names_of p)) (carried p r h) w t.0 lines t.1 in
+    (g.0, g.1)
+
+pub sights_of_text : SightsOfText
+sights_of_text p r w lines sights h =
+    sights_follow (source p) (classes r) (Stands (names_of p)) (carried p r h) actor_spot frame_spot (waits_alike p r h) w lines sights
+
+pub sights_of_classes : SightsOfClasses
+sights_of_classes p r w lines sights h =
+    sights_return (source p) (classes r) (Stands (names_of p)) (carried p r h) actor_spot frame_spot (waits_alike p r h) w lines sights
