@@ -1,14 +1,14 @@
 -- Blocks, conditions, loops and `try`, and the items that they leave behind.
-use Rattle.std.proofs.Common.{◌≡◌, ℕ, List, [], ◌∷◌, refl, sym, ap, subst, ◌∙◌}
+use Rattle.std.proofs.Common.{◌≡◌, ℕ, List, ◌∷◌, refl, sym, ap, subst}
 use Rattle.std.specs.declared.option.Option.{Option}
 use Rattle.std.specs.declared.option.Option.TheVariants.{None, Some}
 use Rattle.flow_base.specs.declared.place.Place.{Place}
 use Rattle.flow_tree.specs.declared.ty.Ident.{Ident}
 use Rattle.flow_tree.specs.Tree.{ExprTree}
 use Rattle.flow_tree.specs.Body.{Body, End, BlockStmt, IfStmt, IfElseStmt, WhileStmt, ForStmt, LoopStmt, TryStmt, DeclareStmt, AssignStmt, ModifyStmt}
-use Rattle.flow_class.specs.Classes.{ClassTree, PassLast, TestLast}
+use Rattle.flow_class.specs.Classes.{ClassTree, PassLast}
 use Rattle.flow_class.specs.Code.{Last}
-use Rattle.flow_class.specs.Scopes.{Scope, Mark, Var, outside}
+use Rattle.flow_class.specs.Scopes.{Scope, Mark, outside}
 use Rattle.flow_meaning.specs.Asks.{Pass}
 use Rattle.flow_meaning.specs.Process.{View, Engine}
 use Rattle.flow_meaning.specs.Evaluating.{Names, asks, quietly}
@@ -17,13 +17,12 @@ use Rattle.flow_meaning.specs.Items.{Site, Loop, Item, Do, Leave, Round, Check, 
 use Rattle.flow_meaning.specs.SourceStep as text
 use Rattle.flow_meaning.specs.Frame.{Memory, Frame}
 use Rattle.flow_meaning.specs.Class as class
-use Rattle.flow_meaning.specs.Carry as carry
-use Rattle.flow_meaning.specs.Carry.{Pos, entry, Target, At, Again, Hand, Goes, here, SimpleAt, PassAt, GoesOn}
+use Rattle.flow_meaning.specs.Carry.{Pos, entry, Target, At, Again, Hand, Goes, here, SimpleAt}
 use Rattle.flow_meaning.specs.Carries.{LoopAt, BodyAt}
 use Rattle.flow_carried.specs.Memories.{vars_of, Held, frame_at}
-use Rattle.flow_carried.specs.Standing.{LoopStands, Below, StmtsAt, body, part, RestAt, ThrowsAt}
+use Rattle.flow_carried.specs.Standing.{Below, StmtsAt, body, part, RestAt}
 use Rattle.flow_carried.proofs.Seen.{held_mark}
-use Rattle.flow_carried.proofs.Row.{Replies, Replied, later, next_is, jumps, agreed, free}
+use Rattle.flow_carried.proofs.Row.{Replied, later, next_is, jumps, agreed, free}
 use Rattle.flow_carried.proofs.Parts.{whole, throws_behind, declared_outside, Resumes, resumes, ends_at}
 use Rattle.flow_carried.proofs.Points.{Point, test_row}
 
@@ -137,7 +136,15 @@ module _ (d : Engine Frame) (ns : Names) (steps : (v : View) (f : Frame) → d.n
           quiet_row (Mark ∷ s) (Again h.0 ∷ ts) (Do l.site l.inner ∷ Leave ∷ Made l ∷ r) (entry h.0) (entry h.0) n (held_mark c m s held) (inside (entry h.0) here w) here
       by_condition (Some e) w =
           let t : Point ns = record {
-            c = c; m = m; p = entry h.0; n = n; s = s; ts = ts; rest = Check l ∷ r; held = held; at = (h.0, refl, h.2, h.3);
+            c = c;
+            m = m;
+            p = entry h.0;
+            n = n;
+            s = s;
+            ts = ts;
+            rest = Check l ∷ r;
+            held = held;
+            at = (h.0, refl, h.2, h.3);
             throws = record { items = r; targets = ts; same = λ ps ls. refl; below = h.3; caught = w.0 };
           } in
           let g = resumes ns c s r ts (entry w.2) w.5 h.3 in

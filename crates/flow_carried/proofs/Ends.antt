@@ -1,6 +1,6 @@
 -- Statements that end an actor, throw, or call; and the end of a text.
 use Rattle.std.proofs.Common.{◌≡◌, ℕ, List, [], ◌∷◌, inl, inr, refl, sym, ap, subst, ◌∙◌, codes}
-use Rattle.std.specs.Prelude.{pos, option_map}
+use Rattle.std.specs.Prelude.{option_map}
 use Rattle.std.specs.declared.option.Option.{Option}
 use Rattle.std.specs.declared.option.Option.TheVariants.{None, Some}
 use Rattle.flow_base.specs.declared.place.Place.{Place}
@@ -9,7 +9,7 @@ use Rattle.flow_tree.specs.declared.ty.Ident.{Ident}
 use Rattle.flow_tree.specs.Tree.{ExprTree, ExprTrees, VarExpr, CallExpr, NoExprs}
 use Rattle.flow_tree.specs.Body.{Body, ReturnStmt, ThrowStmt, CallStmt}
 use Rattle.flow_ast.specs.TypingNames.{named, constant_names}
-use Rattle.flow_value.specs.Values.{ValueTree, IntValue}
+use Rattle.flow_value.specs.Values.{ValueTree}
 use Rattle.flow_eval.specs.Answers.{Answer, error_of}
 use Rattle.flow_eval.specs.Eval.{Res, Done, Fails, Spent, Meaningless, at_once, found, variable}
 use Rattle.flow_class.specs.declared.class.Slotted.{Slotted}
@@ -18,7 +18,7 @@ use Rattle.flow_class.specs.Places.{place_named}
 use Rattle.flow_class.specs.Code.{Last}
 use Rattle.flow_class.specs.Code as code
 use Rattle.flow_class.specs.Scopes.{Scope, place_of, over, over_all, act_over}
-use Rattle.flow_meaning.specs.Orderly.{Free, Risky}
+use Rattle.flow_meaning.specs.Orderly.{Risky}
 use Rattle.flow_meaning.specs.Asks.{Act, Goes, Pass, Drops, Effects, Operand, Waits, Sends, Cancels, Prints, SendsTo, Returns, Throws, RunsOut, Stuck}
 use Rattle.flow_meaning.specs.Process.{View, Engine}
 use Rattle.flow_meaning.specs.Evaluating.{Names, bind, StepOf, asks, evaluated, value, call_act}
@@ -39,7 +39,7 @@ use Rattle.flow_carried.specs.Standing.{StmtsAt, body, RestAt, ThrowsAt, Beside,
 use Rattle.flow_carried.proofs.Places.{place_no_constant}
 use Rattle.flow_carried.proofs.Seen.{place_found, every_value}
 use Rattle.flow_carried.proofs.Evals.{value_over, call_over, IsMild, AllMild, call_mild}
-use Rattle.flow_carried.proofs.Row.{Agree, Replied, later, next_is, jumps, agreed, risks, evaluated_agree, free, risky}
+use Rattle.flow_carried.proofs.Row.{Agree, Replied, later, next_is, jumps, agreed, risks, evaluated_agree, risky}
 use Rattle.flow_carried.proofs.Parts.{whole, throws_behind}
 use Rattle.flow_carried.proofs.Points.{Point, point_actor, point_frame, may_go, may_throw, answered, error_agree}
 
@@ -52,9 +52,11 @@ module _ (d : Engine Frame) (ns : Names) (steps : (v : View) (f : Frame) → d.n
       let f = frame_at c m h.0 j.0 in
       later d ns steps v x.0 x.1 (frame_at c m p n) f j.1
       (agreed d ns steps v f x (asks v.left (Throws operation_cancelled) f)
-      (next_is d ns steps v c m h.0 j.0 (Last (ThrowLast (CallExpr h.1 NoExprs))) h.3 ∙ named_error h.1.name h.4 f)
-      (refl, risky d ns steps c m s ts [] h.0 h.0 j.0 held (h.0, h.1, here, h.3, h.4, h.5) here
-      (record { items = []; targets = ts; same = λ ps ls. refl; below = tt; caught = h.5 })))
+      (next_is d ns steps v c m h.0 j.0 (Last (ThrowLast (CallExpr h.1 NoExprs))) h.3 ∙ named_error h.1.name h.4 f) (
+        refl,
+        risky d ns steps c m s ts [] h.0 h.0 j.0 held (h.0, h.1, here, h.3, h.4, h.5) here
+            (record { items = []; targets = ts; same = λ ps ls. refl; below = tt; caught = h.5 }),
+      ))
     where
       named_error : (w : List ℕ) → w ≡ codes "operation_cancelled" → (g : Frame)
           → class.last ns v g (ThrowLast (CallExpr (record h.1 { name = w }) NoExprs)) ≡ asks v.left (Throws operation_cancelled) g

@@ -1,8 +1,7 @@
 -- An expression over places comes to what the expression over names comes to, with the same turns.
-use Rattle.std.proofs.Common.{◌≡◌, ℕ, List, [], ◌∷◌, refl, sym, ap, ap₂, ◌∙◌}
+use Rattle.std.proofs.Common.{◌≡◌, ℕ, List, [], ◌∷◌, refl, sym, ap, ◌∙◌}
 use Rattle.std.proofs.Math.Path.{fun_ext}
-use Rattle.std.specs.Prelude.{option_map, position}
-use Rattle.std.specs.Str.{bytes_eq}
+use Rattle.std.specs.Prelude.{option_map}
 use Rattle.std.specs.declared.option.Option.{Option}
 use Rattle.std.specs.declared.option.Option.TheVariants.{None, Some}
 use Rattle.flow_tree.specs.declared.ty.Ident.{Ident}
@@ -23,9 +22,8 @@ use Rattle.flow_eval.specs.Eval.{Res, Done, Fails, Spent, Meaningless, Setting, 
 use Rattle.flow_eval.specs.Functions.{run_function, deepest, read_in, Call}
 use Rattle.flow_class.specs.declared.class.Slotted.{Slotted}
 use Rattle.flow_class.specs.Classes.{ClassTree}
-use Rattle.flow_class.specs.Places.{place_named}
-use Rattle.flow_class.specs.Scopes.{Scope, place_of, var_over, name_over, over, over_all, path_over, act_over}
-use Rattle.flow_meaning.specs.Asks.{Act, Goes, Prints, Sends, SendsTo, Cancels, Effects, Operand, Waits}
+use Rattle.flow_class.specs.Scopes.{Scope, place_of, var_over, name_over, over, over_all, act_over}
+use Rattle.flow_meaning.specs.Asks.{Act, Goes, Sends, SendsTo, Effects, Operand, Waits}
 use Rattle.flow_meaning.specs.Process.{View}
 use Rattle.flow_meaning.specs.Evaluating.{Names, setting, bind, Look, Effectful, effectful, effect_in, value, values, sent, cancelled, method_act, done, before_last, last_of, function_act, plain_act, based_act, call_act}
 use Rattle.flow_meaning.specs.Variables.{flat}

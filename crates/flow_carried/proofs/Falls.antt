@@ -12,7 +12,7 @@ use Rattle.flow_meaning.specs.Asks.{Spot, Goal, Stored, Kept, Effects, Returns, 
 use Rattle.flow_meaning.specs.Process.{View}
 use Rattle.flow_meaning.specs.Evaluating.{Names, bind, StepOf, asks, given, evaluated, Effectful, effect_in, effect_of, value, values, call_act}
 use Rattle.flow_meaning.specs.Variables.{Vars, look}
-use Rattle.flow_meaning.specs.Items.{Site, Loop, Single, OneOf, Target, Declared, Path, Item, Do, Leave, Round, Check, Made, Handler, Over, Actor, actor, over, leave_scope, left_scope, everything, put_goal, change, operand, lose}
+use Rattle.flow_meaning.specs.Items.{Site, Loop, Single, OneOf, Target, Declared, Path, Item, Do, Leave, Round, Check, Made, Handler, Over, Actor, actor, over, leave_scope, everything, put_goal, change, operand}
 use Rattle.flow_meaning.specs.SourceStep.{Exit, Breaks, Continues, exit, choose, test, placed, place, effects, store_by, store, declare_new, declares, throw_value, throws, operand_ref, operand_by, await, do_body, check, do_item}
 use Rattle.flow_class.specs.Scopes.{scope, outside}
 use Rattle.flow_carried.specs.Weights.{body_weight, rest_weight, actor_weight}

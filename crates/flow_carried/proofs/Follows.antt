@@ -1,21 +1,20 @@
 -- Each step of an actor is answered by the frame beside it, and so classes that carry a program do what it does.
-use Rattle.std.proofs.Common.{◌≡◌, ◌⊎◌, ℕ, ◌<◌, List, [], ◌∷◌, inl, inr, refl, sym, ap, subst, ◌∙◌}
+use Rattle.std.proofs.Common.{◌≡◌, ℕ, ◌<◌, List, [], ◌∷◌, inl, inr, refl, sym, ap, subst, ◌∙◌}
 use Rattle.std.specs.Prelude.{slice_get, unwrap_or}
 use Rattle.std.specs.declared.option.Option.{Option}
 use Rattle.std.specs.declared.option.Option.TheVariants.{None, Some}
 use Rattle.flow_tree.specs.Body.{Body, End, BlockStmt, IfStmt, IfElseStmt, WhileStmt, ForStmt, LoopStmt, BreakStmt, ContinueStmt, ReturnStmt, ThrowStmt, TryStmt, ChooseStmt, DeclareStmt, AssignStmt, ModifyStmt, CallStmt, WaitStmt}
 use Rattle.flow_tree.specs.Decls.{ProgramTree}
-use Rattle.flow_value.specs.Values.{ValueTree}
 use Rattle.flow_class.specs.Classes.{ClassTree, RawTree}
 use Rattle.flow_class.specs.Code.{fetch}
 use Rattle.flow_class.specs.Scopes.{Scope, all_locals}
 use Rattle.flow_meaning.specs.Occ.{refs_in, count}
 use Rattle.flow_meaning.specs.Cells.{Side}
-use Rattle.flow_meaning.specs.Orderly.{Phase, Free, Risky, Due, Waiting}
-use Rattle.flow_meaning.specs.Asks.{Ask, Stuck}
+use Rattle.flow_meaning.specs.Orderly.{Free}
+use Rattle.flow_meaning.specs.Asks.{Ask}
 use Rattle.flow_meaning.specs.Process.{View, Engine}
-use Rattle.flow_meaning.specs.Evaluating.{Names, StepOf, asks}
-use Rattle.flow_meaning.specs.Law.{still, Answers, Alike, BothOrNone, Simulates}
+use Rattle.flow_meaning.specs.Evaluating.{Names, StepOf}
+use Rattle.flow_meaning.specs.Law.{still, Answers, Alike, Simulates}
 use Rattle.flow_meaning.specs.Variables.{filled, backwards, occ_vars}
 use Rattle.flow_meaning.specs.Items.{Site, Item, Do, Leave, Round, Check, Made, Handler, Over, Actor, actor, lose, raise}
 use Rattle.flow_meaning.specs.Items as item
@@ -25,11 +24,11 @@ use Rattle.flow_meaning.specs.Frame.{Memory, Frame, occ_memory}
 use Rattle.flow_meaning.specs.Frame as frame
 use Rattle.flow_meaning.specs.Class.{classes, class_names}
 use Rattle.flow_meaning.specs.Class as class
-use Rattle.flow_meaning.specs.Carry.{Pos, Target, here}
+use Rattle.flow_meaning.specs.Carry.{Pos, Target}
 use Rattle.flow_meaning.specs.Views.{actor_spot, frame_spot}
 use Rattle.flow_meaning.specs.Sights.{WaitAlike}
 use Rattle.flow_carried.specs.Memories.{vars_of, Held, frame_at}
-use Rattle.flow_carried.specs.Standing.{StmtsAt, RestAt, pos_of, Beside, BothOver, Stands}
+use Rattle.flow_carried.specs.Standing.{StmtsAt, RestAt, Stands}
 use Rattle.flow_carried.specs.Weights.{actor_weight}
 use Rattle.flow_carried.specs.Carried.{AreCarried}
 use Rattle.flow_carried.proofs.Seen.{every_value}
@@ -129,11 +128,11 @@ module _ (p : ProgramTree) (r : RawTree) (h : AreCarried p r) where
     next = λ v a f s. follows (classes r) (names_of p) steps v a f s;
     lose = lose_row (names_of p);
     store = λ u a f b.
-      subst (λ z. Alike (Stands (names_of p) Free) ((source p).store u a) (class.store_at z u f (fetch f.code f.block f.instr))) (sym same_names)
-      (store_row (classes r) (names_of p) steps a f b u);
+        subst (λ z. Alike (Stands (names_of p) Free) ((source p).store u a) (class.store_at z u f (fetch f.code f.block f.instr))) (sym same_names)
+        (store_row (classes r) (names_of p) steps a f b u);
     take = λ i u a f b.
-      subst (λ z. Alike (Stands (names_of p) Free) ((source p).take i u a) (class.take_at z i u f (fetch f.code f.block f.instr))) (sym same_names)
-      (take_row (classes r) (names_of p) steps a f b i u);
+        subst (λ z. Alike (Stands (names_of p) Free) ((source p).take i u a) (class.take_at z i u f (fetch f.code f.block f.instr))) (sym same_names)
+        (take_row (classes r) (names_of p) steps a f b i u);
     raise = raise_row (names_of p);
     occ = occ_row (names_of p);
   }

@@ -1,5 +1,5 @@
 -- A new actor and its frame begin beside each other; both names of the program are the same; both refer to the same cells.
-use Rattle.std.proofs.Common.{◌≡◌, ◌≢◌, ℕ, zero, suc, ◌+◌, ◌<◌, nat_eq, Bool, true, false, List, [], ◌∷◌, ◌++◌, map, length, drop, inl, inr, refl, sym, ap, ap₂, subst, ◌∙◌, append_assoc, arith, if◌then◌else◌}
+use Rattle.std.proofs.Common.{◌≡◌, ◌≢◌, ℕ, zero, suc, ◌+◌, nat_eq, Bool, true, false, List, [], ◌∷◌, ◌++◌, map, length, drop, inr, refl, sym, ap, ap₂, subst, ◌∙◌, append_assoc, arith, if◌then◌else◌}
 use Rattle.std.proofs.lemmas.Bool.Decides.{nat_tests}
 use Rattle.std.specs.Prelude.{slice_get}
 use Rattle.std.specs.List.{AllByRecursion}
@@ -9,27 +9,22 @@ use Rattle.flow_tree.specs.Decls.{ParamTree, SlotTree, RoutineTree, ProgramTree}
 use Rattle.flow_ast.specs.Slots.{body_slots, param_slot, slots_of}
 use Rattle.flow_value.specs.Values.{ValueTree, refs_of}
 use Rattle.flow_class.specs.Classes.{ClassTree, RawTree}
-use Rattle.flow_class.specs.Scopes.{all_locals}
 use Rattle.flow_meaning.specs.Cells.{Side, Ref}
 use Rattle.flow_meaning.specs.Orderly.{Free}
 use Rattle.flow_meaning.specs.Evaluating.{Names, bind}
 use Rattle.flow_meaning.specs.Law.{BothOrNone}
 use Rattle.flow_meaning.specs.Occ.{refs_in, count}
-use Rattle.flow_meaning.specs.Text.{first_spot}
-use Rattle.flow_meaning.specs.Variables.{filled, backwards, occ_vars}
-use Rattle.flow_meaning.specs.Items.{Site, Do, Actor}
 use Rattle.flow_meaning.specs.Source.{actors_in, names_of, routine_name, no_values, more, with_args, begun}
 use Rattle.flow_meaning.specs.Source as source
-use Rattle.flow_meaning.specs.Frame.{Frame, blanks, reversed, occ_memory}
+use Rattle.flow_meaning.specs.Frame.{blanks}
 use Rattle.flow_meaning.specs.Class.{class_name, class_names}
 use Rattle.flow_meaning.specs.Class as class
 use Rattle.flow_meaning.specs.Carry.{entry, here}
 use Rattle.flow_meaning.specs.Carries.{Carries, AllCarried}
 use Rattle.flow_meaning.specs.Shape.{IsClassOf, AreClassesOf, Shape}
-use Rattle.flow_carried.specs.Memories.{slots_seen, vars_of, IsNumbered, Held}
+use Rattle.flow_carried.specs.Memories.{slots_seen, IsNumbered}
 use Rattle.flow_carried.specs.Standing.{body, Stands}
 use Rattle.flow_carried.proofs.Memory.{blank, length-blanks}
-use Rattle.flow_carried.proofs.Seen.{every_value}
 
 -- parameters with their arguments, and then state variables without values
 values_blank : (ts : List SlotTree) → no_values ts ≡ slots_seen ts (blanks ts)

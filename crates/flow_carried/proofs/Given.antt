@@ -2,18 +2,17 @@
 use Rattle.std.proofs.Common.{◌≡◌, ℕ, zero, suc, true, false, Bool, List, [], ◌∷◌, inr, refl, sym, ap, subst, ◌∙◌}
 use Rattle.std.specs.declared.option.Option.{Option}
 use Rattle.std.specs.declared.option.Option.TheVariants.{None, Some}
-use Rattle.flow_base.specs.declared.place.Place.{Place}
 use Rattle.flow_tree.specs.declared.ty.Ident.{Ident}
 use Rattle.flow_tree.specs.Tree.{TypeTree, PromiseType, PromiseStreamType, ExprTree, ExprTrees}
-use Rattle.flow_tree.specs.Body.{IntoTree, Body, ChooseStmt, DeclareStmt, AssignStmt, WaitStmt}
+use Rattle.flow_tree.specs.Body.{ChooseStmt, DeclareStmt, AssignStmt, WaitStmt}
 use Rattle.flow_value.specs.Values.{ValueTree}
 use Rattle.flow_class.specs.declared.class.Slotted.{Slotted}
-use Rattle.flow_class.specs.Classes.{ClassTree, InstrTree, SetInstr, EffectInstr, NewInstr, ChooseLast}
+use Rattle.flow_class.specs.Classes.{ClassTree, InstrTree, SetInstr, EffectInstr, NewInstr}
 use Rattle.flow_class.specs.Code.{Fetched, Last}
 use Rattle.flow_class.specs.Code as code
 use Rattle.flow_class.specs.Scopes.{Scope, all_locals, over, path_over}
 use Rattle.flow_meaning.specs.Cells.{is_some}
-use Rattle.flow_meaning.specs.Orderly.{Free, Risky, Due}
+use Rattle.flow_meaning.specs.Orderly.{Free, Due}
 use Rattle.flow_meaning.specs.Process.{View, Engine}
 use Rattle.flow_meaning.specs.Evaluating.{Names, Effectful, effect_in}
 use Rattle.flow_meaning.specs.Law.{Alike}
@@ -29,7 +28,7 @@ use Rattle.flow_meaning.specs.Class as class
 use Rattle.flow_meaning.specs.Carry as carry
 use Rattle.flow_meaning.specs.Carry.{Pos, after, Target, here, AssignBy, DeclareAt, FirstAt, default_expr}
 use Rattle.flow_carried.specs.Memories.{vars_of, Held, frame_at}
-use Rattle.flow_carried.specs.Standing.{StmtsAt, RestAt, AsksFirst, pos_of, Beside, Stands}
+use Rattle.flow_carried.specs.Standing.{RestAt, AsksFirst, pos_of, Beside, Stands}
 use Rattle.flow_carried.proofs.Seen.{seen_lost, held_lost, locals_values}
 use Rattle.flow_carried.proofs.Puts.{Puts, assign_puts, declare_puts}
 use Rattle.flow_carried.proofs.Row.{dues, risks, free}

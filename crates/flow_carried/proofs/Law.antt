@@ -1,18 +1,11 @@
 -- The core law, from the laws over two kinds of actors.
-use Rattle.std.specs.Prelude.{List}
-use Rattle.flow_tree.specs.Decls.{ProgramTree}
-use Rattle.flow_class.specs.Classes.{RawTree}
-use Rattle.flow_trace.specs.declared.line.Line.{Line}
-use Rattle.flow_worldfile.specs.Worlds as file
-use Rattle.flow_meaning.specs.Runs.{SourceTrace, ClassTrace}
 use Rattle.flow_meaning.specs.Source.{source, names_of}
 use Rattle.flow_meaning.specs.Class.{classes}
-use Rattle.flow_meaning.specs.Sights.{Sight, SourceSeen, ClassSeen}
 use Rattle.flow_meaning.specs.Views.{actor_spot, frame_spot}
 use Rattle.flow_meaning.proofs.LiftRuns.{traces_follow, traces_return}
 use Rattle.flow_meaning.proofs.Sights.{sights_follow, sights_return}
 use Rattle.flow_carried.specs.Standing.{Stands}
-use Rattle.flow_carried.specs.Carried.{AreCarried, TracesOfText, TracesOfClasses, SightsOfText, SightsOfClasses}
+use Rattle.flow_carried.specs.Carried.{TracesOfText, TracesOfClasses, SightsOfText, SightsOfClasses}
 use Rattle.flow_carried.proofs.Follows.{carried, waits_alike}
 
 pub traces_of_text : TracesOfText

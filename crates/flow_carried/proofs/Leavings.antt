@@ -1,7 +1,7 @@
 -- Ends of scopes, breaks and continues.
-use Rattle.std.proofs.Common.{◌≡◌, ℕ, List, [], ◌∷◌, refl, sym, ap, ap₂, subst, ◌∙◌}
+use Rattle.std.proofs.Common.{◌≡◌, ℕ, List, [], ◌∷◌, sym, ap, subst}
 use Rattle.std.specs.declared.option.Option.{Option}
-use Rattle.std.specs.declared.option.Option.TheVariants.{None, Some}
+use Rattle.std.specs.declared.option.Option.TheVariants.{Some}
 use Rattle.flow_base.specs.declared.place.Place.{Place}
 use Rattle.flow_tree.specs.Body.{Body, BreakStmt, ContinueStmt}
 use Rattle.flow_value.specs.Values.{ValueTree}
@@ -13,16 +13,16 @@ use Rattle.flow_meaning.specs.Process.{View, Engine}
 use Rattle.flow_meaning.specs.Evaluating.{Names, asks, quietly}
 use Rattle.flow_meaning.specs.Law.{still}
 use Rattle.flow_meaning.specs.Variables.{filled}
-use Rattle.flow_meaning.specs.Items.{Site, Loop, Item, Do, Leave, Round, Check, Made, Handler, Over, Actor, actor, leave_scope, left_scope}
+use Rattle.flow_meaning.specs.Items.{Site, Item, Do, Leave, Round, Check, Made, Handler, Over, actor, leave_scope, left_scope}
 use Rattle.flow_meaning.specs.SourceStep.{Exit, Breaks, Continues, exit}
 use Rattle.flow_meaning.specs.SourceStep as text
 use Rattle.flow_meaning.specs.Frame.{Memory, Frame, held_in, emptied}
 use Rattle.flow_meaning.specs.Class as class
-use Rattle.flow_meaning.specs.Carry.{Pos, after, Target, At, Again, Hand, Goes, here, DropThen, GoesOn}
+use Rattle.flow_meaning.specs.Carry.{Pos, after, Target, At, Again, Hand, here, DropThen, GoesOn}
 use Rattle.flow_meaning.specs.Carries.{ExitAt}
 use Rattle.flow_carried.specs.Memories.{seen, slots_seen, vars_of, Held, frame_at}
 use Rattle.flow_carried.specs.Standing.{Below, LeavesAt, StmtsAt, leaves, RestAt}
-use Rattle.flow_carried.proofs.Lists.{at_number, at_numbers}
+use Rattle.flow_carried.proofs.Lists.{at_numbers}
 use Rattle.flow_carried.proofs.Memory.{emptied_slots}
 use Rattle.flow_carried.proofs.Seen.{seen_scope, held_leave, seen_leave, scope_values}
 use Rattle.flow_carried.proofs.Row.{Replied, later, next_is, jumps, agreed, free}

@@ -5,11 +5,11 @@ use Rattle.std.specs.declared.option.Option.{Option}
 use Rattle.std.specs.declared.option.Option.TheVariants.{None, Some}
 use Rattle.flow_value.specs.Values.{ValueTree}
 use Rattle.flow_class.specs.declared.class.Slotted.TheVariants as place
-use Rattle.flow_class.specs.Scopes.{Scope, Apart, Covers, none, this, extra, all_locals, Mark, Var, Local}
-use Rattle.flow_meaning.specs.Variables.{flat, filled}
-use Rattle.flow_meaning.specs.Frame.{Memory, read, write, held_in, emptied, blanks, all_emptied}
+use Rattle.flow_class.specs.Scopes.{Scope, Apart, Covers, none, this, extra, all_locals, Mark, Var}
+use Rattle.flow_meaning.specs.Variables.{filled}
+use Rattle.flow_meaning.specs.Frame.{Memory, read, write, held_in, emptied, blanks}
 use Rattle.flow_carried.specs.Memories.{NotIn, Falling}
-use Rattle.flow_carried.proofs.Lists.{at_number, at_numbers, at-set_same, at-set_none, at-set_other, length-slice_set, filled_first, filled_none, AllOut, below_out}
+use Rattle.flow_carried.proofs.Lists.{at_number, at_numbers, at-set_none, at-set_other, length-slice_set, below_out}
 
 abbrev pub local : Memory → ℕ → Option ValueTree
 local m n = read m (place.Local n)

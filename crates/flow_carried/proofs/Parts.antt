@@ -1,17 +1,17 @@
 -- What is known of a point of the text, statement by statement, in a body and as a part of a `for`.
-use Rattle.std.proofs.Common.{◌≡◌, ◌⊎◌, ℕ, true, List, [], ◌∷◌, inl, inr, refl, sym, ap, subst, ◌∙◌}
+use Rattle.std.proofs.Common.{◌≡◌, ℕ, List, [], ◌∷◌, refl, sym, ap, subst}
 use Rattle.std.specs.declared.option.Option.{Option}
 use Rattle.std.specs.declared.option.Option.TheVariants.{None, Some}
 use Rattle.flow_base.specs.declared.place.Place.{Place}
 use Rattle.flow_tree.specs.declared.ty.Ident.{Ident}
 use Rattle.flow_tree.specs.Tree.{ExprTree}
-use Rattle.flow_tree.specs.Body.{IntoTree, ChangeTree, Body, End, BlockStmt, IfStmt, IfElseStmt, WhileStmt, ForStmt, LoopStmt, BreakStmt, ContinueStmt, ReturnStmt, ThrowStmt, TryStmt, ChooseStmt, DeclareStmt, AssignStmt, ModifyStmt, CallStmt, WaitStmt}
+use Rattle.flow_tree.specs.Body.{IntoTree, ChangeTree, Body, End, BreakStmt, ContinueStmt, DeclareStmt, AssignStmt, ModifyStmt}
 use Rattle.flow_class.specs.declared.class.Slotted.{Slotted}
 use Rattle.flow_class.specs.declared.class.Slotted.TheVariants as place
 use Rattle.flow_class.specs.Classes.{ClassTree}
-use Rattle.flow_class.specs.Scopes.{Scope, Mark, Var, outside, path_over}
+use Rattle.flow_class.specs.Scopes.{Scope, outside, path_over}
 use Rattle.flow_meaning.specs.Evaluating.{Names}
-use Rattle.flow_meaning.specs.Items.{Site, Loop, Item, Do, Leave, Round, Check, Made, Handler, Over, change}
+use Rattle.flow_meaning.specs.Items.{Site, Loop, Item, Do, Leave, Round, Made, Handler, change}
 use Rattle.flow_meaning.specs.SourceStep.{Breaks, Continues}
 use Rattle.flow_meaning.specs.Carry.{Pos, after, Target, At, Again, Hand, EndsScope, Goes, here, CaughtAt, AssignAt, ChangeAt, DeclareAt, DeclaredAs, SimpleAt, PassAt, GoesOn}
 use Rattle.flow_meaning.specs.Carries.{ExitAt, BodyAt, TakesInto}

@@ -1,11 +1,11 @@
 -- The name of a place names that place, and no constant has such a name.
-use Rattle.std.proofs.Common.{◌≡◌, ◌≢◌, ℕ, zero, suc, ◌+◌, ◌*◌, ◌-◌, ◌/◌, ◌%◌, ◌^◌, ◌<◌, ◌≤◌, Bool, true, false, ◌&&◌, not, List, [], ◌∷◌, ◌++◌, length, refl, sym, ap, subst, ◌∙◌, ◌⊎◌, inl, inr, arith, decimal, codes, nat_le, bytes_eq, if◌then◌else◌}
+use Rattle.std.proofs.Common.{◌≡◌, ◌≢◌, ℕ, ◌+◌, ◌*◌, ◌-◌, ◌/◌, ◌%◌, ◌^◌, ◌<◌, ◌≤◌, Bool, true, false, ◌&&◌, not, List, [], ◌∷◌, ◌++◌, length, refl, ap, subst, ◌∙◌, ◌⊎◌, inl, inr, arith, decimal, codes, nat_le, if◌then◌else◌}
 use Rattle.std.specs.Bool.{◌==◌}
 use Rattle.std.specs.Option.{option_map}
 use Rattle.std.specs.declared.option.Option.{Option}
 use Rattle.std.specs.declared.option.Option.TheVariants.{None, Some}
 use Rattle.std.specs.List.{list_all}
-use Rattle.std.proofs.lemmas.Bool.{and_from, and_left, ne_eqb, le-leb}
+use Rattle.std.proofs.lemmas.Bool.{and_from, ne_eqb, le-leb}
 use Rattle.std.proofs.lemmas.Fmt.{decimal_by_steps}
 use Rattle.flow_base.specs.Names.{digit, are_digits, digits_from}
 use Rattle.flow_ast.specs.TypingNames.{named, constant_names}

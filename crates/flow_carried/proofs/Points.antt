@@ -1,35 +1,34 @@
 -- An actor and a frame at the same point, of which it is known where an error goes; and what both do with values there.
-use Rattle.std.proofs.Common.{◌≡◌, ℕ, true, false, Bool, List, [], ◌∷◌, inl, inr, refl, sym, ap, subst, ◌∙◌}
+use Rattle.std.proofs.Common.{◌≡◌, ℕ, true, false, Bool, List, inr, refl, sym, ap, subst, ◌∙◌}
 use Rattle.std.specs.Prelude.{option_map}
 use Rattle.std.specs.declared.option.Option.{Option}
 use Rattle.std.specs.declared.option.Option.TheVariants.{None, Some}
 use Rattle.flow_tree.specs.declared.ty.Ident.{Ident}
 use Rattle.flow_tree.specs.Tree.{ExprTree, ExprTrees}
 use Rattle.flow_value.specs.Values.{ValueTree, RefValue}
-use Rattle.flow_eval.specs.Answers.{bool_of, error_of}
+use Rattle.flow_eval.specs.Answers.{bool_of}
 use Rattle.flow_class.specs.Classes.{ClassTree, SetInstr, EffectInstr, TestLast, CallbackTree}
 use Rattle.flow_class.specs.Code.{Fetched, Last}
 use Rattle.flow_class.specs.Code as code
-use Rattle.flow_class.specs.Scopes.{Scope, Mark, over, over_all}
-use Rattle.flow_meaning.specs.Orderly.{Phase, Free, Risky, Due, Waiting}
-use Rattle.flow_meaning.specs.Asks.{Spot, Goal, Stored, Kept, Effects, Drops, Operand, Waits, Throws}
+use Rattle.flow_class.specs.Scopes.{Scope, over, over_all}
+use Rattle.flow_meaning.specs.Orderly.{Free, Risky, Due}
+use Rattle.flow_meaning.specs.Asks.{Spot, Goal, Stored, Kept, Effects, Drops, Waits}
 use Rattle.flow_meaning.specs.Cells.{is_some}
 use Rattle.flow_meaning.specs.Process.{View, Engine}
-use Rattle.flow_meaning.specs.Evaluating.{Names, StepOf, asks, stuck, given, evaluated, Effectful, effect_in, effect_of, value, values}
-use Rattle.flow_meaning.specs.Law.{Quietly}
+use Rattle.flow_meaning.specs.Evaluating.{Names, StepOf, asks, given, Effectful, effect_in, effect_of, value, values}
 use Rattle.flow_meaning.specs.Variables.{Vars}
 use Rattle.flow_meaning.specs.Variables as source
-use Rattle.flow_meaning.specs.Items.{Target, Item, Actor, actor, put_goal, lose}
+use Rattle.flow_meaning.specs.Items.{Target, Item, Actor, actor, put_goal}
 use Rattle.flow_meaning.specs.SourceStep as text
 use Rattle.flow_meaning.specs.Source.{is_effect_in}
 use Rattle.flow_meaning.specs.Frame.{Memory, Frame, all_emptied, reversed, spot_of, go}
 use Rattle.flow_meaning.specs.Frame as frame
 use Rattle.flow_meaning.specs.Class as class
-use Rattle.flow_meaning.specs.Views.{actor_spot, frame_spot}
+use Rattle.flow_meaning.specs.Views.{actor_spot}
 use Rattle.flow_meaning.specs.Carry as carry
 use Rattle.flow_meaning.specs.Carry.{Pos, entry, after, Goes, here, AssignBy, AssignAt}
 use Rattle.flow_carried.specs.Memories.{vars_of, Held, frame_at}
-use Rattle.flow_carried.specs.Standing.{ThrowsAt, RestAt, AsksFirst, Beside, Stands}
+use Rattle.flow_carried.specs.Standing.{ThrowsAt, RestAt, AsksFirst, Stands}
 use Rattle.flow_carried.proofs.Seen.{seen_lost, held_lost, locals_values}
 use Rattle.flow_carried.proofs.Evals.{value_over, values_over, effect_over, effect_in_over}
 use Rattle.flow_carried.proofs.Puts.{Puts}

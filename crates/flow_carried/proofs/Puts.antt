@@ -1,20 +1,19 @@
 -- Assignments and declarations put the same values in place on both sides.
-use Rattle.std.proofs.Common.{◌≡◌, ℕ, ◌<◌, true, false, List, [], ◌∷◌, length, refl, sym, ap, ap₂, subst, ◌∙◌}
+use Rattle.std.proofs.Common.{◌≡◌, ℕ, ◌<◌, true, false, List, [], ◌∷◌, refl, sym, ap, subst, ◌∙◌}
 use Rattle.std.specs.Prelude.{option_map}
 use Rattle.std.specs.declared.option.Option.{Option}
 use Rattle.std.specs.declared.option.Option.TheVariants.{None, Some}
 use Rattle.flow_tree.specs.declared.ty.Ident.{Ident}
 use Rattle.flow_tree.specs.Body.{IntoTree}
-use Rattle.flow_tree.specs.Decls.{RecordTree}
 use Rattle.flow_value.specs.Values.{ValueTree}
 use Rattle.flow_eval.specs.Functions.{put_in, read_in}
 use Rattle.flow_class.specs.declared.class.Slotted.{Slotted}
 use Rattle.flow_class.specs.declared.class.Slotted.TheVariants as place
 use Rattle.flow_class.specs.Classes.{ClassTree}
 use Rattle.flow_class.specs.Places.{place_named}
-use Rattle.flow_class.specs.Scopes.{Scope, Var, all_locals, place_of, var_over, path_over}
+use Rattle.flow_class.specs.Scopes.{Scope, all_locals, place_of, var_over, path_over}
 use Rattle.flow_meaning.specs.Evaluating.{Names, bind}
-use Rattle.flow_meaning.specs.Variables.{Vars, flat, filled, look, set_var}
+use Rattle.flow_meaning.specs.Variables.{Vars, flat, filled, look}
 use Rattle.flow_meaning.specs.Items.{is_there, declare, declare_by, assign_at, assign_old, assign_root}
 use Rattle.flow_meaning.specs.Items as source
 use Rattle.flow_meaning.specs.Source as text
@@ -25,7 +24,7 @@ use Rattle.flow_meaning.specs.Carry.{DeclaredAs}
 use Rattle.flow_meaning.specs.Carries.{TakesInto}
 use Rattle.flow_carried.specs.Memories.{vars_of, Held}
 use Rattle.flow_carried.proofs.Lists.{below_out, filled_none}
-use Rattle.flow_carried.proofs.Places.{IsSmall, place_back}
+use Rattle.flow_carried.proofs.Places.{place_back}
 use Rattle.flow_carried.proofs.Seen.{seen_new, new_falls, held_new, place_found, place_small, var_set, held_set}
 
 -- a value is put in place, and what stood there handed out, on both sides or on neither
@@ -73,8 +72,7 @@ module _ (ns : Names) (c : ClassTree) (m : Memory) (s : Scope) (held : Held c m 
       let a = new_falls c m s held n d.1.1 in
       let out = below_out n (all_locals s) a in
       subst (λ b. Puts c later (Some (declare_by b i.name.name v (vars_of c m s))) (put_at ns.records m (place.Local n) [] v)) (sym d.0)
-      (subst (λ l. Puts c l (Some (declare_by false i.name.name v (vars_of c m s))) (put_at ns.records m (place.Local n) [] v)) (sym d.2)
-      (
+      (subst (λ l. Puts c l (Some (declare_by false i.name.name v (vars_of c m s))) (put_at ns.records m (place.Local n) [] v)) (sym d.2) (
         sym (filled_none (read m (place.Local n)) [] (held.empty n out)),
         ap (λ l. record { states = (vars_of c m s).states; locals = l }) (sym (seen_new m s i.name.name n v (subst (λ k. n < k) (sym held.locals) d.1.0) out)),
         held_new c m s held i.name.name n (Some v) d.1.0 d.1.1,

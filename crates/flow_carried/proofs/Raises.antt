@@ -1,5 +1,5 @@
 -- An error that is thrown goes to the same handler, or out of the actor, with the same values dropped.
-use Rattle.std.proofs.Common.{◌≡◌, ℕ, ◌<◌, true, false, List, [], ◌∷◌, ◌++◌, length, inl, inr, refl, sym, ap, subst, ◌∙◌, append_assoc}
+use Rattle.std.proofs.Common.{◌≡◌, ℕ, ◌<◌, true, false, List, [], ◌∷◌, ◌++◌, length, inl, inr, refl, sym, ap, ap₂, subst, ◌∙◌, append_assoc}
 use Rattle.std.specs.declared.option.Option.{Option}
 use Rattle.std.specs.declared.option.Option.TheVariants.{None, Some}
 use Rattle.flow_value.specs.Values.{ValueTree, ErrorValue}
@@ -11,7 +11,6 @@ use Rattle.flow_meaning.specs.Orderly.{Free, Risky}
 use Rattle.flow_meaning.specs.Process.{Raised}
 use Rattle.flow_meaning.specs.Evaluating.{Names}
 use Rattle.flow_meaning.specs.Law.{Alike}
-use Rattle.flow_meaning.specs.Variables.{filled}
 use Rattle.flow_meaning.specs.Items.{Item, Do, Leave, Round, Check, Made, Handler, Over, Actor, actor, Unwound, unwind}
 use Rattle.flow_meaning.specs.Items as source
 use Rattle.flow_meaning.specs.Frame.{Memory, Frame, write, emptied}
@@ -19,7 +18,7 @@ use Rattle.flow_meaning.specs.Frame as frame
 use Rattle.flow_meaning.specs.Carry.{Pos, entry, Target, At, Again, Hand, here, NewLocal, hand_of, CaughtBy}
 use Rattle.flow_meaning.specs.Carries.{BodyAt}
 use Rattle.flow_carried.specs.Memories.{seen, slots_seen, vars_of, Falling, NotIn, Held, frame_at}
-use Rattle.flow_carried.specs.Standing.{Below, body, RestAt, ThrowsAt, pos_of, Beside, Stands}
+use Rattle.flow_carried.specs.Standing.{Below, body, ThrowsAt, pos_of, Beside, Stands}
 use Rattle.flow_carried.proofs.Lists.{at_number, at_numbers, not_append, not_both, falling_first, falling_rest, falling_out, below_out, AllOut}
 use Rattle.flow_carried.proofs.Memory.{emptied_or, emptied_slots, emptied_length, apart_out, covered_values, covered_out}
 use Rattle.flow_carried.proofs.Seen.{locals_parts, seen_scope, seen_outside, agree_emptied, seen_same, seen_new, held_mark, held_new, new_falls, every_value}
@@ -96,13 +95,21 @@ module _ (ns : Names) (c : ClassTree) where
     covers_stay ls (this c) a h = (a.0, covers_stay ls c a.1 h)
     covers_stay ls (extra {n = i} o c) a h = (h i o, covers_stay ls c a h)
 
+    -- the error is a new local, and the others stay
+    error_seen : (x : List ℕ) (g : ℕ) (k : Memory) (t : Scope) → g < length k.locals → NotIn g (all_locals t) → seen k t ≡ seen m t
+        → seen (write k (place.Local g) (Some (ErrorValue err))) (Var x g ∷ Mark ∷ t) ≡ Var x (Some (ErrorValue err)) ∷ Mark ∷ seen m t
+    error_seen x g k t lt out e = seen_new k (Mark ∷ t) x g (ErrorValue err) lt out ∙ ap (λ es. Var x (Some (ErrorValue err)) ∷ Mark ∷ es) e
+
+    error_vars : (l : Memory) (t : Scope) (es : List (Local (Option ValueTree))) → seen l t ≡ es → l.slots ≡ m.slots → record { states = slots_seen c.slots m.slots; locals = es } ≡ vars_of c l t
+    error_vars l t es e f = ap₂ (λ os xs. record { states = slots_seen c.slots os; locals = xs }) (sym f) (sym e)
+
     caught : (u : Unwound ℕ) (h : ℕ × ℕ) (ds : List ℕ) → all_locals s ≡ u.left ++ all_locals u.locals → Handled u h → Covers s ds u.left
         → Same (source.raised err (vars_of c m s) (seen_unwound m (Some u))) (frame.raised err (frame_at c m p n) (Some (record { block = h.0; error = Some h.1; drops = ds })))
     caught u h ds parts w covers =
         let falls = subst (Falling (length c.locals)) parts held.falling in
         let k = emptied ds m in
         let stay = covers_stay (all_locals u.locals) covers (falling_out (length c.locals) u.left (all_locals u.locals) falls)
-          (λ i o. (not_append i u.left (all_locals u.locals) (subst (NotIn i) parts (apart_out i s o))).1) in
+        (λ i o. (not_append i u.left (all_locals u.locals) (subst (NotIn i) parts (apart_out i s o))).1) in
         let kept : Held c k u.locals = record {
           numbered = held.numbered;
           slots = ap length (emptied_slots ds m) ∙ held.slots;
@@ -114,16 +121,13 @@ module _ (ns : Names) (c : ClassTree) where
         let out = below_out h.1 (all_locals u.locals) (new_falls c k u.locals kept h.1 w.new.1) in
         let l = write k (place.Local h.1) (Some (ErrorValue err)) in
         let locals : seen l (Var u.name h.1 ∷ Mark ∷ u.locals) ≡ Var u.name (Some (ErrorValue err)) ∷ Mark ∷ seen m u.locals =
-          seen_new k (Mark ∷ u.locals) u.name h.1 (ErrorValue err) (subst (λ i. h.1 < i) (sym kept.locals) w.new.0) out
-          ∙ ap (λ es. Var u.name (Some (ErrorValue err)) ∷ Mark ∷ es) (seen_same k m u.locals (agree_emptied ds m (all_locals u.locals) stay)) in
-        (
+        error_seen u.name h.1 k u.locals (subst (λ i. h.1 < i) (sym kept.locals) w.new.0) out (seen_same k m u.locals (agree_emptied ds m (all_locals u.locals) stay)) in (
           ap (λ vs. record { caught = true; values = vs }) (sym (covered_values s m (length c.locals) covers (falling_first (length c.locals) u.left (all_locals u.locals) falls) held.empty)),
           inr (record {
             s = Var u.name h.1 ∷ Mark ∷ u.locals;
             ts = w.targets;
             to = entry h.0;
-            vars = ap (λ es. record { states = slots_seen c.slots m.slots; locals = es }) (sym locals)
-              ∙ ap (λ os. record { states = slots_seen c.slots os; locals = seen l (Var u.name h.1 ∷ Mark ∷ u.locals) }) (sym (emptied_slots ds m));
+            vars = error_vars l (Var u.name h.1 ∷ Mark ∷ u.locals) (Var u.name (Some (ErrorValue err)) ∷ Mark ∷ seen m u.locals) locals (emptied_slots ds m);
             held = held_new c k (Mark ∷ u.locals) inside u.name h.1 (Some (ErrorValue err)) w.new.0 w.new.1;
             at = body w.handler w.below;
             way = here;

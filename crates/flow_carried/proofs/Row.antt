@@ -1,15 +1,15 @@
 -- How a frame answers a step of the actor beside it: the forms that all statements share.
-use Rattle.std.proofs.Common.{◌≡◌, ℕ, List, [], ◌∷◌, inl, inr, refl, sym, ap, subst, ◌∙◌}
+use Rattle.std.proofs.Common.{◌≡◌, ℕ, List, inr, refl, sym, ap, subst, ◌∙◌}
 use Rattle.std.specs.declared.option.Option.{Option}
 use Rattle.std.specs.declared.option.Option.TheVariants.{None, Some}
 use Rattle.flow_class.specs.Classes.{ClassTree, GotoLast}
 use Rattle.flow_class.specs.Scopes.{Scope}
-use Rattle.flow_class.specs.Code.{Fetched, Last, fetch}
+use Rattle.flow_class.specs.Code.{Fetched, Last}
 use Rattle.flow_eval.specs.Eval.{Res, Done, Fails, Spent, Meaningless}
-use Rattle.flow_meaning.specs.Orderly.{Phase, Free, Risky, Due, Waiting}
+use Rattle.flow_meaning.specs.Orderly.{Free, Risky, Due, Waiting}
 use Rattle.flow_meaning.specs.Asks.{Ask}
 use Rattle.flow_meaning.specs.Process.{View, Engine}
-use Rattle.flow_meaning.specs.Evaluating.{Names, StepOf, stuck, given, evaluated}
+use Rattle.flow_meaning.specs.Evaluating.{Names, StepOf, given, evaluated}
 use Rattle.flow_meaning.specs.Law.{Quietly, still, quiet, phase_after}
 use Rattle.flow_meaning.specs.Items.{Item, Actor, actor}
 use Rattle.flow_meaning.specs.Frame.{Memory, Frame, go}
@@ -69,7 +69,12 @@ module _ (d : Engine Frame) (ns : Names) (steps : (v : View) (f : Frame) → d.n
   -- each phase says more than those before
   pub dues : (a : Actor) (f : Frame) → Beside ns Due a f → Beside ns Risky a f
   dues a f b = record {
-    s = b.s; ts = b.ts; to = b.to; vars = b.vars; held = b.held; at = b.at;
+    s = b.s;
+    ts = b.ts;
+    to = b.to;
+    vars = b.vars;
+    held = b.held;
+    at = b.at;
     way = (subst (λ q. Goes ns f.code (pos_of f) q) b.way.0 here, b.way.1);
   }
 

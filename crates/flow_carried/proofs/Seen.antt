@@ -1,6 +1,6 @@
 -- The variables of a frame after each kind of write, and what stays true of its memory.
-use Rattle.std.proofs.Common.{◌≡◌, ◌≢◌, ℕ, zero, suc, ◌<◌, ◌≤◌, ◌^◌, Bool, true, false, List, [], ◌∷◌, ◌++◌, length, refl, sym, ap, ap₂, subst, ◌∙◌, arith, if◌then◌else◌}
-use Rattle.std.specs.Prelude.{position, slice_get, slice_set, option_map, cond, not, nat_lt, ◌+◌}
+use Rattle.std.proofs.Common.{◌≡◌, ◌≢◌, ℕ, suc, ◌<◌, ◌^◌, Bool, true, false, List, [], ◌∷◌, ◌++◌, length, refl, sym, ap, ap₂, subst, ◌∙◌, arith, if◌then◌else◌}
+use Rattle.std.specs.Prelude.{position, slice_set, option_map, cond, not, nat_lt, ◌+◌}
 use Rattle.std.specs.List.{position_or_len}
 use Rattle.std.specs.Str.{bytes_eq}
 use Rattle.std.specs.declared.option.Option.{Option}
@@ -12,12 +12,12 @@ use Rattle.flow_class.specs.declared.class.Slotted.{Slotted}
 use Rattle.flow_class.specs.declared.class.Slotted.TheVariants as place
 use Rattle.flow_class.specs.Classes.{ClassTree}
 use Rattle.flow_class.specs.Scopes.{Local, Mark, Var, find, scope, all_locals, outside, Scope, Above, place_by, place_of}
-use Rattle.flow_meaning.specs.Variables.{Vars, flat, filled, backwards, set_local, set_state, set_found, set_var, place_in, look, or_else} 
+use Rattle.flow_meaning.specs.Variables.{Vars, flat, filled, backwards, set_local, set_state, set_found, set_var, place_in, look, or_else}
 use Rattle.flow_meaning.specs.Variables as source
-use Rattle.flow_meaning.specs.Frame.{Memory, read, write, held_in, reversed, emptied, all_emptied, blanks}
-use Rattle.flow_carried.specs.Memories.{seen, slots_seen, vars_of, Falling, NotIn, IsNumbered, Held}
-use Rattle.flow_carried.proofs.Lists.{at_number, at_numbers, at-set_same, at-set_none, at-set_other, length-slice_set, not_append, not_both, falling_less, falling_first, falling_rest, falling_out, below_out, AllOut, all_filled}
-use Rattle.flow_carried.proofs.Memory.{local, without, either, without_other, emptied_out, emptied_or, emptied_slots, emptied_length, blank, length-blanks, covers_all, covered_values}
+use Rattle.flow_meaning.specs.Frame.{Memory, read, write, held_in, reversed, emptied, all_emptied}
+use Rattle.flow_carried.specs.Memories.{seen, slots_seen, vars_of, Falling, NotIn, Held}
+use Rattle.flow_carried.proofs.Lists.{at_number, at_numbers, at-set_same, at-set_other, length-slice_set, not_both, falling_first, falling_rest, falling_out, below_out, AllOut, all_filled}
+use Rattle.flow_carried.proofs.Memory.{local, without, emptied_or, emptied_slots, emptied_length, blank, length-blanks, covers_all, covered_values}
 use Rattle.flow_carried.proofs.Places.{IsSmall}
 
 -- Locals in force

@@ -16,11 +16,10 @@ use Rattle.flow_class.specs.Places.{place_named}
 use Rattle.flow_class.specs.Code as code
 use Rattle.flow_class.specs.Code.{type_at}
 use Rattle.flow_class.specs.Scopes.{Scope, path_over}
-use Rattle.flow_meaning.specs.Cells.{is_some}
 use Rattle.flow_meaning.specs.Asks.{Make, Stored, Effects}
 use Rattle.flow_meaning.specs.Process.{View, Engine}
-use Rattle.flow_meaning.specs.Evaluating.{Names, bind, asks, given, effect_in}
-use Rattle.flow_meaning.specs.Items.{Site, Declared, Path, Item, Do, Actor, actor, declare, change}
+use Rattle.flow_meaning.specs.Evaluating.{Names, bind, asks, given}
+use Rattle.flow_meaning.specs.Items.{Site, Declared, Path, Item, Do, actor, declare, change}
 use Rattle.flow_meaning.specs.SourceStep as text
 use Rattle.flow_meaning.specs.Source.{makes_cell, is_effect_in}
 use Rattle.flow_meaning.specs.Frame.{Memory, Frame, put_at}
@@ -29,11 +28,11 @@ use Rattle.flow_meaning.specs.Class as class
 use Rattle.flow_meaning.specs.Carry as carry
 use Rattle.flow_meaning.specs.Carry.{Pos, after, AssignAt, ChangeAt, DeclareAt, DeclaredAs, FirstAt, default_expr}
 use Rattle.flow_carried.specs.Memories.{vars_of, Held, frame_at}
-use Rattle.flow_carried.specs.Standing.{RestAt, StmtsAt, AsksFirst}
+use Rattle.flow_carried.specs.Standing.{StmtsAt}
 use Rattle.flow_carried.proofs.Puts.{Puts, assign_puts, declare_puts}
 use Rattle.flow_carried.proofs.Row.{Agree, Replied}
 use Rattle.flow_carried.proofs.Parts.{DeclaresAt, declares_at, AssignsAt, assigns_at, modifies_at}
-use Rattle.flow_carried.proofs.Points.{Point, point_actor, point_frame, may_go, is_due, answered, placed_agree, store_row}
+use Rattle.flow_carried.proofs.Points.{Point, point_actor, may_go, is_due, answered, placed_agree, store_row}
 
 -- a change in place is no effect
 plain_as : (ns : Names) {a b : ExprTree} → Some a ≡ Some b → is_effect_in ns a ≡ false → is_effect_in ns b ≡ false

@@ -1,22 +1,21 @@
 -- Waits and chooses: the operands one after another, what is handed to an actor that waits, and the branches.
-use Rattle.std.proofs.Common.{◌≡◌, ℕ, zero, suc, true, false, Bool, List, [], ◌∷◌, refl, sym, ap, subst, ◌∙◌}
+use Rattle.std.proofs.Common.{◌≡◌, ℕ, zero, suc, List, [], ◌∷◌, refl, sym, ap, subst}
 use Rattle.std.specs.Prelude.{slice_get}
 use Rattle.std.specs.Option.{option_and_then}
 use Rattle.std.specs.declared.option.Option.{Option}
 use Rattle.std.specs.declared.option.Option.TheVariants.{None, Some}
 use Rattle.flow_base.specs.declared.place.Place.{Place}
-use Rattle.flow_tree.specs.Tree.{ExprTree}
 use Rattle.flow_tree.specs.Body.{WaitTree, Body, ChooseStmt, WaitStmt, Branches, NoBranches, MoreBranches}
 use Rattle.flow_value.specs.Values.{ValueTree}
 use Rattle.flow_class.specs.Classes.{ClassTree, CallbackTree, ChooseLast}
 use Rattle.flow_class.specs.Code.{Last, group_at, callback_at}
-use Rattle.flow_class.specs.Scopes.{Scope, Mark, outside, over}
+use Rattle.flow_class.specs.Scopes.{Scope, Mark, over}
 use Rattle.flow_meaning.specs.Orderly.{Free}
 use Rattle.flow_meaning.specs.Process.{View, Engine}
 use Rattle.flow_meaning.specs.Evaluating.{Names}
 use Rattle.flow_meaning.specs.Law.{Alike}
 use Rattle.flow_meaning.specs.Variables.{Vars}
-use Rattle.flow_meaning.specs.Text.{next_spot, branch_count, past, past_branches}
+use Rattle.flow_meaning.specs.Text.{next_spot, branch_count, past_branches}
 use Rattle.flow_meaning.specs.Items.{Site, Single, OneOf, Item, Do, Leave, Actor, actor, entered, site_at, site_past, branch_operand, operand}
 use Rattle.flow_meaning.specs.SourceStep as text
 use Rattle.flow_meaning.specs.Source as source

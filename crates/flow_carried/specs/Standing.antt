@@ -9,7 +9,7 @@ use Rattle.flow_class.specs.Classes.{ClassTree}
 use Rattle.flow_class.specs.Scopes.{Local, Mark, Var, outside, Scope}
 use Rattle.flow_meaning.specs.Orderly.{Phase, Free, Risky, Due, Waiting}
 use Rattle.flow_meaning.specs.Evaluating.{Names}
-use Rattle.flow_meaning.specs.Items.{Site, Loop, Item, Do, Leave, Round, Check, Made, Handler, Over, Actor, actor, over, unwind}
+use Rattle.flow_meaning.specs.Items.{Site, Loop, Item, Do, Leave, Round, Check, Made, Handler, Actor, over, unwind}
 use Rattle.flow_meaning.specs.SourceStep.{Breaks, Continues}
 use Rattle.flow_meaning.specs.Source.{makes_cell, is_effect_in}
 use Rattle.flow_meaning.specs.Frame as frame
@@ -17,7 +17,7 @@ use Rattle.flow_meaning.specs.Frame.{Memory, Frame}
 use Rattle.flow_meaning.specs.Views.{actor_spot, frame_spot}
 use Rattle.flow_meaning.specs.Carry.{Pos, entry, Target, At, Again, Hand, Goes, NewLocal, CaughtAt, SimpleAt, PassAt, GoesOn}
 use Rattle.flow_meaning.specs.Carries.{ExitAt, LoopAt, BodyAt}
-use Rattle.flow_carried.specs.Memories.{vars_of, Held, frame_at}
+use Rattle.flow_carried.specs.Memories.{vars_of, Held}
 
 -- the first statement stores an effect, or makes a cell, or waits
 abbrev pub AsksFirst : Names → List Item → Type 0
