@@ -30,15 +30,10 @@ use Rattle.flow_meaning.specs.Variables.{flat}
 use Rattle.flow_meaning.specs.Variables as source
 use Rattle.flow_meaning.specs.Frame.{Memory, read}
 use Rattle.flow_meaning.specs.Frame as frame
+use Rattle.flow_meaning.proofs.BareEval.{then_same}
 use Rattle.flow_carried.specs.Memories.{vars_of, Held}
 use Rattle.flow_carried.proofs.Places.{IsSmall, place_back, no_constant}
 use Rattle.flow_carried.proofs.Seen.{place_found, place_small}
-
-then_same : {A B : Type 0} (go next : A → ℕ → Res B) (r q : Res A) → r ≡ q → ((x : A) (left : ℕ) → go x left ≡ next x left) → then r go ≡ then q next
-then_same go next (Done x left) q h f = f x left ∙ ap (λ y. then y next) h
-then_same go next (Fails e left) q h f = ap (λ y. then y next) h
-then_same go next Spent q h f = ap (λ y. then y next) h
-then_same go next Meaningless q h f = ap (λ y. then y next) h
 
 module _ (c : ClassTree) (m : Memory) (s : Scope) (held : Held c m s) where
   abbrev named_look : Look

@@ -18,3 +18,4 @@ pub mod Given
 pub mod Fresh
 pub mod Follows
 pub mod Law
+mod Example

@@ -19,16 +19,22 @@ pub record AreCarried (p : ProgramTree) (r : RawTree) : Type 0 where
 
 -- Then in every world the classes have the traces of the program, and no others.
 abbrev pub TracesOfText : Type 0
-TracesOfText = (p : ProgramTree) (r : RawTree) (w : file.World) (lines : List Line) → AreCarried p r → SourceTrace p w lines → ClassTrace r w lines
+TracesOfText =
+    (p : ProgramTree) (r : RawTree) (w : file.World) (lines : List Line)
+    → AreCarried p r → SourceTrace p w lines → ClassTrace r w lines
 
 abbrev pub TracesOfClasses : Type 0
-TracesOfClasses = (p : ProgramTree) (r : RawTree) (w : file.World) (lines : List Line) → AreCarried p r → ClassTrace r w lines → SourceTrace p w lines
+TracesOfClasses =
+    (p : ProgramTree) (r : RawTree) (w : file.World) (lines : List Line)
+    → AreCarried p r → ClassTrace r w lines → SourceTrace p w lines
 
 -- And at each boundary of events they show the same unfinished actors, at the same waits, with the same branches.
 abbrev pub SightsOfText : Type 0
 SightsOfText =
-    (p : ProgramTree) (r : RawTree) (w : file.World) (lines : List Line) (sights : List Sight) → AreCarried p r → SourceSeen p w lines sights → ClassSeen r w lines sights
+    (p : ProgramTree) (r : RawTree) (w : file.World) (lines : List Line) (sights : List Sight)
+    → AreCarried p r → SourceSeen p w lines sights → ClassSeen r w lines sights
 
 abbrev pub SightsOfClasses : Type 0
 SightsOfClasses =
-    (p : ProgramTree) (r : RawTree) (w : file.World) (lines : List Line) (sights : List Sight) → AreCarried p r → ClassSeen r w lines sights → SourceSeen p w lines sights
+    (p : ProgramTree) (r : RawTree) (w : file.World) (lines : List Line) (sights : List Sight)
+    → AreCarried p r → ClassSeen r w lines sights → SourceSeen p w lines sights

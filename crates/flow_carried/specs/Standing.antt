@@ -31,7 +31,8 @@ AsksFirst ns _ = ⊥
 module _ (ns : Names) (c : ClassTree) where
   -- a loop stands at a block: its condition, and its body, behind which a pass was made
   abbrev pub LoopStands : Scope → List Item → List Target → Loop → (block : ℕ) → Type 0
-  LoopStands s r ts l b = LoopAt ns c s r ts l.condition b (BodyAt ns c (Mark ∷ s) (Leave ∷ Made l ∷ r) (Again b ∷ ts) l.site l.inner)
+  LoopStands s r ts l b =
+      LoopAt ns c s r ts l.condition b (BodyAt ns c (Mark ∷ s) (Leave ∷ Made l ∷ r) (Again b ∷ ts) l.site l.inner)
 
   -- the items that follow stand at their targets
   abbrev pub Below : Scope → List Item → List Target → Type 0
@@ -39,13 +40,15 @@ module _ (ns : Names) (c : ClassTree) where
   Below s (Leave ∷ r) ts = Below (outside s) r ts
   Below s (Do x k ∷ r) (At q ∷ ts) = BodyAt ns c s r ts x k q × Below s r ts
   Below s (Made l ∷ r) (Again b ∷ ts) = LoopStands s r ts l b × Below s r ts
-  Below s (Handler x y k ∷ r) (Hand b n ∷ ts) = NewLocal ns c n s × BodyAt ns c (Var x n ∷ Mark ∷ s) (Leave ∷ r) ts y k (entry b) × Below s r ts
+  Below s (Handler x y k ∷ r) (Hand b n ∷ ts) =
+      NewLocal ns c n s × BodyAt ns c (Var x n ∷ Mark ∷ s) (Leave ∷ r) ts y k (entry b) × Below s r ts
   Below s _ ts = ⊥
 
   -- a part of a `for`, before the round of its loop
   abbrev pub PartAt : Scope → List Item → List Target → Body → Pos → Type 0
   PartAt s (Round l ∷ r) (Again b ∷ ts) k p =
-      (q : Pos) × (later : Scope) × SimpleAt ns c s (Round l ∷ r) (Again b ∷ ts) k p q later × PassAt ns c q b × LoopStands later r ts l b × Below s r ts × Below later r ts
+      (q : Pos) × (later : Scope) × SimpleAt ns c s (Round l ∷ r) (Again b ∷ ts) k p q later × PassAt ns c q b
+      × LoopStands later r ts l b × Below s r ts × Below later r ts
   PartAt s _ ts k p = ⊥
 
   -- a break or a continue on its way to the loop
