@@ -1,0 +1,5 @@
+mod Standing
+mod Blocks
+
+
+
