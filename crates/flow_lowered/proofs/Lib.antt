@@ -1,5 +1,3 @@
 mod Standing
 mod Blocks
-
-
-
+mod Spots
