@@ -1,3 +1,4 @@
 mod Standing
 mod Blocks
 mod Spots
+mod Held
