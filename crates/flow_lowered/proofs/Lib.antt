@@ -2,3 +2,5 @@ mod Standing
 mod Blocks
 mod Spots
 mod Held
+mod Around
+mod Places

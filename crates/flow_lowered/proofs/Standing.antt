@@ -80,7 +80,6 @@ module _ (ns : Names) (c : ClassTree) where
     pub more : BlocksAt n ch.more
     pub groups : GroupsAt x ch.groups
 
-  -- a block stands at its entry
   in_block : (n i : ℕ) (is : List InstrTree) (l : LastTree) → ((j : ℕ) → at ns c (record { block = n; instr = i + j }) ≡ code.fetch_in is l j) → InstrsAt (record { block = n; instr = i }) is l
   in_block n i [] l h = ap (λ k. at ns c (record { block = n; instr = k })) (plus_zero i) ∙ h 0
     where
@@ -95,7 +94,8 @@ module _ (ns : Names) (c : ClassTree) where
       plus_suc : (i j : ℕ) → suc i + j ≡ i + suc j
       plus_suc i j = omega arith
 
-  at_entry : (n : ℕ) (b : BlockTree) → slice_get c.blocks n ≡ Some b → InstrsAt (entry n) b.body b.last
+  -- a block stands at its entry
+  pub at_entry : (n : ℕ) (b : BlockTree) → slice_get c.blocks n ≡ Some b → InstrsAt (entry n) b.body b.last
   at_entry n b e = in_block n 0 b.body b.last (λ j. ap (λ o. code.fetch_at o (0 + j)) e ∙ ap (code.fetch_in b.body b.last) (zero_plus j))
     where
       zero_plus : (j : ℕ) → 0 + j ≡ j
