@@ -1,5 +1,5 @@
 -- What is around a lowered body fits the items below it.
-use Rattle.std.proofs.Common.{◌≡◌, ℕ, zero, suc, ◌+◌, ◌<◌, ◌≤◌, Bool, true, false, List, [], ◌∷◌, ◌++◌, map, refl, ap, sym, subst, ◌∙◌, arith}
+use Rattle.std.proofs.Common.{◌≡◌, ℕ, zero, suc, ◌+◌, ◌<◌, ◌≤◌, Bool, true, false, List, [], ◌∷◌, ◌++◌, map, length, if◌then◌else◌, refl, ap, sym, subst, ◌∙◌, arith}
 use Rattle.std.specs.declared.option.Option.{Option}
 use Rattle.std.specs.declared.option.Option.TheVariants.{None, Some}
 use Rattle.flow_tree.specs.Body.{Body, End}
@@ -67,6 +67,12 @@ module _ (ns : Names) (c : ClassTree) where
   LeavesBy how last d s (Check l ∷ r) ts = ⊥
   LeavesBy how last d s (Over ∷ r) ts = ⊥
 
+  -- the locals in force are locals of the class
+  abbrev pub InClass : Scope → Type 0
+  InClass [] = Unit {0}
+  InClass (Mark ∷ s) = InClass s
+  InClass (Var x k ∷ s) = (k < length c.locals) × InClass s
+
   -- what is around a body fits the items, in a loop or not; the numbers that come next are above those in force
   pub record Here (looped : Bool) (w : Around) (s : Scope) (n : Next) (x : Site) (r : List Item) (ts : List Target) : Type 0 where
     pub ends : EndsBy w.exit w.hand s r ts
@@ -75,6 +81,7 @@ module _ (ns : Names) (c : ClassTree) where
     pub hand : HandIn w.hand w.depth r ts
     pub named : w.caught ≡ x.caught
     pub above : Above n.local s
+    pub known : InClass s
     pub group : n.group ≡ x.spot.group
 
   pub above_more : (l m : ℕ) (s : Scope) → l ≤ m → Above l s → Above m s
@@ -114,6 +121,7 @@ module _ (ns : Names) (c : ClassTree) where
     hand = h.hand;
     named = h.named;
     above = above_more n.local m.local s le h.above;
+    known = h.known;
     group = e;
   }
 
@@ -135,9 +143,9 @@ module _ (ns : Names) (c : ClassTree) where
   leaves_more y k how last d s (Handler z x b ∷ r) ts i h = absurd i
   leaves_more y k how last d s (Over ∷ r) ts i h = absurd i
 
-  pub here_local : (l : Bool) (w : Around) (s : Scope) (n m : Next) (x : Site) (z : Spot) (r : List Item) (ts : List Target) (y : List ℕ) → n.local < m.local → m.group ≡ z.group → Here l w s n x r ts
+  pub here_local : (l : Bool) (w : Around) (s : Scope) (n m : Next) (x : Site) (z : Spot) (r : List Item) (ts : List Target) (y : List ℕ) → n.local < m.local → n.local < length c.locals → m.group ≡ z.group → Here l w s n x r ts
       → Here l w (Var y n.local ∷ s) m (site_at z x) r ts
-  here_local l w s n m x z r ts y lt e h =
+  here_local l w s n m x z r ts y lt own e h =
       let i = here_ends_scope l w s n x r ts h in
       record {
         ends = ends_more y n.local w.exit w.hand s r ts h.ends;
@@ -146,6 +154,7 @@ module _ (ns : Names) (c : ClassTree) where
         hand = h.hand;
         named = h.named;
         above = (lt, above_more n.local m.local s (omega arith) h.above);
+        known = (own, h.known);
         group = e;
       }
 
@@ -166,19 +175,21 @@ module _ (ns : Names) (c : ClassTree) where
     hand = hand_inner w.hand w.depth z k (entry q) r ts h.hand;
     named = h.named;
     above = above_more n.local m.local s le h.above;
+    known = h.known;
     group = e;
   }
 
   -- the handler of a catch
-  pub here_handler : (l : Bool) (w : Around) (s : Scope) (n m : Next) (x z : Site) (y : Spot) (v : List ℕ) (k : Body) (e q : ℕ) (r : List Item) (ts : List Target) → n.local ≤ e → e < m.local → m.group ≡ y.group
+  pub here_handler : (l : Bool) (w : Around) (s : Scope) (n m : Next) (x z : Site) (y : Spot) (v : List ℕ) (k : Body) (e q : ℕ) (r : List Item) (ts : List Target) → n.local ≤ e → e < m.local → e < length c.locals → m.group ≡ y.group
       → Here l w s n x r ts → Here l (handling w (Scoped (GotoLast q)) v) (Var v e ∷ Mark ∷ s) m (record { spot = y; caught = Some v }) (Leave ∷ Do z k ∷ r) (At (entry q) ∷ ts)
-  here_handler l w s n m x z y v k e q r ts le lt g h = record {
+  here_handler l w s n m x z y v k e q r ts le lt own g h = record {
     ends = λ p at. goto_on q p at;
     breaks = h.breaks;
     continues = h.continues;
     hand = hand_inner w.hand w.depth z k (entry q) r ts h.hand;
     named = refl;
     above = (lt, above_more n.local m.local s (omega arith) h.above);
+    known = (own, h.known);
     group = g;
   }
 
@@ -193,6 +204,7 @@ module _ (ns : Names) (c : ClassTree) where
     hand = (refl, refl);
     named = h.named;
     above = above_more n.local m.local s le h.above;
+    known = h.known;
     group = e;
   }
 
@@ -217,6 +229,7 @@ module _ (ns : Names) (c : ClassTree) where
         hand = hand_looped w.hand w.depth z loop k h (entry q) r ts i.hand;
         named = i.named;
         above = above_more n.local m.local s le i.above;
+        known = i.known;
         group = e;
       }
 

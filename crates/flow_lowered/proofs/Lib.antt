@@ -4,3 +4,4 @@ mod Spots
 mod Held
 mod Around
 mod Places
+mod Simples
