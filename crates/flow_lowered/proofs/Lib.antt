@@ -5,3 +5,4 @@ mod Held
 mod Around
 mod Places
 mod Simples
+mod Further

@@ -23,7 +23,7 @@ use Rattle.flow_lowered.proofs.Standing.{moved, moved_append}
 both : (gs hs : List (List CallbackTree)) (x y z : Spot) → moved gs x ≡ y → moved hs y ≡ z → moved (gs ++ hs) x ≡ z
 both gs hs x y z a b = moved_append gs hs x ∙ ap (moved hs) a ∙ b
 
-exits_still : (t : Bool) (w : Around) (s : Scope) (n : Next) (l : LastTree) → (exits t w s n l).groups ≡ []
+pub exits_still : (t : Bool) (w : Around) (s : Scope) (n : Next) (l : LastTree) → (exits t w s n l).groups ≡ []
 exits_still false w s n l = refl
 exits_still true w s n l = refl
 
