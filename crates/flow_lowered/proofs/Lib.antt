@@ -6,3 +6,4 @@ mod Around
 mod Places
 mod Simples
 mod Further
+mod Compounds

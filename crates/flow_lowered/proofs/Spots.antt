@@ -20,7 +20,7 @@ use Rattle.flow_lowered.specs.Parts.{IsStep, IsInit, HasParts, HaveParts}
 use Rattle.flow_lowered.proofs.Standing.{moved, moved_append}
 
 -- a chunk and another one: the waits of both
-both : (gs hs : List (List CallbackTree)) (x y z : Spot) → moved gs x ≡ y → moved hs y ≡ z → moved (gs ++ hs) x ≡ z
+pub both : (gs hs : List (List CallbackTree)) (x y z : Spot) → moved gs x ≡ y → moved hs y ≡ z → moved (gs ++ hs) x ≡ z
 both gs hs x y z a b = moved_append gs hs x ∙ ap (moved hs) a ∙ b
 
 pub exits_still : (t : Bool) (w : Around) (s : Scope) (n : Next) (l : LastTree) → (exits t w s n l).groups ≡ []
