@@ -7,3 +7,5 @@ mod Places
 mod Simples
 mod Further
 mod Compounds
+mod Fors
+mod ForStands
