@@ -9,3 +9,5 @@ mod Further
 mod Compounds
 mod Fors
 mod ForStands
+mod Waits
+mod Carried
