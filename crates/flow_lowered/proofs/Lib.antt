@@ -11,3 +11,5 @@ mod Fors
 mod ForStands
 mod Waits
 mod Carried
+mod Whole
+mod Shapes

@@ -27,7 +27,7 @@ pub exits_still : (t : Bool) (w : Around) (s : Scope) (n : Next) (l : LastTree) 
 exits_still false w s n l = refl
 exits_still true w s n l = refl
 
-finished_still : (w : Around) (s : Scope) (x : Exit) → (finished w s x).groups ≡ []
+pub finished_still : (w : Around) (s : Scope) (x : Exit) → (finished w s x).groups ≡ []
 finished_still w s (Text close) = refl
 finished_still w s (Scoped l) = refl
 finished_still w s (Part l) = refl
