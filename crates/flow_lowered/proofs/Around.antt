@@ -221,7 +221,7 @@ module _ (ns : Names) (c : ClassTree) where
       → Here l w s n x r ts → Here true (pass w 1 (PassLast h) q) (Mark ∷ s) m (site_at y x) (Leave ∷ Made loop ∷ Do z k ∷ r) (Again h ∷ At (entry q) ∷ ts)
   here_loop l w s n m x z y loop k h q r ts none le e i =
       let again : (p : Pos) → at ns c p ≡ Last (PassLast h) → GoesOn ns c s (Made loop ∷ Do z k ∷ r) (Again h ∷ At (entry q) ∷ ts) p =
-          λ p e. (p, p, here, subst (λ b. SimpleAt ns c s (Round loop ∷ Do z k ∷ r) (Again h ∷ At (entry q) ∷ ts) b p p s) (sym none) (refl, refl), (p, here, e)) in
+      λ p e. (p, p, here, subst (λ b. SimpleAt ns c s (Round loop ∷ Do z k ∷ r) (Again h ∷ At (entry q) ∷ ts) b p p s) (sym none) (refl, refl), (p, here, e)) in
       record {
         ends = again;
         breaks = λ t. (refl, λ p at. goto_on q p at);

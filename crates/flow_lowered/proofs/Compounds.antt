@@ -47,9 +47,9 @@ module _ (ns : Names) (c : ClassTree) (few_slots : length c.slots < 2 ^ 64) (few
       let inside = here_inner ns c l w s n n x (site_past b x) x.spot k m.block r ts (omega arith) h.group h in (
         entry m.block,
         body l (Mark ∷ s) v n x (Leave ∷ Do (site_past b x) k ∷ r) (At (entry m.block) ∷ ts) p inside (locals_front ns c n.local (body_locals b) (body_locals k) room) parts.0 ok.0
-        (first ns c p n.block x.spot w.hand w.hand c1 (low s w (begun m) k) st),
+            (first ns c p n.block x.spot w.hand w.hand c1 (low s w (begun m) k) st),
         rest_at ns c k rest l s w n m x y x.spot r ts p n.block w.hand c1 h (omega arith) group (locals_after ns c b n.local (body_locals k) room) parts.1 ok.1
-        (ap (λ j. n.block + j) (sym (lowered_more ns c.slots (Mark ∷ s) v n b))) (lowered_moved ns c.slots (Mark ∷ s) v n b x.spot parts.0) st,
+            (ap (λ j. n.block + j) (sym (lowered_more ns c.slots (Mark ∷ s) v n b))) (lowered_moved ns c.slots (Mark ∷ s) v n b x.spot parts.0) st,
       )
 
   pub if_stands : (at : Place) (e : ExprTree) (b k : Body) → Carried ns c b → Carried ns c k → Carried ns c (IfStmt at e b k)
@@ -69,10 +69,10 @@ module _ (ns : Names) (c : ClassTree) (few_slots : length c.slots < 2 ^ 64) (few
         entry m.block,
         front.code,
         body l (Mark ∷ s) v (begun n) x (Leave ∷ Do (site_past b x) k ∷ r) (At (entry m.block) ∷ ts) (entry n.block) inside (locals_front ns c n.local (body_locals b) (body_locals k) room) parts.0 ok.0
-        (second ns c p n.block n.block x.spot x.spot w.hand w.hand c0 c1 (omega arith) refl front),
+            (second ns c p n.block n.block x.spot x.spot w.hand w.hand c0 c1 (omega arith) refl front),
         here,
         rest_at ns c k rest l s w n m x y x.spot r ts p n.block w.hand (joined w.hand c0 c1) h (omega arith) group (locals_after ns c b n.local (body_locals k) room) parts.1 ok.1
-        (omega (arith, blocks)) (lowered_moved ns c.slots (Mark ∷ s) v (begun n) b x.spot parts.0) st,
+            (omega (arith, blocks)) (lowered_moved ns c.slots (Mark ∷ s) v (begun n) b x.spot parts.0) st,
       )
 
   pub if_else_stands : (at : Place) (e : ExprTree) (b d k : Body) → Carried ns c b → Carried ns c d → Carried ns c k → Carried ns c (IfElseStmt at e b d k)
@@ -107,12 +107,12 @@ module _ (ns : Names) (c : ClassTree) (few_slots : length c.slots < 2 ^ 64) (few
         entry j.block,
         front.code,
         body l (Mark ∷ s) v (begun n) x (Leave ∷ Do behind k ∷ r) (At (entry j.block) ∷ ts) (entry n.block) inside (locals_front ns c n.local (body_locals b) (body_locals d) room12) parts.0 ok.0
-        (second ns c p n.block n.block x.spot x.spot w.hand w.hand c0 c1 (omega arith) refl front1),
+            (second ns c p n.block n.block x.spot x.spot w.hand w.hand c0 c1 (omega arith) refl front1),
         other l (Mark ∷ s) v (begun m) (site_at y x) (Leave ∷ Do behind k ∷ r) (At (entry j.block) ∷ ts) (entry m.block) apart (locals_after ns c b n.local (body_locals d) room12) parts.1 ok.1
-        (second ns c p n.block m.block x.spot y w.hand w.hand (joined w.hand c0 c1) c2 (omega (arith, b01)) m1 front),
+            (second ns c p n.block m.block x.spot y w.hand w.hand (joined w.hand c0 c1) c2 (omega (arith, b01)) m1 front),
         rest_at ns c k rest l s w n j x z x.spot r ts p n.block w.hand (joined w.hand (joined w.hand c0 c1) c2) h (omega arith) g2
-        (locals_back ns c n.local j.local (body_locals b ++ body_locals d) (body_locals k) (omega (arith, sizes)) room) parts.2 ok.2
-        (omega (arith, b012)) (both c1.groups c2.groups x.spot y z m1 m2) st,
+            (locals_back ns c n.local j.local (body_locals b ++ body_locals d) (body_locals k) (omega (arith, sizes)) room) parts.2 ok.2
+            (omega (arith, b012)) (both c1.groups c2.groups x.spot y z m1 m2) st,
       )
 
   pub while_stands : (at : Place) (e : ExprTree) (b k : Body) → Carried ns c b → Carried ns c k → Carried ns c (WhileStmt at e b k)
@@ -137,15 +137,17 @@ module _ (ns : Names) (c : ClassTree) (few_slots : length c.slots < 2 ^ 64) (few
         n.block,
         entry m.block,
         (p, here, front.code),
-        (caught_by ns c n.local w.depth s r ts (entry n.block) (suc n.block) x.spot w.hand c1 h.above h.hand same refl test,
-        g.block,
-        m.block,
-        test.code,
-        body true (Mark ∷ s) v (begun g) x (Leave ∷ Made loop ∷ Do behind k ∷ r) (Again n.block ∷ At (entry m.block) ∷ ts) (entry g.block) inside (locals_front ns c n.local (body_locals b) (body_locals k) room) parts.0 ok.0
-        (second ns c p n.block g.block x.spot x.spot w.hand w.hand (joined w.hand c0 c1) c2 (omega arith) refl front),
-        here),
+        (
+          caught_by ns c n.local w.depth s r ts (entry n.block) (suc n.block) x.spot w.hand c1 h.above h.hand same refl test,
+          g.block,
+          m.block,
+          test.code,
+          body true (Mark ∷ s) v (begun g) x (Leave ∷ Made loop ∷ Do behind k ∷ r) (Again n.block ∷ At (entry m.block) ∷ ts) (entry g.block) inside (locals_front ns c n.local (body_locals b) (body_locals k) room) parts.0 ok.0
+              (second ns c p n.block g.block x.spot x.spot w.hand w.hand (joined w.hand c0 c1) c2 (omega arith) refl front),
+          here,
+        ),
         rest_at ns c k rest l s w n m x y x.spot r ts p n.block w.hand (joined w.hand (joined w.hand c0 c1) c2) h (omega arith) group (locals_after ns c b n.local (body_locals k) room) parts.1 ok.1
-        (omega (arith, b012)) m2 st,
+            (omega (arith, b012)) m2 st,
       )
 
   pub loop_stands : (at : Place) (b k : Body) → Carried ns c b → Carried ns c k → Carried ns c (LoopStmt at b k)
@@ -167,9 +169,9 @@ module _ (ns : Names) (c : ClassTree) (few_slots : length c.slots < 2 ^ 64) (few
         entry m.block,
         (p, here, front.code),
         body true (Mark ∷ s) v (begun n) x (Leave ∷ Made loop ∷ Do behind k ∷ r) (Again n.block ∷ At (entry m.block) ∷ ts) (entry n.block) inside (locals_front ns c n.local (body_locals b) (body_locals k) room) parts.0 ok.0
-        (second ns c p n.block n.block x.spot x.spot w.hand w.hand c0 c1 (omega arith) refl front),
+            (second ns c p n.block n.block x.spot x.spot w.hand w.hand c0 c1 (omega arith) refl front),
         rest_at ns c k rest l s w n m x y x.spot r ts p n.block w.hand (joined w.hand c0 c1) h (omega arith) group (locals_after ns c b n.local (body_locals k) room) parts.1 ok.1
-        (omega (arith, b01)) m1 st,
+            (omega (arith, b01)) m1 st,
       )
 
   pub try_stands : (at place : Place) (u : Ident) (b d k : Body) → Carried ns c b → Carried ns c d → Carried ns c k → Carried ns c (TryStmt at b place u d k)
@@ -213,14 +215,14 @@ module _ (ns : Names) (c : ClassTree) (few_slots : length c.slots < 2 ^ 64) (few
         entry j.block,
         jump n.block front.code here,
         body l (Mark ∷ s) v (begun n) x (Leave ∷ Handler u.name there d ∷ Do behind k ∷ r) (carry.Hand m.block m.local ∷ At (entry j.block) ∷ ts) (entry n.block) inside (locals_front ns c n.local (body_locals b) (ErrorType ∷ []) room12) parts.0 ok.0
-        (second ns c p n.block n.block x.spot x.spot w.hand (Some hand) c0 c1 (omega arith) refl front1),
+            (second ns c p n.block n.block x.spot x.spot w.hand (Some hand) c0 c1 (omega arith) refl front1),
         (own, above_more ns c n.local m.local s (omega arith) h.above),
         handler l (Var u.name m.local ∷ Mark ∷ s) f g there (Leave ∷ Do behind k ∷ r) (At (entry j.block) ∷ ts) (entry m.block) caught
-        (locals_back ns c n.local g.local (body_locals b ++ (ErrorType ∷ [])) (body_locals d) (omega (arith, n12)) room123) parts.1 ok.1
-        (second ns c p n.block m.block x.spot y w.hand w.hand (joined (Some hand) c0 c1) c2 (omega (arith, b01)) m1 front),
+            (locals_back ns c n.local g.local (body_locals b ++ (ErrorType ∷ [])) (body_locals d) (omega (arith, n12)) room123) parts.1 ok.1
+            (second ns c p n.block m.block x.spot y w.hand w.hand (joined (Some hand) c0 c1) c2 (omega (arith, b01)) m1 front),
         rest_at ns c k rest l s w n j x z x.spot r ts p n.block w.hand (joined w.hand (joined (Some hand) c0 c1) c2) h (omega arith) g2
-        (locals_back ns c n.local j.local (body_locals b ++ (ErrorType ∷ []) ++ body_locals d) (body_locals k) (omega (arith, n123)) room) parts.2 ok.2
-        (omega (arith, b012)) (both c1.groups c2.groups x.spot y z m1 m2) st,
+            (locals_back ns c n.local j.local (body_locals b ++ (ErrorType ∷ []) ++ body_locals d) (body_locals k) (omega (arith, n123)) room) parts.2 ok.2
+            (omega (arith, b012)) (both c1.groups c2.groups x.spot y z m1 m2) st,
       )
 
   pub break_stands : (at : Place) (k : Body) → Carried ns c k → Carried ns c (BreakStmt at k)

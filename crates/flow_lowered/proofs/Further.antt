@@ -140,10 +140,12 @@ module _ (ns : Names) (c : ClassTree) where
   pub dead_at : (k : Body) → Carried k → (l : Bool) (s : Scope) (w : Around) (n m : Next) (x : Site) (r : List Item) (ts : List Target) (p : Pos) (a : Chunk) → Here ns c l w s n x r ts → m.local ≡ n.local → m.group ≡ n.group
       → LocalsAt ns c n.local (body_locals k) → HasParts k → InPlace c.slots l (is_there x.caught) (names s) k → m.block ≡ n.block + length a.more → a.groups ≡ []
       → Stands ns c p n.block x.spot w.hand (before_rest w.hand a k (lowered ns c.slots s w (begun m) k)) → has_statement k ≡ true → (q : Pos) × BodyAt ns c s r ts x k q
-  dead_at k body l s w n m x r ts p a here el eg room parts ok eb none st t =
-      (entry m.block, body l s w (begun m) x r ts (entry m.block) (here_past ns c l w s n (begun m) x x.spot r ts (omega (arith, el)) (eg ∙ here.group) here)
-      (subst (λ j. LocalsAt ns c j (body_locals k)) (sym el) room) parts ok
-      (dead_if (has_statement k) p n.block m.block x.spot w.hand a (lowered ns c.slots s w (begun m) k) t eb none st))
+  dead_at k body l s w n m x r ts p a here el eg room parts ok eb none st t = (
+    entry m.block,
+    body l s w (begun m) x r ts (entry m.block) (here_past ns c l w s n (begun m) x x.spot r ts (omega (arith, el)) (eg ∙ here.group) here)
+        (subst (λ j. LocalsAt ns c j (body_locals k)) (sym el) room) parts ok
+        (dead_if (has_statement k) p n.block m.block x.spot w.hand a (lowered ns c.slots s w (begun m) k) t eb none st),
+  )
 
   -- with a declared variable
   own_local : (b : Bool) (l : ℕ) (t : TypeTree) → LocalsAt ns c l (if b then [] else t ∷ []) → b ≡ false → l < length c.locals

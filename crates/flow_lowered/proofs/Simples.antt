@@ -163,8 +163,13 @@ module _ (ns : Names) (c : ClassTree) (few_slots : length c.slots < 2 ^ 64) (few
       let rest = lowered ns c.slots s2 w (taken (Some i) n) End in
       let one = subst (λ is. Stands ns c p n.block x w.hand (acting is rest)) d.is st in (
         after p,
-        (caught_by ns c n.local w.depth s r ts p n.block x w.hand (lowered ns c.slots s w n (DeclareStmt place i e End)) a hand (lowered_held ns c s w n (DeclareStmt place i e End)) refl st,
-        v.to, d.gives p (one_at ns c p n.block x w.hand d.instr rest one), v.declared, refl),
+        (
+          caught_by ns c n.local w.depth s r ts p n.block x w.hand (lowered ns c.slots s w n (DeclareStmt place i e End)) a hand (lowered_held ns c s w n (DeclareStmt place i e End)) refl st,
+          v.to,
+          d.gives p (one_at ns c p n.block x w.hand d.instr rest one),
+          v.declared,
+          refl,
+        ),
         part_at w last s2 (after p) n.block x ex (one_on ns c p n.block x w.hand d.instr rest one),
       )
   init_at End w last s n x r ts p l t is ex a hand room ok st = (p, (refl, refl), part_at w last s p n.block x ex st)
@@ -172,8 +177,12 @@ module _ (ns : Names) (c : ClassTree) (few_slots : length c.slots < 2 ^ 64) (few
       let i = assigned ns c.slots s (path_over c.slots s xs) e in
       let rest = lowered ns c.slots s w n End in (
         after p,
-        (caught_by ns c n.local w.depth s r ts p n.block x w.hand (lowered ns c.slots s w n (AssignStmt place xs e End)) a hand (lowered_held ns c s w n (AssignStmt place xs e End)) refl st,
-        assign_at s (path_over c.slots s xs) e p (one_at ns c p n.block x w.hand i rest st), refl, refl),
+        (
+          caught_by ns c n.local w.depth s r ts p n.block x w.hand (lowered ns c.slots s w n (AssignStmt place xs e End)) a hand (lowered_held ns c s w n (AssignStmt place xs e End)) refl st,
+          assign_at s (path_over c.slots s xs) e p (one_at ns c p n.block x w.hand i rest st),
+          refl,
+          refl,
+        ),
         part_at w last s (after p) n.block x ex (one_on ns c p n.block x w.hand i rest st),
       )
   init_at (ModifyStmt place xs d End) w last s n x r ts p l t is ex a hand room ok st =
@@ -181,8 +190,12 @@ module _ (ns : Names) (c : ClassTree) (few_slots : length c.slots < 2 ^ 64) (few
       let rest = lowered ns c.slots s w n End in
       let one = subst (λ is. Stands ns c p n.block x w.hand (acting is rest)) v.is st in (
         after p,
-        (caught_by ns c n.local w.depth s r ts p n.block x w.hand (lowered ns c.slots s w n (ModifyStmt place xs d End)) a hand (lowered_held ns c s w n (ModifyStmt place xs d End)) refl st,
-        v.gives p (one_at ns c p n.block x w.hand v.instr rest one), refl, refl),
+        (
+          caught_by ns c n.local w.depth s r ts p n.block x w.hand (lowered ns c.slots s w n (ModifyStmt place xs d End)) a hand (lowered_held ns c s w n (ModifyStmt place xs d End)) refl st,
+          v.gives p (one_at ns c p n.block x w.hand v.instr rest one),
+          refl,
+          refl,
+        ),
         part_at w last s (after p) n.block x ex (one_on ns c p n.block x w.hand v.instr rest one),
       )
   init_at _ w last s n x r ts p l t is ex a hand room ok st = absurd is

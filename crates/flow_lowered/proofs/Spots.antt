@@ -143,10 +143,10 @@ module _ (ns : Names) (slots : List SlotTree) where
         let c3 = lowered ns slots r v (begun m) p in
         let y = text.past b x in
         let begins : moved c1.groups x ≡ x =
-            ap (λ gs. moved gs x) (test_groups v r e g.block o.block c0) ∙ lowered_moved (Mark ∷ s) v n i x (init_parts i h.0) ∙ init_still i x h.0 in
+        ap (λ gs. moved gs x) (test_groups v r e g.block o.block c0) ∙ lowered_moved (Mark ∷ s) v n i x (init_parts i h.0) ∙ init_still i x h.0 in
         let goes : moved c3.groups y ≡ y = lowered_moved r v (begun m) p y (step_parts p h.1) ∙ step_still p y h.1 in
         let ends : text.past b (text.past p (text.past i x)) ≡ y =
-            ap (λ z. text.past b (text.past p z)) (init_still i x h.0) ∙ ap (text.past b) (step_still p x h.1) in
+        ap (λ z. text.past b (text.past p z)) (init_still i x h.0) ∙ ap (text.past b) (step_still p x h.1) in
         both (c1.groups ++ c2.groups ++ c3.groups) (lowered ns slots s w (begun o) k).groups x y _
         (both (c1.groups ++ c2.groups) c3.groups x y y
         (both c1.groups c2.groups x x y begins (lowered_moved (Mark ∷ r) u (begun g) b x h.2)) goes)

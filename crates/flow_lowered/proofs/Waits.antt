@@ -53,8 +53,8 @@ module _ (ns : Names) (c : ClassTree) (few_slots : length c.slots < 2 ^ 64) (few
         d.gives p (one_at ns c p n.block x.spot w.hand d.instr ch one),
         v.declared,
         rest l s2 w m x r ts (after p) behind
-        (locals_back ns c n.local m.local (declared_locals i) (body_locals k) (omega (arith, into_locals_count (Some i))) room) parts
-        (subst (λ xs. InPlace c.slots l (is_there x.caught) xs k) (sym (names_with i.state i.name.name n.local s)) ok.1) (one_on ns c p n.block x.spot w.hand d.instr ch one),
+            (locals_back ns c n.local m.local (declared_locals i) (body_locals k) (omega (arith, into_locals_count (Some i))) room) parts
+            (subst (λ xs. InPlace c.slots l (is_there x.caught) xs k) (sym (names_with i.state i.name.name n.local s)) ok.1) (one_on ns c p n.block x.spot w.hand d.instr ch one),
       )
 
   pub assign_stands : (place : Place) (xs : List Ident) (e : ExprTree) (k : Body) → Carried ns c k → Carried ns c (AssignStmt place xs e k)
@@ -106,9 +106,9 @@ module _ (ns : Names) (c : ClassTree) (few_slots : length c.slots < 2 ^ 64) (few
         group_stands p n.block n.group x.spot (d ∷ []) w s h.group alone,
         branch_takes ns c few_slots few_locals s n.local n.block v h.above mine ok.0,
         rest l s2 w m (site_at y x) r ts (entry n.block) behind
-        (locals_back ns c n.local m.local (into_locals v.into) (body_locals k) (omega (arith, into_locals_count v.into)) room) parts
-        (subst (λ xs. InPlace c.slots l (is_there x.caught) xs k) (sym (names_taken ns c v.into n.local s)) ok.1)
-        (second ns c p n.block n.block x.spot y w.hand w.hand c0 (low s2 w m k) (omega arith) refl st),
+            (locals_back ns c n.local m.local (into_locals v.into) (body_locals k) (omega (arith, into_locals_count v.into)) room) parts
+            (subst (λ xs. InPlace c.slots l (is_there x.caught) xs k) (sym (names_taken ns c v.into n.local s)) ok.1)
+            (second ns c p n.block n.block x.spot y w.hand w.hand c0 (low s2 w m k) (omega arith) refl st),
       )
 
   -- branch by branch
@@ -151,11 +151,11 @@ module _ (ns : Names) (c : ClassTree) (few_slots : length c.slots < 2 ^ 64) (few
         s2,
         inner_takes ns c few_slots few_locals s n.local n.block w h.above mine ok.0,
         body l s2 v m x (Leave ∷ r) ts (entry n.block) inside (locals_back ns c n.local m.local (into_locals w.into) (body_locals b) (omega (arith, n1)) room12) parts.0
-        (subst (λ xs. InPlace c.slots l (is_there x.caught) xs b) (sym (names_taken ns c w.into n.local (Mark ∷ s))) ok.1)
-        (second ns c p first_block n.block u x.spot v.hand v.hand c0 d e g front),
+            (subst (λ xs. InPlace c.slots l (is_there x.caught) xs b) (sym (names_taken ns c w.into n.local (Mark ∷ s))) ok.1)
+            (second ns c p first_block n.block u x.spot v.hand v.hand c0 d e g front),
         others l (joined v.hand c0 d) s v j (site_at y x) r ts p first_block u further
-        (locals_back ns c n.local j.local (into_locals w.into ++ body_locals b) (branch_locals bs) (omega (arith, n1, n12, locals_count b)) room) parts.1 ok.2
-        (omega (arith, e, sum, blocks)) (both c0.groups d.groups u x.spot y g (lowered_moved ns c.slots s2 v m b x.spot parts.0)) st,
+            (locals_back ns c n.local j.local (into_locals w.into ++ body_locals b) (branch_locals bs) (omega (arith, n1, n12, locals_count b)) room) parts.1 ok.2
+            (omega (arith, e, sum, blocks)) (both c0.groups d.groups u x.spot y g (lowered_moved ns c.slots s2 v m b x.spot parts.0)) st,
       )
 
   pub choose_stands : (place : Place) (bs : Branches) (k : Body) → BranchesCarried bs → Carried ns c k → Carried ns c (ChooseStmt place bs k)
@@ -174,7 +174,7 @@ module _ (ns : Names) (c : ClassTree) (few_slots : length c.slots < 2 ^ 64) (few
       let moves = branches_moved ns c.slots c0 s v g bs x.spot y count parts.0 in
       let blocks = branches_more ns c.slots c0 s v g bs in
       let group : j.group ≡ z.group =
-          after_groups n.group (length whole.groups) (branch_group_count bs) x.spot.group z.group h.group (branches_groups ns c.slots c0 s v g bs) (sym (moved_group whole.groups x.spot) ∙ ap (λ a. a.group) moves) in
+      after_groups n.group (length whole.groups) (branch_group_count bs) x.spot.group z.group h.group (branches_groups ns c.slots c0 s v g bs) (sym (moved_group whole.groups x.spot) ∙ ap (λ a. a.group) moves) in
       let front = first ns c p n.block x.spot w.hand w.hand whole (low s w (begun j) k) st in
       let alone = branches_front bs c0 s v g p n.block x.spot front in
       let behind = site_at z x in
@@ -185,8 +185,8 @@ module _ (ns : Names) (c : ClassTree) (few_slots : length c.slots < 2 ^ 64) (few
         group_stands p n.block n.group x.spot cs w s h.group alone,
         each l c0 s v g (site_at y x) (Do behind k ∷ r) (At (entry j.block) ∷ ts) p n.block x.spot inside (locals_front ns c n.local (branch_locals bs) (body_locals k) room) parts.0 ok.0 (omega arith) count front,
         rest_at ns c k rest l s w n j x z x.spot r ts p n.block w.hand whole h (omega arith) group
-        (locals_back ns c n.local j.local (branch_locals bs) (body_locals k) (omega (arith, branch_locals_count bs)) room) parts.1 ok.1
-        (omega (arith, blocks)) moves st,
+            (locals_back ns c n.local j.local (branch_locals bs) (body_locals k) (omega (arith, branch_locals_count bs)) room) parts.1 ok.1
+            (omega (arith, blocks)) moves st,
       )
     where
       after_groups : (n a b x z : ℕ) → n ≡ x → a ≡ 1 + b → x + a ≡ z → suc n + b ≡ z

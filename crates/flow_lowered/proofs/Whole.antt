@@ -56,23 +56,26 @@ module _ (ns : Names) (c : ClassTree) where
   -- what a class has stands in it
   all_blocks : (pre bs : List BlockTree) → c.blocks ≡ pre ++ bs → BlocksAt ns c (length pre) bs
   all_blocks pre [] e = tt
-  all_blocks pre (b ∷ bs) e =
-      (ap (λ xs. slice_get xs (length pre)) e ∙ seam pre bs b,
-      subst (λ n. BlocksAt ns c n bs) (one_more pre b) (all_blocks (pre ++ b ∷ []) bs (e ∙ sym (append_assoc pre (b ∷ []) bs))))
+  all_blocks pre (b ∷ bs) e = (
+    ap (λ xs. slice_get xs (length pre)) e ∙ seam pre bs b,
+    subst (λ n. BlocksAt ns c n bs) (one_more pre b) (all_blocks (pre ++ b ∷ []) bs (e ∙ sym (append_assoc pre (b ∷ []) bs))),
+  )
 
   all_locals : (pre ts : List TypeTree) → c.locals ≡ pre ++ ts → LocalsAt ns c (length pre) ts
   all_locals pre [] e = tt
-  all_locals pre (t ∷ ts) e =
-      (ap (λ xs. slice_get xs (length pre)) e ∙ seam pre ts t,
-      subst (λ n. LocalsAt ns c n ts) (one_more pre t) (all_locals (pre ++ t ∷ []) ts (e ∙ sym (append_assoc pre (t ∷ []) ts))))
+  all_locals pre (t ∷ ts) e = (
+    ap (λ xs. slice_get xs (length pre)) e ∙ seam pre ts t,
+    subst (λ n. LocalsAt ns c n ts) (one_more pre t) (all_locals (pre ++ t ∷ []) ts (e ∙ sym (append_assoc pre (t ∷ []) ts))),
+  )
 
   all_groups : (pre gs : List (List CallbackTree)) → c.groups ≡ pre ++ gs → GroupsAt ns c (spot_behind pre) gs
   unfolding spot_behind
   all_groups pre [] e = tt
-  all_groups pre (g ∷ gs) e =
-      (ap (λ xs. slice_get xs (length pre)) e ∙ seam pre gs g,
-      (λ i. record { group = suc (length pre); first = (ap (λ xs. callbacks_before xs (suc (length pre))) e ∙ before pre (g ∷ gs)) i }),
-      subst (λ x. GroupsAt ns c x gs) (next_behind pre g) (all_groups (pre ++ g ∷ []) gs (e ∙ sym (append_assoc pre (g ∷ []) gs))))
+  all_groups pre (g ∷ gs) e = (
+    ap (λ xs. slice_get xs (length pre)) e ∙ seam pre gs g,
+    (λ i. record { group = suc (length pre); first = (ap (λ xs. callbacks_before xs (suc (length pre))) e ∙ before pre (g ∷ gs)) i }),
+    subst (λ x. GroupsAt ns c x gs) (next_behind pre g) (all_groups (pre ++ g ∷ []) gs (e ∙ sym (append_assoc pre (g ∷ []) gs))),
+  )
 
 -- no locals, blocks or groups yet, but for the first block
 abbrev start : Next
