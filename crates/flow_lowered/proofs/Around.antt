@@ -1,10 +1,10 @@
 -- What is around a lowered body fits the items below it.
-use Rattle.std.proofs.Common.{◌≡◌, ℕ, zero, suc, ◌+◌, ◌<◌, ◌≤◌, Bool, true, false, List, [], ◌∷◌, ◌++◌, map, length, if◌then◌else◌, refl, ap, sym, subst, ◌∙◌, arith}
+use Rattle.std.proofs.Common.{◌≡◌, ℕ, zero, suc, ◌+◌, ◌<◌, ◌≤◌, Bool, true, false, List, [], ◌∷◌, map, length, refl, sym, subst, arith}
 use Rattle.std.specs.declared.option.Option.{Option}
 use Rattle.std.specs.declared.option.Option.TheVariants.{None, Some}
 use Rattle.flow_tree.specs.Body.{Body, End}
-use Rattle.flow_class.specs.Classes.{InstrTree, DropInstr, LastTree, GotoLast, PassLast, ClassTree}
-use Rattle.flow_class.specs.Code.{Last, catcher_at}
+use Rattle.flow_class.specs.Classes.{DropInstr, LastTree, GotoLast, PassLast, ClassTree}
+use Rattle.flow_class.specs.Code.{Last}
 use Rattle.flow_class.specs.Scopes.{Scope, Mark, Var, scope, outside, Above}
 use Rattle.flow_catch.specs.Inner.{listed, left_lists}
 use Rattle.flow_meaning.specs.Asks.{Spot}
@@ -17,9 +17,9 @@ use Rattle.flow_meaning.specs.Carry as carry
 use Rattle.flow_meaning.specs.Carries.{ExitAt}
 use Rattle.flow_split.specs.Around.{Exit, Text, Scoped, Part, Hand, Around, inner, pass, guarded, handling}
 use Rattle.flow_split.specs.Counts.{Next}
-use Rattle.flow_split.specs.Lowered.{Chunk, ends, drop_of, dropping, cancelled, exits, finished}
+use Rattle.flow_split.specs.Lowered.{drop_of, exits, finished}
 use Rattle.flow_lowered.proofs.Standing.{InstrsAt, Stands, at_entry}
-use Rattle.flow_lowered.proofs.Held.{HandIn, NoHandler, HandlerIn, uncaught}
+use Rattle.flow_lowered.proofs.Held.{HandIn, HandlerIn, uncaught}
 
 module _ (ns : Names) (c : ClassTree) where
   -- jumps in front

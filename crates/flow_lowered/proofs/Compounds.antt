@@ -1,32 +1,29 @@
 -- Blocks, tests, loops and tries stand where lowering put them.
-use Rattle.std.proofs.Common.{◌≡◌, ℕ, zero, suc, ◌+◌, ◌^◌, ◌<◌, ◌≤◌, Bool, true, false, List, [], ◌∷◌, ◌++◌, length, refl, ap, sym, subst, ◌∙◌, arith, length-append}
+use Rattle.std.proofs.Common.{◌≡◌, suc, ◌+◌, ◌^◌, ◌<◌, true, false, [], ◌∷◌, ◌++◌, length, refl, ap, sym, arith, length-append}
 use Rattle.std.specs.declared.option.Option.{Option}
 use Rattle.std.specs.declared.option.Option.TheVariants.{None, Some}
 use Rattle.std.proofs.lemmas.Option.{slice_get_within}
 use Rattle.flow_base.specs.declared.place.Place.{Place}
 use Rattle.flow_tree.specs.declared.ty.Ident.{Ident}
-use Rattle.flow_tree.specs.Tree.{TypeTree, ErrorType, ExprTree}
+use Rattle.flow_tree.specs.Tree.{ErrorType, ExprTree}
 use Rattle.flow_tree.specs.Body.{Body, End, BlockStmt, IfStmt, IfElseStmt, WhileStmt, LoopStmt, BreakStmt, ContinueStmt, ReturnStmt, ThrowStmt, TryStmt}
-use Rattle.flow_class.specs.Classes.{LastTree, GotoLast, PassLast, TestLast, ReturnLast, ThrowLast, ClassTree}
+use Rattle.flow_class.specs.Classes.{GotoLast, PassLast, TestLast, ReturnLast, ThrowLast, ClassTree}
 use Rattle.flow_class.specs.Scopes.{Scope, Mark, Var, over}
-use Rattle.flow_catch.specs.Inner.{inner_locals}
 use Rattle.flow_layout.specs.Locals.{body_locals}
-use Rattle.flow_meaning.specs.Asks.{Spot}
 use Rattle.flow_meaning.specs.Evaluating.{Names}
-use Rattle.flow_meaning.specs.Items.{Site, Loop, Item, Do, Leave, Made, Handler, site_past, site_at}
+use Rattle.flow_meaning.specs.Items.{Site, Loop, Do, Leave, Made, Handler, site_past, site_at}
 use Rattle.flow_meaning.specs.SourceStep.{Breaks, Continues}
 use Rattle.flow_meaning.specs.Text as text
 use Rattle.flow_meaning.specs.Carry.{Pos, entry, Target, At, Again, here, jump}
 use Rattle.flow_meaning.specs.Carry as carry
 use Rattle.flow_split.specs.Around.{Scoped, Hand, Around, inner, pass, guarded, handling}
-use Rattle.flow_split.specs.Counts.{locals_in, blocks_in, groups_in, Next, begun, past}
+use Rattle.flow_split.specs.Counts.{locals_in, blocks_in, Next, begun, past}
 use Rattle.flow_split.specs.Lowered.{Chunk, joined, ends, exits, exited, thrown, lowered}
 use Rattle.flow_split.proofs.Lengths.{lowered_more}
-use Rattle.flow_lowered.specs.Parts.{HasParts}
-use Rattle.flow_lowered.proofs.Standing.{moved, moved_append, LocalsAt, locals_front, locals_back, Stands, first, second}
+use Rattle.flow_lowered.proofs.Standing.{locals_front, locals_back, first, second}
 use Rattle.flow_lowered.proofs.Spots.{both, lowered_moved, exits_still}
-use Rattle.flow_lowered.proofs.Held.{same, caught_by, lowered_held}
-use Rattle.flow_lowered.proofs.Around.{Here, above_more, here_past, here_inner, here_handler, here_try, here_loop, exit_at, end_at}
+use Rattle.flow_lowered.proofs.Held.{same, caught_by}
+use Rattle.flow_lowered.proofs.Around.{above_more, here_inner, here_handler, here_try, here_loop, exit_at, end_at}
 use Rattle.flow_lowered.proofs.Simples.{throw_at}
 use Rattle.flow_lowered.proofs.Further.{exited_local, exited_group, exited_block, locals_count, Carried, locals_after, groups_after, blocks_joined, rest_at, live_at, dead_at}
 

@@ -1,35 +1,29 @@
 -- A `for` stands where lowering put it.
-use Rattle.std.proofs.Common.{◌≡◌, ℕ, zero, suc, ◌+◌, ◌^◌, ◌<◌, ◌≤◌, Bool, true, false, List, [], ◌∷◌, ◌++◌, length, refl, ap, sym, subst, ◌∙◌, arith, length-append}
+use Rattle.std.proofs.Common.{◌≡◌, ℕ, suc, ◌+◌, ◌^◌, ◌<◌, Bool, true, false, List, ◌∷◌, ◌++◌, length, refl, ap, sym, subst, ◌∙◌, arith, length-append}
 use Rattle.std.specs.declared.option.Option.{Option}
-use Rattle.std.specs.declared.option.Option.TheVariants.{None, Some}
 use Rattle.flow_base.specs.declared.place.Place.{Place}
-use Rattle.flow_tree.specs.Tree.{TypeTree, ExprTree}
-use Rattle.flow_tree.specs.Body.{Body, End, ForStmt}
+use Rattle.flow_tree.specs.Tree.{ExprTree}
+use Rattle.flow_tree.specs.Body.{Body, ForStmt}
 use Rattle.flow_ast.specs.Typing.{is_there}
-use Rattle.flow_class.specs.Classes.{LastTree, GotoLast, PassLast, TestLast, ClassTree}
+use Rattle.flow_class.specs.Classes.{GotoLast, PassLast, ClassTree}
 use Rattle.flow_class.specs.Code.{Last}
-use Rattle.flow_class.specs.Scopes.{Scope, Mark, Var, scope, outside, Above, over}
+use Rattle.flow_class.specs.Scopes.{Scope, Mark, scope, Above}
 use Rattle.flow_layout.specs.Locals.{body_locals}
 use Rattle.flow_meaning.specs.Asks.{Spot}
 use Rattle.flow_meaning.specs.Evaluating.{Names}
-use Rattle.flow_meaning.specs.Items.{Site, Loop, Item, Do, Leave, Round, Made, site_past, site_at}
-use Rattle.flow_meaning.specs.SourceStep.{Breaks, Continues}
+use Rattle.flow_meaning.specs.Items.{Site, Loop, Item, Do, Leave, Round, Made, site_at}
 use Rattle.flow_meaning.specs.Text as text
-use Rattle.flow_meaning.specs.Carry.{Pos, entry, Target, At, Again, at, Goes, here, jump, SimpleAt, PassAt, DropThen, GoesOn}
-use Rattle.flow_meaning.specs.Carries.{BodyAt}
-use Rattle.flow_split.specs.Around.{Part, Scoped, Around, inner, pass}
-use Rattle.flow_split.specs.Counts.{test_blocks, locals_in, blocks_in, groups_in, Next, begun, past}
-use Rattle.flow_split.specs.Lowered.{Chunk, joined, dropping, later, tested, test_before, lowered}
+use Rattle.flow_meaning.specs.Carry.{Pos, entry, Target, At, Again, at, here, jump, GoesOn}
+use Rattle.flow_split.specs.Around.{Part, Around, inner, pass}
+use Rattle.flow_split.specs.Counts.{test_blocks, locals_in, blocks_in, Next, begun, past}
+use Rattle.flow_split.specs.Lowered.{joined, dropping, later, tested, test_before, lowered}
 use Rattle.flow_split.proofs.Lengths.{lowered_more}
-use Rattle.flow_lowered.specs.Parts.{IsStep, IsInit, HasParts}
-use Rattle.flow_lowered.specs.InPlace.{started, InPlace}
+use Rattle.flow_lowered.specs.InPlace.{InPlace}
 use Rattle.flow_lowered.proofs.Standing.{moved, LocalsAt, locals_front, locals_back, Stands, first, second}
-use Rattle.flow_lowered.proofs.Spots.{both, lowered_moved, step_still, init_still, step_parts, init_parts, test_groups}
-use Rattle.flow_lowered.proofs.Held.{HandIn}
+use Rattle.flow_lowered.proofs.Spots.{both, lowered_moved, step_still, step_parts, init_parts, test_groups}
 use Rattle.flow_lowered.proofs.Around.{InClass, Here, here_past, above_more, goes_before}
-use Rattle.flow_lowered.proofs.Places.{names}
 use Rattle.flow_lowered.proofs.Simples.{PartAt, init_at}
-use Rattle.flow_lowered.proofs.Further.{locals_count, Carried, groups_after, blocks_joined, rest_at}
+use Rattle.flow_lowered.proofs.Further.{locals_count, Carried, groups_after, blocks_joined}
 use Rattle.flow_lowered.proofs.Fors.{step_is_init, step_later, step_locals, Started, starts, hand_part, hand_behind, hand_made, Dropped, dropped, test_block, test_local, test_group, test_more, test_first, test_at}
 
 module _ (ns : Names) (c : ClassTree) (few_slots : length c.slots < 2 ^ 64) (few_locals : length c.locals < 2 ^ 64) where

@@ -1,36 +1,28 @@
 -- A `for` stands where lowering put it: its init, its test, its body, its step, and what drops its variable.
-use Rattle.std.proofs.Common.{◌≡◌, ℕ, zero, suc, ◌+◌, ◌^◌, ◌<◌, ◌≤◌, Bool, true, false, List, [], ◌∷◌, ◌++◌, length, slice_get, if◌then◌else◌, refl, ap, sym, subst, ◌∙◌, arith, length-append}
+use Rattle.std.proofs.Common.{◌≡◌, ℕ, suc, ◌+◌, ◌^◌, ◌<◌, Bool, true, false, List, [], ◌∷◌, length, if◌then◌else◌, refl, subst, arith}
 use Rattle.std.proofs.lemmas.Option.{slice_get_within}
 use Rattle.std.specs.declared.option.Option.{Option}
 use Rattle.std.specs.declared.option.Option.TheVariants.{None, Some}
-use Rattle.flow_base.specs.declared.place.Place.{Place}
 use Rattle.flow_tree.specs.Tree.{TypeTree, ExprTree}
-use Rattle.flow_tree.specs.Body.{IntoTree, Body, End, ForStmt, DeclareStmt, AssignStmt, ModifyStmt}
-use Rattle.flow_ast.specs.Typing.{is_there}
-use Rattle.flow_class.specs.Classes.{LastTree, GotoLast, PassLast, TestLast, DropInstr, ClassTree}
-use Rattle.flow_class.specs.Code.{Last}
-use Rattle.flow_class.specs.Scopes.{Scope, Mark, Var, scope, outside, Above, over}
+use Rattle.flow_tree.specs.Body.{Body, End, DeclareStmt, AssignStmt, ModifyStmt}
+use Rattle.flow_class.specs.Classes.{TestLast, ClassTree}
+use Rattle.flow_class.specs.Scopes.{Scope, Above, over}
 use Rattle.flow_layout.specs.Locals.{body_locals, declared_locals}
 use Rattle.flow_meaning.specs.Asks.{Spot}
 use Rattle.flow_meaning.specs.Evaluating.{Names}
-use Rattle.flow_meaning.specs.Items.{Site, Loop, Item, Do, Leave, Round, Made, site_past, site_at}
-use Rattle.flow_meaning.specs.SourceStep.{Breaks, Continues}
-use Rattle.flow_meaning.specs.Text as text
-use Rattle.flow_meaning.specs.Carry.{Pos, entry, after, Target, At, Again, at, Goes, here, jump, SimpleAt, PassAt, DropThen, GoesOn}
-use Rattle.flow_meaning.specs.Carries.{LoopAt, BodyAt}
-use Rattle.flow_split.specs.Around.{Scoped, Part, Hand, Around, inner, pass}
-use Rattle.flow_split.specs.Counts.{local_count, test_blocks, locals_in, blocks_in, groups_in, Next, begun, past}
-use Rattle.flow_split.specs.Lowered.{Chunk, joined, ends, drop_of, dropping, with_local, with_into, later, tested, test_before, lowered}
-use Rattle.flow_split.proofs.Lengths.{lowered_more}
-use Rattle.flow_lowered.specs.Parts.{IsStep, IsInit, HasParts}
-use Rattle.flow_lowered.specs.InPlace.{started, InPlace}
-use Rattle.flow_lowered.proofs.Standing.{moved, LocalsAt, locals_front, locals_back, InstrsAt, Stands, first, second}
-use Rattle.flow_lowered.proofs.Spots.{both, lowered_moved, step_still, init_still, step_parts, init_parts, test_groups}
+use Rattle.flow_meaning.specs.Items.{Site, Loop, Item, Do, Leave, Round, Made}
+use Rattle.flow_meaning.specs.Carry.{Pos, entry, after, Target, At, Again, at, Goes, here, DropThen, GoesOn}
+use Rattle.flow_meaning.specs.Carries.{LoopAt}
+use Rattle.flow_split.specs.Around.{Hand, Around}
+use Rattle.flow_split.specs.Counts.{test_blocks, locals_in, Next}
+use Rattle.flow_split.specs.Lowered.{Chunk, ends, dropping, with_local, later, tested, test_before}
+use Rattle.flow_lowered.specs.Parts.{IsStep, IsInit}
+use Rattle.flow_lowered.specs.InPlace.{started}
+use Rattle.flow_lowered.proofs.Standing.{moved, LocalsAt, locals_front, Stands, first, second}
 use Rattle.flow_lowered.proofs.Held.{same, caught_by, HandIn, HandlerIn}
-use Rattle.flow_lowered.proofs.Around.{InClass, Here, above_more, goes_before}
+use Rattle.flow_lowered.proofs.Around.{InClass, above_more}
 use Rattle.flow_lowered.proofs.Places.{names, names_with}
-use Rattle.flow_lowered.proofs.Simples.{init_at}
-use Rattle.flow_lowered.proofs.Further.{locals_count, Carried, groups_after, blocks_joined, rest_at}
+use Rattle.flow_lowered.proofs.Further.{blocks_joined}
 
 -- a step declares nothing
 pub step_is_init : (b : Body) → IsStep b → IsInit b

@@ -1,14 +1,14 @@
 -- Further on in a text: the locals, waits and blocks behind a body.
-use Rattle.std.proofs.Common.{◌≡◌, ℕ, zero, suc, ◌+◌, ◌^◌, ◌<◌, ◌≤◌, Bool, true, false, List, [], ◌∷◌, ◌++◌, length, slice_get, if◌then◌else◌, refl, ap, sym, subst, ◌∙◌, arith, length-append}
+use Rattle.std.proofs.Common.{◌≡◌, ℕ, suc, ◌+◌, ◌<◌, ◌≤◌, Bool, true, false, List, [], ◌∷◌, ◌++◌, length, if◌then◌else◌, refl, ap, sym, subst, ◌∙◌, arith, length-append}
 use Rattle.std.proofs.lemmas.Option.{slice_get_within}
 use Rattle.std.specs.declared.option.Option.{Option}
 use Rattle.std.specs.declared.option.Option.TheVariants.{None, Some}
-use Rattle.flow_tree.specs.Tree.{TypeTree, ErrorType, ExprTree}
+use Rattle.flow_tree.specs.Tree.{TypeTree, ErrorType}
 use Rattle.flow_tree.specs.Body.{IntoTree, Body, End, BlockStmt, IfStmt, IfElseStmt, WhileStmt, ForStmt, LoopStmt, BreakStmt, ContinueStmt, ReturnStmt, ThrowStmt, TryStmt, ChooseStmt, DeclareStmt, AssignStmt, ModifyStmt, CallStmt, WaitStmt, Branches, NoBranches, MoreBranches}
 use Rattle.flow_ast.specs.Leaving.{has_statement}
 use Rattle.flow_ast.specs.Typing.{is_there}
 use Rattle.flow_class.specs.Classes.{LastTree, ClassTree}
-use Rattle.flow_class.specs.Scopes.{Scope, Mark, Var, Above}
+use Rattle.flow_class.specs.Scopes.{Scope}
 use Rattle.flow_layout.specs.Locals.{body_locals, branch_locals, declared_locals, into_locals}
 use Rattle.flow_meaning.specs.Asks.{Spot}
 use Rattle.flow_meaning.specs.Evaluating.{Names}
@@ -17,15 +17,15 @@ use Rattle.flow_meaning.specs.Text as text
 use Rattle.flow_meaning.specs.Carry.{Pos, entry, Target}
 use Rattle.flow_meaning.specs.Carries.{BodyAt}
 use Rattle.flow_split.specs.Around.{Hand, Around}
-use Rattle.flow_split.specs.Counts.{local_count, into_count, exit_blocks, locals_in, branch_local_count, blocks_in, groups_in, Next, begun}
-use Rattle.flow_split.specs.Lowered.{Chunk, block_with, joined, before_rest, exits, exited, with_local, with_into, with_taken, later, lowered}
+use Rattle.flow_split.specs.Counts.{local_count, into_count, locals_in, branch_local_count, groups_in, Next, begun}
+use Rattle.flow_split.specs.Lowered.{Chunk, block_with, joined, before_rest, exits, exited, with_local, with_into, with_taken, lowered}
 use Rattle.flow_split.proofs.Joins.{join_more}
-use Rattle.flow_split.proofs.Lengths.{lowered_more, lowered_groups}
-use Rattle.flow_lowered.specs.Parts.{IsStep, IsInit, HasParts}
-use Rattle.flow_lowered.specs.InPlace.{naming_any, started, InPlace}
-use Rattle.flow_lowered.proofs.Standing.{moved, moved_group, LocalsAt, locals_front, locals_back, Stands, first, second}
+use Rattle.flow_split.proofs.Lengths.{lowered_groups}
+use Rattle.flow_lowered.specs.Parts.{HasParts}
+use Rattle.flow_lowered.specs.InPlace.{naming_any, InPlace}
+use Rattle.flow_lowered.proofs.Standing.{moved, moved_group, LocalsAt, locals_back, Stands, first, second}
 use Rattle.flow_lowered.proofs.Spots.{lowered_moved}
-use Rattle.flow_lowered.proofs.Around.{InClass, Here, here_past, here_local}
+use Rattle.flow_lowered.proofs.Around.{Here, here_past, here_local}
 use Rattle.flow_lowered.proofs.Places.{names, names_with}
 
 -- how many locals a body has

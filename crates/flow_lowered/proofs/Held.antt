@@ -1,12 +1,11 @@
 -- The catch part of a block covers the locals of its try body that are in force at each statement in it.
-use Rattle.std.proofs.Common.{◌≡◌, ◌≢◌, ℕ, zero, suc, ◌+◌, ◌<◌, ◌≤◌, Bool, true, false, List, [], ◌∷◌, ◌++◌, length, if◌then◌else◌, refl, ap, sym, subst, ◌∙◌, arith, append_assoc}
+use Rattle.std.proofs.Common.{◌≡◌, ℕ, zero, suc, ◌+◌, ◌<◌, ◌≤◌, Bool, true, false, List, [], ◌∷◌, ◌++◌, if◌then◌else◌, refl, ap, sym, subst, ◌∙◌, arith, append_assoc}
 use Rattle.std.specs.declared.option.Option.{Option}
 use Rattle.std.specs.declared.option.Option.TheVariants.{None, Some}
 use Rattle.flow_tree.specs.Tree.{ExprTree}
-use Rattle.flow_tree.specs.Body.{IntoTree, Body, End, BlockStmt, IfStmt, IfElseStmt, WhileStmt, ForStmt, LoopStmt, BreakStmt, ContinueStmt, ReturnStmt, ThrowStmt, TryStmt, ChooseStmt, DeclareStmt, AssignStmt, ModifyStmt, CallStmt, WaitStmt, Branches, NoBranches, MoreBranches}
-use Rattle.flow_tree.specs.Decls.{SlotTree}
+use Rattle.flow_tree.specs.Body.{Body, End, BlockStmt, IfStmt, IfElseStmt, WhileStmt, ForStmt, LoopStmt, BreakStmt, ContinueStmt, ReturnStmt, ThrowStmt, TryStmt, ChooseStmt, DeclareStmt, AssignStmt, ModifyStmt, CallStmt, WaitStmt, Branches, NoBranches, MoreBranches}
 use Rattle.flow_ast.specs.Leaving.{has_statement}
-use Rattle.flow_class.specs.Classes.{LastTree, GotoLast, PassLast, TestLast, ChooseLast, ReturnLast, ThrowLast, ClassTree}
+use Rattle.flow_class.specs.Classes.{LastTree, GotoLast, PassLast, ChooseLast, ReturnLast, ThrowLast, ClassTree}
 use Rattle.flow_class.specs.Code.{catcher_at}
 use Rattle.flow_class.specs.Scopes.{Scope, Mark, Var, scope, outside, over, Above, Apart, Covers, none, this, extra}
 use Rattle.flow_catch.specs.Inner.{inner_locals}
@@ -15,9 +14,9 @@ use Rattle.flow_meaning.specs.Evaluating.{Names}
 use Rattle.flow_meaning.specs.Items.{Item, Do, Leave, Round, Check, Made, Handler, Over, Unwound, unwind}
 use Rattle.flow_meaning.specs.Carry.{Pos, Target, At, Again, hand_of, CaughtBy, CaughtAt}
 use Rattle.flow_meaning.specs.Carry as carry
-use Rattle.flow_split.specs.Around.{Exit, Text, Scoped, Part, Hand, Around, inner, pass, guarded, handling}
-use Rattle.flow_split.specs.Counts.{local_count, into_count, Next, begun, taken, grouped, past, past_branches}
-use Rattle.flow_split.specs.Lowered.{Chunk, catch_part, joined, ends, before_rest, exits, exited, finished, thrown, with_local, with_into, with_taken, later, tested, callback, callbacks, test_before, lowered, branches}
+use Rattle.flow_split.specs.Around.{Exit, Text, Scoped, Part, Hand, Around, inner}
+use Rattle.flow_split.specs.Counts.{Next, begun, taken, grouped, past, past_branches}
+use Rattle.flow_split.specs.Lowered.{Chunk, catch_part, joined, ends, before_rest, exits, exited, finished, thrown, with_local, with_into, with_taken, later, tested, callbacks, test_before, lowered, branches}
 use Rattle.flow_lowered.proofs.Standing.{Stands}
 
 -- a list with numbers from l on before it

@@ -1,5 +1,5 @@
 -- A declared variable has a place: the next local, or its slot.
-use Rattle.std.proofs.Common.{◌≡◌, ◌≢◌, ◌⊎◌, inl, inr, ℕ, zero, suc, ◌+◌, ◌^◌, ◌<◌, ◌≤◌, Bool, true, false, not, ◌&&◌, ◌==◌, List, [], ◌∷◌, length, get_or, slice_get, position, decimal, if◌then◌else◌, refl, ap, sym, subst, ◌∙◌, arith, rules}
+use Rattle.std.proofs.Common.{◌≡◌, ◌⊎◌, inl, inr, ℕ, zero, suc, ◌^◌, ◌<◌, Bool, true, false, not, ◌&&◌, ◌==◌, List, [], ◌∷◌, length, get_or, slice_get, position, decimal, if◌then◌else◌, refl, ap, ◌∙◌, arith, rules}
 use Rattle.std.specs.Str.{bytes_eq}
 use Rattle.std.specs.List.{list_all}
 use Rattle.std.specs.Option.{option_map, option_and_then}
@@ -9,10 +9,8 @@ use Rattle.std.proofs.lemmas.Option.{slice_get_within}
 use Rattle.std.specs.declared.option.Option.{Option}
 use Rattle.std.specs.declared.option.Option.TheVariants.{None, Some}
 use Rattle.flow_base.specs.Names.{digit, are_digits, digits_from}
-use Rattle.flow_tree.specs.Tree.{TypeTree}
 use Rattle.flow_tree.specs.Body.{IntoTree}
 use Rattle.flow_tree.specs.Decls.{SlotTree}
-use Rattle.flow_ast.specs.Slots.{slots_of}
 use Rattle.flow_class.specs.declared.class.Slotted.{Slotted}
 use Rattle.flow_class.specs.declared.class.Slotted.TheVariants as place
 use Rattle.flow_class.specs.Classes.{ClassTree}
@@ -22,10 +20,9 @@ use Rattle.flow_class.specs.Scopes.{Scope, Mark, Var, find, Above, place_of}
 use Rattle.flow_class.specs.Scopes as scopes
 use Rattle.flow_layout.specs.Locals.{declared_locals}
 use Rattle.flow_meaning.specs.Evaluating.{Names}
-use Rattle.flow_meaning.specs.Carry.{DeclaredAs, NewLocal}
-use Rattle.flow_split.specs.Counts.{local_count}
+use Rattle.flow_meaning.specs.Carry.{DeclaredAs}
 use Rattle.flow_split.specs.Lowered.{with_local, with_into, place_by, place_in}
-use Rattle.flow_lowered.specs.InPlace.{NotAmong, naming_if, naming, HasSlot, MayDeclare, slot_of}
+use Rattle.flow_lowered.specs.InPlace.{NotAmong, naming_if, HasSlot, MayDeclare}
 use Rattle.flow_lowered.proofs.Standing.{LocalsAt}
 
 -- the name of a place is read as that place

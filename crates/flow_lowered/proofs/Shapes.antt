@@ -1,9 +1,8 @@
 -- The class of an actor has its shape.
-use Rattle.std.proofs.Common.{◌≡◌, ℕ, suc, Bool, true, false, List, [], ◌∷◌, ◌++◌, length, map, if◌then◌else◌, refl, ap, ap₂, sym, ◌∙◌}
+use Rattle.std.proofs.Common.{◌≡◌, suc, Bool, true, false, List, [], ◌∷◌, ◌++◌, map, if◌then◌else◌, refl, ap, ap₂, sym, ◌∙◌}
 use Rattle.std.proofs.lemmas.List.{map-append, append-nil, append_assoc}
 use Rattle.std.specs.declared.option.Option.{Option}
-use Rattle.std.specs.declared.option.Option.TheVariants.{None, Some}
-use Rattle.flow_tree.specs.Tree.{ExprTree}
+use Rattle.std.specs.declared.option.Option.TheVariants.{Some}
 use Rattle.flow_tree.specs.Body.{WaitTree, Body, End, BlockStmt, IfStmt, IfElseStmt, WhileStmt, ForStmt, LoopStmt, BreakStmt, ContinueStmt, ReturnStmt, ThrowStmt, TryStmt, ChooseStmt, DeclareStmt, AssignStmt, ModifyStmt, CallStmt, WaitStmt, Branches, NoBranches, MoreBranches}
 use Rattle.flow_tree.specs.Decls.{SlotTree, RoutineTree}
 use Rattle.flow_ast.specs.Leaving.{has_statement}
@@ -16,7 +15,7 @@ use Rattle.flow_meaning.specs.Shape.{waits_kinds, callback_kinds, IsClassOf}
 use Rattle.flow_split.specs.Around.{Scoped, Part, Hand, Around, whole, inner, pass, guarded, handling}
 use Rattle.flow_split.specs.Counts.{Next, begun, taken, grouped, past, past_branches}
 use Rattle.flow_split.specs.Lowered.{Chunk, joined, ends, before_rest, exits, exited, thrown, with_into, with_taken, later, tested, callbacks, test_before, lowered, branches, lowered_class}
-use Rattle.flow_lowered.specs.Parts.{IsStep, IsInit, HasParts, HaveParts}
+use Rattle.flow_lowered.specs.Parts.{IsStep, HasParts, HaveParts}
 use Rattle.flow_lowered.proofs.Spots.{exits_still, finished_still, step_parts, init_parts, test_groups}
 
 -- what each group takes, as a class and as a text say it

@@ -1,6 +1,5 @@
 -- Statements of one instruction, and the parts of a `for`.
-use Rattle.std.proofs.Common.{◌≡◌, ℕ, zero, suc, ◌+◌, ◌^◌, ◌<◌, ◌≤◌, position, Bool, true, false, pos, List, [], ◌∷◌, ◌++◌, length, codes, if◌then◌else◌, refl, ap, sym, subst, ◌∙◌, arith}
-use Rattle.std.specs.Option.{option_and_then}
+use Rattle.std.proofs.Common.{◌≡◌, ℕ, ◌^◌, ◌<◌, position, Bool, true, false, List, [], ◌∷◌, length, if◌then◌else◌, refl, ap, sym, subst, ◌∙◌, arith}
 use Rattle.std.specs.declared.option.Option.{Option}
 use Rattle.std.specs.declared.option.Option.TheVariants.{None, Some}
 use Rattle.std.specs.Str.{bytes_eq}
@@ -11,11 +10,10 @@ use Rattle.flow_tree.specs.Tree.{TypeTree, VoidType, IntType, BoolType, StringTy
 use Rattle.flow_tree.specs.Body.{IntoTree, WaitTree, ChangeTree, Body, End, DeclareStmt, AssignStmt, ModifyStmt}
 use Rattle.flow_ast.specs.Typing.{is_there}
 use Rattle.flow_class.specs.declared.class.Slotted.{Slotted}
-use Rattle.flow_class.specs.declared.class.Slotted.TheVariants as place
-use Rattle.flow_class.specs.Classes.{InstrTree, SetInstr, EffectInstr, NewInstr, LastTree, ThrowLast, CallbackTree, ClassTree}
+use Rattle.flow_class.specs.Classes.{InstrTree, SetInstr, NewInstr, LastTree, ThrowLast, ClassTree}
 use Rattle.flow_class.specs.Code.{Last}
 use Rattle.flow_class.specs.Code as code
-use Rattle.flow_class.specs.Places.{place_name, place_named}
+use Rattle.flow_class.specs.Places.{place_named}
 use Rattle.flow_class.specs.Scopes.{Scope, Mark, Var, find, Above, place_of, var_over, over, path_over}
 use Rattle.flow_class.specs.Scopes as scopes
 use Rattle.flow_choose.specs.Places.{ident_at}
@@ -24,13 +22,13 @@ use Rattle.flow_layout.specs.Locals.{body_locals, declared_locals, into_locals}
 use Rattle.flow_meaning.specs.Asks.{Spot}
 use Rattle.flow_meaning.specs.Evaluating.{Names, Effectful, effect_in}
 use Rattle.flow_meaning.specs.Items.{Item, change, modified, path_from}
-use Rattle.flow_meaning.specs.Carry.{Pos, after, Target, at, CaughtAt, AssignBy, AssignAt, ChangeAt, default_expr, FirstAt, DeclareAt, DeclaredAs, SimpleAt}
+use Rattle.flow_meaning.specs.Carry.{Pos, after, Target, at, AssignBy, AssignAt, ChangeAt, default_expr, FirstAt, DeclareAt, DeclaredAs, SimpleAt}
 use Rattle.flow_meaning.specs.Carries.{ThrowAt, TakesInto, BranchAt}
-use Rattle.flow_split.specs.Around.{Exit, Text, Scoped, Part, Around}
+use Rattle.flow_split.specs.Around.{Part, Around}
 use Rattle.flow_split.specs.Counts.{Next, taken}
-use Rattle.flow_split.specs.Lowered.{Chunk, acting, finished, with_into, with_taken, later, first_value, new_at, first_at, assign_by, assigned, changed, place_by, place_in, taken_in, declares, thrown, callback, lowered}
-use Rattle.flow_lowered.specs.Parts.{HasRoot, IsStep, IsInit}
-use Rattle.flow_lowered.specs.InPlace.{MayDeclare, MayTake, IsThrown, InPlace}
+use Rattle.flow_split.specs.Lowered.{acting, finished, with_into, with_taken, later, first_value, new_at, first_at, assign_by, assigned, changed, place_by, place_in, taken_in, declares, thrown, callback, lowered}
+use Rattle.flow_lowered.specs.Parts.{HasRoot, IsInit}
+use Rattle.flow_lowered.specs.InPlace.{MayTake, IsThrown, InPlace}
 use Rattle.flow_lowered.proofs.Standing.{LocalsAt, locals_front, Stands, one_at, one_on}
 use Rattle.flow_lowered.proofs.Held.{HandIn, caught_by, lowered_held}
 use Rattle.flow_lowered.proofs.Around.{InClass}

@@ -1,5 +1,5 @@
 -- The groups of a lowered body are its waits, in the order of the text.
-use Rattle.std.proofs.Common.{◌≡◌, ℕ, suc, ◌+◌, Bool, true, false, List, [], ◌∷◌, ◌++◌, length, map, if◌then◌else◌, refl, ap, sym, ◌∙◌, arith}
+use Rattle.std.proofs.Common.{◌≡◌, ℕ, suc, Bool, true, false, List, [], ◌∷◌, ◌++◌, length, if◌then◌else◌, refl, ap, sym, ◌∙◌}
 use Rattle.std.proofs.lemmas.List.{append-nil}
 use Rattle.std.specs.declared.option.Option.{Option}
 use Rattle.std.specs.declared.option.Option.TheVariants.{None, Some}
@@ -7,7 +7,7 @@ use Rattle.flow_tree.specs.Tree.{ExprTree}
 use Rattle.flow_tree.specs.Body.{Body, End, BlockStmt, IfStmt, IfElseStmt, WhileStmt, ForStmt, LoopStmt, BreakStmt, ContinueStmt, ReturnStmt, ThrowStmt, TryStmt, ChooseStmt, DeclareStmt, AssignStmt, ModifyStmt, CallStmt, WaitStmt, Branches, NoBranches, MoreBranches}
 use Rattle.flow_tree.specs.Decls.{SlotTree}
 use Rattle.flow_ast.specs.Leaving.{has_statement}
-use Rattle.flow_class.specs.Classes.{LastTree, GotoLast, PassLast, TestLast, ChooseLast, ReturnLast, ThrowLast, CallbackTree}
+use Rattle.flow_class.specs.Classes.{LastTree, GotoLast, PassLast, ChooseLast, ReturnLast, ThrowLast, CallbackTree}
 use Rattle.flow_class.specs.Scopes.{Scope, Mark, Var, over}
 use Rattle.flow_meaning.specs.Asks.{Spot}
 use Rattle.flow_meaning.specs.Evaluating.{Names}
@@ -15,7 +15,7 @@ use Rattle.flow_meaning.specs.Text.{next_spot, branch_count}
 use Rattle.flow_meaning.specs.Text as text
 use Rattle.flow_split.specs.Around.{Exit, Text, Scoped, Part, Hand, Around, inner, pass, guarded, handling}
 use Rattle.flow_split.specs.Counts.{Next, begun, taken, grouped, past, past_branches}
-use Rattle.flow_split.specs.Lowered.{Chunk, joined, ends, before_rest, exits, exited, finished, thrown, with_into, with_taken, later, tested, callback, callbacks, test_before, lowered, branches}
+use Rattle.flow_split.specs.Lowered.{Chunk, joined, ends, before_rest, exits, exited, finished, thrown, with_into, with_taken, later, tested, callbacks, test_before, lowered, branches}
 use Rattle.flow_lowered.specs.Parts.{IsStep, IsInit, HasParts, HaveParts}
 use Rattle.flow_lowered.proofs.Standing.{moved, moved_append}
 

@@ -1,7 +1,7 @@
 -- What stands where in a class: lists of instructions, blocks, groups and locals, and chunks.
-use Rattle.std.proofs.Common.{◌≡◌, ℕ, zero, suc, ◌+◌, Bool, true, false, List, [], ◌∷◌, ◌++◌, length, slice_get, refl, ap, sym, subst, ◌∙◌, arith}
+use Rattle.std.proofs.Common.{◌≡◌, ℕ, suc, ◌+◌, Bool, true, List, [], ◌∷◌, ◌++◌, length, slice_get, refl, ap, subst, ◌∙◌, arith}
 use Rattle.std.specs.declared.option.Option.{Option}
-use Rattle.std.specs.declared.option.Option.TheVariants.{None, Some}
+use Rattle.std.specs.declared.option.Option.TheVariants.{Some}
 use Rattle.flow_tree.specs.Tree.{TypeTree}
 use Rattle.flow_class.specs.Classes.{InstrTree, LastTree, BlockTree, CallbackTree, ClassTree}
 use Rattle.flow_class.specs.Code.{Last, catcher_at, group_at}

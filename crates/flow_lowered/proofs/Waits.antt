@@ -1,36 +1,36 @@
 -- Statements of one instruction, waits and chooses stand where lowering put them.
-use Rattle.std.proofs.Common.{◌≡◌, ℕ, zero, suc, ◌+◌, ◌^◌, ◌<◌, ◌≤◌, Bool, true, false, List, [], ◌∷◌, ◌++◌, length, refl, ap, sym, subst, ◌∙◌, arith, length-append}
+use Rattle.std.proofs.Common.{◌≡◌, ℕ, suc, ◌+◌, ◌^◌, ◌<◌, Bool, true, List, [], ◌∷◌, ◌++◌, length, refl, ap, sym, subst, ◌∙◌, arith, length-append}
 use Rattle.std.specs.declared.option.Option.{Option}
-use Rattle.std.specs.declared.option.Option.TheVariants.{None, Some}
+use Rattle.std.specs.declared.option.Option.TheVariants.{Some}
 use Rattle.flow_base.specs.declared.place.Place.{Place}
 use Rattle.flow_tree.specs.declared.ty.Ident.{Ident}
 use Rattle.flow_tree.specs.Tree.{ExprTree, ExprTrees}
 use Rattle.flow_tree.specs.Body.{IntoTree, WaitTree, ChangeTree, Body, DeclareStmt, AssignStmt, ModifyStmt, CallStmt, WaitStmt, ChooseStmt, Branches, NoBranches, MoreBranches}
 use Rattle.flow_ast.specs.Typing.{is_there}
-use Rattle.flow_class.specs.Classes.{InstrTree, ActInstr, LastTree, GotoLast, ChooseLast, CallbackTree, ClassTree}
+use Rattle.flow_class.specs.Classes.{ActInstr, GotoLast, ChooseLast, CallbackTree, ClassTree}
 use Rattle.flow_class.specs.Code.{Last}
-use Rattle.flow_class.specs.Scopes.{Scope, Mark, over, over_all, path_over, act_over}
+use Rattle.flow_class.specs.Scopes.{Scope, Mark, over_all, path_over, act_over}
 use Rattle.flow_layout.specs.Locals.{body_locals, branch_locals, declared_locals, into_locals}
 use Rattle.flow_meaning.specs.Asks.{Spot}
 use Rattle.flow_meaning.specs.Evaluating.{Names}
-use Rattle.flow_meaning.specs.Items.{Site, Item, Do, Leave, site_past, site_at, change}
+use Rattle.flow_meaning.specs.Items.{Site, Item, Do, Leave, site_at}
 use Rattle.flow_meaning.specs.Text.{next_spot, branch_count}
 use Rattle.flow_meaning.specs.Text as text
-use Rattle.flow_meaning.specs.Carry.{Pos, entry, after, Target, At, at}
-use Rattle.flow_meaning.specs.Carries.{GroupAt, BodyAt, BranchesAt}
+use Rattle.flow_meaning.specs.Carry.{Pos, entry, after, Target, At}
+use Rattle.flow_meaning.specs.Carries.{GroupAt, BranchesAt}
 use Rattle.flow_split.specs.Around.{Scoped, Around, inner}
-use Rattle.flow_split.specs.Counts.{local_count, into_count, locals_in, branch_local_count, blocks_in, branch_blocks, groups_in, branch_group_count, Next, begun, taken, grouped, past, past_branches}
+use Rattle.flow_split.specs.Counts.{branch_group_count, Next, begun, taken, grouped, past, past_branches}
 use Rattle.flow_split.specs.Lowered.{Chunk, blocks_of, joined, acting, ends, with_into, with_taken, assigned, callback, callbacks, lowered, branches}
 use Rattle.flow_split.proofs.Lengths.{lowered_more, branches_more, branches_groups}
-use Rattle.flow_lowered.specs.Parts.{HasParts, HaveParts}
-use Rattle.flow_lowered.specs.InPlace.{naming, naming_any, InPlace, AllInPlace}
+use Rattle.flow_lowered.specs.Parts.{HaveParts}
+use Rattle.flow_lowered.specs.InPlace.{InPlace, AllInPlace}
 use Rattle.flow_lowered.proofs.Standing.{moved, moved_group, LocalsAt, locals_front, locals_back, Stands, first, second, one_at, one_on}
 use Rattle.flow_lowered.proofs.Spots.{both, lowered_moved, branches_moved, callbacks_count}
 use Rattle.flow_lowered.proofs.Held.{same, caught_by, lowered_held}
 use Rattle.flow_lowered.proofs.Around.{Here, here_past, here_inner, here_ends_scope}
 use Rattle.flow_lowered.proofs.Places.{names, names_with, placing}
 use Rattle.flow_lowered.proofs.Simples.{assign_at, declares_at, changes_at, branch_takes, inner_takes}
-use Rattle.flow_lowered.proofs.Further.{locals_count, branch_locals_count, into_locals_count, Carried, locals_after, groups_after, blocks_joined, rest_at, here_into, here_taken, names_taken}
+use Rattle.flow_lowered.proofs.Further.{locals_count, branch_locals_count, into_locals_count, Carried, groups_after, rest_at, here_into, here_taken, names_taken}
 
 module _ (ns : Names) (c : ClassTree) (few_slots : length c.slots < 2 ^ 64) (few_locals : length c.locals < 2 ^ 64) where
   abbrev low : Scope → Around → Next → Body → Chunk

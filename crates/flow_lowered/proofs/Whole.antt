@@ -1,6 +1,5 @@
 -- The class of an actor carries it.
-use Rattle.std.proofs.Common.{◌≡◌, ℕ, zero, suc, ◌+◌, ◌^◌, ◌<◌, ◌≤◌, true, false, List, [], ◌∷◌, ◌++◌, length, slice_get, refl, ap, sym, subst, ◌∙◌, arith, length-append, append_assoc}
-use Rattle.std.specs.declared.option.Option.{Option}
+use Rattle.std.proofs.Common.{◌≡◌, ℕ, suc, ◌+◌, true, false, List, [], ◌∷◌, ◌++◌, length, slice_get, refl, ap, sym, subst, ◌∙◌, arith, length-append, append_assoc}
 use Rattle.std.specs.declared.option.Option.TheVariants.{None, Some}
 use Rattle.flow_tree.specs.Tree.{TypeTree}
 use Rattle.flow_tree.specs.Decls.{RoutineTree}
@@ -15,12 +14,11 @@ use Rattle.flow_meaning.specs.Carry.{entry}
 use Rattle.flow_meaning.specs.Carries.{Carries}
 use Rattle.flow_split.specs.Around.{whole}
 use Rattle.flow_split.specs.Counts.{Next}
-use Rattle.flow_split.specs.Lowered.{Chunk, blocks_of, lowered, lowered_class}
+use Rattle.flow_split.specs.Lowered.{lowered, lowered_class}
 use Rattle.flow_lowered.specs.Parts.{HasParts}
 use Rattle.flow_lowered.specs.InPlace.{InPlace}
 use Rattle.flow_lowered.specs.Laws.{IsSmall}
 use Rattle.flow_lowered.proofs.Standing.{BlocksAt, LocalsAt, GroupsAt, in_blocks}
-use Rattle.flow_lowered.proofs.Around.{Here}
 use Rattle.flow_lowered.proofs.Carried.{carried}
 
 seam : {A : Type 0} (pre xs : List A) (x : A) → slice_get (pre ++ x ∷ xs) (length pre) ≡ Some x

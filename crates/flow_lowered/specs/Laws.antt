@@ -1,5 +1,5 @@
 -- What the class of an actor keeps of it.
-use Rattle.std.specs.Prelude.{◌≤◌, ◌<◌, ◌^◌, List, [], false, length}
+use Rattle.std.specs.Prelude.{◌≤◌, ◌<◌, ◌^◌, [], false, length}
 use Rattle.flow_tree.specs.Decls.{RoutineTree}
 use Rattle.flow_ast.specs.Slots.{slots_of}
 use Rattle.flow_layout.specs.Locals.{locals_of}
