@@ -1,5 +1,5 @@
 mod Standing
-mod Blocks
+pub mod Blocks
 mod Spots
 mod Held
 mod Around
@@ -11,5 +11,5 @@ mod Fors
 mod ForStands
 mod Waits
 mod Carried
-mod Whole
-mod Shapes
+pub mod Whole
+pub mod Shapes
