@@ -1,6 +1,6 @@
 mod Standing
 pub mod Blocks
-mod Spots
+pub mod Spots
 mod Held
 mod Around
 mod Places
