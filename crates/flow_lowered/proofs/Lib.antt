@@ -1,15 +1,15 @@
-mod Standing
+pub mod Standing
 pub mod Blocks
 pub mod Spots
-mod Held
-mod Around
-mod Places
-mod Simples
-mod Further
-mod Compounds
-mod Fors
-mod ForStands
-mod Waits
-mod Carried
+pub mod Held
+pub mod Around
+pub mod Places
+pub mod Simples
+pub mod Further
+pub mod Compounds
+pub mod Fors
+pub mod ForStands
+pub mod Waits
+pub mod Carried
 pub mod Whole
 pub mod Shapes
