@@ -38,7 +38,8 @@ IsThrown caught (Some e) = Unit {0}
 module _ (slots : List SlotTree) where
   -- the first slot of a name
   abbrev pub slot_of : List ℕ → Option SlotTree
-  slot_of x = option_and_then (slice_get slots) (position (λ (t : SlotTree). bytes_eq x t.name) slots)
+  slot_of x =
+      option_and_then (slice_get slots) (position (λ (t : SlotTree). bytes_eq x t.name) slots)
 
   -- a state variable has the name of no local in force, and the first slot of its name is its own
   pub record HasSlot (locals : List (List ℕ)) (i : IntoTree) : Type 0 where
@@ -62,13 +63,15 @@ module _ (slots : List SlotTree) where
     InPlace l t xs (IfElseStmt at e b d k) = InPlace l t xs b × InPlace l t xs d × InPlace l t xs k
     InPlace l t xs (WhileStmt at e b k) = InPlace true t xs b × InPlace l t xs k
     InPlace l t xs (ForStmt at i e p b k) =
-        InPlace l t xs i × InPlace l t (started i xs) p × InPlace true t (started i xs) b × InPlace l t xs k
+        InPlace l t xs i × InPlace l t (started i xs) p × InPlace true t (started i xs) b
+        × InPlace l t xs k
     InPlace l t xs (LoopStmt at b k) = InPlace true t xs b × InPlace l t xs k
     InPlace l t xs (BreakStmt at k) = (l ≡ true) × InPlace l t xs k
     InPlace l t xs (ContinueStmt at k) = (l ≡ true) × InPlace l t xs k
     InPlace l t xs (ReturnStmt at e k) = InPlace l t xs k
     InPlace l t xs (ThrowStmt at e k) = IsThrown t e × InPlace l t xs k
-    InPlace l t xs (TryStmt at b q x h k) = InPlace l t xs b × InPlace l true (x.name ∷ xs) h × InPlace l t xs k
+    InPlace l t xs (TryStmt at b q x h k) =
+        InPlace l t xs b × InPlace l true (x.name ∷ xs) h × InPlace l t xs k
     InPlace l t xs (ChooseStmt at bs k) = AllInPlace l t xs bs × InPlace l t xs k
     InPlace l t xs (DeclareStmt at i e k) = MayDeclare xs i × InPlace l t (naming i xs) k
     InPlace l t xs (AssignStmt at ys e k) = InPlace l t xs k
