@@ -13,6 +13,7 @@ use Rattle.flow_meaning.specs.Asks.{Spot}
 use Rattle.flow_meaning.specs.Evaluating.{Names}
 use Rattle.flow_meaning.specs.Items.{Site, Loop, Item, Do, Leave, Round, Made, site_at}
 use Rattle.flow_meaning.specs.Text as text
+use Rattle.flow_meaning.specs.Carries.{BodyAt}
 use Rattle.flow_meaning.specs.Carry.{Pos, entry, Target, At, Again, at, here, jump, GoesOn}
 use Rattle.flow_split.specs.Around.{Part, Around, inner, pass}
 use Rattle.flow_split.specs.Counts.{test_blocks, locals_in, blocks_in, Next, begun, past}
@@ -126,6 +127,7 @@ module _ (ns : Names) (c : ClassTree) (few_slots : length c.slots < 2 ^ 64) (few
       (subst (λ xs. InPlace c.slots l (is_there x.caught) xs p) (sym open_.named) ok.1) st3 in
       let step = subst (λ z. PartAt ns c few_slots few_locals s2 (Round loop ∷ items) (Again h.block ∷ At q ∷ ts) p (entry m.block) z (PassLast h.block)) (step_later p m.local s2 parts.1) steps in
       let inside = here_for l w s s2 n g x behind u loop k h.block m.block o.block q r ts here0 a2 open_.known g1 step last.drops in
+      let inside_at : Pos → Type 0 = BodyAt ns c (Mark ∷ s2) (Leave ∷ Made loop ∷ items) (Again h.block ∷ At q ∷ ts) (site_at u x) b in
       let main = body true (Mark ∷ s2) f (begun g) (site_at u x) (Leave ∷ Made loop ∷ items) (Again h.block ∷ At q ∷ ts) (entry g.block) inside r2 parts.2
       (subst (λ xs. InPlace c.slots true (is_there x.caught) xs b) (sym open_.named) ok.2) st2 in (
         h.block,
@@ -134,7 +136,7 @@ module _ (ns : Names) (c : ClassTree) (few_slots : length c.slots < 2 ^ 64) (few
         s2,
         begins.1,
         (begins.0, here {p = begins.0}, begins.2),
-        test_at ns c few_slots few_locals v s2 e h o.block n.block (n.local + locals_in i) pos x.spot c0 items (At q ∷ ts) _ open_.above
+        test_at ns c few_slots few_locals v s2 e h o.block n.block (n.local + locals_in i) pos x.spot c0 items (At q ∷ ts) inside_at open_.above
             (hand_behind ns c few_slots few_locals w.hand w.depth behind k q r ts here0.hand) (omega (arith, b0)) st1 main last.drops,
         rest l s w (begun o) behind r ts q (here_past ns c l w s n (begun o) x y r ts (omega (arith, tl)) g3 here0) r4 parts.3 ok.3 last.stands,
       )

@@ -13,3 +13,4 @@ pub mod Waits
 pub mod Carried
 pub mod Whole
 pub mod Shapes
+mod Examples
