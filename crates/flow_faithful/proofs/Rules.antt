@@ -26,13 +26,20 @@ use Rattle.flow_lowered.specs.InPlace.{NotAmong, naming_if, naming, naming_any, 
 use Rattle.flow_lowered.specs.InPlace as place
 use Rattle.flow_lowered.proofs.Spots.{step_parts, init_parts}
 
+-- what can't be
+some_none : {A : Type 0} {x : A} → Some x ≡ None → ⊥
+some_none h = cc
+
+false_true : false ≡ true → ⊥
+false_true h = cc
+
+true_false : true ≡ false → ⊥
+true_false h = cc
+
 -- nothing is refused
 pub neither : {A : Type 0} (a b : Option A) → or_else a b ≡ None → (a ≡ None) × (b ≡ None)
 neither None b h = (refl, h)
-neither (Some x) b h = absurd (no_none h)
-  where
-    no_none : {A : Type 0} {x : A} → Some x ≡ None → ⊥
-    no_none h = cc
+neither (Some x) b h = absurd (some_none h)
 
 no_fault : (at : Place) (f : Option ℕ) → item at f ≡ None → f ≡ None
 no_fault at None h = refl
@@ -40,14 +47,8 @@ no_fault at (Some k) h = cc
 
 none_lesser : (a b : Option ℕ) → lesser a b ≡ None → (a ≡ None) × (b ≡ None)
 none_lesser None b h = (refl, h)
-none_lesser (Some m) None h = absurd (no_none h)
-  where
-    no_none : {m : ℕ} → Some m ≡ None → ⊥
-    no_none h = cc
-none_lesser (Some m) (Some n) h = absurd (no_none h)
-  where
-    no_none : {m : ℕ} → Some m ≡ None → ⊥
-    no_none h = cc
+none_lesser (Some m) None h = absurd (some_none h)
+none_lesser (Some m) (Some n) h = absurd (some_none h)
 
 holds : (b : Bool) (k : ℕ) → unless b k ≡ None → b ≡ true
 holds true k h = refl
@@ -59,22 +60,10 @@ not_there (Some x) h = cc
 
 four : (a b c d : Bool) → not (a || b || c || d) ≡ true → (a ≡ false) × (d ≡ false)
 four false false false false h = (refl, refl)
-four true b c d h = absurd (no_true h)
-  where
-    no_true : false ≡ true → ⊥
-    no_true h = cc
-four false true c d h = absurd (no_true h)
-  where
-    no_true : false ≡ true → ⊥
-    no_true h = cc
-four false false true d h = absurd (no_true h)
-  where
-    no_true : false ≡ true → ⊥
-    no_true h = cc
-four false false false true h = absurd (no_true h)
-  where
-    no_true : false ≡ true → ⊥
-    no_true h = cc
+four true b c d h = absurd (false_true h)
+four false true c d h = absurd (false_true h)
+four false false true d h = absurd (false_true h)
+four false false false true h = absurd (false_true h)
 
 -- a new name is that of nothing in force, and a state variable's that of no slot before it
 record New (vars : List (List ℕ × TypeTree)) (states : List (List ℕ)) (state : Bool) (x : List ℕ) : Type 0 where
@@ -102,10 +91,7 @@ last_unknown true t h = cc
 last_unknown false t h = refl
 
 row_unknown : (b : Bool) (t : TypeTree) (o : Option TypeTree) → (if b then Some t else o) ≡ None → (b ≡ false) × (o ≡ None)
-row_unknown true t o h = absurd (no_none h)
-  where
-    no_none : Some t ≡ None → ⊥
-    no_none h = cc
+row_unknown true t o h = absurd (some_none h)
 row_unknown false t o h = (refl, h)
 
 unknown_more : (vars : List (List ℕ × TypeTree)) (y x : List ℕ) (t : TypeTree) → named (vars ++ (y, t) ∷ []) x ≡ None → Unknown vars y x
@@ -117,10 +103,7 @@ unknown_more (r ∷ vars) y x t h =
 
 -- the first slot of a name
 either_false : (a b : Bool) → a || b ≡ false → (a ≡ false) × (b ≡ false)
-either_false true b h = absurd (no_false h)
-  where
-    no_false : true ≡ false → ⊥
-    no_false h = cc
+either_false true b h = absurd (true_false h)
 either_false false b h = (refl, h)
 
 found_behind : (before more : List SlotTree) (s : SlotTree) (x : List ℕ) → among (slot_names before) x ≡ false → bytes_eq x s.name ≡ true → find (λ (t : SlotTree). bytes_eq x t.name) (before ++ s ∷ more) ≡ Some s
