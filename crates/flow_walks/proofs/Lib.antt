@@ -1,2 +1,3 @@
 mod Reaching
 mod Notes
+mod Leading

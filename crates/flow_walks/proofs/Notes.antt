@@ -5,7 +5,12 @@ use Rattle.std.specs.Prelude.{nat_lt}
 use Rattle.flow_tree.specs.Body.{Body, End, BlockStmt, IfStmt, IfElseStmt, WhileStmt, ForStmt, LoopStmt, BreakStmt, ContinueStmt, ReturnStmt, ThrowStmt, TryStmt, ChooseStmt, DeclareStmt, AssignStmt, ModifyStmt, CallStmt, WaitStmt, Branches, NoBranches, MoreBranches}
 use Rattle.flow_staterule.specs.declared.scope.Point.{Point}
 use Rattle.flow_staterule.specs.declared.ways.Reached.{Reached}
-use Rattle.flow_staterule.specs.Ways.{ways, never, with_step, head, round, waited_at}
+use Rattle.flow_staterule.specs.declared.ways.Ways.{Ways}
+use Rattle.flow_staterule.specs.Ways.{ways, branch_ways, never, at_once, both, node, plain, follow, sequence, looped, handled, with_step, head, round, waited_at}
+use Rattle.flow_tree.specs.Tree.{ExprTree}
+use Rattle.flow_ast.specs.Slots.{branch_groups}
+use Rattle.flow_ast.specs.Typing.{is_there}
+use Rattle.std.specs.declared.option.Option.{Option}
 use Rattle.flow_staterule.specs.Uses.{behind, left}
 use Rattle.flow_walks.specs.Control.{points, branch_points}
 use Rattle.flow_walks.specs.Mentions.{Named, local_at, declared, with_into, declaring}
@@ -25,67 +30,74 @@ wait_note n vs p = record { named = vs; point = p; counts = nat_lt 0 n }
 abbrev pub behind_all : List Named → Point → Reached → Point
 behind_all vs p r = behind (length vs) p r
 
-abbrev pub behind_of : ℕ → List Named → Point → Body → Point
-behind_of n vs p b = behind (length vs) p (ways n b).ends
+-- the ways out of each kind of statement
+abbrev pub block_ways : ℕ → Body → Ways
+block_ways n b = both (node at_once) (ways n b)
 
-abbrev pub for_head : ℕ → List Named → (init step body : Body) → Reached
-for_head n vs i t b = head (with_step (ways (left (left n i) t) b) (ways (left n i) t))
+abbrev pub if_ways : ℕ → Body → Ways
+if_ways n b = both (plain at_once) (ways n b)
+
+abbrev pub if_else_ways : ℕ → Body → Body → Ways
+if_else_ways n b c = both (node at_once) (both (ways n b) (ways (left n b) c))
+
+abbrev pub for_round : ℕ → (init step body : Body) → Ways
+for_round n i t b = with_step (ways (left (left n i) t) b) (ways (left n i) t)
+
+abbrev pub for_ways : ℕ → Body → Option ExprTree → Body → Body → Ways
+for_ways n i e t b = sequence (ways n i) (looped (is_there e) (for_round n i t b))
+
+abbrev pub try_ways : ℕ → Body → Body → Ways
+try_ways n b h = handled (ways n b) (ways (left n b) h)
+
+abbrev pub choose_ways : ℕ → Branches → Ways
+choose_ways n bs = follow (waited_at n) (both (node at_once) (branch_ways (n - 1) bs))
 
 -- the point of a `for`
 abbrev pub for_point : ℕ → (number : ℕ) → List Named → Point → (init step body : Body) → Point
-for_point n m vs p i t b = behind_all (declaring m i vs) (behind_of n vs p i) (for_head n vs i t b)
+for_point n m vs p i t b = behind_all (declaring m i vs) (behind_all vs p (ways n i).ends) (head (for_round n i t b))
 
 abbrev mutual
   pub notes : ℕ → Body → (number : ℕ) → List Named → Point → List Note
   notes n End m vs p = []
   notes n (BlockStmt at b k) m vs p =
-      let s = BlockStmt at b End in
-      note vs p ∷ notes n b (suc m) vs p ++ notes (left n s) k (suc m + points b) vs (behind_of n vs p s)
+      note vs p ∷ notes n b (suc m) vs p ++ notes (left n b) k (suc m + points b) vs (behind_all vs p (block_ways n b).ends)
   notes n (IfStmt at e b k) m vs p =
-      let s = IfStmt at e b End in
-      note vs p ∷ notes n b (suc m) vs p ++ notes (left n s) k (suc m + points b) vs (behind_of n vs p s)
+      note vs p ∷ notes n b (suc m) vs p ++ notes (left n b) k (suc m + points b) vs (behind_all vs p (if_ways n b).ends)
   notes n (IfElseStmt at e b c k) m vs p =
-      let s = IfElseStmt at e b c End in
       let l = suc m + points b in
-      note vs p ∷ (notes n b (suc m) vs p ++ (notes (left n b) c l vs p ++ notes (left n s) k (l + points c) vs (behind_of n vs p s)))
+      note vs p ∷ (notes n b (suc m) vs p ++ (notes (left n b) c l vs p ++ notes (left (left n b) c) k (l + points c) vs (behind_all vs p (if_else_ways n b c).ends)))
   notes n (WhileStmt at e b k) m vs p =
-      let s = WhileStmt at e b End in
       let h = behind_all vs p (head (ways n b)) in
-      note vs h ∷ notes n b (suc m) vs h ++ notes (left n s) k (suc m + points b) vs (behind_of n vs p s)
+      note vs h ∷ notes n b (suc m) vs h ++ notes (left n b) k (suc m + points b) vs (behind_all vs p (looped true (ways n b)).ends)
   notes n (ForStmt at i e t b k) m vs p =
-      let s = ForStmt at i e t b End in
       let g = m + points i in
       let l = suc g + points t in
       let ws = declaring m i vs in
       let h = for_point n m vs p i t b in
       let r = behind_all ws h (round (ways (left (left n i) t) b)) in
       notes n i m vs p
-      ++ (note ws h ∷ (notes (left n i) t (suc g) ws r ++ (notes (left (left n i) t) b l ws h ++ notes (left n s) k (l + points b) vs (behind_of n vs p s))))
+      ++ (note ws h ∷ (notes (left n i) t (suc g) ws r ++ (notes (left (left n i) t) b l ws h ++ notes (left (left (left n i) t) b) k (l + points b) vs (behind_all vs p (for_ways n i e t b).ends))))
   notes n (LoopStmt at b k) m vs p =
-      let s = LoopStmt at b End in
       let h = behind_all vs p (head (ways n b)) in
-      note vs h ∷ notes n b (suc m) vs h ++ notes (left n s) k (suc m + points b) vs (behind_of n vs p s)
+      note vs h ∷ notes n b (suc m) vs h ++ notes (left n b) k (suc m + points b) vs (behind_all vs p (looped false (ways n b)).ends)
   notes n (BreakStmt at k) m vs p = note vs p ∷ notes n k (suc m) vs (behind_all vs p never)
   notes n (ContinueStmt at k) m vs p = note vs p ∷ notes n k (suc m) vs (behind_all vs p never)
   notes n (ReturnStmt at v k) m vs p = note vs p ∷ notes n k (suc m) vs (behind_all vs p never)
   notes n (ThrowStmt at v k) m vs p = note vs p ∷ notes n k (suc m) vs (behind_all vs p never)
   notes n (TryStmt at b q x h k) m vs p =
-      let s = TryStmt at b q x h End in
       let c = suc m + points b in
       let t = behind_all vs p (ways n b).throws in
       note vs p ∷ (notes n b (suc m) vs p
-      ++ (note vs t ∷ (notes (left n b) h (suc c) (local_at c x ∷ vs) t ++ notes (left n s) k (suc c + points h) vs (behind_of n vs p s))))
+      ++ (note vs t ∷ (notes (left n b) h (suc c) (local_at c x ∷ vs) t ++ notes (left (left n b) h) k (suc c + points h) vs (behind_all vs p (try_ways n b h).ends))))
   notes n (ChooseStmt at bs k) m vs p =
-      let s = ChooseStmt at bs End in
       wait_note n vs p ∷ branch_notes (n - 1) bs (suc m) vs (behind_all vs p (waited_at n))
-      ++ notes (left n s) k (suc m + branch_points bs) vs (behind_of n vs p s)
+      ++ notes (n - 1 - length (branch_groups bs)) k (suc m + branch_points bs) vs (behind_all vs p (choose_ways n bs).ends)
   notes n (DeclareStmt at i v k) m vs p = note vs p ∷ notes n k (suc m) (declared m i ∷ vs) p
   notes n (AssignStmt at xs v k) m vs p = note vs p ∷ notes n k (suc m) vs p
   notes n (ModifyStmt at xs c k) m vs p = note vs p ∷ notes n k (suc m) vs p
   notes n (CallStmt at xs es k) m vs p = note vs p ∷ notes n k (suc m) vs p
   notes n (WaitStmt at w k) m vs p =
-      let s = WaitStmt at w End in
-      wait_note n vs p ∷ notes (left n s) k (suc m) (with_into m w.into vs) (behind_of n vs p s)
+      wait_note n vs p ∷ notes (n - 1) k (suc m) (with_into m w.into vs) (behind_all vs p (waited_at n))
 
   pub branch_notes : ℕ → Branches → (number : ℕ) → List Named → Point → List Note
   branch_notes n NoBranches m vs q = []
@@ -105,29 +117,29 @@ with_one x xs a e = ap suc e
 mutual
   pub notes_many : (n : ℕ) (b : Body) (m : ℕ) (vs : List Named) (p : Point) → length (notes n b m vs p) ≡ points b
   notes_many n End m vs p = refl
-  notes_many n (BlockStmt at b k) m vs p = let e = two _ _ _ _ (notes_many n b (suc m) vs p) (notes_many (left n (BlockStmt at b End)) k (suc m + points b) vs (behind_of n vs p (BlockStmt at b End))) in omega (arith, e)
-  notes_many n (IfStmt at e b k) m vs p = let f = two _ _ _ _ (notes_many n b (suc m) vs p) (notes_many (left n (IfStmt at e b End)) k (suc m + points b) vs (behind_of n vs p (IfStmt at e b End))) in omega (arith, f)
+  notes_many n (BlockStmt at b k) m vs p = let e = two _ _ _ _ (notes_many n b (suc m) vs p) (notes_many (left n b) k (suc m + points b) vs (behind_all vs p (block_ways n b).ends)) in omega (arith, e)
+  notes_many n (IfStmt at e b k) m vs p = let f = two _ _ _ _ (notes_many n b (suc m) vs p) (notes_many (left n b) k (suc m + points b) vs (behind_all vs p (if_ways n b).ends)) in omega (arith, f)
   notes_many n (IfElseStmt at e b c k) m vs p =
-      let f = two _ _ _ _ (notes_many n b (suc m) vs p) (two _ _ _ _ (notes_many (left n b) c (suc m + points b) vs p) (notes_many (left n (IfElseStmt at e b c End)) k (suc m + points b + points c) vs (behind_of n vs p (IfElseStmt at e b c End)))) in
+      let f = two _ _ _ _ (notes_many n b (suc m) vs p) (two _ _ _ _ (notes_many (left n b) c (suc m + points b) vs p) (notes_many (left (left n b) c) k (suc m + points b + points c) vs (behind_all vs p (if_else_ways n b c).ends))) in
       omega (arith, f)
   notes_many n (WhileStmt at e b k) m vs p =
       let h = behind_all vs p (head (ways n b)) in
-      let f = two _ _ _ _ (notes_many n b (suc m) vs h) (notes_many (left n (WhileStmt at e b End)) k (suc m + points b) vs (behind_of n vs p (WhileStmt at e b End))) in omega (arith, f)
+      let f = two _ _ _ _ (notes_many n b (suc m) vs h) (notes_many (left n b) k (suc m + points b) vs (behind_all vs p (looped true (ways n b)).ends)) in omega (arith, f)
   notes_many n (ForStmt at i e t b k) m vs p =
       let g = m + points i in
       let l = suc g + points t in
       let ws = declaring m i vs in
       let h = for_point n m vs p i t b in
       let r = behind_all ws h (round (ways (left (left n i) t) b)) in
-      let k' = notes_many (left n (ForStmt at i e t b End)) k (l + points b) vs (behind_of n vs p (ForStmt at i e t b End)) in
+      let k' = notes_many (left (left (left n i) t) b) k (l + points b) vs (behind_all vs p (for_ways n i e t b).ends) in
       let b' = two _ _ _ _ (notes_many (left (left n i) t) b l ws h) k' in
       let t' = two _ _ _ _ (notes_many (left n i) t (suc g) ws r) b' in
       let f = notes_many n i m vs p in
-      let g' = length-append (notes n i m vs p) (note ws h ∷ (notes (left n i) t (suc g) ws r ++ (notes (left (left n i) t) b l ws h ++ notes (left n (ForStmt at i e t b End)) k (l + points b) vs (behind_of n vs p (ForStmt at i e t b End))))) in
+      let g' = length-append (notes n i m vs p) (note ws h ∷ (notes (left n i) t (suc g) ws r ++ (notes (left (left n i) t) b l ws h ++ notes (left (left (left n i) t) b) k (l + points b) vs (behind_all vs p (for_ways n i e t b).ends)))) in
       omega (arith, f, g', t')
   notes_many n (LoopStmt at b k) m vs p =
       let h = behind_all vs p (head (ways n b)) in
-      let f = two _ _ _ _ (notes_many n b (suc m) vs h) (notes_many (left n (LoopStmt at b End)) k (suc m + points b) vs (behind_of n vs p (LoopStmt at b End))) in omega (arith, f)
+      let f = two _ _ _ _ (notes_many n b (suc m) vs h) (notes_many (left n b) k (suc m + points b) vs (behind_all vs p (looped false (ways n b)).ends)) in omega (arith, f)
   notes_many n (BreakStmt at k) m vs p = more _ _ (notes_many n k (suc m) vs (behind_all vs p never))
   notes_many n (ContinueStmt at k) m vs p = more _ _ (notes_many n k (suc m) vs (behind_all vs p never))
   notes_many n (ReturnStmt at v k) m vs p = more _ _ (notes_many n k (suc m) vs (behind_all vs p never))
@@ -135,19 +147,19 @@ mutual
   notes_many n (TryStmt at b q x h k) m vs p =
       let c = suc m + points b in
       let t = behind_all vs p (ways n b).throws in
-      let k' = notes_many (left n (TryStmt at b q x h End)) k (suc c + points h) vs (behind_of n vs p (TryStmt at b q x h End)) in
+      let k' = notes_many (left (left n b) h) k (suc c + points h) vs (behind_all vs p (try_ways n b h).ends) in
       let h' = two _ _ _ _ (notes_many (left n b) h (suc c) (local_at c x ∷ vs) t) k' in
       let f = notes_many n b (suc m) vs p in
-      let g' = length-append (notes n b (suc m) vs p) (note vs t ∷ (notes (left n b) h (suc c) (local_at c x ∷ vs) t ++ notes (left n (TryStmt at b q x h End)) k (suc c + points h) vs (behind_of n vs p (TryStmt at b q x h End)))) in
+      let g' = length-append (notes n b (suc m) vs p) (note vs t ∷ (notes (left n b) h (suc c) (local_at c x ∷ vs) t ++ notes (left (left n b) h) k (suc c + points h) vs (behind_all vs p (try_ways n b h).ends))) in
       omega (arith, f, g', h')
   notes_many n (ChooseStmt at bs k) m vs p =
-      let f = two _ _ _ _ (branch_notes_many (n - 1) bs (suc m) vs (behind_all vs p (waited_at n))) (notes_many (left n (ChooseStmt at bs End)) k (suc m + branch_points bs) vs (behind_of n vs p (ChooseStmt at bs End))) in
+      let f = two _ _ _ _ (branch_notes_many (n - 1) bs (suc m) vs (behind_all vs p (waited_at n))) (notes_many (n - 1 - length (branch_groups bs)) k (suc m + branch_points bs) vs (behind_all vs p (choose_ways n bs).ends)) in
       omega (arith, f)
   notes_many n (DeclareStmt at i v k) m vs p = more _ _ (notes_many n k (suc m) (declared m i ∷ vs) p)
   notes_many n (AssignStmt at xs v k) m vs p = more _ _ (notes_many n k (suc m) vs p)
   notes_many n (ModifyStmt at xs c k) m vs p = more _ _ (notes_many n k (suc m) vs p)
   notes_many n (CallStmt at xs es k) m vs p = more _ _ (notes_many n k (suc m) vs p)
-  notes_many n (WaitStmt at w k) m vs p = more _ _ (notes_many (left n (WaitStmt at w End)) k (suc m) (with_into m w.into vs) (behind_of n vs p (WaitStmt at w End)))
+  notes_many n (WaitStmt at w k) m vs p = more _ _ (notes_many (n - 1) k (suc m) (with_into m w.into vs) (behind_all vs p (waited_at n)))
 
   pub branch_notes_many : (n : ℕ) (bs : Branches) (m : ℕ) (vs : List Named) (q : Point) → length (branch_notes n bs m vs q) ≡ branch_points bs
   branch_notes_many n NoBranches m vs q = refl
