@@ -2,6 +2,7 @@
 -- reach what follows, and those that were stale, or are led past a wait, are stale.
 use Rattle.std.proofs.Common.{◌≡◌, ℕ, zero, suc, ◌+◌, ◌-◌, ◌<◌, ◌≤◌, Bool, true, false, ◌||◌, ◌&&◌, ◌⊎◌, inl, inr, List, [], ◌∷◌, ◌++◌, length, refl, sym, ap, ap₂, subst, ◌∙◌, arith, rules}
 use Rattle.std.proofs.lemmas.Bool.{false≢true, true≢false}
+use Rattle.std.specs.Prelude.{is_some}
 use Rattle.std.specs.declared.option.Option.{Option}
 use Rattle.std.specs.declared.option.Option.TheVariants.{None, Some}
 use Rattle.flow_staterule.specs.declared.scope.Point.{Point}
@@ -126,6 +127,74 @@ into_self_cases false false vs p = record { keeps = λ j d h. h; from = λ j d h
 pub into_self : (r : Reached) (vs : List Named) (p : Point) → Into r vs p (note vs (behind_all vs p r))
 into_self r vs p = into_self_cases r.fresh r.waited vs p
 
+-- on from the point behind, and back to the point before
+less_cut_cases : (f w : Bool) → Less (onward (record { fresh = f; waited = w }) at_once) (record { fresh = f; waited = w })
+less_cut_cases true true = record { reached = λ e. refl; waited = λ e. refl }
+less_cut_cases true false = record { reached = λ e. refl; waited = λ e. absurd (false≢true e) }
+less_cut_cases false true = record { reached = λ e. refl; waited = λ e. refl }
+less_cut_cases false false = record { reached = λ e. e; waited = λ e. e }
+
+pub into_on : (r : Reached) (vs : List Named) (p : Point) (y : Note) → Into r vs p y → Into at_once vs (behind_all vs p r) y
+into_on r vs p y i = into_then r at_once vs p y (into_less (onward r at_once) r vs p y (less_cut_cases r.fresh r.waited) i)
+
+behind_from_cases : (f w : Bool) (d j : ℕ) (p : Point) → f || w ≡ true → p.from ≤ j → (behind d p (record { fresh = f; waited = w })).from ≤ j
+behind_from_cases f true d j p e l = l
+behind_from_cases true false d j p e l = l
+behind_from_cases false false d j p e l = absurd (false≢true e)
+
+pub behind_from : (r : Reached) (vs : List Named) (j : ℕ) (p : Point) → is_reached r ≡ true → p.from ≤ j → (behind_all vs p r).from ≤ j
+behind_from r vs j p e l = behind_from_cases r.fresh r.waited (length vs) j p e l
+
+behind_stale_cases : (f w : Bool) (d j : ℕ) (p : Point) → j < d → f || w ≡ true → (w ≡ true) ⊎ (j < p.stale) → j < (behind d p (record { fresh = f; waited = w })).stale
+behind_stale_cases f true d j p l e o = l
+behind_stale_cases true false d j p l e (inl x) = absurd (false≢true x)
+behind_stale_cases true false d j p l e (inr x) = x
+behind_stale_cases false false d j p l e o = absurd (false≢true e)
+
+pub behind_stale : (r : Reached) (vs : List Named) (j : ℕ) (p : Point) → j < length vs → is_reached r ≡ true → (r.waited ≡ true) ⊎ (j < p.stale) → j < (behind_all vs p r).stale
+behind_stale r vs j p l e o = behind_stale_cases r.fresh r.waited (length vs) j p l e o
+
+within_behind_cases : (f w : Bool) (d : ℕ) (p : Point) → p.from ≤ d → (behind d p (record { fresh = f; waited = w })).from ≤ d
+within_behind_cases f true d p l = l
+within_behind_cases true false d p l = l
+within_behind_cases false false d p l = omega arith
+
+pub within_behind : (r : Reached) (vs : List Named) (p : Point) → p.from ≤ length vs → (behind_all vs p r).from ≤ length vs
+within_behind r vs p l = within_behind_cases r.fresh r.waited (length vs) p l
+
+pub into_back : (r : Reached) (vs : List Named) (p : Point) (y : Note) → Into at_once vs (behind_all vs p r) y → Into r vs p y
+into_back r vs p y i = record {
+  keeps = i.keeps;
+  from = λ j d h e l. i.from j d h refl (behind_from r vs j p e l);
+  stale = λ j d h e l o. i.stale j d h refl (behind_from r vs j p e l) (inr (behind_stale r vs j p (has_below vs j d (i.keeps j d h)) e o));
+}
+
+into_dead : (r s : Reached) (vs : List Named) (p : Point) (y : Note) → Into r vs p y → Into s vs (behind_all vs p never) y
+into_dead r s vs p y i = record {
+  keeps = i.keeps;
+  from = λ j d h e g. let l = has_below vs j d (i.keeps j d h) in absurd (omega (arith, l, g));
+  stale = λ j d h e g o. let l = has_below vs j d (i.keeps j d h) in absurd (omega (arith, l, g));
+}
+
+-- behind a round of a loop
+into_round_cases : (r : Reached) (w : Bool) (vs : List Named) (p : Point) → (r.waited ≡ true → w ≡ true)
+    → Into r vs (behind (length vs) p (record { fresh = true; waited = w })) (note vs (behind (length vs) p (record { fresh = true; waited = w })))
+into_round_cases r true vs p f = record { keeps = λ j d h. h; from = λ j d h e g. g; stale = λ j d h e g o. has_below vs j d h }
+into_round_cases r false vs p f = record { keeps = λ j d h. h; from = λ j d h e g. g; stale = λ j d h e g. elim [ inl x ↦ absurd (false≢true (f x)) | inr l ↦ l ] }
+
+pub into_round : (r : Reached) (w : Ways) (vs : List Named) (p : Point) → (r.waited ≡ true → (round w).waited ≡ true) → Into r vs (behind_all vs p (head w)) (note vs (behind_all vs p (head w)))
+into_round r w vs p f = into_round_cases r (round w).waited vs p f
+
+abbrev pub or_zero : Option ℕ → ℕ
+or_zero None = 0
+or_zero (Some n) = n
+
+pub some_same : (m n : ℕ) → Some m ≡ Some n → m ≡ n
+some_same m n e = ap or_zero e
+
+pub none_some : (n : ℕ) → None ≡ Some n → ⊥
+none_some n e = false≢true (ap is_some e)
+
 -- Where a part of a body leads, in the words of what is known there.
 module _ (tell : ℕ → Note) where
   pub record Exits (w : Ways) (vs : List Named) (p : Point) (a : Around) : Type 0 where
@@ -183,4 +252,57 @@ module _ (tell : ℕ → Note) where
     breaks = λ n h. into_deeper w.breaks v vs p (tell n) (e.breaks n h);
     continues = λ n h. into_deeper w.continues v vs p (tell n) (e.continues n h);
     catches = λ n h. into_deeper w.throws v vs p (tell n) (e.catches n h);
+  }
+
+  -- what is dead
+  pub exits_dead : (w v : Ways) (vs : List Named) (p : Point) (a : Around) → Exits w vs p a → Exits v vs (behind_all vs p never) a
+  exits_dead w v vs p a e = record {
+    follows = into_dead w.ends v.ends vs p (tell a.follows) e.follows;
+    breaks = λ n h. into_dead w.breaks v.breaks vs p (tell n) (e.breaks n h);
+    continues = λ n h. into_dead w.continues v.continues vs p (tell n) (e.continues n h);
+    catches = λ n h. into_dead w.throws v.throws vs p (tell n) (e.catches n h);
+  }
+
+  -- the rounds of a loop, which end at a point at which their begin is known
+  pub exits_looped : (leads : Bool) (w : Ways) (vs : List Named) (p : Point) (a : Around) (m : ℕ) → Exits (looped leads w) vs p a → tell m ≡ note vs (behind_all vs p (head w)) → Exits w vs (behind_all vs p (head w)) (in_loop a m)
+  exits_looped leads w vs p a m e t = record {
+    follows = subst (Into w.ends vs (behind_all vs p (head w))) (sym t) (into_round w.ends w vs p (λ x. or_left w.ends.waited w.continues.waited x));
+    breaks = λ n h. into_then (head w) w.breaks vs p (tell n) (subst (λ x. Into (onward (head w) w.breaks) vs p (tell x)) (some_same a.follows n h) (into_less (onward (head w) w.breaks) _ vs p (tell a.follows) (less_right (past leads (head w)) (onward (head w) w.breaks)) e.follows));
+    continues = λ n h. subst (λ x. Into w.continues vs (behind_all vs p (head w)) (tell x)) (some_same m n h) (subst (Into w.continues vs (behind_all vs p (head w))) (sym t) (into_round w.continues w vs p (λ x. or_right w.ends.waited w.continues.waited x)));
+    catches = λ n h. into_then (head w) w.throws vs p (tell n) (into_less (onward (head w) w.throws) _ vs p (tell n) (less_right (head w) (onward (head w) w.throws)) (e.catches n h));
+  }
+
+  -- a round of a `for`, whose body is followed by the step or by the begin of the next round
+  pub exits_body : (leads : Bool) (w s : Ways) (vs : List Named) (h : Point) (a : Around) (m : ℕ) → Exits (with_step w s) vs h (in_loop a m) → Into (round w) vs h (tell m) → Exits w vs h (in_loop a m)
+  exits_body leads w s vs h a m e i = record {
+    follows = into_less w.ends (round w) vs h (tell m) (less_left w.ends w.continues) i;
+    breaks = e.breaks;
+    continues = λ n x. subst (λ y. Into w.continues vs h (tell y)) (some_same m n x) (into_less w.continues (round w) vs h (tell m) (less_right w.ends w.continues) i);
+    catches = λ n x. into_less w.throws _ vs h (tell n) (less_left w.throws (onward (round w) s.throws)) (e.catches n x);
+  }
+
+  -- the step
+  pub exits_step : (w s : Ways) (vs : List Named) (h : Point) (a : Around) (m l : ℕ) → Exits (with_step w s) vs h (in_loop a l) → Into (with_step w s).ends vs h (tell m) → Exits s vs (behind_all vs h (round w)) (in_step a m)
+  exits_step w s vs h a m l e i = record {
+    follows = into_then (round w) s.ends vs h (tell m) i;
+    breaks = λ n x. absurd (none_some n x);
+    continues = λ n x. absurd (none_some n x);
+    catches = λ n x. into_then (round w) s.throws vs h (tell n) (into_less (onward (round w) s.throws) _ vs h (tell n) (less_right w.throws (onward (round w) s.throws)) (e.catches n x));
+  }
+
+  -- the body of a `try`, and its handler
+  pub exits_try : (b h : Ways) (vs : List Named) (p : Point) (a : Around) (m : ℕ) → Exits (handled b h) vs p a → tell m ≡ note vs (behind_all vs p b.throws) → Exits b vs p (in_try a m)
+  exits_try b h vs p a m e t = record {
+    follows = into_less b.ends _ vs p (tell a.follows) (less_left b.ends (onward b.throws h.ends)) e.follows;
+    breaks = λ n x. into_less b.breaks _ vs p (tell n) (less_left b.breaks (onward b.throws h.breaks)) (e.breaks n x);
+    continues = λ n x. into_less b.continues _ vs p (tell n) (less_left b.continues (onward b.throws h.continues)) (e.continues n x);
+    catches = λ n x. subst (λ y. Into b.throws vs p (tell y)) (some_same m n x) (subst (Into b.throws vs p) (sym t) (into_self b.throws vs p));
+  }
+
+  pub exits_handler : (b h : Ways) (vs : List Named) (p : Point) (a : Around) → Exits (handled b h) vs p a → Exits h vs (behind_all vs p b.throws) a
+  exits_handler b h vs p a e = record {
+    follows = into_then b.throws h.ends vs p (tell a.follows) (into_less (onward b.throws h.ends) _ vs p (tell a.follows) (less_right b.ends (onward b.throws h.ends)) e.follows);
+    breaks = λ n x. into_then b.throws h.breaks vs p (tell n) (into_less (onward b.throws h.breaks) _ vs p (tell n) (less_right b.breaks (onward b.throws h.breaks)) (e.breaks n x));
+    continues = λ n x. into_then b.throws h.continues vs p (tell n) (into_less (onward b.throws h.continues) _ vs p (tell n) (less_right b.continues (onward b.throws h.continues)) (e.continues n x));
+    catches = λ n x. into_then b.throws h.throws vs p (tell n) (into_less (onward b.throws h.throws) _ vs p (tell n) (less_right at_once (onward b.throws h.throws)) (e.catches n x));
   }
