@@ -273,8 +273,8 @@ module _ (tell : ℕ → Note) where
   }
 
   -- a round of a `for`, whose body is followed by the step or by the begin of the next round
-  pub exits_body : (leads : Bool) (w s : Ways) (vs : List Named) (h : Point) (a : Around) (m : ℕ) → Exits (with_step w s) vs h (in_loop a m) → Into (round w) vs h (tell m) → Exits w vs h (in_loop a m)
-  exits_body leads w s vs h a m e i = record {
+  pub exits_body : (w s : Ways) (vs : List Named) (h : Point) (a : Around) (l m : ℕ) → Exits (with_step w s) vs h (in_loop a l) → Into (round w) vs h (tell m) → Exits w vs h (in_loop a m)
+  exits_body w s vs h a l m e i = record {
     follows = into_less w.ends (round w) vs h (tell m) (less_left w.ends w.continues) i;
     breaks = e.breaks;
     continues = λ n x. subst (λ y. Into w.continues vs h (tell y)) (some_same m n x) (into_less w.continues (round w) vs h (tell m) (less_right w.ends w.continues) i);

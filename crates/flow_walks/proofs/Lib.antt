@@ -1,3 +1,4 @@
 mod Reaching
 mod Notes
 mod Leading
+mod Flowing
