@@ -80,7 +80,7 @@ pub below_declared : (m : ℕ) (v : Named) (vs : List Named) → ((d : Declared)
 below_declared m v vs f b j d (inl e) = let g = f d e.1 in omega (arith, g)
 below_declared m v vs f b j d (inr h) = let l = b j d h in omega (arith, l)
 
-into_point : (m : ℕ) (i : IntoTree) (d : Declared) → (declared m i).local ≡ Some d → d.point ≡ m
+pub into_point : (m : ℕ) (i : IntoTree) (d : Declared) → (declared m i).local ≡ Some d → d.point ≡ m
 into_point m i d e = declared_at i.state m i.name d e
 
 pub below_into : (m : ℕ) (o : Option IntoTree) (vs : List Named) → Below m vs → Below (suc m) (with_into m o vs)
@@ -91,7 +91,7 @@ pub within_into : (m n : ℕ) (o : Option IntoTree) (vs : List Named) → n ≤ 
 within_into m n None vs le = le
 within_into m n (Some i) vs le = omega (arith, le)
 
-waited_reached : (n : ℕ) → is_reached (waited_at n) ≡ true
+pub waited_reached : (n : ℕ) → is_reached (waited_at n) ≡ true
 waited_reached zero = refl
 waited_reached (suc n) = let some : 0 < suc n = omega arith in or_true (nat_eq (suc n) 0) (nat_lt 0 (suc n)) (lt-ltb 0 (suc n) some)
   where
@@ -103,10 +103,16 @@ module _ (tell : ℕ → Note) where
   abbrev pub IsFlow : Edge ℕ → Type 0
   IsFlow e = Flow e.from (tell e.from) (tell e.to)
 
-  abbrev FlowsTo : ℕ → ℕ → Type 0
+  pub record Kept (es : List (Edge ℕ)) : Type 0 where
+    pub along : All IsFlow es
+
+  pub nothing_kept : Kept []
+  nothing_kept = record { along = All-nil IsFlow }
+
+  abbrev pub FlowsTo : ℕ → ℕ → Type 0
   FlowsTo m t = Flow m (tell m) (tell t)
 
-  flow_from : (m : ℕ) (vs : List Named) (p : Point) (c : Bool) (r : Reached) (y : Note) → (c ≡ true → r.waited ≡ true) → is_reached r ≡ true → Below m vs → Into r vs p y
+  pub flow_from : (m : ℕ) (vs : List Named) (p : Point) (c : Bool) (r : Reached) (y : Note) → (c ≡ true → r.waited ≡ true) → is_reached r ≡ true → Below m vs → Into r vs p y
       → Flow m (record { named = vs; point = p; counts = c }) y
   flow_from m vs p c r y w e b i = record {
     begins = λ j d h x. let l = b j d (i.keeps j d h) in absurd (omega (arith, l, x));
@@ -116,14 +122,14 @@ module _ (tell : ℕ → Note) where
   }
 
   -- a point without a wait
-  flow_plain : (m : ℕ) (vs : List Named) (p : Point) (t : ℕ) → tell m ≡ note vs p → Below m vs → Into at_once vs p (tell t) → FlowsTo m t
+  pub flow_plain : (m : ℕ) (vs : List Named) (p : Point) (t : ℕ) → tell m ≡ note vs p → Below m vs → Into at_once vs p (tell t) → FlowsTo m t
   flow_plain m vs p t e b i = subst (λ a. Flow m a (tell t)) (sym e) (flow_from m vs p false at_once (tell t) (λ x. absurd (false≢true x)) refl b i)
 
-  flow_wait : (n m : ℕ) (vs : List Named) (p : Point) (t : ℕ) → tell m ≡ wait_note n vs p → Below m vs → Into (waited_at n) vs p (tell t) → FlowsTo m t
+  pub flow_wait : (n m : ℕ) (vs : List Named) (p : Point) (t : ℕ) → tell m ≡ wait_note n vs p → Below m vs → Into (waited_at n) vs p (tell t) → FlowsTo m t
   flow_wait n m vs p t e b i = subst (λ a. Flow m a (tell t)) (sym e) (flow_from m vs p (nat_lt 0 n) (waited_at n) (tell t) (λ x. x) (waited_reached n) b i)
 
   -- a point that declares a variable
-  flow_more : (m : ℕ) (v : Named) (vs : List Named) (p : Point) (c : Bool) (r : Reached) (y : Note) → (c ≡ true → r.waited ≡ true) → is_reached r ≡ true → Below m vs → p.from ≤ length vs
+  pub flow_more : (m : ℕ) (v : Named) (vs : List Named) (p : Point) (c : Bool) (r : Reached) (y : Note) → (c ≡ true → r.waited ≡ true) → is_reached r ≡ true → Below m vs → p.from ≤ length vs
       → ((d : Declared) → v.local ≡ Some d → d.point ≡ m) → Into at_once (v ∷ vs) (behind_all vs p r) y → Flow m (record { named = vs; point = p; counts = c }) y
   flow_more m v vs p c r y w e b l f i = record {
     begins = λ j d h x. elim (i.keeps j d h) [
@@ -143,49 +149,49 @@ module _ (tell : ℕ → Note) where
       waits (inl o) = inl (w o)
       waits (inr o) = inr o
 
-  flow_into : (m : ℕ) (o : Option IntoTree) (vs : List Named) (p : Point) (c : Bool) (r : Reached) (y : Note) → (c ≡ true → r.waited ≡ true) → is_reached r ≡ true → Below m vs → p.from ≤ length vs
+  pub flow_into : (m : ℕ) (o : Option IntoTree) (vs : List Named) (p : Point) (c : Bool) (r : Reached) (y : Note) → (c ≡ true → r.waited ≡ true) → is_reached r ≡ true → Below m vs → p.from ≤ length vs
       → Into at_once (with_into m o vs) (behind_all vs p r) y → Flow m (record { named = vs; point = p; counts = c }) y
   flow_into m None vs p c r y w e b l i = flow_from m vs p c r y w e b (into_back r vs p y i)
   flow_into m (Some v) vs p c r y w e b l i = flow_more m (declared m v) vs p c r y w e b l (into_point m v) i
 
   -- the edges of a point, and those of a statement
-  leads_flow : (m : ℕ) (tos : List ℕ) → All (FlowsTo m) tos → All IsFlow (leads m tos)
-  leads_flow m tos h = All-map IsFlow (edge m) tos h
+  pub leads_flow : (m : ℕ) (tos : List ℕ) → All (FlowsTo m) tos → Kept (leads m tos)
+  leads_flow m tos h = record { along = All-map IsFlow (edge m) tos h }
 
-  listed_flow : (m : ℕ) (o : Option ℕ) → ((t : ℕ) → o ≡ Some t → FlowsTo m t) → All (FlowsTo m) (listed o)
+  pub listed_flow : (m : ℕ) (o : Option ℕ) → ((t : ℕ) → o ≡ Some t → FlowsTo m t) → All (FlowsTo m) (listed o)
   listed_flow m None f = All-nil (FlowsTo m)
   listed_flow m (Some t) f = All-cons (FlowsTo m) t [] (f t refl) (All-nil (FlowsTo m))
 
-  statement_flow : (m : ℕ) (a : Around) (tos : List ℕ) → All (FlowsTo m) tos → ((t : ℕ) → a.catches ≡ Some t → FlowsTo m t) → All IsFlow (statement m a tos)
+  pub statement_flow : (m : ℕ) (a : Around) (tos : List ℕ) → All (FlowsTo m) tos → ((t : ℕ) → a.catches ≡ Some t → FlowsTo m t) → Kept (statement m a tos)
   statement_flow m a tos h f = leads_flow m (tos ++ listed a.catches) (All-append (FlowsTo m) tos (listed a.catches) h (listed_flow m a.catches f))
 
-  to_one : (m t : ℕ) → FlowsTo m t → All (FlowsTo m) (t ∷ [])
+  pub to_one : (m t : ℕ) → FlowsTo m t → All (FlowsTo m) (t ∷ [])
   to_one m t f = All-cons (FlowsTo m) t [] f (All-nil (FlowsTo m))
 
-  to_two : (m t u : ℕ) → FlowsTo m t → FlowsTo m u → All (FlowsTo m) (t ∷ u ∷ [])
+  pub to_two : (m t u : ℕ) → FlowsTo m t → FlowsTo m u → All (FlowsTo m) (t ∷ u ∷ [])
   to_two m t u f g = All-cons (FlowsTo m) t (u ∷ []) f (to_one m u g)
 
-  then_flow : (xs ys : List (Edge ℕ)) → All IsFlow xs → All IsFlow ys → All IsFlow (xs ++ ys)
-  then_flow xs ys h k = All-append IsFlow xs ys h k
+  pub then_flow : (xs ys : List (Edge ℕ)) → Kept xs → Kept ys → Kept (xs ++ ys)
+  then_flow xs ys h k = record { along = All-append IsFlow xs ys h.along k.along }
 
   -- a body leads on from its first point
-  into_here : (vs : List Named) (p : Point) (m : ℕ) → tell m ≡ note vs p → Into at_once vs p (tell m)
+  pub into_here : (vs : List Named) (p : Point) (m : ℕ) → tell m ≡ note vs p → Into at_once vs p (tell m)
   into_here vs p m e = subst (Into at_once vs p) (sym e) (into_self at_once vs p)
 
-  into_waiting : (n : ℕ) (vs : List Named) (p : Point) (m : ℕ) → tell m ≡ wait_note n vs p → Into at_once vs p (tell m)
+  pub into_waiting : (n : ℕ) (vs : List Named) (p : Point) (m : ℕ) → tell m ≡ wait_note n vs p → Into at_once vs p (tell m)
   into_waiting n vs p m e = let i = into_self at_once vs p in subst (Into at_once vs p) (sym e) (record { keeps = i.keeps; from = i.from; stale = i.stale })
 
-  into_headed : (w : Ways) (vs : List Named) (p : Point) (m : ℕ) → tell m ≡ note vs (behind_all vs p (head w)) → Into at_once vs p (tell m)
+  pub into_headed : (w : Ways) (vs : List Named) (p : Point) (m : ℕ) → tell m ≡ note vs (behind_all vs p (head w)) → Into at_once vs p (tell m)
   into_headed w vs p m e = subst (Into at_once vs p) (sym e) (into_less at_once (head w) vs p _ (less_head w) (into_self (head w) vs p))
 
-  into_for : (n m : ℕ) (vs : List Named) (p : Point) (i t b : Body) (f : ℕ) (ns : List Note) → InitKind i → Tells tell m (notes n i m vs p ++ (note (declaring m i vs) (for_point n m vs p i t b) ∷ ns))
+  pub into_for : (n m : ℕ) (vs : List Named) (p : Point) (i t b : Body) (f : ℕ) (ns : List Note) → InitKind i → Tells tell m (notes n i m vs p ++ (note (declaring m i vs) (for_point n m vs p i t b) ∷ ns))
       → Into at_once vs p (tell (first i m (m + points i)))
   into_for n m vs p _ t b f ns no_init h = let e : m ≡ m + 0 = omega arith in subst (λ x. Into at_once vs p (tell x)) e (into_headed (for_round n End t b) vs p m h.0)
   into_for n m vs p _ t b f ns (declares at i v) h = into_here vs p m h.0
   into_for n m vs p _ t b f ns (assigns at xs v) h = into_here vs p m h.0
   into_for n m vs p _ t b f ns (modifies at xs c) h = into_here vs p m h.0
 
-  into_first : (n : ℕ) (b : Body) (m : ℕ) (vs : List Named) (p : Point) (f : ℕ) → HasSimpleParts b → Tells tell m (notes n b m vs p) → Into (ways n b).ends vs p (tell f) → Into at_once vs p (tell (first b m f))
+  pub into_first : (n : ℕ) (b : Body) (m : ℕ) (vs : List Named) (p : Point) (f : ℕ) → HasSimpleParts b → Tells tell m (notes n b m vs p) → Into (ways n b).ends vs p (tell f) → Into at_once vs p (tell (first b m f))
   into_first n End m vs p f s h i = i
   into_first n (BlockStmt at b k) m vs p f s h i = into_here vs p m h.0
   into_first n (IfStmt at e b k) m vs p f s h i = into_here vs p m h.0
@@ -206,6 +212,6 @@ module _ (tell : ℕ → Note) where
   into_first n (WaitStmt at w k) m vs p f s h i = into_waiting n vs p m h.0
 
   -- what comes behind a statement that is left so
-  into_next : (w : Ways) (n : ℕ) (k : Body) (m : ℕ) (vs : List Named) (p : Point) (a : Around) → HasSimpleParts k → Tells tell m (notes n k m vs (behind_all vs p w.ends)) → Exits tell (sequence w (ways n k)) vs p a
+  pub into_next : (w : Ways) (n : ℕ) (k : Body) (m : ℕ) (vs : List Named) (p : Point) (a : Around) → HasSimpleParts k → Tells tell m (notes n k m vs (behind_all vs p w.ends)) → Exits tell (sequence w (ways n k)) vs p a
       → Into w.ends vs p (tell (first k m a.follows))
   into_next w n k m vs p a s h e = into_back w.ends vs p _ (into_first n k m vs (behind_all vs p w.ends) a.follows s h (exits_rest tell w (ways n k) vs p a e).follows)

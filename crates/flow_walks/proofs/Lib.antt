@@ -2,3 +2,4 @@ mod Reaching
 mod Notes
 mod Leading
 mod Flowing
+mod AlongEdges
