@@ -3,3 +3,5 @@ mod Notes
 mod Leading
 mod Flowing
 mod AlongEdges
+mod Walking
+mod WaysWalked
