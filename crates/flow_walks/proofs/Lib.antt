@@ -5,3 +5,6 @@ mod Flowing
 mod AlongEdges
 mod Walking
 mod WaysWalked
+mod SameEnds
+mod WholeBody
+mod Ending

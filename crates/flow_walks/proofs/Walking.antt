@@ -93,7 +93,7 @@ module _ (tell : ℕ → Note) (g : List (Edge ℕ)) where
   pub goes_trail : (lo a b : ℕ) → Trail lo a b → Goes at_once lo a b
   goes_trail lo a b t = record { fresh = λ e. t; waited = λ e. absurd (false≢true e) }
 
-  reached_trail : (f w : Bool) (lo a b : ℕ) → Goes (record { fresh = f; waited = w }) lo a b → f || w ≡ true → Trail lo a b
+  pub reached_trail : (f w : Bool) (lo a b : ℕ) → Goes (record { fresh = f; waited = w }) lo a b → f || w ≡ true → Trail lo a b
   reached_trail true w lo a b t e = t.fresh refl
   reached_trail false true lo a b t e = (t.waited refl).trail
   reached_trail false false lo a b t e = absurd (false≢true e)
