@@ -8,3 +8,4 @@ mod WaysWalked
 mod SameEnds
 mod WholeBody
 mod Ending
+mod Counting
