@@ -1,5 +1,5 @@
 -- What is known at the points of a body is kept along each of its edges.
-use Rattle.std.proofs.Common.{◌≡◌, ℕ, zero, suc, ◌+◌, ◌-◌, ◌<◌, ◌≤◌, Bool, true, false, ◌||◌, ◌&&◌, ◌⊎◌, inl, inr, List, [], ◌∷◌, ◌++◌, length, map, refl, sym, ap, ap₂, subst, ◌∙◌, arith, rules}
+use Rattle.std.proofs.Common.{◌≡◌, ℕ, suc, ◌+◌, ◌-◌, ◌≤◌, Bool, true, false, ◌||◌, List, [], ◌∷◌, ◌++◌, length, refl, sym, ap, subst, arith}
 use Rattle.std.specs.Prelude.{All, nat_lt}
 use Rattle.std.proofs.lemmas.Bool.{false≢true}
 use Rattle.std.proofs.lemmas.List.Elements.{All-nil, All-cons}
@@ -13,16 +13,15 @@ use Rattle.flow_ast.specs.Typing.{is_there}
 use Rattle.flow_staterule.specs.declared.scope.Point.{Point}
 use Rattle.flow_staterule.specs.declared.ways.Reached.{Reached}
 use Rattle.flow_staterule.specs.declared.ways.Ways.{Ways}
-use Rattle.flow_staterule.specs.Ways.{ways, branch_ways, never, at_once, either, is_reached, onward, both, follow, node, plain, sequence, empty, round, with_step, head, past, looped, handled, waited_at}
-use Rattle.flow_staterule.specs.Uses.{behind, left}
-use Rattle.flow_walks.specs.Graph.{Edge}
+use Rattle.flow_staterule.specs.Ways.{ways, branch_ways, never, at_once, either, onward, both, node, plain, sequence, empty, round, with_step, head, looped, waited_at}
+use Rattle.flow_staterule.specs.Uses.{left}
 use Rattle.flow_walks.specs.Control.{points, branch_points, Around, followed_by, in_loop, in_step, in_try, listed, leads, statement, first, whens, edge, edges, branch_edges}
 use Rattle.flow_walks.specs.Control as control
 use Rattle.flow_walks.specs.Mentions.{Declared, Named, local_at, declared, with_into, declaring}
-use Rattle.flow_walks.specs.Laws.{IsInit, IsStep, HasSimpleParts, HaveSimpleParts}
-use Rattle.flow_walks.proofs.Notes.{Note, note, wait_note, behind_all, block_ways, if_ways, if_else_ways, for_round, for_ways, for_point, try_ways, choose_ways, notes, branch_notes, notes_many, branch_notes_many, Tells, tells_first, tells_rest}
-use Rattle.flow_walks.proofs.Leading.{Has, Into, Less, into_less, less_same, less_left, less_right, less_then, less_never, less_head, into_then, into_deeper, into_self, into_on, into_back, into_round, within_behind, Exits, exits_rest, exits_first, exits_left, exits_right, exits_follow, exits_deeper, exits_dead, exits_looped, exits_body, exits_step, exits_try, exits_handler}
-use Rattle.flow_walks.proofs.Flowing.{Flow, Below, point_of, waited_reached, InitKind, no_init, declares, assigns, modifies, init_kind, StepKind, no_step, assigned, modified, step_kind, step_parts, below_more, below_declared, below_into, within_into, into_point, Kept, nothing_kept, FlowsTo, flow_plain, flow_wait, flow_more, flow_into, leads_flow, listed_flow, statement_flow, to_one, to_two, then_flow, into_here, into_headed, into_first, into_next}
+use Rattle.flow_walks.specs.Laws.{HasSimpleParts, HaveSimpleParts}
+use Rattle.flow_walks.proofs.Notes.{Note, note, wait_note, behind_all, block_ways, if_ways, if_else_ways, for_round, for_ways, try_ways, choose_ways, notes, branch_notes, notes_many, branch_notes_many, Tells, tells_first, tells_rest}
+use Rattle.flow_walks.proofs.Leading.{Into, Less, into_less, less_same, less_left, less_then, into_self, into_on, into_round, within_behind, Exits, exits_rest, exits_first, exits_left, exits_right, exits_follow, exits_deeper, exits_dead, exits_looped, exits_body, exits_step, exits_try, exits_handler}
+use Rattle.flow_walks.proofs.Flowing.{Flow, Below, point_of, waited_reached, InitKind, no_init, declares, assigns, modifies, init_kind, StepKind, no_step, assigned, modified, step_kind, step_parts, below_more, below_declared, below_into, within_into, into_point, Kept, nothing_kept, FlowsTo, flow_plain, flow_wait, flow_more, flow_into, leads_flow, listed_flow, statement_flow, to_one, to_two, then_flow, into_headed, into_first, into_next}
 
 less_onward_cases : (f w : Bool) (s : Reached) → Less (record { fresh = f; waited = w }) (onward (record { fresh = f; waited = w }) (either at_once s))
 less_onward_cases true true s = record { reached = λ e. refl; waited = λ e. refl }

@@ -1,7 +1,7 @@
 -- Which points are waits that are looked for.
-use Rattle.std.proofs.Common.{◌≡◌, ℕ, zero, suc, ◌+◌, ◌-◌, ◌<◌, ◌≤◌, Bool, true, false, ◌⊎◌, inl, inr, List, [], ◌∷◌, ◌++◌, length, map, refl, sym, ap, ap₂, subst, subst₂, ◌∙◌, arith, length-append, append-nil, append_assoc, get_or}
+use Rattle.std.proofs.Common.{◌≡◌, ℕ, zero, suc, ◌+◌, ◌-◌, ◌<◌, true, false, List, [], ◌∷◌, ◌++◌, length, map, refl, sym, ap, ap₂, subst, subst₂, ◌∙◌, arith, length-append, append_assoc, get_or}
 use Rattle.std.specs.Prelude.{nat_lt, slice_get, is_some}
-use Rattle.std.proofs.lemmas.Bool.{false≢true, true≢false, lt-ltb, ltb-true}
+use Rattle.std.proofs.lemmas.Bool.{false≢true, lt-ltb, ltb-true}
 use Rattle.std.proofs.lemmas.List.{map-append}
 use Rattle.std.specs.declared.option.Option.{Option}
 use Rattle.std.specs.declared.option.Option.TheVariants.{None, Some}
@@ -14,7 +14,7 @@ use Rattle.flow_staterule.specs.Uses.{left}
 use Rattle.flow_staterule.specs.StateRule.{wait_places, branch_places}
 use Rattle.flow_walks.specs.Control.{points, branch_points}
 use Rattle.flow_walks.specs.Mentions.{Named, Wait, local_at, declared, with_into, declaring, waits, branch_waits}
-use Rattle.flow_walks.proofs.Notes.{Note, note, wait_note, behind_all, block_ways, if_ways, if_else_ways, for_round, for_ways, for_point, try_ways, choose_ways, notes, branch_notes, notes_many, branch_notes_many, Tells}
+use Rattle.flow_walks.proofs.Notes.{Note, note, wait_note, behind_all, block_ways, if_ways, if_else_ways, for_ways, for_point, try_ways, choose_ways, notes, branch_notes, notes_many, branch_notes_many, Tells}
 
 -- the places of the waits
 abbrev place_of : Wait → Place
@@ -201,9 +201,10 @@ Marked m (y ∷ ys) Q = (y.counts ≡ true → Q m) × Marked (suc m) ys Q
 marked : (Q : ℕ → Type 0) {m n : ℕ} {ys : List Note} {ws : List Wait} → Counted m ys ws n → ((k : ℕ) (w : Wait) → slice_get ws k ≡ Some w → k < n → Q w.point) → Marked m ys Q
 marked Q none f = tt
 marked Q (over y z c) f = (λ x. absurd (false≢true (sym z ∙ x)), marked Q c f)
-marked Q {m} {n} (wait y w p z c) f =
-    (λ x. subst Q p (f 0 w refl (ltb-true 0 n (sym z ∙ x))),
-    marked Q c (λ k v e l. let l' : suc k < n = omega (arith, l) in f (suc k) v e l'))
+marked Q {m} {n} (wait y w p z c) f = (
+  λ x. subst Q p (f 0 w refl (ltb-true 0 n (sym z ∙ x))),
+  marked Q c (λ k v e l. let l' : suc k < n = omega (arith, l) in f (suc k) v e l'),
+)
 
 marked_at : (Q : ℕ → Type 0) (m : ℕ) (ys : List Note) (i : ℕ) (z : Note) → Marked m ys Q → z.counts ≡ false → (get_or ys i z).counts ≡ true → Q (m + i)
 marked_at Q m [] i z h f e = absurd (false≢true (sym f ∙ e))

@@ -1,26 +1,21 @@
 -- A body is left by its end exactly where a walk leads there.
-use Rattle.std.proofs.Common.{◌≡◌, ℕ, zero, suc, ◌+◌, ◌<◌, ◌≤◌, Bool, true, false, ◌||◌, ◌⊎◌, inl, inr, List, [], ◌∷◌, ◌++◌, length, refl, sym, ap, subst, ◌∙◌, arith}
-use Rattle.std.specs.Prelude.{Contains}
+use Rattle.std.proofs.Common.{◌≡◌, ℕ, ◌≤◌, Bool, true, false, ◌||◌, inl, inr, List, [], ◌∷◌, refl, sym, ap, subst, ◌∙◌, arith}
 use Rattle.std.proofs.lemmas.Bool.{false≢true}
 use Rattle.std.proofs.lemmas.List.Elements.{All-contains}
-use Rattle.std.specs.declared.option.Option.{Option}
-use Rattle.std.specs.declared.option.Option.TheVariants.{None, Some}
-use Rattle.flow_base.specs.declared.place.Place.{Place}
+use Rattle.std.specs.declared.option.Option.TheVariants.{Some}
 use Rattle.flow_tree.specs.Body.{Body}
 use Rattle.flow_rules.specs.Closing as rule
-use Rattle.flow_staterule.specs.declared.scope.Point.{Point}
-use Rattle.flow_staterule.specs.declared.ways.Reached.{Reached}
-use Rattle.flow_staterule.specs.Ways.{ways, at_once, is_reached}
+use Rattle.flow_staterule.specs.Ways.{ways, at_once}
 use Rattle.flow_staterule.specs.Uses.{behind, begins}
-use Rattle.flow_walks.specs.Graph.{Edge, Walk, stay, go, Reaches}
+use Rattle.flow_walks.specs.Graph.{Edge, Walk, stay, go}
 use Rattle.flow_walks.specs.Control.{control, closing, first}
 use Rattle.flow_walks.specs.Mentions.{Declared, Named}
 use Rattle.flow_walks.specs.Laws.{HasSimpleParts, ComesToEnd, EndsByWalk}
-use Rattle.flow_walks.proofs.Notes.{Note, note, behind_all}
-use Rattle.flow_walks.proofs.Leading.{Has, Into}
+use Rattle.flow_walks.proofs.Notes.{Note}
+use Rattle.flow_walks.proofs.Leading.{Has}
 use Rattle.flow_walks.proofs.Flowing.{Flow, Below, IsFlow, Kept, flow_more, point_of}
 use Rattle.flow_walks.proofs.Walking.{reached_trail}
-use Rattle.flow_walks.proofs.WholeBody.{told, told_last, last_note, routine_kept, routine_walked, begin_leads, same_or}
+use Rattle.flow_walks.proofs.WholeBody.{told, told_last, routine_kept, routine_walked, begin_leads, same_or}
 use Rattle.flow_walks.proofs.SameEnds.{same_ways}
 
 -- a local that is declared at the opening brace

@@ -1,26 +1,22 @@
 -- What is known at the points of a body is kept along each edge of its control graph.
-use Rattle.std.proofs.Common.{◌≡◌, ℕ, zero, suc, ◌+◌, ◌-◌, ◌<◌, ◌≤◌, Bool, true, false, ◌||◌, ◌&&◌, ◌⊎◌, inl, inr, List, [], ◌∷◌, ◌++◌, length, map, refl, sym, ap, ap₂, subst, ◌∙◌, arith, rules}
+use Rattle.std.proofs.Common.{◌≡◌, ℕ, zero, suc, ◌+◌, ◌<◌, ◌≤◌, Bool, true, false, ◌||◌, ◌⊎◌, inl, inr, List, [], ◌∷◌, ◌++◌, length, refl, sym, ap, subst, arith}
 use Rattle.std.specs.Prelude.{All, nat_eq, nat_lt, is_some, if◌then◌else◌}
-use Rattle.std.proofs.lemmas.Bool.{false≢true, true≢false, lt-ltb}
+use Rattle.std.proofs.lemmas.Bool.{false≢true, lt-ltb}
 use Rattle.std.proofs.lemmas.List.Elements.{All-nil, All-cons, All-append, All-map}
 use Rattle.std.specs.declared.option.Option.{Option}
 use Rattle.std.specs.declared.option.Option.TheVariants.{None, Some}
 use Rattle.flow_tree.specs.declared.ty.Ident.{Ident}
-use Rattle.flow_tree.specs.Tree.{ExprTree}
-use Rattle.flow_tree.specs.Body.{IntoTree, Body, End, BlockStmt, IfStmt, IfElseStmt, WhileStmt, ForStmt, LoopStmt, BreakStmt, ContinueStmt, ReturnStmt, ThrowStmt, TryStmt, ChooseStmt, DeclareStmt, AssignStmt, ModifyStmt, CallStmt, WaitStmt, Branches, NoBranches, MoreBranches}
-use Rattle.flow_ast.specs.Slots.{branch_groups}
-use Rattle.flow_ast.specs.Typing.{is_there}
+use Rattle.flow_tree.specs.Body.{IntoTree, Body, End, BlockStmt, IfStmt, IfElseStmt, WhileStmt, ForStmt, LoopStmt, BreakStmt, ContinueStmt, ReturnStmt, ThrowStmt, TryStmt, ChooseStmt, DeclareStmt, AssignStmt, ModifyStmt, CallStmt, WaitStmt}
 use Rattle.flow_staterule.specs.declared.scope.Point.{Point}
 use Rattle.flow_staterule.specs.declared.ways.Reached.{Reached}
 use Rattle.flow_staterule.specs.declared.ways.Ways.{Ways}
-use Rattle.flow_staterule.specs.Ways.{ways, branch_ways, never, at_once, either, is_reached, onward, both, follow, node, plain, sequence, empty, round, with_step, head, past, looped, handled, waited_at}
-use Rattle.flow_staterule.specs.Uses.{behind, left}
+use Rattle.flow_staterule.specs.Ways.{ways, at_once, is_reached, sequence, head, waited_at}
 use Rattle.flow_walks.specs.Graph.{Edge}
-use Rattle.flow_walks.specs.Control.{points, branch_points, Around, followed_by, in_loop, in_step, in_try, listed, leads, statement, first, whens, edge, edges, branch_edges}
+use Rattle.flow_walks.specs.Control.{points, Around, listed, leads, statement, first, edge}
 use Rattle.flow_walks.specs.Mentions.{Declared, Named, local_at, declared, with_into, declaring}
-use Rattle.flow_walks.specs.Laws.{IsInit, IsStep, HasSimpleParts, HaveSimpleParts}
-use Rattle.flow_walks.proofs.Notes.{Note, note, wait_note, behind_all, block_ways, if_ways, if_else_ways, for_round, for_ways, for_point, try_ways, choose_ways, notes, branch_notes, notes_many, branch_notes_many, Tells, tells_first, tells_rest}
-use Rattle.flow_walks.proofs.Leading.{Has, has_below, Into, Less, into_less, less_same, less_left, less_right, less_then, less_never, less_head, into_then, into_deeper, into_self, into_on, into_back, into_round, behind_from, behind_stale, within_behind, some_same, Exits, exits_rest, exits_first, exits_left, exits_right, exits_follow, exits_deeper, exits_dead, exits_looped, exits_body, exits_step, exits_try, exits_handler}
+use Rattle.flow_walks.specs.Laws.{IsInit, IsStep, HasSimpleParts}
+use Rattle.flow_walks.proofs.Notes.{Note, note, wait_note, behind_all, for_round, for_point, notes, Tells}
+use Rattle.flow_walks.proofs.Leading.{Has, has_below, Into, into_less, less_head, into_self, into_back, behind_from, behind_stale, within_behind, Exits, exits_rest}
 
 -- What is known is kept from a point of this number to another: what is declared there reaches the other.
 pub record Flow (x : ℕ) (a b : Note) : Type 0 where
@@ -133,9 +129,9 @@ module _ (tell : ℕ → Note) where
       → ((d : Declared) → v.local ≡ Some d → d.point ≡ m) → Into at_once (v ∷ vs) (behind_all vs p r) y → Flow m (record { named = vs; point = p; counts = c }) y
   flow_more m v vs p c r y w e b l f i = record {
     begins = λ j d h x. elim (i.keeps j d h) [
-        inl o ↦ (let k = within_behind r vs p l in let q : (behind_all vs p r).from ≤ j = (let g = o.0 in omega (arith, k, g)) in i.from j d h refl q)
+      | inl o ↦ (let k = within_behind r vs p l in let q : (behind_all vs p r).from ≤ j = (let g = o.0 in omega (arith, k, g)) in i.from j d h refl q)
       | inr o ↦ (let k = b j d o in absurd (omega (arith, k, x)))
-      ];
+    ];
     keeps = λ j d h x. older j d x (i.keeps j d h);
     from = λ j d h x g. i.from j d h refl (behind_from r vs j p e g);
     stale = λ j d h x g o. i.stale j d h refl (behind_from r vs j p e g) (inr (behind_stale r vs j p (has_below vs j d (older j d x (i.keeps j d h))) e (waits o)));

@@ -1,14 +1,14 @@
 -- What is known behind walks of some kind: the variables in force are the oldest of those before, those that reached the point
 -- reach what follows, and those that were stale, or are led past a wait, are stale.
-use Rattle.std.proofs.Common.{◌≡◌, ℕ, zero, suc, ◌+◌, ◌-◌, ◌<◌, ◌≤◌, Bool, true, false, ◌||◌, ◌&&◌, ◌⊎◌, inl, inr, List, [], ◌∷◌, ◌++◌, length, refl, sym, ap, ap₂, subst, ◌∙◌, arith, rules}
-use Rattle.std.proofs.lemmas.Bool.{false≢true, true≢false}
+use Rattle.std.proofs.Common.{◌≡◌, ℕ, ◌<◌, ◌≤◌, Bool, true, false, ◌||◌, ◌&&◌, ◌⊎◌, inl, inr, List, [], ◌∷◌, length, refl, sym, ap, subst, arith}
+use Rattle.std.proofs.lemmas.Bool.{false≢true}
 use Rattle.std.specs.Prelude.{is_some}
 use Rattle.std.specs.declared.option.Option.{Option}
 use Rattle.std.specs.declared.option.Option.TheVariants.{None, Some}
 use Rattle.flow_staterule.specs.declared.scope.Point.{Point}
 use Rattle.flow_staterule.specs.declared.ways.Reached.{Reached}
 use Rattle.flow_staterule.specs.declared.ways.Ways.{Ways}
-use Rattle.flow_staterule.specs.Ways.{never, at_once, either, is_reached, onward, both, follow, node, plain, sequence, empty, round, with_step, head, past, looped, handled, waited_at}
+use Rattle.flow_staterule.specs.Ways.{never, at_once, either, is_reached, onward, both, follow, sequence, round, with_step, head, past, looped, handled}
 use Rattle.flow_staterule.specs.Uses.{behind}
 use Rattle.flow_walks.specs.Control.{Around, followed_by, in_loop, in_step, in_try}
 use Rattle.flow_walks.specs.Mentions.{Declared, Named}
@@ -71,18 +71,18 @@ less_same r = record { reached = λ e. e; waited = λ e. e }
 pub less_left : (r s : Reached) → Less r (either r s)
 less_left r s = record {
   reached = λ e. elim (or_cases r.fresh r.waited e) [
-      inl f ↦ or_left (r.fresh || s.fresh) (r.waited || s.waited) (or_left r.fresh s.fresh f)
+    | inl f ↦ or_left (r.fresh || s.fresh) (r.waited || s.waited) (or_left r.fresh s.fresh f)
     | inr w ↦ or_right (r.fresh || s.fresh) (r.waited || s.waited) (or_left r.waited s.waited w)
-    ];
+  ];
   waited = λ e. or_left r.waited s.waited e;
 }
 
 pub less_right : (r s : Reached) → Less s (either r s)
 less_right r s = record {
   reached = λ e. elim (or_cases s.fresh s.waited e) [
-      inl f ↦ or_left (r.fresh || s.fresh) (r.waited || s.waited) (or_right r.fresh s.fresh f)
+    | inl f ↦ or_left (r.fresh || s.fresh) (r.waited || s.waited) (or_right r.fresh s.fresh f)
     | inr w ↦ or_right (r.fresh || s.fresh) (r.waited || s.waited) (or_right r.waited s.waited w)
-    ];
+  ];
   waited = λ e. or_right r.waited s.waited e;
 }
 

@@ -9,3 +9,6 @@ mod SameEnds
 mod WholeBody
 mod Ending
 mod Counting
+mod StaleWalks
+mod Backing
+mod Examples

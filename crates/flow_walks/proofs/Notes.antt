@@ -1,6 +1,6 @@
 -- What is known at each point of a body: the variables in force, which of them reach it and which are stale, and whether it is
 -- a wait that is looked for.
-use Rattle.std.proofs.Common.{◌≡◌, ℕ, zero, suc, ◌+◌, ◌-◌, ◌<◌, ◌≤◌, Bool, true, false, List, [], ◌∷◌, ◌++◌, length, get_or, refl, sym, ap, ap₂, subst, ◌∙◌, arith, length-append, append_assoc}
+use Rattle.std.proofs.Common.{◌≡◌, ℕ, zero, suc, ◌+◌, ◌-◌, Bool, true, false, List, [], ◌∷◌, ◌++◌, length, get_or, refl, sym, ap, ap₂, subst, ◌∙◌, arith, length-append, append_assoc}
 use Rattle.std.specs.Prelude.{nat_lt}
 use Rattle.flow_tree.specs.Body.{Body, End, BlockStmt, IfStmt, IfElseStmt, WhileStmt, ForStmt, LoopStmt, BreakStmt, ContinueStmt, ReturnStmt, ThrowStmt, TryStmt, ChooseStmt, DeclareStmt, AssignStmt, ModifyStmt, CallStmt, WaitStmt, Branches, NoBranches, MoreBranches}
 use Rattle.flow_staterule.specs.declared.scope.Point.{Point}
@@ -191,9 +191,10 @@ get_behind (y ∷ ys) xs x z = get_behind ys xs x z
 tells_from : (all before xs : List Note) (m : ℕ) (z : Note) → before ++ xs ≡ all → length before ≡ m → Tells (λ k. get_or all k z) m xs
 tells_from all before [] m z e l = tt
 tells_from all before (x ∷ xs) m z e l =
-    let n : length (before ++ x ∷ []) ≡ suc m = let f = length-append before (x ∷ []) in omega (arith, f, l) in
-    (ap₂ (λ a k. get_or a k z) (sym e) (sym l) ∙ get_behind before xs x z,
-    tells_from all (before ++ x ∷ []) xs (suc m) z (append_assoc before (x ∷ []) xs ∙ e) n)
+    let n : length (before ++ x ∷ []) ≡ suc m = let f = length-append before (x ∷ []) in omega (arith, f, l) in (
+      ap₂ (λ a k. get_or a k z) (sym e) (sym l) ∙ get_behind before xs x z,
+      tells_from all (before ++ x ∷ []) xs (suc m) z (append_assoc before (x ∷ []) xs ∙ e) n,
+    )
 
 pub tells_itself : (before xs : List Note) (z : Note) → Tells (λ m. get_or (before ++ xs) m z) (length before) xs
 tells_itself before xs z = tells_from (before ++ xs) before xs (length before) z refl refl

@@ -1,5 +1,5 @@
 -- A set that is grown along edges until nothing is added holds exactly what some walk reaches.
-use Rattle.std.proofs.Common.{◌≡◌, ℕ, zero, suc, ◌<◌, List, [], ◌∷◌, length, get_or, refl, sym, ap, ◌∙◌, subst, arith}
+use Rattle.std.proofs.Common.{zero, suc, ◌<◌, List, [], ◌∷◌, length, subst, arith}
 use Rattle.std.specs.Prelude.{Contains}
 use Rattle.std.proofs.lemmas.List.Elements.{Contains-append_right}
 use Rattle.flow_walks.specs.Graph.{Edge, Leads, Walk, stay, go, Reaches, Grown, begun, added, IsClosed, ReachedFrom}

@@ -1,8 +1,6 @@
 -- The test by structure says what the ways out say.
-use Rattle.std.proofs.Common.{◌≡◌, ℕ, zero, suc, ◌+◌, ◌-◌, ◌<◌, ◌≤◌, Bool, true, false, ◌||◌, ◌&&◌, ◌⊎◌, inl, inr, List, [], ◌∷◌, length, refl, sym, ap, ap₂, subst, ◌∙◌, arith, rules}
+use Rattle.std.proofs.Common.{◌≡◌, ℕ, ◌-◌, Bool, true, false, ◌||◌, ◌&&◌, length, refl, sym, ap, ap₂, ◌∙◌, rules}
 use Rattle.std.proofs.lemmas.Bool.{false≢true, true≢false}
-use Rattle.std.specs.declared.option.Option.{Option}
-use Rattle.std.specs.declared.option.Option.TheVariants.{None, Some}
 use Rattle.flow_tree.specs.Body.{Body, End, BlockStmt, IfStmt, IfElseStmt, WhileStmt, ForStmt, LoopStmt, BreakStmt, ContinueStmt, ReturnStmt, ThrowStmt, TryStmt, ChooseStmt, DeclareStmt, AssignStmt, ModifyStmt, CallStmt, WaitStmt, Branches, NoBranches, MoreBranches}
 use Rattle.flow_ast.specs.Slots.{branch_groups}
 use Rattle.flow_ast.specs.Typing.{is_there}
@@ -10,9 +8,9 @@ use Rattle.flow_ast.specs.Leaving.{has_statement}
 use Rattle.flow_rules.specs.Closing as closing
 use Rattle.flow_staterule.specs.declared.ways.Reached.{Reached}
 use Rattle.flow_staterule.specs.declared.ways.Ways.{Ways}
-use Rattle.flow_staterule.specs.Ways.{ways, branch_ways, never, at_once, either, is_reached, onward, both, follow, node, plain, sequence, empty, round, with_step, head, past, looped, handled, waited_at}
+use Rattle.flow_staterule.specs.Ways.{ways, branch_ways, never, at_once, either, is_reached, onward, both, follow, node, plain, sequence, with_step, head, past, looped, handled, waited_at}
 use Rattle.flow_staterule.specs.Uses.{left}
-use Rattle.flow_walks.specs.Laws.{HasSimpleParts, HaveSimpleParts, IsInit}
+use Rattle.flow_walks.specs.Laws.{HasSimpleParts, HaveSimpleParts}
 use Rattle.flow_walks.proofs.Flowing.{InitKind, no_init, declares, assigns, modifies, init_kind, waited_reached}
 
 pub record Same (c : closing.Ways) (w : Ways) : Type 0 where

@@ -1,18 +1,16 @@
 -- Walks that go as the ways out of a body say.
-use Rattle.std.proofs.Common.{◌≡◌, ℕ, zero, suc, ◌+◌, ◌-◌, ◌<◌, ◌≤◌, Bool, true, false, ◌||◌, ◌&&◌, ◌⊎◌, inl, inr, List, [], ◌∷◌, ◌++◌, length, map, get_or, refl, sym, ap, ap₂, subst, ◌∙◌, arith, rules}
-use Rattle.std.specs.Prelude.{Contains, nat_lt, nat_eq, is_some}
+use Rattle.std.proofs.Common.{◌≡◌, ℕ, zero, suc, ◌<◌, ◌≤◌, Bool, true, false, ◌||◌, ◌&&◌, List, [], ◌∷◌, ◌++◌, length, map, get_or, refl, sym, ap, subst, ◌∙◌, arith, rules}
+use Rattle.std.specs.Prelude.{Contains, nat_lt, is_some}
 use Rattle.std.proofs.lemmas.Bool.{false≢true}
 use Rattle.std.proofs.lemmas.List.Elements.{Contains-append_left, Contains-append_right}
 use Rattle.std.specs.declared.option.Option.{Option}
 use Rattle.std.specs.declared.option.Option.TheVariants.{None, Some}
-use Rattle.flow_tree.specs.Tree.{ExprTree}
-use Rattle.flow_tree.specs.Body.{Body, End, BlockStmt, IfStmt, IfElseStmt, WhileStmt, ForStmt, LoopStmt, BreakStmt, ContinueStmt, ReturnStmt, ThrowStmt, TryStmt, ChooseStmt, DeclareStmt, AssignStmt, ModifyStmt, CallStmt, WaitStmt, Branches, NoBranches, MoreBranches}
 use Rattle.flow_staterule.specs.declared.ways.Reached.{Reached}
 use Rattle.flow_staterule.specs.declared.ways.Ways.{Ways}
-use Rattle.flow_staterule.specs.Ways.{never, at_once, either, is_reached, onward, both, follow, node, plain, sequence, empty, round, with_step, head, past, looped, handled, waited_at}
+use Rattle.flow_staterule.specs.Ways.{never, at_once, either, onward, both, follow, node, plain, sequence, round, with_step, head, past, looped, handled, waited_at}
 use Rattle.flow_walks.specs.Graph.{Edge, Leads, Walk, stay, go}
 use Rattle.flow_walks.specs.Control.{Around, followed_by, in_loop, in_step, in_try, listed, leads, statement, edge}
-use Rattle.flow_walks.proofs.Notes.{Note, wait_note}
+use Rattle.flow_walks.proofs.Notes.{Note}
 use Rattle.flow_walks.proofs.Leading.{some_same}
 
 -- from this number on

@@ -1,5 +1,5 @@
 -- For each way out of a body there is a walk.
-use Rattle.std.proofs.Common.{◌≡◌, ℕ, zero, suc, ◌+◌, ◌-◌, ◌<◌, ◌≤◌, Bool, true, false, List, [], ◌∷◌, ◌++◌, length, map, get_or, refl, sym, ap, ap₂, subst, ◌∙◌, arith}
+use Rattle.std.proofs.Common.{◌≡◌, ℕ, suc, ◌+◌, ◌-◌, ◌≤◌, true, false, List, [], ◌∷◌, ◌++◌, length, ap, subst, arith}
 use Rattle.std.specs.Prelude.{Contains, nat_lt}
 use Rattle.std.proofs.lemmas.Bool.{false≢true}
 use Rattle.std.proofs.lemmas.List.Elements.{Contains-append_right}
@@ -11,15 +11,14 @@ use Rattle.flow_ast.specs.Slots.{branch_groups}
 use Rattle.flow_ast.specs.Typing.{is_there}
 use Rattle.flow_staterule.specs.declared.scope.Point.{Point}
 use Rattle.flow_staterule.specs.declared.ways.Reached.{Reached}
-use Rattle.flow_staterule.specs.declared.ways.Ways.{Ways}
-use Rattle.flow_staterule.specs.Ways.{ways, branch_ways, never, at_once, either, onward, both, follow, node, plain, sequence, empty, round, with_step, head, past, looped, handled, waited_at}
+use Rattle.flow_staterule.specs.Ways.{ways, branch_ways, at_once, both, follow, node, plain, sequence, empty, round, head, looped, waited_at}
 use Rattle.flow_staterule.specs.Uses.{left}
 use Rattle.flow_walks.specs.Graph.{Edge, Leads}
 use Rattle.flow_walks.specs.Control.{points, branch_points, Around, followed_by, in_loop, in_step, in_try, listed, leads, statement, first, whens, edge, edges, branch_edges}
 use Rattle.flow_walks.specs.Control as control
 use Rattle.flow_walks.specs.Mentions.{Named, local_at, declared, with_into, declaring}
-use Rattle.flow_walks.proofs.Notes.{Note, note, wait_note, behind_all, block_ways, if_ways, if_else_ways, for_round, for_ways, for_point, try_ways, choose_ways, notes, branch_notes, notes_many, branch_notes_many, Tells, tells_first, tells_rest}
-use Rattle.flow_walks.proofs.Walking.{Trail, Goes, trail_stay, trail_step, goes_then, goes_never, goes_waiting, Part, part_left, part_right, to_first, statement_to, statement_first, statement_second, Walked, walked_less, walked_before, walked_then, walked_both, walked_node, walked_plain, walked_wait, walked_looped, walked_step, walked_try, walked_follow, walked_apart, walked_nowhere, walked_choosing, goes_trail, contains_first, contains_listed}
+use Rattle.flow_walks.proofs.Notes.{Note, behind_all, block_ways, if_ways, if_else_ways, for_round, for_ways, try_ways, choose_ways, notes, branch_notes, notes_many, branch_notes_many, Tells, tells_first, tells_rest}
+use Rattle.flow_walks.proofs.Walking.{Goes, trail_stay, trail_step, goes_never, goes_waiting, Part, part_left, part_right, to_first, statement_to, statement_first, statement_second, Walked, walked_less, walked_before, walked_then, walked_both, walked_node, walked_plain, walked_wait, walked_looped, walked_step, walked_try, walked_follow, walked_apart, walked_nowhere, walked_choosing, goes_trail, contains_first, contains_listed}
 
 module _ (tell : ℕ → Note) (g : List (Edge ℕ)) where
   past_leads : (e : Option ExprTree) (m : ℕ) (a : Around) (t f : ℕ) → Part tell g (statement m a (t ∷ control.past e f)) → is_there e ≡ true → Leads g m f
@@ -28,6 +27,81 @@ module _ (tell : ℕ → Note) (g : List (Edge ℕ)) where
 
   empty_walked : (lo m : ℕ) (a : Around) → Walked tell g empty lo a.follows a
   empty_walked lo m a = record { ends = record { fresh = λ e. trail_stay tell g lo a.follows; waited = λ e. absurd (false≢true e) }; breaks = λ t e. goes_never tell g lo a.follows t; continues = λ t e. goes_never tell g lo a.follows t; throws = λ t e. goes_never tell g lo a.follows t }
+
+  -- Walks from a statement, by those from its parts.
+  pub block_walked : (n : ℕ) (c : Body) (m : ℕ) (a : Around) (f : ℕ) → Part tell g (statement m a (first c (suc m) f ∷ [])) → Walked tell g (ways n c) (suc m) (first c (suc m) f) (followed_by a f) → Walked tell g (block_ways n c) m m (followed_by a f)
+  block_walked n c m a f is k =
+      let x = first c (suc m) f in
+      let le : m ≤ m = omega arith in
+      let up : m ≤ suc m = omega arith in
+      walked_both tell g (node at_once) (ways n c) m m (followed_by a f) (walked_node tell g m m (followed_by a f) (x ∷ []) le is)
+      (walked_before tell g (ways n c) m m x (followed_by a f) (trail_step tell g m m x le (statement_first tell g m a x [] is)) (walked_less tell g (ways n c) m (suc m) x (followed_by a f) up k))
+
+  pub if_walked : (n : ℕ) (c : Body) (m : ℕ) (a : Around) (f : ℕ) → Part tell g (statement m a (first c (suc m) f ∷ f ∷ [])) → Walked tell g (ways n c) (suc m) (first c (suc m) f) (followed_by a f) → Walked tell g (if_ways n c) m m (followed_by a f)
+  if_walked n c m a f is k =
+      let x = first c (suc m) f in
+      let le : m ≤ m = omega arith in
+      let up : m ≤ suc m = omega arith in
+      walked_both tell g (plain at_once) (ways n c) m m (followed_by a f) (walked_plain tell g m m (followed_by a f) (x ∷ f ∷ []) le is (statement_second tell g m a x f [] is))
+      (walked_before tell g (ways n c) m m x (followed_by a f) (trail_step tell g m m x le (statement_first tell g m a x (f ∷ []) is)) (walked_less tell g (ways n c) m (suc m) x (followed_by a f) up k))
+
+  pub if_else_walked : (n : ℕ) (c d : Body) (m l : ℕ) (a : Around) (f : ℕ) → m ≤ l → Part tell g (statement m a (first c (suc m) f ∷ first d l f ∷ [])) → Walked tell g (ways n c) (suc m) (first c (suc m) f) (followed_by a f)
+      → Walked tell g (ways (left n c) d) l (first d l f) (followed_by a f) → Walked tell g (if_else_ways n c d) m m (followed_by a f)
+  if_else_walked n c d m l a f ml is k j =
+      let x = first c (suc m) f in
+      let y = first d l f in
+      let le : m ≤ m = omega arith in
+      let up : m ≤ suc m = omega arith in
+      walked_both tell g (node at_once) (both (ways n c) (ways (left n c) d)) m m (followed_by a f) (walked_node tell g m m (followed_by a f) (x ∷ y ∷ []) le is)
+      (walked_both tell g (ways n c) (ways (left n c) d) m m (followed_by a f)
+      (walked_before tell g (ways n c) m m x (followed_by a f) (trail_step tell g m m x le (statement_first tell g m a x (y ∷ []) is)) (walked_less tell g (ways n c) m (suc m) x (followed_by a f) up k))
+      (walked_before tell g (ways (left n c) d) m m y (followed_by a f) (trail_step tell g m m y le (statement_second tell g m a x y [] is)) (walked_less tell g (ways (left n c) d) m l y (followed_by a f) ml j)))
+
+  pub while_walked : (n : ℕ) (c : Body) (m : ℕ) (a : Around) (f : ℕ) → Part tell g (statement m a (first c (suc m) m ∷ f ∷ [])) → Walked tell g (ways n c) (suc m) (first c (suc m) m) (in_loop (followed_by a f) m) → Walked tell g (looped true (ways n c)) m m (followed_by a f)
+  while_walked n c m a f is k =
+      let x = first c (suc m) m in
+      let le : m ≤ m = omega arith in
+      let up : m ≤ suc m = omega arith in
+      walked_looped tell g true (ways n c) m m x (followed_by a f) (x ∷ f ∷ []) le is (statement_first tell g m a x (f ∷ []) is) (λ e. statement_second tell g m a x f [] is)
+      (walked_less tell g (ways n c) m (suc m) x (in_loop (followed_by a f) m) up k)
+
+  pub loop_walked : (n : ℕ) (c : Body) (m : ℕ) (a : Around) (f : ℕ) → Part tell g (statement m a (first c (suc m) m ∷ [])) → Walked tell g (ways n c) (suc m) (first c (suc m) m) (in_loop (followed_by a f) m) → Walked tell g (looped false (ways n c)) m m (followed_by a f)
+  loop_walked n c m a f is k =
+      let x = first c (suc m) m in
+      let le : m ≤ m = omega arith in
+      let up : m ≤ suc m = omega arith in
+      walked_looped tell g false (ways n c) m m x (followed_by a f) (x ∷ []) le is (statement_first tell g m a x [] is) (λ e. absurd (false≢true e))
+      (walked_less tell g (ways n c) m (suc m) x (in_loop (followed_by a f) m) up k)
+
+  -- the rounds of a `for` at y, with its body from l on and its step at z
+  pub round_walked : (n : ℕ) (i t c : Body) (e : Option ExprTree) (y l z : ℕ) (a : Around) (f : ℕ) → y ≤ l → Part tell g (statement y a (first c l z ∷ control.past e f))
+      → Walked tell g (ways (left (left n i) t) c) l (first c l z) (in_loop (followed_by a f) z) → Walked tell g (ways (left n i) t) (suc y) z (in_step a y) → Walked tell g (looped (is_there e) (for_round n i t c)) y y (followed_by a f)
+  round_walked n i t c e y l z a f yl is k j =
+      let x = first c l z in
+      let le : y ≤ y = omega arith in
+      let up : y ≤ suc y = omega arith in
+      walked_looped tell g (is_there e) (for_round n i t c) y y x (followed_by a f) (x ∷ control.past e f) le is (statement_first tell g y a x (control.past e f) is) (past_leads e y a x f is)
+      (walked_step tell g (ways (left (left n i) t) c) (ways (left n i) t) y x z y (followed_by a f)
+      (walked_less tell g (ways (left (left n i) t) c) y l x (in_loop (followed_by a f) z) yl k) (walked_less tell g (ways (left n i) t) y (suc y) z (in_step a y) up j))
+
+  pub try_walked : (n : ℕ) (c d : Body) (m y : ℕ) (a : Around) (f : ℕ) → m ≤ y → Part tell g (statement m a (first c (suc m) f ∷ [])) → Part tell g (leads y (first d (suc y) f ∷ [])) → Walked tell g (ways n c) (suc m) (first c (suc m) f) (in_try (followed_by a f) y)
+      → Walked tell g (ways (left n c) d) (suc y) (first d (suc y) f) (followed_by a f) → Walked tell g (try_ways n c d) m m (followed_by a f)
+  try_walked n c d m y a f my is ih k j =
+      let x = first c (suc m) f in
+      let z = first d (suc y) f in
+      let le : m ≤ m = omega arith in
+      let up : m ≤ suc m = omega arith in
+      let up' : m ≤ suc y = omega (arith, my) in
+      walked_try tell g (ways n c) (ways (left n c) d) m m x y z (followed_by a f) (x ∷ []) le my is (statement_first tell g m a x [] is) (to_first tell g y z [] ih)
+      (walked_less tell g (ways n c) m (suc m) x (in_try (followed_by a f) y) up k) (walked_less tell g (ways (left n c) d) m (suc y) z (followed_by a f) up' j)
+
+  pub choose_walked : (n : ℕ) (bs : Branches) (m : ℕ) (a : Around) (f : ℕ) → Part tell g (statement m a (whens bs (suc m))) → (tell m).counts ≡ nat_lt 0 n
+      → (((y : ℕ) → Contains (whens bs (suc m)) y → Goes tell g (waited_at n) m m y) → Walked tell g (follow (waited_at n) (branch_ways (n - 1) bs)) m m (followed_by a f)) → Walked tell g (choose_ways n bs) m m (followed_by a f)
+  choose_walked n bs m a f is counts k =
+      let le : m ≤ m = omega arith in
+      let tos = whens bs (suc m) in
+      walked_apart tell g (waited_at n) (node at_once) (branch_ways (n - 1) bs) m m (followed_by a f) (walked_choosing tell g n m m (followed_by a f) tos le is counts)
+      (k (λ y c. goes_waiting tell g n m m y le (statement_to tell g m a tos y is c) counts))
 
   -- a statement that leads to what follows it
   next_walked : (n : ℕ) (k : Body) (m : ℕ) (a : Around) (f : ℕ) → (Part tell g (edges k (suc m) a) → Walked tell g (ways n k) (suc m) f a) → Part tell g (statement m a (f ∷ []) ++ edges k (suc m) a) → Walked tell g (sequence (plain at_once) (ways n k)) m m a
@@ -56,9 +130,7 @@ module _ (tell : ℕ → Note) (g : List (Edge ℕ)) where
         let up' : m ≤ m' = omega arith in
         let le : m ≤ m = omega arith in
         walked_then tell g w (ways (left n c) k) m m f a
-        (walked_both tell g (node at_once) (ways n c) m m (followed_by a f) (walked_node tell g m m (followed_by a f) (first c (suc m) f ∷ []) le is)
-        (walked_before tell g (ways n c) m m (first c (suc m) f) (followed_by a f) (trail_step tell g m m (first c (suc m) f) le (statement_first tell g m a (first c (suc m) f) [] is))
-        (walked_less tell g (ways n c) m (suc m) (first c (suc m) f) (followed_by a f) up (walked n c (suc m) vs p (followed_by a f) hc ic))))
+        (block_walked n c m a f is (walked n c (suc m) vs p (followed_by a f) hc ic))
         (walked_less tell g (ways (left n c) k) m m' f a up' (walked (left n c) k m' vs (behind_all vs p w.ends) a hk ik))
     walked n (IfStmt at e c k) m vs p a h i =
         let w = if_ways n c in
@@ -76,9 +148,7 @@ module _ (tell : ℕ → Note) (g : List (Edge ℕ)) where
         let up' : m ≤ m' = omega arith in
         let le : m ≤ m = omega arith in
         walked_then tell g w (ways (left n c) k) m m f a
-        (walked_both tell g (plain at_once) (ways n c) m m (followed_by a f) (walked_plain tell g m m (followed_by a f) (first c (suc m) f ∷ f ∷ []) le is (statement_second tell g m a (first c (suc m) f) f [] is))
-        (walked_before tell g (ways n c) m m (first c (suc m) f) (followed_by a f) (trail_step tell g m m (first c (suc m) f) le (statement_first tell g m a (first c (suc m) f) (f ∷ []) is))
-        (walked_less tell g (ways n c) m (suc m) (first c (suc m) f) (followed_by a f) up (walked n c (suc m) vs p (followed_by a f) hc ic))))
+        (if_walked n c m a f is (walked n c (suc m) vs p (followed_by a f) hc ic))
         (walked_less tell g (ways (left n c) k) m m' f a up' (walked (left n c) k m' vs (behind_all vs p w.ends) a hk ik))
     walked n (IfElseStmt at e c d k) m vs p a h i =
         let w = if_else_ways n c d in
@@ -105,12 +175,7 @@ module _ (tell : ℕ → Note) (g : List (Edge ℕ)) where
         let up'' : m ≤ m'' = omega arith in
         let le : m ≤ m = omega arith in
         walked_then tell g w (ways n' k) m m f a
-        (walked_both tell g (node at_once) (both (ways n c) (ways (left n c) d)) m m (followed_by a f) (walked_node tell g m m (followed_by a f) (first c (suc m) f ∷ first d m'' f ∷ []) le is)
-        (walked_both tell g (ways n c) (ways (left n c) d) m m (followed_by a f)
-        (walked_before tell g (ways n c) m m (first c (suc m) f) (followed_by a f) (trail_step tell g m m (first c (suc m) f) le (statement_first tell g m a (first c (suc m) f) (first d m'' f ∷ []) is))
-        (walked_less tell g (ways n c) m (suc m) (first c (suc m) f) (followed_by a f) up (walked n c (suc m) vs p (followed_by a f) hc ic)))
-        (walked_before tell g (ways (left n c) d) m m (first d m'' f) (followed_by a f) (trail_step tell g m m (first d m'' f) le (statement_second tell g m a (first c (suc m) f) (first d m'' f) [] is))
-        (walked_less tell g (ways (left n c) d) m m'' (first d m'' f) (followed_by a f) up'' (walked (left n c) d m'' vs p (followed_by a f) hd id)))))
+        (if_else_walked n c d m m'' a f up'' is (walked n c (suc m) vs p (followed_by a f) hc ic) (walked (left n c) d m'' vs p (followed_by a f) hd id))
         (walked_less tell g (ways n' k) m m' f a up' (walked n' k m' vs (behind_all vs p w.ends) a hk ik))
     walked n (WhileStmt at e c k) m vs p a h i =
         let w = looped true (ways n c) in
@@ -129,9 +194,7 @@ module _ (tell : ℕ → Note) (g : List (Edge ℕ)) where
         let up' : m ≤ m' = omega arith in
         let le : m ≤ m = omega arith in
         walked_then tell g w (ways (left n c) k) m m f a
-        (walked_looped tell g true (ways n c) m m (first c (suc m) m) (followed_by a f) (first c (suc m) m ∷ f ∷ []) le is (statement_first tell g m a (first c (suc m) m) (f ∷ []) is)
-        (λ x. statement_second tell g m a (first c (suc m) m) f [] is)
-        (walked_less tell g (ways n c) m (suc m) (first c (suc m) m) (in_loop (followed_by a f) m) up (walked n c (suc m) vs q (in_loop (followed_by a f) m) hc ic)))
+        (while_walked n c m a f is (walked n c (suc m) vs q (in_loop (followed_by a f) m) hc ic))
         (walked_less tell g (ways (left n c) k) m m' f a up' (walked (left n c) k m' vs (behind_all vs p w.ends) a hk ik))
     walked n (ForStmt at j e t c k) m vs p a h i =
         let y = m + points j in
@@ -173,10 +236,7 @@ module _ (tell : ℕ → Note) (g : List (Edge ℕ)) where
         (walked_then tell g (ways n j) (looped (is_there e) wr) m (first j m y) y (followed_by a f)
         (walked n j m vs p (followed_by a y) hi (part_left tell g ei es i3))
         (walked_less tell g (looped (is_there e) wr) m y y (followed_by a f) my
-        (walked_looped tell g (is_there e) wr y y x (followed_by a f) (x ∷ control.past e f) le is (statement_first tell g y a x (control.past e f) is) (past_leads e y a x f is)
-        (walked_step tell g (ways nc c) (ways nt t) y x z y (followed_by a f)
-        (walked_less tell g (ways nc c) y m'' x (in_loop (followed_by a f) z) up'' (walked nc c m'' ws q (in_loop (followed_by a f) z) hc (part_right tell g (ei ++ es ++ et) ec i1)))
-        (walked_less tell g (ways nt t) y (suc y) z (in_step a y) up (walked nt t (suc y) ws r (in_step a y) ht (part_right tell g (ei ++ es) et i2)))))))
+        (round_walked n j t c e y m'' z a f up'' is (walked nc c m'' ws q (in_loop (followed_by a f) z) hc (part_right tell g (ei ++ es ++ et) ec i1)) (walked nt t (suc y) ws r (in_step a y) ht (part_right tell g (ei ++ es) et i2)))))
         (walked_less tell g (ways nk k) m m' f a up' (walked nk k m' vs (behind_all vs p w.ends) a hk (part_right tell g (ei ++ es ++ et ++ ec) ek i)))
     walked n (LoopStmt at c k) m vs p a h i =
         let w = looped false (ways n c) in
@@ -195,9 +255,7 @@ module _ (tell : ℕ → Note) (g : List (Edge ℕ)) where
         let up' : m ≤ m' = omega arith in
         let le : m ≤ m = omega arith in
         walked_then tell g w (ways (left n c) k) m m f a
-        (walked_looped tell g false (ways n c) m m (first c (suc m) m) (followed_by a f) (first c (suc m) m ∷ []) le is (statement_first tell g m a (first c (suc m) m) [] is)
-        (λ x. absurd (false≢true x))
-        (walked_less tell g (ways n c) m (suc m) (first c (suc m) m) (in_loop (followed_by a f) m) up (walked n c (suc m) vs q (in_loop (followed_by a f) m) hc ic)))
+        (loop_walked n c m a f is (walked n c (suc m) vs q (in_loop (followed_by a f) m) hc ic))
         (walked_less tell g (ways (left n c) k) m m' f a up' (walked (left n c) k m' vs (behind_all vs p w.ends) a hk ik))
     walked n (BreakStmt at k) m vs p a h i =
         let le : m ≤ m = omega arith in
@@ -238,10 +296,7 @@ module _ (tell : ℕ → Note) (g : List (Edge ℕ)) where
         let my : m ≤ y = omega arith in
         let my' : m ≤ suc y = omega arith in
         walked_then tell g w (ways n' k) m m f a
-        (walked_try tell g (ways n c) (ways (left n c) d) m m (first c (suc m) f) y (first d (suc y) f) (followed_by a f) (first c (suc m) f ∷ []) le my is
-        (statement_first tell g m a (first c (suc m) f) [] is) (to_first tell g y (first d (suc y) f) [] (part_right tell g (es ++ ec) eh i2))
-        (walked_less tell g (ways n c) m (suc m) (first c (suc m) f) (in_try (followed_by a f) y) up (walked n c (suc m) vs p (in_try (followed_by a f) y) hc (part_right tell g es ec i3)))
-        (walked_less tell g (ways (left n c) d) m (suc y) (first d (suc y) f) (followed_by a f) my' (walked (left n c) d (suc y) us t (followed_by a f) hd (part_right tell g (es ++ ec ++ eh) ed i1))))
+        (try_walked n c d m y a f my is (part_right tell g (es ++ ec) eh i2) (walked n c (suc m) vs p (in_try (followed_by a f) y) hc (part_right tell g es ec i3)) (walked (left n c) d (suc y) us t (followed_by a f) hd (part_right tell g (es ++ ec ++ eh) ed i1)))
         (walked_less tell g (ways n' k) m m' f a up' (walked n' k m' vs (behind_all vs p w.ends) a hk (part_right tell g (es ++ ec ++ eh ++ ed) ek i)))
     walked n (ChooseStmt at bs k) m vs p a h i =
         let w = choose_ways n bs in
@@ -262,9 +317,7 @@ module _ (tell : ℕ → Note) (g : List (Edge ℕ)) where
         let up : m ≤ suc m = omega arith in
         let up' : m ≤ m' = omega arith in
         walked_then tell g w (ways n' k) m m f a
-        (walked_apart tell g (waited_at n) (node at_once) (branch_ways (n - 1) bs) m m (followed_by a f)
-        (walked_choosing tell g n m m (followed_by a f) tos le is counts)
-        (branch_walked (n - 1) bs (suc m) vs q (followed_by a f) (waited_at n) m m up hc ic (λ y c. goes_waiting tell g n m m y le (statement_to tell g m a tos y is c) counts)))
+        (choose_walked n bs m a f is counts (branch_walked (n - 1) bs (suc m) vs q (followed_by a f) (waited_at n) m m up hc ic))
         (walked_less tell g (ways n' k) m m' f a up' (walked n' k m' vs (behind_all vs p w.ends) a hk (part_right tell g (es ++ ec) ek i)))
     walked n (DeclareStmt at j e k) m vs p a h i = next_walked n k m a _ (walked n k (suc m) (declared m j ∷ vs) p a h.1) i
     walked n (AssignStmt at xs e k) m vs p a h i = next_walked n k m a _ (walked n k (suc m) vs p a h.1) i

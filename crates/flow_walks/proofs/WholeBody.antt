@@ -1,21 +1,17 @@
 -- What is known at each point of a whole body.
-use Rattle.std.proofs.Common.{◌≡◌, ℕ, zero, suc, ◌+◌, ◌-◌, ◌<◌, ◌≤◌, Bool, true, false, ◌⊎◌, inl, inr, List, [], ◌∷◌, ◌++◌, length, get_or, refl, sym, ap, ap₂, subst, ◌∙◌, arith, append_assoc}
+use Rattle.std.proofs.Common.{◌≡◌, ℕ, zero, suc, ◌+◌, ◌≤◌, ◌⊎◌, inl, inr, List, [], ◌∷◌, ◌++◌, length, get_or, refl, sym, ap, subst, ◌∙◌, arith}
 use Rattle.std.specs.Prelude.{Contains}
-use Rattle.std.proofs.lemmas.Bool.{false≢true}
-use Rattle.std.proofs.lemmas.List.Elements.{All-contains, Contains-append_left, Contains-append_right}
-use Rattle.std.specs.declared.option.Option.{Option}
-use Rattle.std.specs.declared.option.Option.TheVariants.{None, Some}
+use Rattle.std.proofs.lemmas.List.Elements.{Contains-append_left, Contains-append_right}
+use Rattle.std.specs.declared.option.Option.TheVariants.{None}
 use Rattle.flow_tree.specs.Body.{Body}
-use Rattle.flow_staterule.specs.declared.scope.Point.{Point}
 use Rattle.flow_staterule.specs.Ways.{ways, at_once}
 use Rattle.flow_staterule.specs.Uses.{begins}
-use Rattle.flow_walks.specs.Graph.{Edge, Walk, stay, go}
 use Rattle.flow_walks.specs.Control.{points, Around, leads, first, edges, control, closing}
-use Rattle.flow_walks.specs.Mentions.{Declared, Named}
+use Rattle.flow_walks.specs.Mentions.{Named}
 use Rattle.flow_walks.specs.Laws.{HasSimpleParts}
 use Rattle.flow_walks.proofs.Notes.{Note, note, behind_all, notes, notes_many, Tells, tells_first, tells_rest, tells_itself}
-use Rattle.flow_walks.proofs.Leading.{Has, Into, into_self, Exits, none_some}
-use Rattle.flow_walks.proofs.Flowing.{Flow, Below, FlowsTo, Kept, leads_flow, to_one, then_flow, into_first}
+use Rattle.flow_walks.proofs.Leading.{Into, into_self, Exits, none_some}
+use Rattle.flow_walks.proofs.Flowing.{Flow, Below, Kept, leads_flow, to_one, then_flow, into_first}
 use Rattle.flow_walks.proofs.AlongEdges.{flows}
 use Rattle.flow_walks.proofs.Walking.{Part, Walked}
 use Rattle.flow_walks.proofs.WaysWalked.{walked}

@@ -1,5 +1,5 @@
 -- Graphs: points, and edges that lead from point to point; walks along the edges; sets of points that are grown along them.
-use Rattle.std.specs.Prelude.{List, [], ◌∷◌, Contains}
+use Rattle.std.specs.Prelude.{List, [], ◌∷◌, Contains, ◌↔◌}
 
 pub record Edge (P : Type 0) : Type 0 where
   pub from : P
@@ -29,3 +29,8 @@ IsClosed {P} edges reached = (a b : P) → Contains reached a → Leads edges a 
 -- some walk leads to a point from one of these
 abbrev pub ReachedFrom : {P : Type 0} → List (Edge P) → List P → P → Type 0
 ReachedFrom {P} edges begins b = (a : P) × Contains begins a × Reaches edges a b
+
+-- a set that is grown until nothing is added holds exactly the points to which some walk leads
+abbrev pub IsExact : {P : Type 0} → List (Edge P) → (begins reached : List P) → Type 0
+IsExact {P} edges begins reached =
+    Grown edges begins reached → IsClosed edges reached → (b : P) → Contains reached b ↔ ReachedFrom edges begins b

@@ -1,12 +1,11 @@
 -- What the rules on bodies say by walks.
-use Rattle.std.specs.Prelude.{◌≡◌, ℕ, ◌<◌, ◌↔◌, IsTrue, List, [], ◌∷◌, Contains, slice_get}
+use Rattle.std.specs.Prelude.{◌≡◌, ℕ, ◌<◌, ◌↔◌, IsTrue, List, ◌∷◌, Contains, slice_get}
 use Rattle.std.specs.declared.option.Option.{Option}
 use Rattle.std.specs.declared.option.Option.TheVariants.{None, Some}
 use Rattle.flow_tree.specs.Body.{Body, End, BlockStmt, IfStmt, IfElseStmt, WhileStmt, ForStmt, LoopStmt, BreakStmt, ContinueStmt, ReturnStmt, ThrowStmt, TryStmt, ChooseStmt, DeclareStmt, AssignStmt, ModifyStmt, CallStmt, WaitStmt, Branches, NoBranches, MoreBranches}
-use Rattle.flow_tree.specs.Decls.{ParamTree, DeclTree, StructDecl, FunctionDecl, ActorDecl}
+use Rattle.flow_tree.specs.Decls.{ParamTree}
 use Rattle.flow_rules.specs.Closing.{ways}
 use Rattle.flow_staterule.specs.declared.rule.Lost.{Lost}
-use Rattle.flow_staterule.specs.StateRule.{first_lost}
 use Rattle.flow_walks.specs.Graph.{Walk, Reaches}
 use Rattle.flow_walks.specs.Control.{control, closing}
 use Rattle.flow_walks.specs.Mentions.{Mention, Wait, routine_mentions, waits}

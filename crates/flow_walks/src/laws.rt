@@ -1,14 +1,14 @@
 // Laws of walks.
 
-ghost use Rattle.std.specs.Prelude.{List, Contains, ◌↔◌};
+ghost use Rattle.std.specs.Prelude.{List};
 ghost use Rattle.flow_tree.specs.Body.{Body};
 ghost use Rattle.flow_walks.specs.Laws.{EndsByWalk};
-ghost use Rattle.flow_walks.specs.Graph.{Edge, Grown, IsClosed, ReachedFrom};
+ghost use Rattle.flow_walks.specs.Graph.{Edge, IsExact};
 
 /// A set of points that is grown along edges from some points, until nothing is added, holds exactly the points to which
 /// some walk leads from these.
 pub fn reached_exactly<P>()
-    ensures { (edges : List (Edge P)) (begins reached : List P) → Grown edges begins reached → IsClosed edges reached → (b : P) → Contains reached b ↔ ReachedFrom edges begins b }
+    ensures { (edges : List (Edge P)) (begins reached : List P) → IsExact edges begins reached }
 {}
 
 /// A body whose parts of a `for` are as the grammar has them is left by its end, as the rule on closing braces tests it by
