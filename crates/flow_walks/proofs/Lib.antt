@@ -8,7 +8,4 @@ mod WaysWalked
 mod SameEnds
 mod WholeBody
 mod Ending
-mod Counting
-mod StaleWalks
-mod Backing
 mod Examples

@@ -1,14 +1,9 @@
 -- What the rules on bodies say by walks.
-use Rattle.std.specs.Prelude.{◌≡◌, ℕ, ◌<◌, ◌↔◌, IsTrue, List, ◌∷◌, Contains, slice_get}
-use Rattle.std.specs.declared.option.Option.{Option}
-use Rattle.std.specs.declared.option.Option.TheVariants.{None, Some}
+use Rattle.std.specs.Prelude.{◌↔◌, IsTrue}
 use Rattle.flow_tree.specs.Body.{Body, End, BlockStmt, IfStmt, IfElseStmt, WhileStmt, ForStmt, LoopStmt, BreakStmt, ContinueStmt, ReturnStmt, ThrowStmt, TryStmt, ChooseStmt, DeclareStmt, AssignStmt, ModifyStmt, CallStmt, WaitStmt, Branches, NoBranches, MoreBranches}
-use Rattle.flow_tree.specs.Decls.{ParamTree}
 use Rattle.flow_rules.specs.Closing.{ways}
-use Rattle.flow_staterule.specs.declared.rule.Lost.{Lost}
-use Rattle.flow_walks.specs.Graph.{Walk, Reaches}
+use Rattle.flow_walks.specs.Graph.{Reaches}
 use Rattle.flow_walks.specs.Control.{control, closing}
-use Rattle.flow_walks.specs.Mentions.{Mention, Wait, routine_mentions, waits}
 
 -- The init of a `for` declares or changes a variable, and its step changes one, where they are there: so the grammar has them.
 abbrev pub IsStep : Body → Type 0
@@ -53,28 +48,3 @@ ComesToEnd b = Reaches (control b) 0 (closing b)
 -- a body is left by its end where the rule that tests its structure says so
 abbrev pub EndsByWalk : Body → Type 0
 EndsByWalk b = HasSimpleParts b → IsTrue (ways b).end ↔ ComesToEnd b
-
--- A use is bad by a wait: a walk leads from its declaration to it, passes the wait, and doesn't pass the declaration again.
--- A walk passes a wait where it leaves it, and the wait that declares a local is passed before.
-abbrev pub IsBad : Body → Mention → Wait → Type 0
-IsBad b u w =
-    (left : List ℕ) × Walk (control b) u.declared.point (u.declared.point ∷ left) u.point × Contains left w.point
-    × (Contains left u.declared.point → ⊥)
-
--- the first bad use in the order of the text, and the first wait in the order of the text by which it is bad
-pub record IsFirstBad (ps : List ParamTree) (b : Body) (l : Lost) : Type 0 where
-  pub use_number : ℕ
-  pub wait_number : ℕ
-  pub mention : Mention
-  pub wait : Wait
-  pub is_use : slice_get (routine_mentions ps b) use_number ≡ Some mention
-  pub is_wait : slice_get (waits b 1) wait_number ≡ Some wait
-  pub told : l ≡ record { at = mention.at; declared = mention.declared.at; wait = wait.at }
-  pub bad : IsBad b mention wait
-  pub none_before : (i : ℕ) (u : Mention) (w : Wait) → i < use_number → slice_get (routine_mentions ps b) i ≡ Some u → Contains (waits b 1) w → IsBad b u w → ⊥
-  pub no_wait_before : (i : ℕ) (w : Wait) → i < wait_number → slice_get (waits b 1) i ≡ Some w → IsBad b mention w → ⊥
-
--- what is lost in a function or actor
-abbrev pub LostIn : List ParamTree → Body → Option Lost → Type 0
-LostIn ps b None = (u : Mention) (w : Wait) → Contains (routine_mentions ps b) u → Contains (waits b 1) w → IsBad b u w → ⊥
-LostIn ps b (Some l) = IsFirstBad ps b l
