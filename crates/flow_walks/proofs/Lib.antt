@@ -1,0 +1,11 @@
+mod Reaching
+mod Notes
+mod Leading
+mod Flowing
+mod AlongEdges
+mod Walking
+mod WaysWalked
+mod SameEnds
+mod WholeBody
+mod Ending
+mod Examples

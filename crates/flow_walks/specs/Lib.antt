@@ -1,0 +1,4 @@
+pub mod Graph
+pub mod Control
+pub mod Mentions
+pub mod Laws

@@ -1,0 +1,18 @@
+// Laws of walks.
+
+ghost use Rattle.std.specs.Prelude.{List};
+ghost use Rattle.flow_tree.specs.Body.{Body};
+ghost use Rattle.flow_walks.specs.Laws.{EndsByWalk};
+ghost use Rattle.flow_walks.specs.Graph.{Edge, IsExact};
+
+/// A set of points that is grown along edges from some points, until nothing is added, holds exactly the points to which
+/// some walk leads from these.
+pub fn reached_exactly<P>()
+    ensures { (edges : List (Edge P)) (begins reached : List P) → IsExact edges begins reached }
+{}
+
+/// A body whose parts of a `for` are as the grammar has them is left by its end, as the rule on closing braces tests it by
+/// structure, exactly where some walk of its control graph leads from its opening brace to its closing one.
+pub fn ends_by_walk()
+    ensures { (b : Body) → EndsByWalk b }
+{}
