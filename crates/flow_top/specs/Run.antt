@@ -46,7 +46,7 @@ use Rattle.flow_top.specs.declared.outcome.Told as told
 use Rattle.flow_top.specs.declared.outcome.Told.TheVariants.{Usage, ReadFault, OutOfMemory, Refused, NoWorld, Passed, Formatted, Printed}
 use Rattle.flow_top.specs.Words.{AreFormat, AreCheck, AreRun, JudgeProgram, NameProgram}
 use Rattle.flow_top.specs.Form.{PrintsOnly}
-use Rattle.flow_top.specs.Refusal.{refusal_text, refusal_status}
+use Rattle.flow_refusal.specs.Refusal.{refusal_text, refusal_status, world_refusal}
 
 -- the one actor
 abbrev pub main_actor : ActorId
@@ -61,10 +61,6 @@ trace_of texts =
 abbrev pub bytes_of : List Line → List ℕ
 bytes_of [] = []
 bytes_of (line ∷ lines) = Bytes line ++ bytes_of lines
-
--- the line of a refusal of a world
-abbrev pub world_refusal : WorldFault → List ℕ
-world_refusal fault = codes "refused " ++ (fault_text fault ++ codes "\n")
 
 -- what is written for an outcome that is no run
 abbrev pub text_of : told.Told → List ℕ

@@ -8,7 +8,6 @@ mod decide;
 mod form;
 mod outcome;
 mod real;
-mod refusal;
 mod report;
 #[cfg(test)]
 mod samples;
@@ -20,6 +19,8 @@ mod traces;
 
 use crate::real::{RealFiles, StandardOutput};
 use flow_base::sink::Sink;
+use flow_refusal::note;
+use std::io::Write;
 use std::process::ExitCode;
 use std::{env, io};
 
@@ -32,6 +33,29 @@ fn words(rt: &HostRuntime) -> io::Result<Vec<String>> {
     Ok(words)
 }
 
+// Writes the note on what was answered to standard error. Where that fails, nothing is said: the answer stands.
+fn write_note(rt: &HostRuntime, files: &RealFiles, out: &StandardOutput) {
+    let told = note(
+        rt.alloc(),
+        out.begin(),
+        files.asked(0),
+        files.text(0),
+        files.asked(1),
+        files.text(1),
+    );
+    if let Ok(text) = told {
+        let _ = rt.stderr().write_all(&text);
+    }
+}
+
+// Whether a status says that a text is refused, the words are no command, or a file can't be read.
+fn is_noted(status: u8) -> bool {
+    match status {
+        1 | 2 | 3 | 5 | 10 => true,
+        _ => false,
+    }
+}
+
 fn main(rt: HostRuntime) -> ExitCode {
     match words(&rt) {
         Ok(words) => {
@@ -40,6 +64,9 @@ fn main(rt: HostRuntime) -> ExitCode {
             let status = top::flow_main(rt.alloc(), &words, &mut files, &mut out);
             // What was gathered before a fault goes out too; the status tells of the fault already.
             let _ = out.flush();
+            if is_noted(status) {
+                write_note(&rt, &files, &out);
+            }
             ExitCode::from(status)
         }
         Err(error) => {

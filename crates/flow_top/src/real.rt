@@ -1,5 +1,6 @@
 // The real files and standard output: they count their failures, keep the names asked for, and tell
-// nothing of content.
+// nothing of content. For the note on a refusal the files keep what was read, and standard output how
+// its text begins.
 
 ghost use Rattle.std.specs.Prelude.{◌≡◌, length};
 ghost use Rattle.flow_base.specs.Faults.{HasCause};
@@ -19,6 +20,7 @@ pub struct RealFiles<'a> {
     opened: Vec<File>,
     names: Vec<String>,
     asked: Vec<String>,
+    texts: Vec<Vec<u8>>,
     faults: u64,
     ghost named: { length names.items ≡ length opened.items },
 }
@@ -31,7 +33,35 @@ impl<'a> RealFiles<'a> {
             opened: Vec::new(rt.alloc()),
             names: Vec::new(rt.alloc()),
             asked: Vec::new(rt.alloc()),
+            texts: Vec::new(rt.alloc()),
             faults: 0,
+        }
+    }
+
+    /// The name that was asked for after so many others, or an empty one.
+    pub fn asked(&self, count: usize) -> &str {
+        match self.asked.get(count) {
+            Some(name) => name.as_str(),
+            None => "",
+        }
+    }
+
+    /// What was read of the file that was opened after so many others, as far as there was memory to keep it.
+    pub fn text(&self, count: usize) -> &[u8] {
+        match self.texts.get(count) {
+            Some(text) => text.as_slice(),
+            None => &[],
+        }
+    }
+
+    // Keeps bytes that were read.
+    fn keep(&mut self, file: FileNo, bytes: &[u8])
+        ensures names { self.new.names ≡ self.old.names }
+        ensures asked { self.new.asked ≡ self.old.asked }
+        ensures faults { self.new.faults ≡ self.old.faults }
+    {
+        if let Some(text) = self.texts.get_mut(file.0 as usize) {
+            let _ = text.extend_from_slice(bytes);
         }
     }
 }
@@ -62,6 +92,7 @@ impl<'a> Files for RealFiles<'a> {
         if self.asked.reserve(1).is_err()
             || self.names.reserve(1).is_err()
             || self.opened.reserve(1).is_err()
+            || self.texts.reserve(1).is_err()
         {
             return Err(OutFault::OutOfMemory);
         }
@@ -75,12 +106,16 @@ impl<'a> Files for RealFiles<'a> {
         };
         self.opened.push_reserved(file);
         self.names.push_reserved(own);
+        self.texts.push_reserved(Vec::new(alloc));
         Ok(FileNo(number))
     }
 
     fn read(&mut self, file: FileNo, buf: &mut [u8]) -> Result<usize, OutFault> {
         match self.opened[file.0 as usize].read(buf) {
-            Ok(count) => Ok(count),
+            Ok(count) => {
+                self.keep(file, &buf[..count]);
+                Ok(count)
+            }
             Err(_) => {
                 self.faults = self.faults.saturating_add(1);
                 Err(OutFault::Failed)
@@ -96,11 +131,15 @@ impl<'a> Files for RealFiles<'a> {
 /// How many bytes standard output gathers before they are handed on.
 const ROOM: usize = 65_536;
 
+/// How many bytes at the begin of a text are kept: more than a refusal has.
+const BEGIN: usize = 256;
+
 /// Standard output. It gathers bytes, and hands them on when there are many, and at a flush.
 #[derive(Drop)]
 pub struct StandardOutput<'a> {
     rt: &'a HostRuntime,
     gathered: Vec<u8>,
+    begin: Vec<u8>,
     faults: u64,
 }
 
@@ -110,7 +149,22 @@ impl<'a> StandardOutput<'a> {
         StandardOutput {
             rt,
             gathered: Vec::new(rt.alloc()),
+            begin: Vec::new(rt.alloc()),
             faults: 0,
+        }
+    }
+
+    /// How the text that was written begins.
+    pub fn begin(&self) -> &[u8] {
+        &self.begin
+    }
+
+    // Keeps a piece, where it belongs to the begin of the text.
+    fn keep(&mut self, piece: &[u8])
+        ensures { self.new.faults ≡ self.old.faults }
+    {
+        if self.begin.len() < BEGIN && piece.len() < BEGIN {
+            let _ = self.begin.extend_from_slice(piece);
         }
     }
 
@@ -136,6 +190,7 @@ impl<'a> Sink for StandardOutput<'a> {
     ghost seen = { λ s. record { written = None; handed = None; faults = s.faults } };
 
     fn write(&mut self, piece: &[u8]) -> Result<usize, OutFault> {
+        self.keep(piece);
         if self.gathered.len() >= ROOM {
             self.hand_on()?;
         }

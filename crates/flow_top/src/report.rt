@@ -5,13 +5,12 @@ ghost use Rattle.std.specs.Io.KnownBytes.{Appends};
 ghost use Rattle.flow_base.specs.Bytes.{AppendsPart};
 ghost use Rattle.flow_base.specs.Faults.{HasCause};
 ghost use Rattle.flow_trace.specs.Bytes.{Bytes};
-ghost use Rattle.flow_top.specs.Refusal.{refusal_text};
+ghost use Rattle.flow_refusal.specs.Refusal.{refusal_text, world_refusal};
 ghost use Rattle.flow_worldfile.specs.Faults.{fault_text};
 ghost use Rattle.flow_worldfile.specs.Worlds.{IsInRange, seen};
-ghost use Rattle.flow_top.specs.Run.{trace_of, bytes_of, text_of, status_of, world_status, ending_status, fault_status_of, world_refusal, run_fault_status, InRange, ReportedTold, ReportedRun, Reported};
+ghost use Rattle.flow_top.specs.Run.{trace_of, bytes_of, text_of, status_of, world_status, ending_status, fault_status_of, run_fault_status, InRange, ReportedTold, ReportedRun, Reported};
 
 use crate::outcome::{Outcome, Told};
-use crate::refusal::{refusal_line, refusal_status};
 use flow_base::fault::OutFault;
 use flow_base::ids::{ActorId, ProcId};
 use flow_base::memory::NoMemory;
@@ -21,6 +20,7 @@ use flow_base::sink::Sink;
 use flow_base::text::Text;
 use flow_class::program::ClassProgram;
 use flow_machine::host::RunFault;
+use flow_refusal::{refusal_line, refusal_status, world_line};
 use flow_run::{Ending, write_trace};
 use flow_show::show::show_lines;
 use flow_trace::buffer::{LineBuf, print_line};
@@ -96,10 +96,10 @@ fn put_world_refusal<S: Sink>(alloc: Global, fault: WorldFault, out: &mut S) -> 
     ensures part { AppendsPart (S.seen out.old).written (S.seen out.new).written (world_refusal fault) }
     ensures cause { HasCause (S.seen out.old).faults (S.seen out.new).faults result }
 {
-    let Ok(line) = format!(in alloc; "refused {fault}\n") else {
+    let Ok(line) = world_line(alloc, fault) else {
         return Err(OutFault::OutOfMemory);
     };
-    write_whole(out, line.as_bytes())
+    write_whole(out, &line)
 }
 
 // Writes the text of an outcome that is no run.

@@ -345,16 +345,115 @@ ACTOR Future<Void> main(int p) {
 }
 ";
 
-/// The programs of examples/, which bench/examples.sh compares with these.
-pub const EXAMPLES: [&[u8]; 23] = [
+pub const CHOOSE_WITH_TIMEOUT: &[u8] = b"\
+ACTOR Future<int> slow(int n) {
+    wait(delay(50));
+    return n;
+}
+ACTOR Future<int> atMost(Future<int> f, int ticks) {
+    choose {
+        when (int x = wait(f)) {
+            return x;
+        }
+        when (wait(delay(ticks))) {
+            throw timed_out();
+        }
+    }
+}
+ACTOR Future<Void> main(int p) {
+    state Future<int> f = slow(7);
+    try {
+        int x = wait(atMost(f, 20));
+        trace(x);
+    } catch (Error& e) {
+        trace(e.code());
+    }
+    int y = wait(atMost(f, 100));
+    trace(y);
+    return Void();
+}
+";
+
+pub const HANDLER_SEES_CANCELLATION: &[u8] = b"\
+ACTOR Future<Void> holdsLock(Promise<Void> released) {
+    try {
+        wait(Never());
+    } catch (Error& e) {
+        trace(e.code());
+        released.send(Void());
+        throw;
+    }
+    return Void();
+}
+ACTOR Future<Void> main(int p) {
+    state Promise<Void> released;
+    state Future<Void> holder = holdsLock(released);
+    wait(delay(5));
+    holder = Never();
+    trace(released.isSet());
+    return Void();
+}
+";
+
+pub const PROMISE_AND_FUTURE: &[u8] = b"\
+ACTOR Future<Void> waiter(Future<int> f, string name) {
+    state string own = name;
+    int x = wait(f);
+    trace(own);
+    trace(x);
+    return Void();
+}
+ACTOR Future<Void> main(int p) {
+    state Promise<int> q;
+    state Future<Void> a = waiter(q.getFuture(), \"first\");
+    state Future<Void> b = waiter(q.getFuture(), \"second\");
+    trace(q.isSet());
+    q.send(42);
+    trace(a.isReady() && b.isReady());
+    return Void();
+}
+";
+
+pub const RETRIES_UNTIL_ANSWERED: &[u8] = b"\
+ACTOR Future<string> ask(int server, FutureStream<Packet> answers) {
+    loop {
+        sendTo(server, 7, \"ping\");
+        choose {
+            when (Packet k = waitNext(answers)) {
+                return k.text;
+            }
+            when (wait(delay(10))) {
+                trace(\"again\");
+            }
+        }
+    }
+}
+ACTOR Future<Void> main(int p) {
+    state FutureStream<Packet> in = listen(7);
+    if (p == 1) {
+        loop {
+            Packet k = waitNext(in);
+            sendTo(k.from, 7, \"pong\");
+        }
+    }
+    string answer = wait(ask(1, in));
+    trace(answer);
+    return Void();
+}
+";
+
+/// The programs of examples/, which .ci/examples compares with these.
+pub const EXAMPLES: [&[u8]; 27] = [
     CALLS_A_FUNCTION,
     CANCEL_BY_NAME,
     CATCH_FOREVER_IS_SPENT,
     CHOOSE_TWICE_ON_ONE_FUTURE,
+    CHOOSE_WITH_TIMEOUT,
     DISK_AFTER_POWER_LOSS,
     DISK_REQUEST_FAILS,
     DRAWN_WORDS,
     DROPPED_WHILE_RUNNING,
+    HANDLER_SEES_CANCELLATION,
     HELLO,
     LOCAL_ACROSS_LOOP,
     LOCAL_ACROSS_WAIT,
@@ -362,8 +461,10 @@ pub const EXAMPLES: [&[u8]; 23] = [
     OVERFLOW_CAUGHT,
     PACKET_DISCARDED,
     PACKETS_OUT_OF_ORDER,
+    PROMISE_AND_FUTURE,
     PROMISE_BROKEN_AT_WAIT,
     REQUEST_SERVER,
+    RETRIES_UNTIL_ANSWERED,
     SECOND_OPERAND_NEVER_STARTS,
     SECOND_WAITER_ON_A_STREAM,
     STATE_IN_LOOP,

@@ -2,9 +2,10 @@
 
 use crate::samples::{
     CALLS_A_FUNCTION, CANCEL_BY_NAME, CATCH_FOREVER_IS_SPENT, CHOOSE_TWICE_ON_ONE_FUTURE,
-    DISK_AFTER_POWER_LOSS, DISK_REQUEST_FAILS, DRAWN_WORDS, DROPPED_WHILE_RUNNING, HELLO,
-    LOST_PING_TIMES_OUT, OVERFLOW_CAUGHT, PACKET_DISCARDED, PACKETS_OUT_OF_ORDER,
-    PROMISE_BROKEN_AT_WAIT, REQUEST_SERVER, SECOND_OPERAND_NEVER_STARTS, SECOND_WAITER_ON_A_STREAM,
+    CHOOSE_WITH_TIMEOUT, DISK_AFTER_POWER_LOSS, DISK_REQUEST_FAILS, DRAWN_WORDS,
+    DROPPED_WHILE_RUNNING, HANDLER_SEES_CANCELLATION, HELLO, LOST_PING_TIMES_OUT, OVERFLOW_CAUGHT,
+    PACKET_DISCARDED, PACKETS_OUT_OF_ORDER, PROMISE_AND_FUTURE, PROMISE_BROKEN_AT_WAIT,
+    REQUEST_SERVER, RETRIES_UNTIL_ANSWERED, SECOND_OPERAND_NEVER_STARTS, SECOND_WAITER_ON_A_STREAM,
     STATE_IN_LOOP, STREAM_WITH_END, WAITS_FOR_A_DOUBLED_VALUE,
 };
 
@@ -421,8 +422,119 @@ done 1
 end idle
 ";
 
+const CHOOSE_WITH_TIMEOUT_TRACE: &[u8] = b"\
+trace 1
+event 1 0 boot 0
+start 1 main
+start 2 slow
+wait 2 1
+start 3 atMost
+wait 3 1
+wait 1 1
+event 2 20 timer 0 5
+take 3 1 1
+throw 3 1004
+fail 3 1004
+take 1 1 0
+throw 1 1004
+catch 1 1004
+print 1 1004
+start 4 atMost
+wait 4 1
+wait 1 2
+event 3 50 timer 0 3
+take 2 1 0
+done 2
+take 4 1 0
+done 4
+take 1 2 0
+print 1 7
+done 1
+event 4 120 timer 0 7
+end idle
+";
+
+const HANDLER_SEES_CANCELLATION_TRACE: &[u8] = b"\
+trace 1
+event 1 0 boot 0
+start 1 main
+start 2 holdsLock
+wait 2 1
+wait 1 1
+event 2 5 timer 0 5
+take 1 1 0
+cancel 2
+throw 2 1101
+catch 2 1101
+print 2 1101
+throw 2 1101
+fail 2 1101
+print 1 true
+done 1
+end idle
+";
+
+const PROMISE_AND_FUTURE_TRACE: &[u8] = b"\
+trace 1
+event 1 0 boot 0
+start 1 main
+start 2 waiter
+wait 2 1
+start 3 waiter
+wait 3 1
+print 1 false
+take 2 1 0
+print 2 \"first\"
+print 2 42
+done 2
+take 3 1 0
+print 3 \"second\"
+print 3 42
+done 3
+print 1 true
+done 1
+end idle
+";
+
+const RETRIES_UNTIL_ANSWERED_WORLD: &[u8] = b"\
+processes 2
+loss 300
+latency 1 3
+";
+
+const RETRIES_UNTIL_ANSWERED_TRACE: &[u8] = b"\
+trace 1
+event 1 0 boot 0
+start 1 main
+start 2 ask
+send 1 1 7 \"ping\"
+lost 1 draw
+wait 2 1
+wait 1 2
+event 2 0 boot 1
+start 1 main
+wait 1 1
+event 3 10 timer 0 4
+take 2 1 1
+print 2 \"again\"
+send 2 1 7 \"ping\"
+wait 2 1
+event 4 11 packet 1 2
+take 1 1 0
+send 3 0 7 \"pong\"
+wait 1 1
+event 5 13 packet 0 3
+take 2 1 0
+done 2
+take 1 2 0
+print 1 \"pong\"
+done 1
+event 6 20 timer 0 5
+end idle
+";
+
 /// Programs, each with its world, its trace without frames, and its status.
-pub const RUNS: [(&[u8], &[u8], &[u8], u8); 20] = [
+pub const RUNS: [(&[u8], &[u8], &[u8], u8); 24] = [
     (CALLS_A_FUNCTION, b"", CALLS_A_FUNCTION_TRACE, 0),
     (CANCEL_BY_NAME, b"", CANCEL_BY_NAME_TRACE, 0),
     (
@@ -451,6 +563,20 @@ pub const RUNS: [(&[u8], &[u8], &[u8], u8); 20] = [
     ),
     (DRAWN_WORDS, DRAWN_WORDS_WORLD, DRAWN_WORDS_TRACE, 0),
     (DROPPED_WHILE_RUNNING, b"", DROPPED_WHILE_RUNNING_TRACE, 0),
+    (CHOOSE_WITH_TIMEOUT, b"", CHOOSE_WITH_TIMEOUT_TRACE, 0),
+    (
+        HANDLER_SEES_CANCELLATION,
+        b"",
+        HANDLER_SEES_CANCELLATION_TRACE,
+        0,
+    ),
+    (PROMISE_AND_FUTURE, b"", PROMISE_AND_FUTURE_TRACE, 0),
+    (
+        RETRIES_UNTIL_ANSWERED,
+        RETRIES_UNTIL_ANSWERED_WORLD,
+        RETRIES_UNTIL_ANSWERED_TRACE,
+        0,
+    ),
     (HELLO, b"", HELLO_TRACE, 0),
     (
         LOST_PING_TIMES_OUT,

@@ -1,16 +1,18 @@
-// The line that tells why a program text is refused.
+// The line that tells why a program text or a world file is refused.
 
 ghost use Rattle.std.specs.Prelude.{◌≡◌, ◌++◌, codes, decimal, IfOk};
 ghost use Rattle.flow_tree.specs.declared.fault.SourceFault.TheVariants.{Refused, AcrossWait};
-ghost use Rattle.flow_top.specs.Refusal.{place_text, rule_text, where_text, refusal_text, refusal_status};
+ghost use Rattle.flow_refusal.specs.Refusal.{place_text, rule_text, where_text, refusal_text, refusal_status, world_refusal};
 
 use flow_base::memory::NoMemory;
 use flow_base::place::Place;
 use flow_tree::fault::{Rule, SourceFault};
+use flow_worldfile::WorldFault;
 use itoa::Buffer;
 use std::alloc::Global;
 
-fn put_place(line: &mut Vec<u8>, at: Place) -> Result<(), NoMemory>
+/// Adds a place to a line, as line and column from 1.
+pub fn put_place(line: &mut Vec<u8>, at: Place) -> Result<(), NoMemory>
     ensures { IfOk result (λ _. line.new.items ≡ line.old.items ++ place_text at) }
 {
     line.extend_from_slice(Buffer::new().format(at.line).as_bytes())?;
@@ -28,7 +30,8 @@ fn put_number(line: &mut Vec<u8>, letter: &[u8], number: u8) -> Result<(), NoMem
     Ok(())
 }
 
-fn put_rule(line: &mut Vec<u8>, rule: Rule) -> Result<(), NoMemory>
+/// Adds a rule to a line, by its letter and its number.
+pub fn put_rule(line: &mut Vec<u8>, rule: Rule) -> Result<(), NoMemory>
     ensures { IfOk result (λ _. line.new.items ≡ line.old.items ++ rule_text rule) }
 {
     match rule {
@@ -113,4 +116,16 @@ pub fn refusal_status(fault: &SourceFault) -> u8
         SourceFault::AcrossWait { .. } => 1,
         SourceFault::OutOfMemory => 7,
     }
+}
+
+/// The line that tells why a world file is refused, with its line feed.
+pub fn world_line(alloc: Global, fault: WorldFault) -> Result<Vec<u8>, NoMemory>
+    ensures { IfOk result (λ v. v.items ≡ world_refusal fault) }
+{
+    let text = format!(in alloc; "{fault}")?;
+    let mut line = Vec::new(alloc);
+    line.extend_from_slice(b"refused ")?;
+    line.extend_from_slice(text.as_bytes())?;
+    line.extend_from_slice(b"\n")?;
+    Ok(line)
 }

@@ -1,10 +1,12 @@
--- The line that tells why a program text is refused, and its status.
+-- The line that tells why a program text or a world file is refused, and the status.
 use Rattle.std.specs.Prelude.{ℕ, List, [], ◌++◌, ◌==◌, codes, decimal, if◌then◌else◌}
 use Rattle.flow_base.specs.declared.place.Place.{Place}
 use Rattle.flow_tree.specs.declared.fault.Rule.{Rule}
 use Rattle.flow_tree.specs.declared.fault.Rule.TheVariants.{S, L, K}
 use Rattle.flow_tree.specs.declared.fault.SourceFault.{SourceFault}
 use Rattle.flow_tree.specs.declared.fault.SourceFault.TheVariants.{Refused, AcrossWait, OutOfMemory}
+use Rattle.flow_worldfile.specs.Faults.{fault_text}
+use Rattle.flow_worldfile.specs.declared.world.WorldFault.{WorldFault}
 
 -- a place by its line and its column
 abbrev pub place_text : Place → List ℕ
@@ -36,3 +38,7 @@ refusal_status (Refused (L n) at) = 10
 refusal_status (Refused (K n) at) = 1
 refusal_status (AcrossWait at declared wait) = 1
 refusal_status OutOfMemory = 7
+
+-- the line of a refusal of a world file
+abbrev pub world_refusal : WorldFault → List ℕ
+world_refusal fault = codes "refused " ++ (fault_text fault ++ codes "\n")

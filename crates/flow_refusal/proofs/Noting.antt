@@ -1,0 +1,23 @@
+-- What is noted on a line that tells a fault.
+use Rattle.std.proofs.Common.{◌≡◌, ℕ, List, [], codes}
+use Rattle.flow_tree.specs.declared.fault.SourceFault.{SourceFault}
+use Rattle.flow_worldfile.specs.declared.world.WorldFault.{WorldFault}
+use Rattle.flow_refusal.specs.Refusal.{refusal_text, world_refusal}
+use Rattle.flow_refusal.specs.Note.{program_note, world_note, Notes, on_program, on_world, on_words, on_file, none}
+
+pub program_noted : {answer name text world world_text v : List ℕ} (words : List ℕ) (fault : SourceFault) → answer ≡ refusal_text fault
+    → v ≡ program_note words name text fault → Notes answer name text world world_text v
+program_noted words fault is told = on_program words fault is told
+
+pub world_noted : {answer name text world world_text v : List ℕ} (words : List ℕ) (fault : WorldFault) → answer ≡ world_refusal fault
+    → v ≡ world_note words world world_text fault → Notes answer name text world world_text v
+world_noted words fault is told = on_world words fault is told
+
+pub usage_noted : {answer name text world world_text v : List ℕ} → answer ≡ codes "usage\n" → Notes answer name text world world_text v
+usage_noted is = on_words is
+
+pub file_noted : {answer name text world world_text v : List ℕ} → answer ≡ codes "read fault\n" → Notes answer name text world world_text v
+file_noted is = on_file is
+
+pub nothing_noted : {answer name text world world_text v : List ℕ} → v ≡ [] → Notes answer name text world world_text v
+nothing_noted is = none is

@@ -1,0 +1,86 @@
+-- The note on a refusal: the place in its file, what the rule asks, and the line with a mark under the place.
+use Rattle.std.specs.Prelude.{◌≡◌, ℕ, zero, suc, ◌+◌, ◌-◌, ◌||◌, ◌==◌, min, nat_lt, List, [], ◌∷◌, ◌++◌, map, take, drop, replicate, codes, decimal, if◌then◌else◌}
+use Rattle.std.specs.List.{position_or_len}
+use Rattle.flow_base.specs.declared.place.Place.{Place}
+use Rattle.flow_tree.specs.declared.fault.Rule.{Rule}
+use Rattle.flow_tree.specs.declared.fault.Rule.TheVariants.{L}
+use Rattle.flow_tree.specs.declared.fault.SourceFault.{SourceFault}
+use Rattle.flow_tree.specs.declared.fault.SourceFault.TheVariants.{Refused, AcrossWait, OutOfMemory}
+use Rattle.flow_worldfile.specs.declared.world.WorldFault.{WorldFault}
+use Rattle.flow_worldfile.specs.declared.world.WorldFault.TheVariants as world
+use Rattle.flow_refusal.specs.Refusal.{place_text, refusal_text, world_refusal}
+
+-- what stands in a text up to its first line feed, and behind it
+abbrev pub first_feed : List ℕ → ℕ
+first_feed text = position_or_len (λ b. b == 10) text
+
+abbrev pub until_feed : List ℕ → List ℕ
+until_feed text = take (first_feed text) text
+
+abbrev pub behind_feed : List ℕ → List ℕ
+behind_feed text = drop (first_feed text + 1) text
+
+-- a text from the begin of a line on, so many lines behind the first; and the line with a number, from 1
+abbrev pub lines_on : ℕ → List ℕ → List ℕ
+lines_on zero text = text
+lines_on (suc n) text = lines_on n (behind_feed text)
+
+abbrev pub line_at : List ℕ → (number : ℕ) → List ℕ
+line_at text number = until_feed (lines_on (number - 1) text)
+
+-- a byte as it is shown: a tab as a blank, and a byte outside 32 to 126 as a question mark
+abbrev pub shown : ℕ → ℕ
+shown b = if b == 9 then 32 else if nat_lt b 32 || nat_lt 126 b then 63 else b
+
+-- the part of a line around a column, so many bytes behind its begin: at most 60 bytes before it, and 120 in all
+abbrev pub window : List ℕ → (before : ℕ) → List ℕ
+window line before = map shown (take 120 (drop (before - 60) line))
+
+-- the line of a place, around it, and a mark under the place
+abbrev pub excerpt : (text : List ℕ) → Place → List ℕ
+excerpt text at = window (line_at text at.line) (at.column - 1) ++ codes "\n" ++ replicate (min (at.column - 1) 60) 32 ++ codes "^\n"
+
+-- words behind what they are said of
+abbrev pub said : (words : List ℕ) → List ℕ
+said words = codes ": " ++ words ++ codes "\n"
+
+-- a place in a file, words on it, and the excerpt
+abbrev pub remark : (name text : List ℕ) → Place → (words : List ℕ) → List ℕ
+remark name text at words = name ++ codes ":" ++ place_text at ++ said words ++ excerpt text at
+
+-- words on a file as a whole
+abbrev pub overall : (name words : List ℕ) → List ℕ
+overall name words = name ++ said words
+
+-- words on a line of a file, and the line
+abbrev pub line_remark : (name text : List ℕ) → (line : ℕ) → (words : List ℕ) → List ℕ
+line_remark name text line words = name ++ codes ":" ++ decimal line ++ said words ++ window (line_at text line) 0 ++ codes "\n"
+
+-- The note on a program: the place where a rule fails; or the use of a local that is lost, its declaration and the wait.
+-- The limit on the bytes of a text has no place.
+abbrev pub program_note : (words name text : List ℕ) → SourceFault → List ℕ
+program_note words name text (Refused (L n) at) = if n == 1 then overall name words else remark name text at words
+program_note words name text (Refused rule at) = remark name text at words
+program_note words name text (AcrossWait at declared wait) =
+    remark name text at words ++ remark name text declared (codes "declared here") ++ remark name text wait (codes "the wait")
+program_note words name text OutOfMemory = []
+
+-- the note on a world file: the line that breaks a rule
+abbrev pub world_note : (words name text : List ℕ) → WorldFault → List ℕ
+world_note words name text (world.Form line) = line_remark name text line words
+world_note words name text (world.Range line) = line_remark name text line words
+world_note words name text (world.Twice line) = line_remark name text line words
+world_note words name text (world.NoProcess line) = line_remark name text line words
+world_note words name text world.TooLarge = overall name words
+world_note words name text world.OutOfMemory = []
+
+-- What may be noted on a line that was answered, where the program has this name and text, and the world that: the places
+-- shown are those that the line tells, and nothing is noted on a line that tells of no fault.
+pub data Notes : (answer : List ℕ) → (name text : List ℕ) → (world world_text : List ℕ) → (note : List ℕ) → Type 0 where
+  on_program : {answer name text world world_text note : List ℕ} (words : List ℕ) (fault : SourceFault)
+      → answer ≡ refusal_text fault → note ≡ program_note words name text fault → Notes answer name text world world_text note
+  on_world : {answer name text world world_text note : List ℕ} (words : List ℕ) (fault : WorldFault)
+      → answer ≡ world_refusal fault → note ≡ world_note words world world_text fault → Notes answer name text world world_text note
+  on_words : {answer name text world world_text note : List ℕ} → answer ≡ codes "usage\n" → Notes answer name text world world_text note
+  on_file : {answer name text world world_text note : List ℕ} → answer ≡ codes "read fault\n" → Notes answer name text world world_text note
+  none : {answer name text world world_text note : List ℕ} → note ≡ [] → Notes answer name text world world_text note

@@ -1,0 +1,84 @@
+// What the rules ask, in a sentence each.
+
+use flow_tree::fault::Rule;
+use flow_worldfile::WorldFault;
+
+/// What is said where a rule of the spelling or the form of a text fails.
+fn spelling(number: u8) -> &'static str {
+    match number {
+        1 => "S1: no token begins with this byte, or a quoted text may not hold it",
+        2 => "S2: this quoted text isn't closed on its line",
+        3 => "S3: this comment isn't closed",
+        4 => "S4: this number is too large, or this name or text too long",
+        _ => "S5: no program goes on so here",
+    }
+}
+
+/// What is said where a limit is passed.
+fn limit(number: u8) -> &'static str {
+    match number {
+        1 => "L1: a program has at most 1,048,576 bytes",
+        2 => "L2: a program has at most 200,000 tokens",
+        3 => "L3: a program has at most 4,096 declarations",
+        4 => "L4: a function or an actor has at most 10,000 statements",
+        5 => "L5: nothing stands more than 64 deep",
+        6 => "L6: a declaration has at most 1,000 parameters and state variables, or fields",
+        7 => "L7: a choose has at most 64 branches",
+        8 => "L8: a record is at most 16 deep in others, with at most 1,024 plain fields in all",
+        _ => "L9: this actor weighs more than 60,000; split it",
+    }
+}
+
+/// What is said where a rule of the meaning of a program fails.
+fn meaning(number: u8) -> &'static str {
+    match number {
+        1 => "K1: nothing of this name is in force here",
+        2 => "K2: this name is in force already, or predefined",
+        3 => "K3: a value of another type is needed here",
+        4 => "K4: this call has too few or too many arguments",
+        5 =>
+            "K5: an effect may only be a whole right side, a whole operand of a wait, or a statement",
+        6 =>
+            "K6: a function may hold no state or reference, have no effect, and not read the clock",
+        7 => "K7: a variable of this type needs a value",
+        8 => "K8: the end of this body can be reached without a return",
+        9 => "K9: `break` and `continue` need a loop around them, and `throw;` a catch",
+        10 => "K10: only an actor can wait",
+        11 => "K11: a program needs an actor `ACTOR Future<Void> main(int p)`",
+        _ => "K12: what this call gives would be lost; wait for it or keep it",
+    }
+}
+
+/// What is said where a rule on a program fails.
+pub fn rule_words(rule: Rule) -> &'static str {
+    match rule {
+        Rule::S(number) => spelling(number),
+        Rule::L(number) => limit(number),
+        Rule::K(number) => meaning(number),
+    }
+}
+
+/// What is said where a local is used behind a wait.
+pub const ACROSS_WAIT: &str =
+    "U1: a wait since its declaration loses what this local holds; declare it with `state`";
+
+/// What is said where a rule on a world file fails.
+pub fn world_words(fault: WorldFault) -> &'static str {
+    match fault {
+        WorldFault::Form(_) => "W1: no line of a world file looks so",
+        WorldFault::Range(_) =>
+            "W2: a number is out of its range, or there are too many such lines",
+        WorldFault::Twice(_) => "W3: an earlier line says this already",
+        WorldFault::NoProcess(_) => "W4: there is no process of this number",
+        WorldFault::TooLarge => "L10: a world file has at most 1,048,576 bytes",
+        WorldFault::OutOfMemory => "",
+    }
+}
+
+/// How the commands are called.
+pub const USAGE: &str = "\
+flow check PROGRAM                  judges a program: `ok`, or the first rule that it breaks
+flow format PROGRAM                 writes a program in its canonical form
+flow run PROGRAM WORLD [--frames]   runs a program in a world and writes the trace
+A name that begins with `-` is no file name.
+";
