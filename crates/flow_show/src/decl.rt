@@ -47,7 +47,8 @@ impl Source {
         Ok(())
     }
 
-    fn put_record(&mut self, declared: &RecordDecl) -> Result<(), NoMemory>
+    /// A record.
+    pub fn put_record(&mut self, declared: &RecordDecl) -> Result<(), NoMemory>
         ensures { IfOk result (λ _. self.new ≡ self.old ++ decl_text (StructDecl (record_of declared.now))) }
     {
         self.put(b"struct ")?;
@@ -76,7 +77,8 @@ impl Source {
         Ok(())
     }
 
-    fn put_function(&mut self, function: &FunctionDecl) -> Result<(), NoMemory>
+    /// A plain function.
+    pub fn put_function(&mut self, function: &FunctionDecl) -> Result<(), NoMemory>
         ensures { IfOk result (λ _. self.new ≡ self.old ++ routine_text (type_text (type_of function.now.returns)) (function_of function.now)) }
     {
         self.put_type(&function.returns)?;

@@ -7,7 +7,7 @@ mod decl;
 mod expr;
 pub mod laws;
 pub mod show;
-mod source;
+pub mod source;
 mod stmt;
 #[cfg(test)]
 mod tests;

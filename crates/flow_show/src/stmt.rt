@@ -88,8 +88,8 @@ impl Source {
         Ok(())
     }
 
-    // Names with a dot between two.
-    fn put_path(&mut self, path: &[Ident]) -> Result<(), NoMemory>
+    /// Names with a dot between two.
+    pub fn put_path(&mut self, path: &[Ident]) -> Result<(), NoMemory>
         ensures { IfOk result (λ _. self.new ≡ self.old ++ path_text path.now) }
     {
         if let [first, rest @ ..] = path {
@@ -106,7 +106,8 @@ impl Source {
         self.put_maybe(b" = ", value)
     }
 
-    fn put_assign(&mut self, target: &Target, value: &Expr) -> Result<(), NoMemory>
+    /// An assignment without its semicolon.
+    pub fn put_assign(&mut self, target: &Target, value: &Expr) -> Result<(), NoMemory>
         ensures { IfOk result (λ _. self.new ≡ self.old ++ assign_text target.now.path.items (expr_of value.now)) }
     {
         self.put_path(&target.path)?;
@@ -138,7 +139,8 @@ impl Source {
         self.put_change(change)
     }
 
-    fn put_call(&mut self, target: &Target, args: &[Expr]) -> Result<(), NoMemory>
+    /// A call statement without its semicolon.
+    pub fn put_call(&mut self, target: &Target, args: &[Expr]) -> Result<(), NoMemory>
         ensures { IfOk result (λ _. self.new ≡ self.old ++ call_text target.now.path.items (exprs_of args.now)) }
     {
         self.put_path(&target.path)?;

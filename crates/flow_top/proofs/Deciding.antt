@@ -27,10 +27,10 @@ use Rattle.flow_worldfile.specs.declared.world.World0.{World0}
 use Rattle.flow_top.specs.declared.outcome.Outcome.{Outcome}
 use Rattle.flow_top.specs.declared.outcome.Outcome.TheVariants.{Told, Run}
 use Rattle.flow_top.specs.declared.outcome.Told as told
-use Rattle.flow_top.specs.declared.outcome.Told.TheVariants.{Formatted, Passed, Printed, OutOfMemory}
-use Rattle.flow_top.specs.Words.{AreFormat, AreCheck, AreRun, JudgeProgram, of_check, of_run, NameProgram, of_format, of_judged}
+use Rattle.flow_top.specs.declared.outcome.Told.TheVariants.{Compiled, Formatted, Passed, Printed, OutOfMemory}
+use Rattle.flow_top.specs.Words.{AreOn, AreFormat, AreCheck, AreCompile, AreRun, JudgeProgram, of_check, of_run, NameProgram, of_format, of_judged}
 use Rattle.flow_top.specs.Form.{PrintsOnly}
-use Rattle.flow_top.specs.Run.{IsText, HasSound, HasPassing, HasWorld, IsNoPrint, AsksNames, unread, formatted, refused, lost, heavy, passed, no_world, printed, run, AskedSome, none, program, both, Decided, due, read_fault, no_memory, outcome_of, refusal_outcome_of, heavy_outcome}
+use Rattle.flow_top.specs.Run.{IsText, HasSound, HasPassing, HasWorld, IsNoPrint, AsksNames, unread, formatted, refused, lost, heavy, passed, compiled, no_world, printed, run, AskedSome, none, program, both, Decided, due, read_fault, no_memory, outcome_of, refusal_outcome_of, heavy_outcome}
 use Rattle.flow_top.specs.Steps.{FileRead, is_read, is_unread, unasked, starved, Loaded, is_loaded, is_refused, is_lost, no_text, no_room, ClassesOf, are_classes, is_heavy, no_classes, WorldOf, is_world, is_none, no_room_for_it, PrintedOf, are_texts, is_another, no_room_for_texts, RunIn, it_prints, it_runs, not_there, no_room_to_run}
 
 -- a list without length
@@ -147,6 +147,10 @@ has_classes (are_classes c h light) = h
 
 pub are_light : {p : ProgramTree} {c : ClassProgram} → ClassesOf p (Ok c) → first_heavy p.decls ≡ None
 are_light (are_classes c h light) = light
+
+pub compiles : {words : List (List ℕ)} {before after : FilesSeen} {name : List ℕ} {s : Sound} {c : ClassProgram}
+    → AreCompile words name → Loaded name before after (Ok s) → ClassesOf (program_of s.typed.program) (Ok c) → Decided words before after (Told (Compiled c))
+compiles {name = n} {s = s} {c = c} are l cs = due _ _ (compiled n s.typed.program c are (has_passing l (are_light cs)) (has_classes cs)) (was_asked l) (no_fault l)
 
 -- two names are equal, or they are apart
 equal_or_apart : (r : Bool) (a b : List ℕ) → Decides r (a ≡ b) → (a ≡ b) ⊎ (a ≢ b)
@@ -312,3 +316,11 @@ four f (k ∷ k2 ∷ k3 ∷ k4 ∷ k5 ∷ xs) x y z w a b d e l p q r o s t u v 
 
 pub bytes_same : (a b : List ℕ) → bytes_eq a b ≡ true → a ≡ b
 bytes_same a b h = search (rules, bytes_eq-Decides a b, h)
+
+bytes_apart : (a b : List ℕ) → bytes_eq a b ≡ false → a ≡ b → ⊥
+bytes_apart a b h e = search (rules, bytes_eq-Decides a b, h, e)
+
+-- the first word is another one
+pub another_word : {X : Type 0} (f : X → List ℕ) (xs : List X) (x : X) (command a p : List ℕ) → bytes_eq a command ≡ false → a ≡ f x → x ≡ get_or xs 0 x → AreOn command (map f xs) p → ⊥
+another_word f [] x command a p apart is first on = absurd (cc on.are)
+another_word f (k ∷ ks) x command a p apart is first on = bytes_apart a command apart (is ∙ ap f first ∙ ap (λ l. get_or l 0 []) on.are)

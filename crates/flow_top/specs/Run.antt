@@ -32,6 +32,8 @@ use Rattle.flow_worldfile.specs.Worlds.{IsInRange, seen}
 use Rattle.flow_machine.specs.declared.host.RunFault.{RunFault}
 use Rattle.flow_machine.specs.declared.host.RunFault.TheVariants as broken
 use Rattle.flow_class.specs.declared.program.ClassProgram.{ClassProgram}
+use Rattle.flow_class.specs.View.{raw_of}
+use Rattle.flow_classprint.specs.ClassText.{ClassText}
 use Rattle.flow_staterule.specs.declared.rule.Lost.{Lost}
 use Rattle.flow_compile.specs.Verdict.{IsUnread, IsRefused, IsProgram, IsSound, IsLost}
 use Rattle.flow_compile.specs.Weighing.{first_heavy}
@@ -43,8 +45,8 @@ use Rattle.flow_trace.specs.Out.{Grows, GrowsTo}
 use Rattle.flow_top.specs.declared.outcome.Outcome.{Outcome}
 use Rattle.flow_top.specs.declared.outcome.Outcome.TheVariants.{Told, Run}
 use Rattle.flow_top.specs.declared.outcome.Told as told
-use Rattle.flow_top.specs.declared.outcome.Told.TheVariants.{Usage, ReadFault, OutOfMemory, Refused, NoWorld, Passed, Formatted, Printed}
-use Rattle.flow_top.specs.Words.{AreFormat, AreCheck, AreRun, JudgeProgram, NameProgram}
+use Rattle.flow_top.specs.declared.outcome.Told.TheVariants.{Usage, ReadFault, OutOfMemory, Refused, NoWorld, Passed, Compiled, Formatted, Printed}
+use Rattle.flow_top.specs.Words.{AreFormat, AreCheck, AreCompile, AreRun, JudgeProgram, NameProgram}
 use Rattle.flow_top.specs.Form.{PrintsOnly}
 use Rattle.flow_refusal.specs.Refusal.{refusal_text, refusal_status, world_refusal}
 
@@ -70,6 +72,7 @@ text_of OutOfMemory = []
 text_of (Refused fault) = refusal_text fault
 text_of (NoWorld fault) = world_refusal fault
 text_of Passed = codes "ok" ++ 10 ∷ []
+text_of (Compiled classes) = ClassText (raw_of classes.raw)
 text_of (Formatted program) = Canon (program_of program)
 text_of (Printed texts) = bytes_of (trace_of texts.items)
 
@@ -87,6 +90,7 @@ status_of OutOfMemory = 7
 status_of (Refused fault) = refusal_status fault
 status_of (NoWorld fault) = world_status fault
 status_of Passed = 0
+status_of (Compiled classes) = 0
 status_of (Formatted program) = 0
 status_of (Printed texts) = 0
 
@@ -185,6 +189,8 @@ pub data Due (words : List (List ℕ)) (content : List ℕ → Option (List ℕ)
   heavy : (name : List ℕ) (p : Program) (at : Place) → JudgeProgram words name → HasSound content name p
       → first_heavy (program_of p).decls ≡ Some at → Due words content (Told (heavy_outcome at)) (name ∷ [])
   passed : (name : List ℕ) (p : Program) → AreCheck words name → HasPassing content name p → Due words content (Told Passed) (name ∷ [])
+  compiled : (name : List ℕ) (p : Program) (classes : ClassProgram) → AreCompile words name → HasPassing content name p → Has (program_of p) classes
+      → Due words content (Told (Compiled classes)) (name ∷ [])
   -- the world is refused
   no_world : (name world : List ℕ) (frames : Bool) (p : Program) (fault : WorldFault) → AreRun words name world frames → HasPassing content name p
       → HasWorld content world (Err fault) → Due words content (Told (NoWorld fault)) (name ∷ (world ∷ []))

@@ -1,7 +1,7 @@
 -- The words of a command line.
 use Rattle.std.specs.Prelude.{◌≡◌, ℕ, Bool, true, false, eqb, List, [], ◌∷◌, codes}
 use Rattle.flow_top.specs.declared.command.Command.{Command}
-use Rattle.flow_top.specs.declared.command.Command.TheVariants.{Format, Check, Run}
+use Rattle.flow_top.specs.declared.command.Command.TheVariants.{Format, Check, Compile, Run}
 
 -- a word that begins with `-`
 abbrev pub is_option : List ℕ → Bool
@@ -21,6 +21,10 @@ AreFormat words program = AreOn (codes "format") words program
 abbrev pub AreCheck : List (List ℕ) → List ℕ → Type 0
 AreCheck words program = AreOn (codes "check") words program
 
+-- the words are `compile` and a name
+abbrev pub AreCompile : List (List ℕ) → List ℕ → Type 0
+AreCompile words program = AreOn (codes "compile") words program
+
 -- the last word of a run that tells frames
 abbrev pub last_words : Bool → List (List ℕ)
 last_words true = codes "--frames" ∷ []
@@ -36,11 +40,13 @@ pub record AreRun (words : List (List ℕ)) (program world : List ℕ) (frames :
 abbrev pub AreCommand : List (List ℕ) → Command → Type 0
 AreCommand words (Format program) = AreFormat words program.now
 AreCommand words (Check program) = AreCheck words program.now
+AreCommand words (Compile program) = AreCompile words program.now
 AreCommand words (Run program world frames) = AreRun words program.now world.now frames
 
 -- the words are a command by which this program is judged
 pub data JudgeProgram (words : List (List ℕ)) (program : List ℕ) : Type 0 where
   of_check : AreCheck words program → JudgeProgram words program
+  of_compile : AreCompile words program → JudgeProgram words program
   of_run : (world : List ℕ) (frames : Bool) → AreRun words program world frames → JudgeProgram words program
 
 -- the words are a command on this program

@@ -1,7 +1,7 @@
 // The words of a command line.
 
 ghost use Rattle.std.specs.Prelude.{◌≡◌, ℕ, true, false, List, map, string_bytes, MatchOption, bytes_eq};
-ghost use Rattle.flow_top.specs.Words.{AreFormat, AreCheck, AreRun, AreCommand, NameProgram, is_option};
+ghost use Rattle.flow_top.specs.Words.{AreOn, AreRun, AreCommand, NameProgram, is_option};
 
 /// A command and the names of its files.
 #[derive(Clone, Copy, Debug)]
@@ -10,6 +10,8 @@ pub enum Command<'a> {
     Format(&'a str),
     /// The program that is judged.
     Check(&'a str),
+    /// The program whose classes are written.
+    Compile(&'a str),
     /// The program that is run, its world, and whether frames are told after each event.
     Run(&'a str, &'a str, bool),
 }
@@ -29,33 +31,15 @@ fn is_command(word: &str, command: &str) -> bool
     word == command
 }
 
-// The name of the program, where the words are `format` and a name.
-fn format_words<'a>(words: &'a [String]) -> Option<&'a str>
+// The name of the program, where the words are this command and a name.
+fn program_words<'a>(words: &'a [String], command: &str) -> Option<&'a str>
     ensures { let given = map string_bytes words.now in
-        MatchOption result ((p : List ℕ) → AreFormat given p → ⊥) (λ p. AreFormat given p.now) }
+        MatchOption result ((p : List ℕ) → AreOn command.now given p → ⊥) (λ p. AreOn command.now given p.now) }
 {
     if words.len() != 2 {
         return None;
     }
-    if !is_command(words[0].as_str(), "format") {
-        return None;
-    }
-    let program = words[1].as_str();
-    if is_dashed(program) {
-        return None;
-    }
-    Some(program)
-}
-
-// The name of the program, where the words are `check` and a name.
-fn check_words<'a>(words: &'a [String]) -> Option<&'a str>
-    ensures { let given = map string_bytes words.now in
-        MatchOption result ((p : List ℕ) → AreCheck given p → ⊥) (λ p. AreCheck given p.now) }
-{
-    if words.len() != 2 {
-        return None;
-    }
-    if !is_command(words[0].as_str(), "check") {
+    if !is_command(words[0].as_str(), command) {
         return None;
     }
     let program = words[1].as_str();
@@ -117,11 +101,14 @@ pub fn command_of<'a>(words: &'a [String]) -> Option<Command<'a>>
     ensures { let given = map string_bytes words.now in
         MatchOption result ((p : List ℕ) → NameProgram given p → ⊥) (λ c. AreCommand given c) }
 {
-    if let Some(program) = format_words(words) {
+    if let Some(program) = program_words(words, "format") {
         return Some(Command::Format(program));
     }
-    if let Some(program) = check_words(words) {
+    if let Some(program) = program_words(words, "check") {
         return Some(Command::Check(program));
+    }
+    if let Some(program) = program_words(words, "compile") {
+        return Some(Command::Compile(program));
     }
     if let Some((program, world)) = run_words(words) {
         return Some(Command::Run(program, world, false));

@@ -5,7 +5,7 @@ ghost use Rattle.flow_tree.specs.declared.limits.TheConstants.{PROGRAM_BYTES};
 ghost use Rattle.flow_base.specs.Seen.{MovesOnly, ReadsWithin};
 ghost use Rattle.flow_tree.specs.DeclView.{program_of};
 ghost use Rattle.flow_top.specs.Form.{PrintsOnly};
-ghost use Rattle.flow_top.specs.Words.{AreFormat, AreCheck, AreRun};
+ghost use Rattle.flow_top.specs.Words.{AreFormat, AreCheck, AreCompile, AreRun};
 ghost use Rattle.flow_worldfile.specs.Worlds.{IsInRange, seen};
 ghost use Rattle.flow_top.specs.Run.{Decided, InRange, outcome_of, refusal_outcome_of, heavy_outcome};
 ghost use Rattle.flow_top.specs.Steps.{FileRead, Loaded, ClassesOf, WorldOf, PrintedOf, RunIn};
@@ -126,6 +126,20 @@ fn check<F: Files>(alloc: Global, name: &str, files: &mut F) -> Told
     }
 }
 
+// What `compile` on this program comes to.
+fn compiled<F: Files>(alloc: Global, name: &str, files: &mut F) -> Told
+    ensures { (words : List (List ℕ)) → AreCompile words name.now → Decided words (F.seen files.old) (F.seen files.new) (Outcome.Told result) }
+{
+    let sound = match load(alloc, name, files) {
+        Ok(sound) => sound,
+        Err(told) => return told,
+    };
+    match classes_of(alloc, &sound) {
+        Ok(classes) => Told::Compiled(classes),
+        Err(told) => told,
+    }
+}
+
 // The world of a text, or what the command comes to without it.
 fn world_of(alloc: Global, bytes: &[u8]) -> Result<World0, Told>
     ensures answered { WorldOf bytes.now result }
@@ -219,6 +233,7 @@ pub fn decide<F: Files>(alloc: Global, words: &[String], files: &mut F) -> Outco
         None => Outcome::Told(Told::Usage),
         Some(Command::Format(program)) => Outcome::Told(format(alloc, program, files)),
         Some(Command::Check(program)) => Outcome::Told(check(alloc, program, files)),
+        Some(Command::Compile(program)) => Outcome::Told(compiled(alloc, program, files)),
         Some(Command::Run(program, world, frames)) => run(alloc, program, world, frames, files),
     }
 }

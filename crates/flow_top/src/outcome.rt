@@ -30,6 +30,8 @@ pub enum Told {
     NoWorld(WorldFault),
     /// The program passes all rules.
     Passed,
+    /// The classes of the program are written.
+    Compiled(ClassProgram),
     /// The program is written in its canonical text.
     Formatted(Program),
     /// The program prints these texts and returns, in an empty world: its trace.

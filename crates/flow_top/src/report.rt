@@ -19,6 +19,7 @@ use flow_base::output::write_whole;
 use flow_base::sink::Sink;
 use flow_base::text::Text;
 use flow_class::program::ClassProgram;
+use flow_classprint::write_classes;
 use flow_machine::host::RunFault;
 use flow_refusal::{refusal_line, refusal_status, world_line};
 use flow_run::{Ending, write_trace};
@@ -115,6 +116,7 @@ fn put<S: Sink>(alloc: Global, outcome: Told, out: &mut S) -> Result<(), OutFaul
         Told::Refused(fault) => put_refusal(alloc, &fault, out),
         Told::NoWorld(fault) => put_world_refusal(alloc, fault, out),
         Told::Passed => write_whole(out, b"ok\n"),
+        Told::Compiled(classes) => write_classes(alloc, classes.raw(), out),
         Told::Formatted(program) => show_lines(alloc, &program, out),
         Told::Printed(texts) => put_trace(alloc, texts, out),
     }
@@ -140,6 +142,7 @@ fn status(outcome: &Told) -> u8
 {
     match outcome {
         Told::Passed => 0,
+        Told::Compiled(_) => 0,
         Told::Formatted(_) => 0,
         Told::Printed(_) => 0,
         Told::Usage => 2,
