@@ -1,0 +1,3 @@
+mod Grammar
+mod Rules
+mod Whole
