@@ -12,3 +12,4 @@ mod Counting
 mod StaleWalks
 mod Backing
 mod Examples
+mod Matching
