@@ -13,3 +13,4 @@ mod StaleWalks
 mod Backing
 mod Examples
 mod Matching
+mod UsesBacked
