@@ -17,7 +17,7 @@ use Rattle.flow_walks.specs.Mentions.{Named, Wait, local_at, declared, with_into
 use Rattle.flow_walks.proofs.Notes.{Note, note, wait_note, behind_all, block_ways, if_ways, if_else_ways, for_ways, for_point, try_ways, choose_ways, notes, branch_notes, notes_many, branch_notes_many, Tells}
 
 -- the places of the waits
-abbrev place_of : Wait → Place
+abbrev pub place_of : Wait → Place
 place_of w = w.at
 
 joined : (xs ys : List Wait) (ps qs : List Place) → ps ≡ map place_of xs → qs ≡ map place_of ys → ps ++ qs ≡ map place_of (xs ++ ys)
@@ -98,7 +98,7 @@ pub data Counted : ℕ → List Note → List Wait → ℕ → Type 0 where
   over : {m n : ℕ} {ys : List Note} {ws : List Wait} (y : Note) → y.counts ≡ false → Counted (suc m) ys ws n → Counted m (y ∷ ys) ws n
   wait : {m n : ℕ} {ys : List Note} {ws : List Wait} (y : Note) (w : Wait) → w.point ≡ m → y.counts ≡ nat_lt 0 n → Counted (suc m) ys ws (n - 1) → Counted m (y ∷ ys) (w ∷ ws) n
 
-counted_then : {m n : ℕ} {xs : List Note} {ws : List Wait} (m' n' : ℕ) (ys : List Note) (vs : List Wait) → Counted m xs ws n → m + length xs ≡ m' → n - length ws ≡ n' → Counted m' ys vs n' → Counted m (xs ++ ys) (ws ++ vs) n
+pub counted_then : {m n : ℕ} {xs : List Note} {ws : List Wait} (m' n' : ℕ) (ys : List Note) (vs : List Wait) → Counted m xs ws n → m + length xs ≡ m' → n - length ws ≡ n' → Counted m' ys vs n' → Counted m (xs ++ ys) (ws ++ vs) n
 counted_then {m} {n} m' n' ys vs none e f c = let g : m' ≡ m = omega (arith, e) in let h : n' ≡ n = omega (arith, f) in subst₂ (λ x y. Counted x ys vs y) g h c
 counted_then {m} {n} m' n' ys vs (over {ys = xs} y z d) e f c = let g : suc m + length xs ≡ m' = omega (arith, e) in over y z (counted_then m' n' ys vs d g f c)
 counted_then {m} {n} m' n' ys vs (wait {ys = xs} {ws = ws} y w p z d) e f c =
@@ -113,7 +113,7 @@ on_by m n b vs p = ap (λ z. m + z) (notes_many n b m vs p)
 less_by : (n m : ℕ) (b : Body) → n - length (waits b m) ≡ left n b
 less_by n m b = ap (λ z. n - z) (waits_many b m)
 
-with_waits : {m n : ℕ} {ys : List Note} {us ws : List Wait} → us ≡ ws → Counted m ys us n → Counted m ys ws n
+pub with_waits : {m n : ℕ} {ys : List Note} {us ws : List Wait} → us ≡ ws → Counted m ys us n → Counted m ys ws n
 with_waits {m} {n} {ys} e c = subst (λ x. Counted m ys x n) e c
 
 mutual

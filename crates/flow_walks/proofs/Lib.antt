@@ -14,3 +14,4 @@ mod Backing
 mod Examples
 mod Matching
 mod UsesBacked
+mod FirstBad

@@ -1,11 +1,12 @@
 -- What the rules on bodies say by walks.
-use Rattle.std.specs.Prelude.{◌≡◌, ℕ, ◌<◌, ◌↔◌, IsTrue, List, ◌∷◌, Contains, slice_get}
+use Rattle.std.specs.Prelude.{◌≡◌, ℕ, ◌<◌, ◌↔◌, IsTrue, List, [], ◌∷◌, Contains, slice_get}
 use Rattle.std.specs.declared.option.Option.{Option}
 use Rattle.std.specs.declared.option.Option.TheVariants.{None, Some}
 use Rattle.flow_tree.specs.Body.{Body, End, BlockStmt, IfStmt, IfElseStmt, WhileStmt, ForStmt, LoopStmt, BreakStmt, ContinueStmt, ReturnStmt, ThrowStmt, TryStmt, ChooseStmt, DeclareStmt, AssignStmt, ModifyStmt, CallStmt, WaitStmt, Branches, NoBranches, MoreBranches}
-use Rattle.flow_tree.specs.Decls.{ParamTree}
+use Rattle.flow_tree.specs.Decls.{ParamTree, DeclTree, StructDecl, FunctionDecl, ActorDecl}
 use Rattle.flow_rules.specs.Closing.{ways}
 use Rattle.flow_staterule.specs.declared.rule.Lost.{Lost}
+use Rattle.flow_staterule.specs.StateRule.{first_lost}
 use Rattle.flow_walks.specs.Graph.{Walk, Reaches}
 use Rattle.flow_walks.specs.Control.{control, closing}
 use Rattle.flow_walks.specs.Mentions.{Mention, Wait, routine_mentions, waits}
@@ -78,3 +79,27 @@ pub record IsFirstBad (ps : List ParamTree) (b : Body) (l : Lost) : Type 0 where
 abbrev pub LostIn : List ParamTree → Body → Option Lost → Type 0
 LostIn ps b None = (u : Mention) (w : Wait) → Contains (routine_mentions ps b) u → Contains (waits b 1) w → IsBad b u w → ⊥
 LostIn ps b (Some l) = IsFirstBad ps b l
+
+-- what is lost in a declaration, and first in declarations
+abbrev pub LostInDecl : DeclTree → Option Lost → Type 0
+LostInDecl (StructDecl r) l = l ≡ None
+LostInDecl (FunctionDecl f) l = LostIn f.params f.body l
+LostInDecl (ActorDecl f) l = LostIn f.params f.body l
+
+pub data FirstLost : List DeclTree → Option Lost → Type 0 where
+  nothing : FirstLost [] None
+  here : (d : DeclTree) (ds : List DeclTree) (l : Lost) → LostInDecl d (Some l) → FirstLost (d ∷ ds) (Some l)
+  later : (d : DeclTree) (ds : List DeclTree) (l : Option Lost) → LostInDecl d None → FirstLost ds l → FirstLost (d ∷ ds) l
+
+abbrev pub DeclHasSimpleParts : DeclTree → Type 0
+DeclHasSimpleParts (StructDecl r) = Unit {0}
+DeclHasSimpleParts (FunctionDecl f) = HasSimpleParts f.body
+DeclHasSimpleParts (ActorDecl f) = HasSimpleParts f.body
+
+abbrev pub AllHaveSimpleParts : List DeclTree → Type 0
+AllHaveSimpleParts [] = Unit {0}
+AllHaveSimpleParts (d ∷ ds) = DeclHasSimpleParts d × AllHaveSimpleParts ds
+
+-- the use that the rule on state tells is the first bad one by walks, and there is none where it tells none
+abbrev pub LostByWalk : List DeclTree → Type 0
+LostByWalk ds = AllHaveSimpleParts ds → FirstLost ds (first_lost ds)
