@@ -1,13 +1,12 @@
 -- The control graphs, uses and waits of some small bodies.
-use Rattle.std.proofs.Common.{◌≡◌, ℕ, true, false, List, [], ◌∷◌, refl}
+use Rattle.std.proofs.Common.{◌≡◌, ℕ, true, false, [], ◌∷◌, refl}
 use Rattle.std.specs.declared.option.Option.TheVariants.{None, Some}
 use Rattle.flow_base.specs.declared.place.Place.{Place}
 use Rattle.flow_tree.specs.declared.ty.Ident.{Ident}
 use Rattle.flow_tree.specs.Tree.{ExprTree, BoolExpr, VoidExpr, VarExpr, IntType}
-use Rattle.flow_tree.specs.Body.{WaitTree, IntoTree, Body, End, IfElseStmt, WhileStmt, ForStmt, LoopStmt, BreakStmt, ContinueStmt, ReturnStmt, ThrowStmt, TryStmt, ChooseStmt, DeclareStmt, AssignStmt, CallStmt, WaitStmt, NoBranches, MoreBranches}
-use Rattle.flow_walks.specs.Graph.{Edge}
-use Rattle.flow_walks.specs.Control.{control, closing, edge}
-use Rattle.flow_walks.specs.Mentions.{Mention, Wait, routine_mentions, waits}
+use Rattle.flow_tree.specs.Body.{WaitTree, Body, End, IfElseStmt, WhileStmt, ForStmt, LoopStmt, BreakStmt, ContinueStmt, ReturnStmt, ThrowStmt, TryStmt, ChooseStmt, DeclareStmt, AssignStmt, WaitStmt, NoBranches, MoreBranches}
+use Rattle.flow_walks.specs.Control.{control, edge}
+use Rattle.flow_walks.specs.Mentions.{Mention, routine_mentions, waits}
 
 abbrev here : ℕ → Place
 here n = record { line = 1; column = n; byte = n }

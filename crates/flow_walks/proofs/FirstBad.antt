@@ -1,5 +1,5 @@
 -- What the rule on state tells is the first bad use, by walks.
-use Rattle.std.proofs.Common.{◌≡◌, ℕ, zero, suc, ◌+◌, ◌-◌, ◌<◌, ◌≤◌, Bool, true, false, ◌&&◌, ◌⊎◌, inl, inr, List, [], ◌∷◌, ◌++◌, length, map, get_or, reverse, refl, sym, ap, ap₂, subst, subst₂, ◌∙◌, arith, append-nil}
+use Rattle.std.proofs.Common.{◌≡◌, ℕ, zero, suc, ◌+◌, ◌-◌, ◌<◌, ◌≤◌, Bool, true, false, ◌&&◌, inl, inr, List, [], ◌∷◌, ◌++◌, length, map, get_or, reverse, refl, sym, ap, ap₂, subst, ◌∙◌, arith, append-nil}
 use Rattle.std.specs.Prelude.{Contains, slice_get, nat_le, nat_lt, is_some, if◌then◌else◌}
 use Rattle.std.proofs.lemmas.Bool.{false≢true, true≢false, le-leb, lt-ltb}
 use Rattle.std.proofs.lemmas.List.{map-append, reverse-append, length-map}
@@ -9,25 +9,23 @@ use Rattle.flow_base.specs.declared.place.Place.{Place}
 use Rattle.flow_tree.specs.Body.{Body}
 use Rattle.flow_tree.specs.Decls.{ParamTree, DeclTree, StructDecl, FunctionDecl, ActorDecl}
 use Rattle.flow_staterule.specs.declared.rule.Lost.{Lost}
-use Rattle.flow_staterule.specs.declared.scope.Point.{Point}
 use Rattle.flow_staterule.specs.declared.scope.Use.{Use}
 use Rattle.flow_staterule.specs.Ways.{at_once}
 use Rattle.flow_staterule.specs.Uses.{Variable, is_stale, begins}
 use Rattle.flow_staterule.specs.Uses as rule
 use Rattle.flow_staterule.specs.StateRule.{wait_places, routine_uses, first_stale, is_stale_use, is_lost_with, first_with, lost_at, told_of, lost_in, lost_in_decl, first_of, first_lost}
-use Rattle.flow_walks.specs.Graph.{Edge, Walk}
+use Rattle.flow_walks.specs.Graph.{Edge}
 use Rattle.flow_walks.specs.Control.{control, closing, first}
 use Rattle.flow_walks.specs.Mentions.{Declared, Named, Mention, Wait, parameter, routine_mentions, waits}
-use Rattle.flow_walks.specs.Laws.{HasSimpleParts, IsBad, IsFirstBad, LostIn, LostInDecl, FirstLost, nothing, here, later, DeclHasSimpleParts, AllHaveSimpleParts, LostByWalk}
+use Rattle.flow_walks.specs.Laws.{HasSimpleParts, IsBad, IsFirstBad, LostIn, LostInDecl, FirstLost, nothing, here, later, DeclHasSimpleParts, LostByWalk}
 use Rattle.flow_walks.proofs.Notes.{Note, note, Tells, tells_itself}
-use Rattle.flow_walks.proofs.Leading.{Has, Into}
-use Rattle.flow_walks.proofs.Flowing.{Flow, Below, Kept, flow_from}
+use Rattle.flow_walks.proofs.Leading.{Has}
+use Rattle.flow_walks.proofs.Flowing.{Below, Kept, flow_from}
 use Rattle.flow_walks.proofs.Walking.{AtLeast}
 use Rattle.flow_walks.proofs.WholeBody.{around, told, told_body, all_notes, last_note, routine_kept, routine_part, same_or}
 use Rattle.flow_walks.proofs.Counting.{place_of, places_of_waits, Counted, none, over, counted_then, with_waits, counted, counts_of, Looked, of_counts}
 use Rattle.flow_walks.proofs.StaleWalks.{bad_is_stale}
-use Rattle.flow_walks.proofs.Backing.{variable_of, Bad, Real, Fits, Each, no_uses, and_use}
-use Rattle.flow_walks.proofs.Matching.{Alike}
+use Rattle.flow_walks.proofs.Backing.{variable_of, Fits, Each, no_uses, and_use}
 use Rattle.flow_walks.proofs.UsesBacked.{Begins, backed}
 
 -- Parameters are no locals.

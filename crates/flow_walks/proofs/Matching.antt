@@ -1,5 +1,5 @@
 -- The points and variables of the rule on state beside the notes of a body.
-use Rattle.std.proofs.Common.{◌≡◌, ℕ, zero, suc, ◌+◌, ◌-◌, ◌<◌, ◌≤◌, Bool, true, false, List, [], ◌∷◌, ◌++◌, length, map, refl, sym, ap, ap₂, subst, subst₂, ◌∙◌, arith, rules, length-append, inl, inr}
+use Rattle.std.proofs.Common.{◌≡◌, ℕ, ◌+◌, ◌-◌, ◌≤◌, Bool, true, false, List, [], ◌∷◌, ◌++◌, length, map, refl, sym, ap, ap₂, subst, subst₂, ◌∙◌, arith, rules, length-append, inr}
 use Rattle.std.specs.Prelude.{if◌then◌else◌}
 use Rattle.std.proofs.lemmas.List.{length-map}
 use Rattle.std.specs.declared.option.Option.{Option}
@@ -20,7 +20,7 @@ use Rattle.flow_walks.specs.Laws.{HasSimpleParts}
 use Rattle.flow_walks.proofs.Notes.{Note, note, wait_note, behind_all}
 use Rattle.flow_walks.proofs.Leading.{Has}
 use Rattle.flow_walks.proofs.Flowing.{Below, InitKind, no_init, declares, assigns, modifies, into_point}
-use Rattle.flow_walks.proofs.Walking.{Goes, goes_trail, trail_step, Part, part_left, statement_first}
+use Rattle.flow_walks.proofs.Walking.{goes_trail, trail_step, Part, part_left, statement_first}
 use Rattle.flow_walks.proofs.Backing.{variable_of, Real, real_then, real_declared, Here, Each, IsCaught}
 
 -- the same waits left, variables in force and point

@@ -1,9 +1,9 @@
 -- The uses that the rule on state finds are the mentions of locals, and where one is stale a walk is bad for it.
-use Rattle.std.proofs.Common.{◌≡◌, ℕ, zero, suc, ◌+◌, ◌-◌, ◌<◌, ◌≤◌, Bool, true, false, inl, inr, List, [], ◌∷◌, ◌++◌, length, map, refl, sym, ap, ap₂, subst, subst₂, ◌∙◌, arith}
-use Rattle.std.specs.Prelude.{Contains, nat_lt}
+use Rattle.std.proofs.Common.{◌≡◌, ℕ, suc, ◌+◌, ◌-◌, ◌≤◌, true, false, inl, List, [], ◌∷◌, ◌++◌, length, map, refl, sym, ap, subst, arith}
+use Rattle.std.specs.Prelude.{Contains}
 use Rattle.std.proofs.lemmas.List.Elements.{Contains-append_right}
 use Rattle.std.specs.declared.option.Option.{Option}
-use Rattle.std.specs.declared.option.Option.TheVariants.{None, Some}
+use Rattle.std.specs.declared.option.Option.TheVariants.{Some}
 use Rattle.flow_tree.specs.Body.{Body, End, BlockStmt, IfStmt, IfElseStmt, WhileStmt, ForStmt, LoopStmt, BreakStmt, ContinueStmt, ReturnStmt, ThrowStmt, TryStmt, ChooseStmt, DeclareStmt, AssignStmt, ModifyStmt, CallStmt, WaitStmt, Branches, NoBranches, MoreBranches}
 use Rattle.flow_ast.specs.Slots.{body_groups, branch_groups, branch_waits}
 use Rattle.flow_ast.specs.Typing.{is_there}
@@ -11,19 +11,18 @@ use Rattle.flow_staterule.specs.declared.scope.Point.{Point}
 use Rattle.flow_staterule.specs.declared.uses.Caught.{Caught}
 use Rattle.flow_staterule.specs.declared.ways.Reached.{Reached}
 use Rattle.flow_staterule.specs.declared.ways.Ways.{Ways}
-use Rattle.flow_staterule.specs.Ways.{ways, branch_ways, never, at_once, either, onward, both, follow, node, plain, sequence, empty, round, with_step, head, past, looped, handled, waited_at}
+use Rattle.flow_staterule.specs.Ways.{ways, never, round, head, looped, waited_at}
 use Rattle.flow_staterule.specs.Uses.{Variable, behind, beyond, left, uses, branch_uses, expr_uses, exprs_uses, maybe_uses, target_uses, base_uses, change_uses, thrown_uses}
 use Rattle.flow_staterule.specs.Uses as rule
 use Rattle.flow_walks.specs.Graph.{Edge, Leads}
 use Rattle.flow_walks.specs.Control.{points, branch_points, Around, followed_by, in_loop, in_step, in_try, listed, leads, statement, first, whens, edges, branch_edges}
 use Rattle.flow_walks.specs.Control as control
-use Rattle.flow_walks.specs.Mentions.{Declared, Named, Mention, local_at, declared, with_into, declaring, of_names, expr_names, exprs_names, maybe_names, target_names, base_names, change_names, thrown, mentions, branch_mentions}
-use Rattle.flow_walks.specs.Mentions as mention
+use Rattle.flow_walks.specs.Mentions.{Declared, Named, local_at, declared, with_into, declaring, mentions, branch_mentions}
 use Rattle.flow_walks.specs.Laws.{HasSimpleParts, HaveSimpleParts}
-use Rattle.flow_walks.proofs.Notes.{Note, note, wait_note, behind_all, block_ways, if_ways, if_else_ways, for_round, for_ways, for_point, try_ways, choose_ways, notes, branch_notes, notes_many, branch_notes_many, Tells, tells_first, tells_rest}
-use Rattle.flow_walks.proofs.Flowing.{Below, InitKind, no_init, declares, assigns, modifies, init_kind, step_kind, step_parts, below_more, below_declared, below_into, into_point}
+use Rattle.flow_walks.proofs.Notes.{Note, behind_all, block_ways, if_ways, if_else_ways, for_round, for_ways, try_ways, choose_ways, notes, branch_notes, notes_many, branch_notes_many, Tells, tells_first, tells_rest}
+use Rattle.flow_walks.proofs.Flowing.{Below, InitKind, no_init, declares, assigns, modifies, init_kind, step_parts, below_more, below_declared, below_into, into_point}
 use Rattle.flow_walks.proofs.AlongEdges.{init_below, caught_point}
-use Rattle.flow_walks.proofs.Walking.{Trail, Goes, goes_trail, goes_either, goes_before, goes_less, goes_head, goes_waiting, trail_step, Part, part_left, part_right, to_first, statement_to, statement_first, statement_second, Walked, walked_less, walked_before, walked_then, walked_step, contains_first}
+use Rattle.flow_walks.proofs.Walking.{Goes, goes_either, goes_before, goes_less, goes_head, goes_waiting, trail_step, Part, part_left, part_right, to_first, statement_to, statement_first, statement_second, Walked, walked_less, walked_then, walked_step, contains_first}
 use Rattle.flow_walks.proofs.WaysWalked.{walked, branch_walked, block_walked, if_walked, if_else_walked, while_walked, loop_walked, round_walked, try_walked, choose_walked}
 use Rattle.flow_walks.proofs.Backing.{variable_of, Real, real_then, real_dead, real_declared, Here, Each, no_uses, each_then, expr_fits, exprs_fit, maybe_fits, target_fits, base_fits, change_fits, thrown_fits, IsCaught}
 use Rattle.flow_walks.proofs.Matching.{Alike, long, behind_alike, beyond_alike, left_one, left_two, left_three, left_more, declared_alike, into_alike, init_alike, init_parts, stale_within, stale_into, here_of, here_waiting, found_alike, real_step, real_into, init_real, caught_deeper, caught_into, caught_init}
@@ -70,7 +69,7 @@ module _ (tell : ℕ → Note) (g : List (Edge ℕ)) where
   dead_backed : (n n' : ℕ) (t : Body) (m : ℕ) (vs : List Named) (vs' : List Variable) (p p' : Point) (c : Option Caught) (d : Option Declared) (a : Around) (tos : List ℕ) → Alike n n' vs vs' p p'
       → Part tell g (statement m a tos ++ edges t (suc m) a) → Begins m m vs p
       → (Alike n n' vs vs' (behind_all vs p never) (behind (length vs') p' never) → HasSimpleParts t → Tells tell (suc m) (notes n t (suc m) vs (behind_all vs p never)) → Part tell g (edges t (suc m) a)
-        → Begins (suc m) (first t (suc m) a.follows) vs (behind_all vs p never) → IsCaught tell g c d vs → Each tell g (uses n' vs' (behind (length vs') p' never) c t) (mentions t (suc m) vs d))
+      → Begins (suc m) (first t (suc m) a.follows) vs (behind_all vs p never) → IsCaught tell g c d vs → Each tell g (uses n' vs' (behind (length vs') p' never) c t) (mentions t (suc m) vs d))
       → HasSimpleParts t → Tells tell (suc m) (notes n t (suc m) vs (behind_all vs p never)) → IsCaught tell g c d vs → Each tell g (uses n' vs' (behind (length vs') p' never) c t) (mentions t (suc m) vs d)
   dead_backed n n' t m vs vs' p p' c d a tos e i r rest s h k =
       let up : m ≤ suc m = omega arith in
