@@ -292,7 +292,7 @@ module _ (ps : List ParamTree) (b : Body) (s : HasSimpleParts b) where
       bad_lost ps b s many i u e c.0 w f (within_all c.0 w f) x
 
   none_lost : first_stale 0 (routine_uses ps b many) ≡ None → LostIn ps b None
-  none_lost e u w c d x = first_none (routine_uses ps b many) 0 c.0 e (bad_stale c.0 u w (contains_get (routine_mentions ps b) c.0 u c.1 c.2) d x)
+  none_lost e u c x = first_none (routine_uses ps b many) 0 c.0 e (bad_stale c.0 u x.0 (contains_get (routine_mentions ps b) c.0 u c.1 c.2) x.1 x.2)
 
   some_lost : (m : ℕ) (u : Use) (w : Place) → first_stale 0 (routine_uses ps b many) ≡ Some m → slice_get (routine_uses ps b many) m ≡ Some u → first_with (is_lost_with ps b m) 0 (wait_places b) ≡ Some w
       → IsFirstBad ps b (record { at = u.at; declared = u.declared; wait = w })
@@ -318,7 +318,7 @@ module _ (ps : List ParamTree) (b : Body) (s : HasSimpleParts b) where
         told = told_same u.at x.mention.at u.declared x.mention.declared.at w x.wait.at (ap (λ (z : Use). z.at) (sym same_use) ∙ p.fits.at ∙ ap (λ (z : Mention). z.at) same_mention)
             (ap (λ (z : Use). z.declared) (sym same_use) ∙ p.fits.declared ∙ ap (λ (z : Mention). z.declared.at) same_mention) placed;
         bad = x.bad;
-        none_before = λ i v y l h c z. r.before i (let l' : i < r.number = omega (arith, l, mr) in l') (bad_stale i v y h c z);
+        no_use_before = λ i v l h z. r.before i (let l' : i < r.number = omega (arith, l, mr) in l') (bad_stale i v z.0 h z.1 z.2);
         no_wait_before = λ i y l h z. q.before i l (let l' : i < 0 + i + 1 = omega arith in bad_lost ps b s (0 + i + 1) m x.mention x.is_mention i y h l' z);
       }
     where

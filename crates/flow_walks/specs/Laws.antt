@@ -56,28 +56,39 @@ abbrev pub EndsByWalk : Body → Type 0
 EndsByWalk b = HasSimpleParts b → IsTrue (ways b).end ↔ ComesToEnd b
 
 -- A use is bad by a wait: a walk leads from its declaration to it, passes the wait, and doesn't pass the declaration again.
--- A walk passes a wait where it leaves it, and the wait that declares a local is passed before.
+-- A walk passes a point where it leaves it. A wait that declares the local itself is left before the walk begins.
 abbrev pub IsBad : Body → Mention → Wait → Type 0
 IsBad b u w =
-    (left : List ℕ) × Walk (control b) u.declared.point (u.declared.point ∷ left) u.point × Contains left w.point
-    × (Contains left u.declared.point → ⊥)
+    let d = u.declared.point in
+    (left : List ℕ) × Walk (control b) d (d ∷ left) u.point × Contains left w.point × (Contains left d → ⊥)
 
--- the first bad use in the order of the text, and the first wait in the order of the text by which it is bad
+-- a use is bad by some wait
+abbrev pub IsBadUse : Body → Mention → Type 0
+IsBadUse b u = (w : Wait) × Contains (waits b 1) w × IsBad b u w
+
+-- the use and the wait with these numbers, in the order of the text
+abbrev pub IsUse : List ParamTree → Body → ℕ → Mention → Type 0
+IsUse ps b i u = slice_get (routine_mentions ps b) i ≡ Some u
+
+abbrev pub IsWait : Body → ℕ → Wait → Type 0
+IsWait b i w = slice_get (waits b 1) i ≡ Some w
+
+-- the first bad use, and the first wait by which it is bad
 pub record IsFirstBad (ps : List ParamTree) (b : Body) (l : Lost) : Type 0 where
   pub use_number : ℕ
   pub wait_number : ℕ
   pub mention : Mention
   pub wait : Wait
-  pub is_use : slice_get (routine_mentions ps b) use_number ≡ Some mention
-  pub is_wait : slice_get (waits b 1) wait_number ≡ Some wait
+  pub is_use : IsUse ps b use_number mention
+  pub is_wait : IsWait b wait_number wait
   pub told : l ≡ record { at = mention.at; declared = mention.declared.at; wait = wait.at }
   pub bad : IsBad b mention wait
-  pub none_before : (i : ℕ) (u : Mention) (w : Wait) → i < use_number → slice_get (routine_mentions ps b) i ≡ Some u → Contains (waits b 1) w → IsBad b u w → ⊥
-  pub no_wait_before : (i : ℕ) (w : Wait) → i < wait_number → slice_get (waits b 1) i ≡ Some w → IsBad b mention w → ⊥
+  pub no_use_before : (i : ℕ) (u : Mention) → i < use_number → IsUse ps b i u → IsBadUse b u → ⊥
+  pub no_wait_before : (i : ℕ) (w : Wait) → i < wait_number → IsWait b i w → IsBad b mention w → ⊥
 
 -- what is lost in a function or actor
 abbrev pub LostIn : List ParamTree → Body → Option Lost → Type 0
-LostIn ps b None = (u : Mention) (w : Wait) → Contains (routine_mentions ps b) u → Contains (waits b 1) w → IsBad b u w → ⊥
+LostIn ps b None = (u : Mention) → Contains (routine_mentions ps b) u → IsBadUse b u → ⊥
 LostIn ps b (Some l) = IsFirstBad ps b l
 
 -- what is lost in a declaration, and first in declarations
