@@ -15,3 +15,4 @@ mod Examples
 mod Matching
 mod UsesBacked
 mod FirstBad
+mod SimpleParts
