@@ -44,7 +44,7 @@ or_first false b e = absurd (false≢true e)
 round_kept : (w : Ways) → (round w).waited ≡ true → (round (with_step w empty)).waited ≡ true
 round_kept w e = or_first (onward (round w) at_once).waited false (round_kept_cases (round w).fresh (round w).waited e)
 
-caught_point : (m : ℕ) (x : Ident) (d : Declared) → (local_at m x).local ≡ Some d → d.point ≡ m
+pub caught_point : (m : ℕ) (x : Ident) (d : Declared) → (local_at m x).local ≡ Some d → d.point ≡ m
 caught_point m x d e = sym (ap point_of e)
 
 module _ (tell : ℕ → Note) where
@@ -98,7 +98,7 @@ module _ (tell : ℕ → Note) where
   init_exits n _ m vs p a w (assigns at xs v) x = x
   init_exits n _ m vs p a w (modifies at xs c) x = x
 
-  init_below : (i : Body) (m : ℕ) (vs : List Named) → InitKind i → Below m vs → Below (m + points i) (declaring m i vs)
+  pub init_below : (i : Body) (m : ℕ) (vs : List Named) → InitKind i → Below m vs → Below (m + points i) (declaring m i vs)
   init_below _ m vs no_init b = let le : m ≤ m + 0 = omega arith in below_more m (m + 0) vs le b
   init_below _ m vs (declares at v e) b = let le : suc m ≤ m + 1 = omega arith in below_more (suc m) (m + 1) (declared m v ∷ vs) le (below_declared m (declared m v) vs (into_point m v) b)
   init_below _ m vs (assigns at xs v) b = let le : m ≤ m + 1 = omega arith in below_more m (m + 1) vs le b

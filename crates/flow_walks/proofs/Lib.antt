@@ -9,3 +9,7 @@ mod SameEnds
 mod WholeBody
 mod Ending
 mod Examples
+mod Matching
+mod UsesBacked
+mod FirstBad
+mod SimpleParts

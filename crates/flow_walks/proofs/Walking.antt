@@ -231,7 +231,7 @@ module _ (tell : ℕ → Note) (g : List (Edge ℕ)) where
   }
 
   -- from the head of a loop round to it
-  goes_head : (w : Ways) (lo m x : ℕ) → Trail lo m x → Goes (round w) lo x m → Goes (head w) lo m m
+  pub goes_head : (w : Ways) (lo m x : ℕ) → Trail lo m x → Goes (round w) lo x m → Goes (head w) lo m m
   goes_head w lo m x t r = record { fresh = λ e. trail_stay lo m; waited = λ e. on_wait lo m x m t (r.waited e) }
 
   goes_past : (leads : Bool) (r : Reached) (lo a b : ℕ) → (leads ≡ true → Goes r lo a b) → Goes (past leads r) lo a b
