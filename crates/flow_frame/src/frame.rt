@@ -11,9 +11,6 @@ use std::alloc::Global;
 use std::marker::Model;
 use std::mem;
 
-/// How many places may have room behind the last filled one while an actor waits.
-const SPARE: usize = 2;
-
 /// How many places get room at once.
 const ROOM: usize = 8;
 
@@ -67,16 +64,14 @@ fn reach<T: Drop>(
 }
 
 #[tactic(auto, using(crate::proofs::Padded::more_padded))]
-// Gives up the room behind the last filled place, but for a little.
+// Gives up the room behind the last filled place.
 fn cut<T: Drop>(filled: &mut Vec<Option<T>>)
     ensures same { (places : ℕ) → padded places filled.new.items ≡ padded places filled.old.items }
 {
     while let Some(None) = filled.last() {
         filled.pop();
     }
-    if filled.capacity() > filled.len() + SPARE {
-        filled.shrink_to_fit();
-    }
+    filled.shrink_to_fit();
 }
 
 // Whether the first so many of these are empty.
