@@ -69,9 +69,8 @@ impl Heap {
         let Some(references) = self.cells.references(cell) else {
             return false;
         };
-        let alone = self.cells.first_waiter(cell).is_none();
         match loss_of(references, side) {
-            Some(Loss::Gone) => alone,
+            Some(Loss::Gone) => self.cells.first_waiter(cell).is_none(),
             Some(_) => true,
             None => false,
         }
@@ -83,12 +82,12 @@ impl Heap {
         let Some(references) = self.streams.references(cell) else {
             return false;
         };
-        let alone = self.streams.waiter(cell).is_none();
-        let port = self.is_port(cell);
-        let one = references.count(Side::Promise) == 1;
         match loss_of(references, side) {
-            Some(Loss::Gone) => alone,
-            Some(Loss::LastFuture) => !port || (one && alone),
+            Some(Loss::Gone) => self.streams.waiter(cell).is_none(),
+            Some(Loss::LastFuture) => {
+                let one = references.count(Side::Promise) == 1;
+                !self.is_port(cell) || (one && self.streams.waiter(cell).is_none())
+            }
             Some(_) => true,
             None => false,
         }

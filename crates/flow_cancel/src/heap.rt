@@ -35,6 +35,9 @@ const NUMBERS: u64 = 1 << 63;
 /// A count of references may rise where it is below this: then it stays below 2^100.
 const COUNTS: u128 = (1 << 100) - 1;
 
+/// For so many tasks there may be room where none is left.
+const ROOM: usize = 256;
+
 /// The heap of a process: tasks, single results, streams and frames, and what is noted of actors, ports, requests and
 /// the hold on the result of `main`. A call that answers want of memory ends the heap: nothing is said of it then.
 #[derive(Drop)]
@@ -155,6 +158,9 @@ impl Heap {
         ensures task { result ≡ slice_get self.old.tasks 0 }
         ensures rest { self.new ≡ record self.old { tasks = drop 1 self.old.tasks } }
     {
+        if self.tasks.is_empty() && self.tasks.capacity() > ROOM {
+            self.tasks.shrink_to_fit();
+        }
         self.tasks.pop_front()
     }
 

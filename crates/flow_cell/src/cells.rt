@@ -1,6 +1,6 @@
 // Cells by number.
 
-ghost use Rattle.std.specs.Prelude.{◌≡◌, ◌+◌, ◌<◌, ◌^◌, [], ◌++◌, ◌∷◌, IsSome, OnOk, OnErr, IfOk, option_copied, option_map, slice_get, None, Some, true};
+ghost use Rattle.std.specs.Prelude.{◌≡◌, ◌+◌, ◌<◌, ◌^◌, [], ◌++◌, ◌∷◌, IsSome, is_some, OnOk, OnErr, IfOk, option_copied, option_map, slice_get, None, Some, true};
 ghost use Rattle.std.specs.Option.{ForSome};
 ghost use Rattle.flow_numbered.specs.Numbered.{thing, added, removed, next_above, with_thing};
 ghost use Rattle.flow_cell.specs.Cells.{no_counts, count_of, held, released, loss, unset};
@@ -122,6 +122,16 @@ impl<T> Cells<T> {
         ensures { ForSome (thing self.now.things cell.0) (λ c. option_copied result ≡ c.content) }
     {
         self.cells.get(cell.0).unwrap().content.as_ref()
+    }
+
+    /// Whether a cell is set: `None` where no cell has this number.
+    pub fn is_set(&self, cell: CellId) -> Option<bool>
+        ensures { result ≡ option_map (λ c. is_some c.content) (thing self.now.things cell.0) }
+    {
+        match self.cells.get(cell.0) {
+            Some(found) => Some(found.content.is_some()),
+            None => None,
+        }
     }
 
     /// Adds a waiter behind the others of a cell. Where there is no memory, nothing changes.

@@ -1,9 +1,10 @@
 -- Frames as plain data.
-use Rattle.std.specs.Prelude.{ℕ, zero, suc, Bool, true, false, List, [], ◌∷◌, ◌++◌, slice_set, refl}
+use Rattle.std.specs.Prelude.{ℕ, zero, suc, nat_lt, Bool, true, false, List, [], ◌∷◌, ◌++◌, length, slice_index_or, slice_set, if◌then◌else◌, refl}
 use Rattle.std.specs.declared.option.Option.{Option}
 use Rattle.std.specs.declared.option.Option.TheVariants.{None, Some}
 use Rattle.std.specs.Coded.{Coded, code_by, coded×, coded_ℕ, coded_list, coded_option}
 use Rattle.flow_frame.specs.declared.held.Held.{Held}
+use Rattle.flow_frame.specs.declared.standing.Standing.{Standing}
 
 -- A frame: its class, its state, the block and instruction at which it stands, what its places hold, and its
 -- callbacks, the first first.
@@ -53,6 +54,17 @@ module _ {T : Type 0} where
   abbrev pub in_state : ℕ → FrameTree T → FrameTree T
   in_state zero f = record f { state = zero }
   in_state (suc n) f = record f { state = suc n; block = 0; instruction = 0 }
+
+  abbrev pub standing_of : FrameTree T → Standing
+  standing_of f = record { class = f.class; state = f.state; block = f.block; instruction = f.instruction }
+
+  -- what a place holds, if there is such a place, and such a frame
+  abbrev pub held_at : ℕ → FrameTree T → Option T
+  held_at n f = if nat_lt n (length f.places) then slice_index_or f.places n None else None
+
+  abbrev pub held_in : ℕ → Option (FrameTree T) → Option T
+  held_in n None = None
+  held_in n (Some f) = held_at n f
 
   abbrev pub with_place : FrameTree T → ℕ → Option T → FrameTree T
   with_place f n value = record f { places = slice_set f.places n value }

@@ -2,13 +2,17 @@
 
 ghost use Rattle.std.specs.Prelude.{◌≡◌, ℕ, ◌<◌, ◌≤◌, length, OnOk, OnErr, IfOk, option_copied, slice_index_or, None, [], is_none, take};
 ghost use Rattle.std.specs.List.{list_all};
-ghost use Rattle.flow_frame.specs.Frames.{padded, fresh, in_state, with_place, with_callback, first_held, other_held, all_empty};
+ghost use Rattle.flow_frame.specs.Frames.{padded, fresh, in_state, with_place, with_callback, first_held, other_held, all_empty, standing_of, held_at};
 
 use crate::held::Held;
+use crate::standing::Standing;
 use flow_base::memory::NoMemory;
 use std::alloc::Global;
 use std::marker::Model;
 use std::mem;
+
+/// How many places get room at once.
+const ROOM: usize = 8;
 
 /// A frame. Only the places up to the last filled one, or a few more, stand in memory.
 #[derive(Drop)]
@@ -40,11 +44,19 @@ impl<T> Model for Frame<T> {
 }
 
 #[tactic(auto, using(crate::proofs::Padded::more_padded))]
-// Makes room for a place, with nothing in it or in those before it that had no room.
-fn reach<T: Drop>(filled: &mut Vec<Option<T>>, place: usize) -> Result<(), NoMemory>
+// Makes room for a place of so many, with nothing in it or in those before it that had no room.
+fn reach<T: Drop>(
+    filled: &mut Vec<Option<T>>,
+    place: usize,
+    places: usize,
+) -> Result<(), NoMemory>
     ensures same { (places : ℕ) → padded places filled.new.items ≡ padded places filled.old.items }
     ensures ok { OnOk result (place < length filled.new.items) }
 {
+    if filled.capacity() <= place {
+        let room = places.min(place.saturating_add(ROOM));
+        filled.reserve_exact(room.saturating_sub(filled.len()))?;
+    }
     while filled.len() <= place {
         filled.push(None)?;
     }
@@ -97,6 +109,17 @@ impl<T> Frame<T> {
         }
     }
 
+    #[tactic(auto, using(crate::proofs::Padded::length_padded))]
+    /// What a place holds, if there is such a place.
+    pub(crate) fn held(&self, place: u32) -> Option<&T>
+        ensures { option_copied result ≡ held_at place self.now }
+    {
+        if place >= self.places {
+            return None;
+        }
+        self.place(place)
+    }
+
     #[tactic(auto, using(crate::proofs::Padded::at_padded, crate::proofs::Padded::length_padded, crate::proofs::Padded::set_padded, crate::proofs::Padded::past_padded, crate::proofs::Padded::unset_padded))]
     /// Has a place hold something or nothing, and gives what it held. Where there is no memory, nothing changes.
     pub(crate) fn set_place(&mut self, place: u32, value: Option<T>) -> Result<Option<T>, NoMemory>
@@ -112,9 +135,20 @@ impl<T> Frame<T> {
             if value.is_none() {
                 return Ok(None);
             }
-            reach(&mut self.filled, place)?;
+            reach(&mut self.filled, place, self.places as usize)?;
         }
         Ok(mem::replace(&mut self.filled[place], value))
+    }
+
+    pub(crate) fn standing(&self) -> Standing
+        ensures { result ≡ standing_of self.now }
+    {
+        Standing {
+            class: self.class,
+            state: self.state,
+            block: self.block,
+            instruction: self.instruction,
+        }
     }
 
     pub(crate) fn class(&self) -> u32
@@ -188,6 +222,9 @@ impl<T> Frame<T> {
         ensures ok { OnOk result (self.new ≡ with_callback self.old held) }
         ensures err { OnErr result (self.new ≡ self.old) }
     {
+        if self.callbacks.is_empty() {
+            self.callbacks.reserve_exact(1)?;
+        }
         self.callbacks.push(held)?;
         Ok(())
     }

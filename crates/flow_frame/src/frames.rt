@@ -3,10 +3,11 @@
 ghost use Rattle.std.specs.Prelude.{◌≡◌, ◌<◌, length, IsSome, is_some, OnOk, OnErr, IfOk, option_copied, option_map, slice_index_or, Some, None, true, []};
 ghost use Rattle.std.specs.Option.{ForSome};
 ghost use Rattle.flow_numbered.specs.Numbered.{thing, added, removed, next_above, with_thing};
-ghost use Rattle.flow_frame.specs.Frames.{fresh, in_state, with_place, with_callback, first_held, other_held, all_empty};
+ghost use Rattle.flow_frame.specs.Frames.{fresh, in_state, with_place, with_callback, first_held, other_held, all_empty, standing_of, held_in};
 
 use crate::frame::Frame;
 use crate::held::Held;
+use crate::standing::Standing;
 use flow_base::ids::ActorId;
 use flow_base::memory::NoMemory;
 use flow_numbered::numbered::Numbered;
@@ -83,6 +84,16 @@ impl<T> Frames<T> {
         self.frame(actor).place(place)
     }
 
+    /// What a place of the frame of an actor holds: `None` where it is empty, or there is no such frame or place.
+    pub fn held(&self, actor: ActorId, place: u32) -> Option<&T>
+        ensures { option_copied result ≡ held_in place (thing self.now.things actor.0) }
+    {
+        match self.frames.get(actor.0) {
+            Some(frame) => frame.held(place),
+            None => None,
+        }
+    }
+
     #[tactic(auto, using(flow_numbered::proofs::Things::with_same))]
     /// Has a place of a frame hold something or nothing, and gives what it held: `None` where it was empty. Where
     /// there is no memory, nothing changes.
@@ -101,6 +112,26 @@ impl<T> Frames<T> {
         ensures err { OnErr result (self.new ≡ self.old) }
     {
         self.frames.get_mut(actor.0).set_place(place, value)
+    }
+
+    /// Where the frame of an actor stands: `None` where it has none.
+    pub fn standing(&self, actor: ActorId) -> Option<Standing>
+        ensures { result ≡ option_map standing_of (thing self.now.things actor.0) }
+    {
+        match self.frames.get(actor.0) {
+            Some(frame) => Some(frame.standing()),
+            None => None,
+        }
+    }
+
+    /// The count of places that the frame of an actor was entered with: `None` where it has none.
+    pub fn places_of(&self, actor: ActorId) -> Option<u32>
+        ensures { result ≡ option_map (λ f. length f.places) (thing self.now.things actor.0) }
+    {
+        match self.frames.get(actor.0) {
+            Some(frame) => Some(frame.places()),
+            None => None,
+        }
     }
 
     /// The class that the frame was entered with.
@@ -168,6 +199,18 @@ impl<T> Frames<T> {
         ensures { ForSome (thing self.old.things actor.0) (λ f. self.new ≡ with_thing self.old actor.0 (record f { block = at.0; instruction = at.1 })) }
     {
         self.frames.get_mut(actor.0).set_at(at);
+    }
+
+    /// Puts a frame into state 0 at a block and an instruction.
+    pub fn go(&mut self, actor: ActorId, at: (u32, u32))
+    where
+        T: Drop,
+        requires { IsSome (thing self.old.things actor.0) }
+        ensures { ForSome (thing self.old.things actor.0) (λ f. self.new ≡ with_thing self.old actor.0 (record f { state = 0; block = at.0; instruction = at.1 })) }
+    {
+        let frame = self.frames.get_mut(actor.0);
+        frame.set_state(0);
+        frame.set_at(at);
     }
 
     /// The callbacks of a frame, the first first.

@@ -5,5 +5,6 @@
 mod frame;
 pub mod frames;
 pub mod held;
+pub mod standing;
 #[cfg(test)]
 mod tests;

@@ -1,3 +1,3 @@
 pub mod Chains
-pub mod StoreLemmas
+pub mod RowLemmas
 pub mod Things

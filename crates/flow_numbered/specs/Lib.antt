@@ -1,5 +1,5 @@
 pub mod Links
 pub mod Lists
 pub mod Numbered
-pub mod Stores
+pub mod Rows
 pub mod Lending

@@ -1,8 +1,9 @@
-//! Things by number, in the order in which they were numbered, each found, added, changed and removed in constant
-//! time; and the lists in a slab that it is made of.
+//! Things by number, in the order in which they were numbered, each found by a search, added, changed and removed;
+//! and lists in a slab.
 #![tactic(auto)]
 
 pub mod links;
 pub mod numbered;
+mod rows;
 #[cfg(test)]
 mod tests;

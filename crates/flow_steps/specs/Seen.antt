@@ -1,5 +1,5 @@
 -- What an actor sees while it evaluates.
-use Rattle.std.specs.Prelude.{ℕ, ◌+◌, ◌^◌, nat_lt, List, length, slice_index_or, if◌then◌else◌}
+use Rattle.std.specs.Prelude.{ℕ, ◌+◌, ◌^◌, nat_lt, List, if◌then◌else◌}
 use Rattle.std.specs.Option.{option_map, option_and_then}
 use Rattle.std.specs.declared.option.Option.{Option}
 use Rattle.std.specs.declared.option.Option.TheVariants.{None, Some}
@@ -9,7 +9,7 @@ use Rattle.flow_value.specs.Values.{ValueTree, OutcomeTree}
 use Rattle.flow_value.specs.View.{value_of, outcome_of}
 use Rattle.flow_numbered.specs.Numbered.{Store, thing}
 use Rattle.flow_cell.specs.Cells.{CellTree}
-use Rattle.flow_frame.specs.Frames.{FrameTree}
+use Rattle.flow_frame.specs.Frames.{FrameTree, held_in}
 use Rattle.flow_class.specs.declared.class.Slotted.{Slotted}
 use Rattle.flow_class.specs.declared.class.Slotted.TheVariants.{Slot, Local}
 use Rattle.flow_class.specs.Places.{place_named, small_place}
@@ -22,13 +22,9 @@ place_of slots (Local n) = if nat_lt (slots + n) (2 ^ 32) then Some (slots + n) 
 abbrev pub place_in : (slots : ℕ) → List ℕ → Option ℕ
 place_in slots name = option_and_then (place_of slots) (small_place (place_named name))
 
--- what a place of a frame holds
-abbrev pub held_at : ℕ → Option (FrameTree Value) → Option Value
-held_at n None = None
-held_at n (Some f) = if nat_lt n (length f.places) then slice_index_or f.places n None else None
-
+-- what a variable of an actor holds
 abbrev pub value_in : Store (FrameTree Value) → (actor : ℕ) → Option ℕ → Option ValueTree
-value_in frames i place = option_and_then (λ n. option_map value_of (held_at n (thing frames.things i))) place
+value_in frames i place = option_and_then (λ n. option_map value_of (held_in n (thing frames.things i))) place
 
 -- what a single result holds
 abbrev pub content_of : Option (CellTree Outcome) → Option OutcomeTree

@@ -5,6 +5,7 @@ ghost use Rattle.flow_steps.specs.Drops.{DropsOver};
 
 use crate::call::{Call, Step};
 use crate::errors::Fault;
+use crate::frames::Stand;
 use crate::process::Process;
 use flow_base::errors::{OPERATION_CANCELLED, SECOND_WAITER};
 use flow_base::ids::{ActorId, CellId};
@@ -18,20 +19,28 @@ use flow_trace::line::Line;
 use flow_value::value::{Kind, Outcome};
 
 /// The group of the wait that ends a block.
-fn group_at(block: &Block) -> Result<u32, Fault> {
+pub(crate) fn group_at(block: &Block) -> Result<u32, Fault> {
     match &block.last {
         Last::Choose(group) => Ok(*group),
         _ => Err(Fault::Astray),
     }
 }
 
-impl Process {
-    /// The group of the wait at which an actor stands or waits.
-    pub(crate) fn group_of(&self, classes: &ClassProgram, actor: ActorId) -> Result<u32, Fault> {
-        let (_, block) = self.block_of(classes, actor)?;
-        group_at(block)
+/// The number of a branch in its group, from its number through the class.
+pub(crate) fn branch_of(
+    classes: &ClassProgram,
+    stand: Stand<'_>,
+    callback: u32,
+) -> Result<u32, Fault> {
+    let group = group_at(stand.block)?;
+    let home = stand.home(classes, group)?;
+    match callback.checked_sub(home.first) {
+        Some(branch) => Ok(branch),
+        None => Err(Fault::Astray),
     }
+}
 
+impl Process {
     // What a branch takes from a cell that is ready: a copy of the outcome, the first element, or else the end.
     fn taken_from(&mut self, cell: CellId) -> Result<Outcome, Fault> {
         match self.kind_at(cell) {
@@ -67,38 +76,32 @@ impl Process {
     }
 
     /// An actor leaves its wait for a task: its operands are dropped, then its locals, and then the task comes.
-    pub(crate) fn leave_for(
-        &mut self,
-        classes: &ClassProgram,
-        actor: ActorId,
-        task: Task,
-    ) -> Result<(), Fault>
+    pub(crate) fn leave_for(&mut self, stand: Stand<'_>, task: Task) -> Result<(), Fault>
         ensures { OnOk result (DropsOver (task ∷ self.old.heap.tasks) self.new.heap.tasks) }
     {
-        let class = self.class_of(classes, actor)?;
-        let (place, block) = self.block_of(classes, actor)?;
+        let actor = stand.actor;
         self.heap.push(task)?;
-        self.lose_locals(class, actor)?;
+        self.lose_locals(stand.class, actor)?;
         self.leave(actor)?;
-        let last = u32::try_from(block.body.len()).unwrap_or(u32::MAX);
-        self.go(actor, place, last)?;
+        let last = u32::try_from(stand.block.body.len()).unwrap_or(u32::MAX);
+        self.go(actor, stand.place, last)?;
         Ok(())
     }
 
     /// A branch, numbered from 0 in its group, takes what its cell gives: a turn, the line; then the actor leaves its wait.
     pub(crate) fn take(
         &mut self,
-        classes: &ClassProgram,
-        actor: ActorId,
+        stand: Stand<'_>,
         branch: u32,
         cell: CellId,
     ) -> Result<Step, Fault> {
         if !self.turn() {
             return Ok(None);
         }
-        let group = self.group_of(classes, actor)?;
+        let actor = stand.actor;
+        let group = group_at(stand.block)?;
         let outcome = Box::new(self.alloc, self.taken_from(cell)?)?;
-        self.leave_for(classes, actor, Task::Give(actor, branch, outcome))?;
+        self.leave_for(stand, Task::Give(actor, branch, outcome))?;
         Ok(Some(Call::Line(Line::Take(actor, group, branch))))
     }
 
@@ -118,16 +121,18 @@ impl Process {
         self.heap.frames_mut().add_callback(actor, held)?;
         if self.heap.marked(actor) {
             self.pop_run(actor)?;
+            let stand = self.stand_of(classes, actor)?;
             let thrown = Task::Throw(actor, OPERATION_CANCELLED);
-            self.leave_for(classes, actor, thrown)?;
+            self.leave_for(stand, thrown)?;
             return Ok(None);
         }
         if !self.is_ready(cell) {
             return Ok(None);
         }
         self.pop_run(actor)?;
-        let branch = self.branch_of(classes, actor, callback)?;
-        self.take(classes, actor, branch, cell)
+        let stand = self.stand_of(classes, actor)?;
+        let branch = branch_of(classes, stand, callback)?;
+        self.take(stand, branch, cell)
     }
 
     // Takes the actor's own task off the stack.
@@ -135,21 +140,6 @@ impl Process {
         match self.heap.next_task() {
             Some(Task::Run(top)) if top == actor => Ok(()),
             _ => Err(Fault::Astray),
-        }
-    }
-
-    /// The number of a branch in its group, from its number through the class.
-    pub(crate) fn branch_of(
-        &self,
-        classes: &ClassProgram,
-        actor: ActorId,
-        callback: u32,
-    ) -> Result<u32, Fault> {
-        let group = self.group_of(classes, actor)?;
-        let home = self.home_of(classes, actor, group)?;
-        match callback.checked_sub(home.first) {
-            Some(branch) => Ok(branch),
-            None => Err(Fault::Astray),
         }
     }
 
@@ -228,20 +218,20 @@ impl Process {
     pub(crate) fn wait(
         &mut self,
         classes: &ClassProgram,
-        actor: ActorId,
+        stand: Stand<'_>,
         group: u32,
     ) -> Result<Step, Fault> {
+        let actor = stand.actor;
         if let Some(held) = self.first_ready(actor) {
-            let branch = self.branch_of(classes, actor, held.callback)?;
-            return self.take(classes, actor, branch, held.cell);
+            let branch = branch_of(classes, stand, held.callback)?;
+            return self.take(stand, branch, held.cell);
         }
         if !self.register_all(actor)? {
             let thrown = Task::Throw(actor, SECOND_WAITER);
-            self.leave_for(classes, actor, thrown)?;
+            self.leave_for(stand, thrown)?;
             return Ok(None);
         }
-        let class = self.class_of(classes, actor)?;
-        self.lose_locals(class, actor)?;
+        self.lose_locals(stand.class, actor)?;
         self.suspend(actor, group)?;
         Ok(Some(Call::Line(Line::Wait(actor, group))))
     }

@@ -1,7 +1,6 @@
 // The frames of a process: places, positions, and values that leave them.
 
-ghost use Rattle.std.specs.Prelude.{◌≡◌, IsSome, OnOk};
-ghost use Rattle.flow_numbered.specs.Numbered.{thing};
+ghost use Rattle.std.specs.Prelude.{◌≡◌, OnOk};
 ghost use Rattle.flow_steps.specs.Drops.{DropsOver};
 
 use crate::errors::Fault;
@@ -12,7 +11,7 @@ use flow_class::class::{Block, Class, Group, Slotted};
 use flow_class::places::place_named;
 use flow_class::program::{ClassProgram, Home};
 use flow_eval::locals::{put_in, read_in};
-use flow_frame::frames::Frames;
+use flow_frame::standing::Standing;
 use flow_tree::decl::RecordDecl;
 use flow_tree::stmt::Target;
 use flow_tree::ty::Ident;
@@ -38,42 +37,62 @@ fn may_refer(value: &Value) -> bool {
     matches!(value, Value::Struct(_, _) | Value::Ref(_, _))
 }
 
-// A frame that is there goes on at a block and an instruction.
-fn stand(frames: &mut Frames<Value>, actor: ActorId, at: (u32, u32))
-    requires { IsSome (thing frames.old.things actor.0) }
-{
-    frames.set_state(actor, 0);
-    frames.set_at(actor, at);
+/// Where an actor stands: the number of its class and the class, and the block and the instruction; where it waits, the
+/// block of the wait.
+#[derive(Clone, Copy)]
+pub(crate) struct Stand<'a> {
+    pub(crate) actor: ActorId,
+    pub(crate) number: u32,
+    pub(crate) class: &'a Class,
+    pub(crate) place: u32,
+    pub(crate) block: &'a Block,
+    pub(crate) instruction: u32,
 }
 
-impl Process {
-    /// The class of an actor that has a frame.
-    pub(crate) fn class_of<'a>(
-        &self,
-        classes: &'a ClassProgram,
-        actor: ActorId,
-    ) -> Result<&'a Class, Fault> {
-        if !self.heap.frames().contains(actor) {
-            return Err(Fault::Astray);
-        }
-        match classes.class(self.heap.frames().class(actor)) {
-            Some(class) => Ok(class),
+/// The number of the block in which a frame stands; where its actor waits, that of the wait.
+fn block_number(classes: &ClassProgram, at: Standing) -> Option<u32> {
+    if at.state == 0 {
+        return Some(at.block);
+    }
+    Some(classes.home(at.class, at.state)?.block)
+}
+
+/// Where the frame of an actor stands in its class.
+fn stand_in(classes: &ClassProgram, actor: ActorId, at: Standing) -> Option<Stand<'_>> {
+    let class = classes.class(at.class)?;
+    let place = block_number(classes, at)?;
+    Some(Stand {
+        actor,
+        number: at.class,
+        class,
+        place,
+        block: class.blocks.get(place as usize)?,
+        instruction: at.instruction,
+    })
+}
+
+impl Stand<'_> {
+    /// Where the wait of a group of its class is.
+    pub(crate) fn home(&self, classes: &ClassProgram, group: u32) -> Result<Home, Fault> {
+        match classes.home(self.number, group) {
+            Some(home) => Ok(home),
             None => Err(Fault::Astray),
         }
     }
+}
 
-    /// Where the wait of a group of an actor's class is.
-    pub(crate) fn home_of(
+impl Process {
+    /// Where an actor that has a frame stands.
+    pub(crate) fn stand_of<'a>(
         &self,
-        classes: &ClassProgram,
+        classes: &'a ClassProgram,
         actor: ActorId,
-        group: u32,
-    ) -> Result<Home, Fault> {
-        if !self.heap.frames().contains(actor) {
+    ) -> Result<Stand<'a>, Fault> {
+        let Some(at) = self.heap.frames().standing(actor) else {
             return Err(Fault::Astray);
-        }
-        match classes.home(self.heap.frames().class(actor), group) {
-            Some(home) => Ok(home),
+        };
+        match stand_in(classes, actor, at) {
+            Some(stand) => Ok(stand),
             None => Err(Fault::Astray),
         }
     }
@@ -96,7 +115,10 @@ impl Process {
     ) -> Result<Option<Value>, Fault>
         ensures { self.new.heap.tasks ≡ self.old.heap.tasks }
     {
-        if !self.heap.frames().contains(actor) || place >= self.heap.frames().places(actor) {
+        let Some(places) = self.heap.frames().places_of(actor) else {
+            return Err(Fault::Astray);
+        };
+        if place >= places {
             return Err(Fault::Astray);
         }
         Ok(self.heap.frames_mut().set_slot(actor, place, value)?)
@@ -109,49 +131,14 @@ impl Process {
         if !self.heap.frames().contains(actor) {
             return Err(Fault::Astray);
         }
-        stand(self.heap.frames_mut(), actor, (block, instruction));
+        self.heap.frames_mut().go(actor, (block, instruction));
         Ok(())
     }
 
-    /// The block and the instruction at which a frame stands.
-    pub(crate) fn position(&self, actor: ActorId) -> Result<(u32, u32), Fault> {
-        if !self.heap.frames().contains(actor) {
-            return Err(Fault::Astray);
-        }
-        Ok(self.heap.frames().at(actor))
-    }
-
-    /// Has a frame go on at its next instruction.
-    pub(crate) fn go_on(&mut self, actor: ActorId) -> Result<(), Fault> {
-        let (block, instruction) = self.position(actor)?;
-        match instruction.checked_add(1) {
-            Some(next) => self.go(actor, block, next),
-            None => Err(Fault::Astray),
-        }
-    }
-
-    // The number of the block in which a frame stands; where its actor waits, that of the wait.
-    fn block_number(&self, classes: &ClassProgram, actor: ActorId) -> Result<u32, Fault> {
-        if !self.heap.frames().contains(actor) {
-            return Err(Fault::Astray);
-        }
-        let state = self.heap.frames().state(actor);
-        if state != 0 {
-            return Ok(self.home_of(classes, actor, state)?.block);
-        }
-        Ok(self.heap.frames().at(actor).0)
-    }
-
-    /// The block in which a frame stands; where its actor waits, that of the wait.
-    pub(crate) fn block_of<'a>(
-        &self,
-        classes: &'a ClassProgram,
-        actor: ActorId,
-    ) -> Result<(u32, &'a Block), Fault> {
-        let class = self.class_of(classes, actor)?;
-        let place = self.block_number(classes, actor)?;
-        match class.blocks.get(place as usize) {
-            Some(block) => Ok((place, block)),
+    /// Has the frame of an actor go on at its next instruction.
+    pub(crate) fn go_on(&mut self, stand: Stand<'_>) -> Result<(), Fault> {
+        match stand.instruction.checked_add(1) {
+            Some(next) => self.go(stand.actor, stand.place, next),
             None => Err(Fault::Astray),
         }
     }
@@ -196,22 +183,21 @@ impl Process {
     pub(crate) fn assign(
         &mut self,
         classes: &ClassProgram,
-        actor: ActorId,
+        stand: Stand<'_>,
         target: &Target,
         value: Value,
     ) -> Result<(), Fault> {
-        let class = self.class_of(classes, actor)?;
         let Some((first, path)) = target.path.split_first() else {
             return Err(Fault::Astray);
         };
         let Some(place) = place_named(first.name.bytes()) else {
             return Err(Fault::Astray);
         };
-        let place = self.number_of(class, place)?;
+        let place = self.number_of(stand.class, place)?;
         if path.is_empty() {
-            return self.replace(actor, place, value);
+            return self.replace(stand.actor, place, value);
         }
-        self.replace_part(&classes.raw().records, actor, place, path, value)
+        self.replace_part(&classes.raw().records, stand.actor, place, path, value)
     }
 
     /// The number of a place of a class in its frames.
@@ -259,6 +245,9 @@ impl Process {
     fn empty(&mut self, actor: ActorId, place: u32) -> Result<(), Fault>
         ensures { OnOk result (DropsOver self.old.heap.tasks self.new.heap.tasks) }
     {
+        if self.heap.frames().held(actor, place).is_none() {
+            return Ok(());
+        }
         match self.put(actor, place, None)? {
             Some(value) => Ok(self.heap.push_drops(&value)?),
             None => Ok(()),

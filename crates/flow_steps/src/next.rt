@@ -3,7 +3,7 @@
 use crate::call::{Call, Goal, Step};
 use crate::effects::{Effectful, effect_in};
 use crate::errors::Fault;
-use crate::frames::group_of;
+use crate::frames::{Stand, group_of};
 use crate::process::Process;
 use crate::seen::Contents;
 use flow_ast::predefined::{predefined_call, predefined_method};
@@ -89,16 +89,15 @@ impl Process {
     fn value(
         &mut self,
         classes: &ClassProgram,
-        actor: ActorId,
+        stand: Stand<'_>,
         expr: &Expr,
     ) -> Result<Found<Value>, Fault> {
-        let class = self.class_of(classes, actor)?;
         let mut turns = Turns { left: self.left };
         let came_to = {
             let contents = Contents {
                 cells: self.heap.cells(),
             };
-            let places = self.variables(class, actor);
+            let places = self.variables(stand.class, stand.actor);
             let setting = self.setting(classes, &contents);
             evaluate(
                 &setting,
@@ -108,23 +107,22 @@ impl Process {
                 &mut turns,
             )
         };
-        self.found(actor, came_to, turns.left)
+        self.found(stand.actor, came_to, turns.left)
     }
 
     // The values of arguments for an actor.
     fn values(
         &mut self,
         classes: &ClassProgram,
-        actor: ActorId,
+        stand: Stand<'_>,
         args: &[Expr],
     ) -> Result<Found<Vec<Value>>, Fault> {
-        let class = self.class_of(classes, actor)?;
         let mut turns = Turns { left: self.left };
         let came_to = {
             let contents = Contents {
                 cells: self.heap.cells(),
             };
-            let places = self.variables(class, actor);
+            let places = self.variables(stand.class, stand.actor);
             let setting = self.setting(classes, &contents);
             evaluate_all(
                 &setting,
@@ -134,18 +132,18 @@ impl Process {
                 &mut turns,
             )
         };
-        self.found(actor, came_to, turns.left)
+        self.found(stand.actor, came_to, turns.left)
     }
 
     /// An actor takes its next step, by its instruction.
     pub(crate) fn run(&mut self, classes: &ClassProgram, actor: ActorId) -> Result<Step, Fault> {
-        let (_, block) = self.block_of(classes, actor)?;
-        let (_, instruction) = self.position(actor)?;
-        if let Some(instr) = block.body.get(instruction as usize) {
-            return self.instruction(classes, actor, instr);
+        let stand = self.stand_of(classes, actor)?;
+        let block = stand.block;
+        if let Some(instr) = block.body.get(stand.instruction as usize) {
+            return self.instruction(classes, stand, instr);
         }
-        if instruction as usize == block.body.len() {
-            return self.last(classes, actor, &block.last);
+        if stand.instruction as usize == block.body.len() {
+            return self.last(classes, stand, &block.last);
         }
         Err(Fault::Astray)
     }
@@ -153,24 +151,23 @@ impl Process {
     fn instruction(
         &mut self,
         classes: &ClassProgram,
-        actor: ActorId,
+        stand: Stand<'_>,
         instr: &Instr,
     ) -> Result<Step, Fault> {
         match instr {
-            Instr::Set(target, expr) => self.set_path(classes, actor, target, expr),
+            Instr::Set(target, expr) => self.set_path(classes, stand, target, expr),
             Instr::Effect(_, expr) => match effect_in(classes, expr) {
                 Some((effect, args)) => {
-                    self.ask_effect(classes, actor, Goal::Stored, effect, args)
+                    self.ask_effect(classes, stand, Goal::Stored, effect, args)
                 }
                 None => Err(Fault::Astray),
             },
-            Instr::New(place) => self.new_promise(classes, actor, *place),
-            Instr::Act(target, args) => self.act(classes, actor, target, args),
+            Instr::New(place) => self.new_promise(classes, stand, *place),
+            Instr::Act(target, args) => self.act(classes, stand, target, args),
             Instr::Drop(locals) => {
-                let class = self.class_of(classes, actor)?;
-                self.go_on(actor)?;
-                self.heap.push(Task::Run(actor))?;
-                self.drop_locals(class, actor, locals)?;
+                self.go_on(stand)?;
+                self.heap.push(Task::Run(stand.actor))?;
+                self.drop_locals(stand.class, stand.actor, locals)?;
                 Ok(None)
             }
         }
@@ -180,17 +177,17 @@ impl Process {
     fn set_path(
         &mut self,
         classes: &ClassProgram,
-        actor: ActorId,
+        stand: Stand<'_>,
         target: &Target,
         expr: &Expr,
     ) -> Result<Step, Fault> {
-        let Found::Value(value) = self.value(classes, actor, expr)? else {
+        let Found::Value(value) = self.value(classes, stand, expr)? else {
             return Ok(None);
         };
         self.hold_value(&value)?;
-        self.heap.push(Task::Run(actor))?;
-        self.assign(classes, actor, target, value)?;
-        self.go_on(actor)?;
+        self.heap.push(Task::Run(stand.actor))?;
+        self.assign(classes, stand, target, value)?;
+        self.go_on(stand)?;
         Ok(None)
     }
 
@@ -198,13 +195,13 @@ impl Process {
     fn ask_effect(
         &mut self,
         classes: &ClassProgram,
-        actor: ActorId,
+        stand: Stand<'_>,
         goal: Goal,
         effect: Effectful,
         args: &[Expr],
     ) -> Result<Step, Fault> {
-        match self.values(classes, actor, args)? {
-            Found::Value(args) => self.effect(classes, actor, goal, effect, args),
+        match self.values(classes, stand, args)? {
+            Found::Value(args) => self.effect(classes, stand.actor, goal, effect, args),
             Found::Stopped => Ok(None),
         }
     }
@@ -213,13 +210,12 @@ impl Process {
     fn new_promise(
         &mut self,
         classes: &ClassProgram,
-        actor: ActorId,
+        stand: Stand<'_>,
         place: Slotted,
     ) -> Result<Step, Fault> {
-        let class = self.class_of(classes, actor)?;
-        match type_at(class, place).and_then(promise_kind) {
+        match type_at(stand.class, place).and_then(promise_kind) {
             Some(kind) => {
-                self.gives_new(actor, Goal::Stored, kind)?;
+                self.gives_new(stand.actor, Goal::Stored, kind)?;
                 Ok(None)
             }
             None => Err(Fault::Astray),
@@ -230,41 +226,39 @@ impl Process {
     fn act(
         &mut self,
         classes: &ClassProgram,
-        actor: ActorId,
+        stand: Stand<'_>,
         target: &Target,
         args: &[Expr],
     ) -> Result<Step, Fault> {
         let Some((last, before)) = target.path.split_last() else {
             return Err(Fault::Astray);
         };
-        let Found::Value(args) = self.values(classes, actor, args)? else {
+        let Found::Value(args) = self.values(classes, stand, args)? else {
             return Ok(None);
         };
         let name = last.name.bytes();
         let Some((first, path)) = before.split_first() else {
-            return self.plain_act(classes, actor, name, args);
+            return self.plain_act(classes, stand, name, args);
         };
-        let class = self.class_of(classes, actor)?;
-        let Some((kind, cell)) = self.reference_at(classes, class, actor, first, path) else {
+        let Some((kind, cell)) = self.reference_at(classes, stand, first, path) else {
             return Err(Fault::Astray);
         };
         let Some(method) = predefined_method(name) else {
             return Err(Fault::Astray);
         };
-        self.go_on(actor)?;
-        self.method_act(actor, method, kind, cell, args)
+        self.go_on(stand)?;
+        self.method_act(stand.actor, method, kind, cell, args)
     }
 
     // The reference to which a path of a class leads.
     fn reference_at(
         &self,
         classes: &ClassProgram,
-        class: &Class,
-        actor: ActorId,
+        stand: Stand<'_>,
         first: &Ident,
         path: &[Ident],
     ) -> Option<(Kind, CellId)> {
-        let places = self.variables(class, actor);
+        let places = self.variables(stand.class, stand.actor);
         let root = places.value(first.name.bytes())?;
         match read_in(&classes.raw().records, root, path)? {
             Value::Ref(kind, cell) => Some((*kind, *cell)),
@@ -276,20 +270,20 @@ impl Process {
     fn plain_act(
         &mut self,
         classes: &ClassProgram,
-        actor: ActorId,
+        stand: Stand<'_>,
         name: &[u8],
         args: Vec<Value>,
     ) -> Result<Step, Fault> {
         if let Some(call) = predefined_call(name) {
-            self.go_on(actor)?;
-            return self.predefined_act(actor, call, args);
+            self.go_on(stand)?;
+            return self.predefined_act(stand.actor, call, args);
         }
         let functions = &classes.raw().functions;
         let place = functions
             .iter()
             .position(|function| function.name.name.bytes() == name);
         match place {
-            Some(place) => self.call_function(classes, actor, place, args),
+            Some(place) => self.call_function(classes, stand, place, args),
             None => Err(Fault::Astray),
         }
     }
@@ -297,7 +291,7 @@ impl Process {
     fn call_function(
         &mut self,
         classes: &ClassProgram,
-        actor: ActorId,
+        stand: Stand<'_>,
         function: usize,
         args: Vec<Value>,
     ) -> Result<Step, Fault> {
@@ -312,37 +306,42 @@ impl Process {
             }
             run_at::<VarList, Contents>(&setting, CALL_DEPTH, function, args, &mut turns)
         };
-        match self.found(actor, came_to, turns.left)? {
+        match self.found(stand.actor, came_to, turns.left)? {
             Found::Value(_) => {
-                self.go_on(actor)?;
-                self.run_on(actor)?;
+                self.go_on(stand)?;
+                self.run_on(stand.actor)?;
                 Ok(None)
             }
             Found::Stopped => Ok(None),
         }
     }
 
-    fn last(&mut self, classes: &ClassProgram, actor: ActorId, last: &Last) -> Result<Step, Fault> {
+    fn last(
+        &mut self,
+        classes: &ClassProgram,
+        stand: Stand<'_>,
+        last: &Last,
+    ) -> Result<Step, Fault> {
         match last {
             Last::Goto(block) => {
-                self.go(actor, *block, 0)?;
-                self.run_on(actor)?;
+                self.go(stand.actor, *block, 0)?;
+                self.run_on(stand.actor)?;
                 Ok(None)
             }
             Last::Pass(block) => {
-                self.go(actor, *block, 0)?;
+                self.go(stand.actor, *block, 0)?;
                 if !self.turn() {
                     return Ok(None);
                 }
-                self.run_on(actor)?;
+                self.run_on(stand.actor)?;
                 Ok(None)
             }
-            Last::Test(expr, yes, no) => self.test(classes, actor, expr, *yes, *no),
-            Last::Choose(group) => self.choose(classes, actor, *group),
-            Last::Return(expr) => self.finish_with(classes, actor, expr),
-            Last::Throw(expr) => match self.value(classes, actor, expr)? {
+            Last::Test(expr, yes, no) => self.test(classes, stand, expr, *yes, *no),
+            Last::Choose(group) => self.choose(classes, stand, *group),
+            Last::Return(expr) => self.finish_with(classes, stand, expr),
+            Last::Throw(expr) => match self.value(classes, stand, expr)? {
                 Found::Value(Value::Error(error)) => {
-                    self.throw(actor, error)?;
+                    self.throw(stand.actor, error)?;
                     Ok(None)
                 }
                 Found::Value(_) => Err(Fault::Astray),
@@ -354,19 +353,19 @@ impl Process {
     fn test(
         &mut self,
         classes: &ClassProgram,
-        actor: ActorId,
+        stand: Stand<'_>,
         expr: &Expr,
         yes: u32,
         no: u32,
     ) -> Result<Step, Fault> {
-        let next = match self.value(classes, actor, expr)? {
+        let next = match self.value(classes, stand, expr)? {
             Found::Value(Value::Bool(true)) => yes,
             Found::Value(Value::Bool(false)) => no,
             Found::Value(_) => return Err(Fault::Astray),
             Found::Stopped => return Ok(None),
         };
-        self.go(actor, next, 0)?;
-        self.run_on(actor)?;
+        self.go(stand.actor, next, 0)?;
+        self.run_on(stand.actor)?;
         Ok(None)
     }
 
@@ -374,39 +373,38 @@ impl Process {
     fn choose(
         &mut self,
         classes: &ClassProgram,
-        actor: ActorId,
+        stand: Stand<'_>,
         group: u32,
     ) -> Result<Step, Fault> {
-        let class = self.class_of(classes, actor)?;
-        let home = self.home_of(classes, actor, group)?;
-        let kept = self.operands(actor);
-        let Some(branches) = group_of(class, group) else {
+        let home = stand.home(classes, group)?;
+        let kept = self.operands(stand.actor);
+        let Some(branches) = group_of(stand.class, group) else {
             return Err(Fault::Astray);
         };
         let Some(callback) = branches.callbacks.get(kept) else {
-            return self.wait(classes, actor, group);
+            return self.wait(classes, stand, group);
         };
         let number = home
             .first
             .saturating_add(u32::try_from(kept).unwrap_or(u32::MAX));
-        self.operand(classes, actor, number, callback)
+        self.operand(classes, stand, number, callback)
     }
 
     fn operand(
         &mut self,
         classes: &ClassProgram,
-        actor: ActorId,
+        stand: Stand<'_>,
         number: u32,
         callback: &Callback,
     ) -> Result<Step, Fault> {
         if let Some((effect, args)) = effect_in(classes, &callback.operand) {
-            return self.ask_effect(classes, actor, Goal::Kept(number), effect, args);
+            return self.ask_effect(classes, stand, Goal::Kept(number), effect, args);
         }
-        match self.value(classes, actor, &callback.operand)? {
+        match self.value(classes, stand, &callback.operand)? {
             Found::Value(Value::Ref(kind, cell)) => {
                 self.hold(kind, cell)?;
-                self.heap.push(Task::Run(actor))?;
-                self.heap.push(Task::Keep(actor, number, cell))?;
+                self.heap.push(Task::Run(stand.actor))?;
+                self.heap.push(Task::Keep(stand.actor, number, cell))?;
                 Ok(None)
             }
             Found::Value(_) => Err(Fault::Astray),
@@ -418,16 +416,16 @@ impl Process {
     fn finish_with(
         &mut self,
         classes: &ClassProgram,
-        actor: ActorId,
+        stand: Stand<'_>,
         expr: &Expr,
     ) -> Result<Step, Fault> {
-        let Found::Value(value) = self.value(classes, actor, expr)? else {
+        let Found::Value(value) = self.value(classes, stand, expr)? else {
             return Ok(None);
         };
         self.hold_value(&value)?;
         let outcome = Box::new(self.alloc, Outcome::Value(value))?;
-        self.heap.push(Task::Close(actor, outcome))?;
-        self.lose_all(actor)?;
+        self.heap.push(Task::Close(stand.actor, outcome))?;
+        self.lose_all(stand.actor)?;
         Ok(None)
     }
 }

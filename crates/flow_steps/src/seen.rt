@@ -5,7 +5,7 @@ ghost use Rattle.std.specs.Option.{option_map, option_copied};
 ghost use Rattle.flow_value.specs.Values.{ValueTree, OutcomeTree};
 ghost use Rattle.flow_value.specs.View.{value_of, outcome_of};
 ghost use Rattle.flow_numbered.specs.Numbered.{thing};
-ghost use Rattle.flow_steps.specs.Seen.{place_of, place_in, held_at, value_in, content_in};
+ghost use Rattle.flow_steps.specs.Seen.{place_of, place_in, value_in, content_in};
 
 use flow_base::ids::{ActorId, CellId};
 use flow_cell::cells::Cells;
@@ -26,16 +26,6 @@ pub(crate) fn place_of(slots: u32, place: Slotted) -> Option<u32>
     }
 }
 
-/// What a place of a frame holds, if there is such a place and it holds something.
-pub(crate) fn held(frames: &Frames<Value>, actor: ActorId, place: u32) -> Option<&Value>
-    ensures { option_copied result ≡ held_at place (thing frames.now.things actor.0) }
-{
-    if !frames.contains(actor) || place >= frames.places(actor) {
-        return None;
-    }
-    frames.slot(actor, place)
-}
-
 /// The variables of an actor: the places of its frame by their names in class text.
 #[derive(Clone, Copy)]
 pub(crate) struct Places<'a> {
@@ -52,7 +42,7 @@ impl Variables for Places<'_> {
             return None;
         };
         match place_of(self.slots, place) {
-            Some(place) => held(self.frames, self.actor, place),
+            Some(place) => self.frames.held(self.actor, place),
             None => None,
         }
     }

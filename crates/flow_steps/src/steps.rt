@@ -6,9 +6,10 @@ ghost use Rattle.flow_numbered.specs.Numbered.{thing};
 ghost use Rattle.flow_steps.specs.Doing.{departed};
 ghost use Rattle.flow_steps.specs.Drops.{DropsOver};
 
+use crate::branches::{branch_of, group_at};
 use crate::call::{Call, Step};
 use crate::errors::Fault;
-use crate::frames::group_of;
+use crate::frames::{Stand, group_of};
 use crate::process::Process;
 use flow_base::ids::{ActorId, CellId, ErrorCode};
 use flow_cancel::task::Task;
@@ -73,30 +74,23 @@ impl Process {
                 return Ok(None);
             }
         };
-        let class = self.class_of(classes, actor)?;
-        let group = self.group_of(classes, actor)?;
-        let Some(callback) = callback_at(class, group, branch) else {
+        let stand = self.stand_of(classes, actor)?;
+        let group = group_at(stand.block)?;
+        let Some(callback) = callback_at(stand.class, group, branch) else {
             return Err(Fault::Astray);
         };
         self.heap.push(Task::Run(actor))?;
-        self.bind(classes, actor, callback, value)?;
+        self.bind(stand, callback, value)?;
         self.go(actor, callback.block, 0)?;
         Ok(None)
     }
 
     // The value of a branch goes into the place of its callback, or is dropped.
-    fn bind(
-        &mut self,
-        classes: &ClassProgram,
-        actor: ActorId,
-        callback: &Callback,
-        value: Value,
-    ) -> Result<(), Fault> {
-        let class = self.class_of(classes, actor)?;
+    fn bind(&mut self, stand: Stand<'_>, callback: &Callback, value: Value) -> Result<(), Fault> {
         match callback.into {
             Some(place) => {
-                let place = self.number_of(class, place)?;
-                self.replace(actor, place, value)
+                let place = self.number_of(stand.class, place)?;
+                self.replace(stand.actor, place, value)
             }
             None => Ok(self.heap.push_drops(&value)?),
         }
@@ -109,18 +103,16 @@ impl Process {
         actor: ActorId,
         value: Value,
     ) -> Result<Step, Fault> {
-        let class = self.class_of(classes, actor)?;
-        let (_, block) = self.block_of(classes, actor)?;
-        let (_, instruction) = self.position(actor)?;
-        match block.body.get(instruction as usize) {
-            Some(Instr::Effect(target, _)) => self.assign(classes, actor, target, value)?,
+        let stand = self.stand_of(classes, actor)?;
+        match stand.block.body.get(stand.instruction as usize) {
+            Some(Instr::Effect(target, _)) => self.assign(classes, stand, target, value)?,
             Some(Instr::New(place)) => {
-                let place = self.number_of(class, *place)?;
+                let place = self.number_of(stand.class, *place)?;
                 self.replace(actor, place, value)?;
             }
             _ => return Err(Fault::Astray),
         }
-        self.go_on(actor)?;
+        self.go_on(stand)?;
         Ok(None)
     }
 
@@ -132,9 +124,9 @@ impl Process {
         actor: ActorId,
         error: ErrorCode,
     ) -> Result<Step, Fault> {
-        let (_, block) = self.block_of(classes, actor)?;
-        match &block.catcher {
-            Some(catcher) => self.caught(classes, actor, catcher, error)?,
+        let stand = self.stand_of(classes, actor)?;
+        match &stand.block.catcher {
+            Some(catcher) => self.caught(stand, catcher, error)?,
             None => {
                 let outcome = Box::new(self.alloc, Outcome::Error(error))?;
                 self.heap.push(Task::Close(actor, outcome))?;
@@ -147,12 +139,12 @@ impl Process {
 
     fn caught(
         &mut self,
-        classes: &ClassProgram,
-        actor: ActorId,
+        stand: Stand<'_>,
         catcher: &Catcher,
         error: ErrorCode,
     ) -> Result<(), Fault> {
-        let class = self.class_of(classes, actor)?;
+        let actor = stand.actor;
+        let class = stand.class;
         self.heap.push(Task::Catch(actor, error))?;
         self.drop_locals(class, actor, &catcher.drops)?;
         if let Some(local) = catcher.error {
@@ -208,8 +200,9 @@ impl Process {
             return self.lose(kind, cell);
         };
         self.heap.push(Task::Fire(cell))?;
-        let branch = self.branch_of(classes, waiter.actor, waiter.callback)?;
-        self.take(classes, waiter.actor, branch, cell)
+        let stand = self.stand_of(classes, waiter.actor)?;
+        let branch = branch_of(classes, stand, waiter.callback)?;
+        self.take(stand, branch, cell)
     }
 
     // The actor is gone: a turn and the line; then its result is set, where a future refers to it, and otherwise the cell

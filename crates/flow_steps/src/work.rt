@@ -240,10 +240,10 @@ impl Process {
 
     /// Whether a wait at a cell needn't suspend.
     pub(crate) fn is_ready(&self, cell: CellId) -> bool {
-        if self.heap.cells().references(cell).is_some() {
-            return self.heap.cells().content(cell).is_some();
+        match self.heap.cells().is_set(cell) {
+            Some(set) => set,
+            None => self.heap.streams().is_ready(cell).unwrap_or(false),
         }
-        self.heap.streams().references(cell).is_some() && self.heap.streams().ready(cell)
     }
 
     /// How many futures of a single result count.

@@ -156,6 +156,16 @@ impl<T> Streams<T> {
         self.stream(cell).ready()
     }
 
+    /// Whether a stream has an element or an end: `None` where no stream has this number.
+    pub fn is_ready(&self, cell: CellId) -> Option<bool>
+        ensures { result ≡ option_map (λ s. ready s.queue s.end) (thing self.now.things cell.0) }
+    {
+        match self.streams.get(cell.0) {
+            Some(stream) => Some(stream.ready()),
+            None => None,
+        }
+    }
+
     /// Takes the first element of a stream; or tells its end, where it has no element; or nothing, where it has
     /// neither.
     pub fn pop(&mut self, cell: CellId) -> Head<T>
