@@ -45,11 +45,7 @@ impl<T> Model for Frame<T> {
 
 #[tactic(auto, using(crate::proofs::Padded::more_padded))]
 // Makes room for a place of so many, with nothing in it or in those before it that had no room.
-fn reach<T: Drop>(
-    filled: &mut Vec<Option<T>>,
-    place: usize,
-    places: usize,
-) -> Result<(), NoMemory>
+fn reach<T: Drop>(filled: &mut Vec<Option<T>>, place: usize, places: usize) -> Result<(), NoMemory>
     ensures same { (places : ℕ) → padded places filled.new.items ≡ padded places filled.old.items }
     ensures ok { OnOk result (place < length filled.new.items) }
 {

@@ -8,6 +8,9 @@ mod WaysWalked
 mod SameEnds
 mod WholeBody
 mod Ending
+mod Counting
+mod StaleWalks
+mod Backing
 mod Examples
 mod Matching
 mod UsesBacked

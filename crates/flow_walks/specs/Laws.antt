@@ -1,10 +1,4 @@
 -- What the rules on bodies say by walks.
-<<<<<<< HEAD
-use Rattle.std.specs.Prelude.{◌↔◌, IsTrue}
-use Rattle.flow_tree.specs.Body.{Body, End, BlockStmt, IfStmt, IfElseStmt, WhileStmt, ForStmt, LoopStmt, BreakStmt, ContinueStmt, ReturnStmt, ThrowStmt, TryStmt, ChooseStmt, DeclareStmt, AssignStmt, ModifyStmt, CallStmt, WaitStmt, Branches, NoBranches, MoreBranches}
-use Rattle.flow_rules.specs.Closing.{ways}
-use Rattle.flow_walks.specs.Graph.{Reaches}
-=======
 use Rattle.std.specs.Prelude.{◌≡◌, ℕ, ◌<◌, ◌↔◌, IsTrue, List, [], ◌∷◌, Contains, slice_get}
 use Rattle.std.specs.declared.option.Option.{Option}
 use Rattle.std.specs.declared.option.Option.TheVariants.{None, Some}
@@ -14,8 +8,8 @@ use Rattle.flow_rules.specs.Closing.{ways}
 use Rattle.flow_staterule.specs.declared.rule.Lost.{Lost}
 use Rattle.flow_staterule.specs.StateRule.{first_lost}
 use Rattle.flow_walks.specs.Graph.{Walk, Reaches}
->>>>>>> 9823ee9b6aa60952e6e53116825cf3b521ee4e2f
 use Rattle.flow_walks.specs.Control.{control, closing}
+use Rattle.flow_walks.specs.Mentions.{Mention, Wait, routine_mentions, waits}
 
 -- The init of a `for` declares or changes a variable, and its step changes one, where they are there: so the grammar has them.
 abbrev pub IsStep : Body → Type 0
@@ -60,8 +54,6 @@ ComesToEnd b = Reaches (control b) 0 (closing b)
 -- a body is left by its end where the rule that tests its structure says so
 abbrev pub EndsByWalk : Body → Type 0
 EndsByWalk b = HasSimpleParts b → IsTrue (ways b).end ↔ ComesToEnd b
-<<<<<<< HEAD
-=======
 
 -- A use is bad by a wait: a walk leads from its declaration to it, passes the wait, and doesn't pass the declaration again.
 -- A walk passes a point where it leaves it. A wait that declares the local itself is left before the walk begins.
@@ -122,4 +114,3 @@ AllHaveSimpleParts (d ∷ ds) = DeclHasSimpleParts d × AllHaveSimpleParts ds
 -- the use that the rule on state tells is the first bad one by walks, and there is none where it tells none
 abbrev pub LostByWalk : List DeclTree → Type 0
 LostByWalk ds = AllHaveSimpleParts ds → FirstLost ds (first_lost ds)
->>>>>>> 9823ee9b6aa60952e6e53116825cf3b521ee4e2f

@@ -21,11 +21,13 @@ loop-low-preserved-then-found-number-2 g c =
     let place = c.loop-low.low + c.min.result in
     let within : place < length rs = grind (arith, c.min.ensures, c.loop-low-test.true, c.loop-low.invariant.0) in
     let row = c.index-rows-middle.result in
-    let less : row.number < c.args.number = grind (arith, nat_tests, c.if-found-number-2.true) in
-    (c.loop-low.invariant.0, λ i e.
-      let old = c.loop-low.invariant.1 i e in
-      let after = after_it 0 rs c.requires.0 c.args.number place i row c.requires.1 within c.index-rows-middle.is less e in
-      (omega (arith, after), old.1))
+    let less : row.number < c.args.number = grind (arith, nat_tests, c.if-found-number-2.true) in (
+      c.loop-low.invariant.0,
+      λ i e.
+          let old = c.loop-low.invariant.1 i e in
+          let after = after_it 0 rs c.requires.0 c.args.number place i row c.requires.1 within c.index-rows-middle.is less e in
+          (omega (arith, after), old.1),
+    )
 
 pub loop-low-preserved : goal.loop-low-preserved
 loop-low-preserved g c =
@@ -33,8 +35,10 @@ loop-low-preserved g c =
     let place = c.loop-low.low + c.min.result in
     let within : place < length rs = grind (arith, c.min.ensures, c.loop-low-test.true, c.loop-low.invariant.0) in
     let row = c.index-rows-middle.result in
-    let more : c.args.number < row.number = grind (arith, nat_tests, c.if-found-number.false, c.if-found-number-2.false) in
-    (omega (arith, within), λ i e.
-      let old = c.loop-low.invariant.1 i e in
-      let before = before_it 0 rs c.requires.0 c.args.number place i row c.requires.1 within c.index-rows-middle.is more e in
-      (old.0, before))
+    let more : c.args.number < row.number = grind (arith, nat_tests, c.if-found-number.false, c.if-found-number-2.false) in (
+      omega (arith, within),
+      λ i e.
+          let old = c.loop-low.invariant.1 i e in
+          let before = before_it 0 rs c.requires.0 c.args.number place i row c.requires.1 within c.index-rows-middle.is more e in
+          (old.0, before),
+    )
