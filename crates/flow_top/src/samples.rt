@@ -442,6 +442,42 @@ ACTOR Future<Void> main(int p) {
 }
 ";
 
+/// The classes of the program whose second operand never starts.
+pub const SECOND_OPERAND_CLASSES: &[u8] = b"\
+classes 1
+class one returns int params 1 {
+    slot 0 int v;
+    block 0 {
+        return s0;
+    }
+}
+class main returns Void params 1 {
+    slot 0 int p;
+    local 0 int;
+    local 1 int;
+    block 0 {
+        choose 1;
+    }
+    block 1 {
+        act trace(l0);
+        drop l0;
+        goto 3;
+    }
+    block 2 {
+        act trace(l1);
+        drop l1;
+        goto 3;
+    }
+    block 3 {
+        return Void();
+    }
+    group 1 {
+        callback 0 wait(one(7)) into l0 goto 1;
+        callback 1 wait(one(8)) into l1 goto 2;
+    }
+}
+";
+
 /// The programs of examples/, which .ci/examples compares with these.
 pub const EXAMPLES: [&[u8]; 27] = [
     CALLS_A_FUNCTION,

@@ -2,7 +2,8 @@
 // formats' own pages.
 
 use crate::samples::{
-    EXAMPLES, INSIDES, LOCAL_ACROSS_LOOP, LOCAL_ACROSS_WAIT, REQUEST_SERVER, STOP_CANCELS_IN_ORDER,
+    EXAMPLES, INSIDES, LOCAL_ACROSS_LOOP, LOCAL_ACROSS_WAIT, REQUEST_SERVER,
+    SECOND_OPERAND_CLASSES, SECOND_OPERAND_NEVER_STARTS, STOP_CANCELS_IN_ORDER,
 };
 use crate::top::flow_main;
 use crate::traces::{RUNS, STOP_CANCELS_IN_ORDER_TRACE, STOP_CANCELS_IN_ORDER_WORLD};
@@ -479,5 +480,29 @@ fn failing_files(rt: HostRuntime) -> Result<(), AllocError> {
     let alloc = rt.alloc();
     assert!(rt; tells_a_read_fault(alloc, &["run", "p", "w"])?);
     assert!(rt; tells_a_read_fault(alloc, &["format", "p"])?);
+    Ok(())
+}
+
+#[test]
+fn writes_classes(rt: HostRuntime) -> Result<(), AllocError> {
+    let words = ["compile", "p"];
+    assert!(rt;
+        answers(
+            rt.alloc(),
+            &words,
+            SECOND_OPERAND_NEVER_STARTS,
+            0,
+            SECOND_OPERAND_CLASSES
+        )?
+    );
+    assert!(rt;
+        answers(
+            rt.alloc(),
+            &words,
+            LOCAL_ACROSS_WAIT,
+            1,
+            b"refused U1 at 4:11 declared 2:9 wait 3:5\n"
+        )?
+    );
     Ok(())
 }
