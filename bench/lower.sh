@@ -1,6 +1,6 @@
 #!/bin/sh
 # Times lowering, best of five runs each, with the peak of memory: `run` in a world without events reads, judges and lowers a
-# program, and `check` beside it only reads and judges. An actor of weight 60,000; 1 MiB of mixed text with some 200,000 tokens;
+# program, `compile` besides writes its classes, and `check` only reads and judges. An actor of weight 60,000; 1 MiB of mixed text with some 200,000 tokens;
 # and the longest lists of what a catch drops, 25 million entries: 5,000 locals in a `try`, and 2,490 branches behind them.
 # Usage: bench/lower.sh [COMMAND], after `./flow build`; COMMAND runs in its place.
 set -e
@@ -34,9 +34,9 @@ awk 'BEGIN {
 }' >"$work/drops.flow"
 
 for name in loops mixed drops; do
-    for word in check run; do
+    for word in check run compile; do
         world=
-        [ $word = check ] || world=$work/world
+        [ $word != run ] || world=$work/world
         best=
         for _ in 1 2 3 4 5; do
             start=$(date +%s%N)

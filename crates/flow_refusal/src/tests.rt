@@ -3,6 +3,7 @@
 use crate::telling::note;
 use flow_base::memory::NoMemory;
 use std::alloc::Global;
+use std::test::Fail;
 
 // Whether this is noted on an answer about the program `p` with a text and the world `w` with another.
 fn notes(
@@ -94,6 +95,36 @@ fn notes_on_worlds_and_files(rt: HostRuntime) -> Result<(), NoMemory> {
             "{answer}"
         );
     }
+    Ok(())
+}
+
+// Whether the note on this rule at the first place begins with the place and the rule.
+fn names_its_rule(alloc: Global, letter: &str, number: u32) -> Result<bool, Fail> {
+    let answer = format!(in alloc; "refused {letter}{number} at 1:1\n")?;
+    let begin = format!(in alloc; "p:1:1: {letter}{number}: ")?;
+    let told = note(alloc, answer.as_bytes(), "p", b"x", "", b"")?;
+    Ok(told.starts_with(begin.as_bytes()) && told.ends_with(b"\nx\n^\n"))
+}
+
+#[test]
+fn each_rule_has_its_words(rt: HostRuntime) -> Result<(), Fail> {
+    let alloc = rt.alloc();
+    for number in 1..6u32 {
+        assert!(rt; names_its_rule(alloc, "S", number)?, "S{number}");
+    }
+    for number in 2..10u32 {
+        assert!(rt; names_its_rule(alloc, "L", number)?, "L{number}");
+    }
+    for number in 1..13u32 {
+        assert!(rt; names_its_rule(alloc, "K", number)?, "K{number}");
+    }
+    Ok(())
+}
+
+#[test]
+fn usage_tells_the_commands(rt: HostRuntime) -> Result<(), NoMemory> {
+    let told = note(rt.alloc(), b"usage\n", "", b"", "", b"")?;
+    assert!(rt; told.starts_with(b"flow check PROGRAM"));
     Ok(())
 }
 

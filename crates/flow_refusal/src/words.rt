@@ -78,6 +78,7 @@ pub fn world_words(fault: WorldFault) -> &'static str {
 /// How the commands are called.
 pub const USAGE: &str = "\
 flow check PROGRAM                  judges a program: `ok`, or the first rule that it breaks
+flow compile PROGRAM                writes the classes that a program is compiled to
 flow format PROGRAM                 writes a program in its canonical form
 flow run PROGRAM WORLD [--frames]   runs a program in a world and writes the trace
 A name that begins with `-` is no file name.
