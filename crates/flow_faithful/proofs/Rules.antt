@@ -24,7 +24,7 @@ use Rattle.flow_rules.specs.Items.{Env, item, with_var, with_states, in_loop, in
 use Rattle.flow_lowered.specs.Parts.{IsInit, HasParts, HaveParts}
 use Rattle.flow_lowered.specs.InPlace.{NotAmong, naming_if, naming, naming_any, IsThrown, slot_of, HasSlot, MayDeclare, MayTake, InPlace, AllInPlace}
 use Rattle.flow_lowered.specs.InPlace as place
-use Rattle.flow_lowered.proofs.Spots.{step_parts, init_parts}
+use Rattle.flow_lowered.proofs.Groups.{step_parts, init_parts}
 
 -- what can't be
 some_none : {A : Type 0} {x : A} → Some x ≡ None → ⊥

@@ -21,7 +21,8 @@ use Rattle.flow_split.specs.Counts.{locals_in, blocks_in, Next, begun, past}
 use Rattle.flow_split.specs.Lowered.{Chunk, joined, ends, exits, exited, thrown, lowered}
 use Rattle.flow_split.proofs.Lengths.{lowered_more}
 use Rattle.flow_lowered.proofs.Standing.{locals_front, locals_back, first, second}
-use Rattle.flow_lowered.proofs.Spots.{both, lowered_moved, exits_still}
+use Rattle.flow_lowered.proofs.Groups.{exits_still}
+use Rattle.flow_lowered.proofs.Spots.{both, lowered_moved}
 use Rattle.flow_lowered.proofs.Held.{same, caught_by}
 use Rattle.flow_lowered.proofs.Around.{above_more, here_inner, here_handler, here_try, here_loop, exit_at, end_at}
 use Rattle.flow_lowered.proofs.Simples.{throw_at}

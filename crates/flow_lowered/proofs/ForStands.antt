@@ -21,7 +21,8 @@ use Rattle.flow_split.specs.Lowered.{joined, dropping, later, tested, test_befor
 use Rattle.flow_split.proofs.Lengths.{lowered_more}
 use Rattle.flow_lowered.specs.InPlace.{InPlace}
 use Rattle.flow_lowered.proofs.Standing.{moved, LocalsAt, locals_front, locals_back, Stands, first, second}
-use Rattle.flow_lowered.proofs.Spots.{both, lowered_moved, step_still, step_parts, init_parts, test_groups}
+use Rattle.flow_lowered.proofs.Groups.{step_parts, init_parts, test_groups}
+use Rattle.flow_lowered.proofs.Spots.{both, lowered_moved, step_still}
 use Rattle.flow_lowered.proofs.Around.{InClass, Here, here_past, above_more, goes_before}
 use Rattle.flow_lowered.proofs.Simples.{PartAt, init_at}
 use Rattle.flow_lowered.proofs.Further.{locals_count, Carried, groups_after, blocks_joined}

@@ -1,5 +1,6 @@
 pub mod Standing
 pub mod Blocks
+pub mod Groups
 pub mod Spots
 pub mod Held
 pub mod Around

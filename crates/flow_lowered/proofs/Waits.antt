@@ -25,7 +25,8 @@ use Rattle.flow_split.proofs.Lengths.{lowered_more, branches_more, branches_grou
 use Rattle.flow_lowered.specs.Parts.{HaveParts}
 use Rattle.flow_lowered.specs.InPlace.{InPlace, AllInPlace}
 use Rattle.flow_lowered.proofs.Standing.{moved, moved_group, LocalsAt, locals_front, locals_back, Stands, first, second, one_at, one_on}
-use Rattle.flow_lowered.proofs.Spots.{both, lowered_moved, branches_moved, callbacks_count}
+use Rattle.flow_lowered.proofs.Groups.{branch_kinds}
+use Rattle.flow_lowered.proofs.Spots.{both, lowered_moved, choose_moved, callbacks_count}
 use Rattle.flow_lowered.proofs.Held.{same, caught_by, lowered_held}
 use Rattle.flow_lowered.proofs.Around.{Here, here_past, here_inner, here_ends_scope}
 use Rattle.flow_lowered.proofs.Places.{names, names_with, placing}
@@ -171,7 +172,7 @@ module _ (ns : Names) (c : ClassTree) (few_slots : length c.slots < 2 ^ 64) (few
       let c0 : Chunk = record (ends w s true [] (ChooseLast n.group)) { groups = cs ∷ [] } in
       let whole = branches ns c.slots c0 s v g bs in
       let count : moved c0.groups x.spot ≡ y = ap (λ a. next_spot a x.spot) (callbacks_count ns c.slots s t g bs) in
-      let moves = branches_moved ns c.slots c0 s v g bs x.spot y count parts.0 in
+      let moves = choose_moved ns c.slots c0 s v g bs x.spot (ap (λ ks. ks ∷ []) (branch_kinds ns c.slots s t g bs)) parts.0 in
       let blocks = branches_more ns c.slots c0 s v g bs in
       let group : j.group ≡ z.group =
       after_groups n.group (length whole.groups) (branch_group_count bs) x.spot.group z.group h.group (branches_groups ns c.slots c0 s v g bs) (sym (moved_group whole.groups x.spot) ∙ ap (λ a. a.group) moves) in
