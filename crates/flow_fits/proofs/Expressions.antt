@@ -176,7 +176,7 @@ cancels_statement : (m : Method) (k : Callee) → cancels m ≡ Some k → k.kin
 cancels_statement method.Cancel k e = sym (ap (λ (c : Callee). c.kind) (some_same _ k e))
 cancels_statement m k e = absurd (none_some e)
 
-stated_statement : (t : TypeTree) (m : Method) (k : Callee) → stated_on t m ≡ Some k → k.kind ≡ Statement
+pub stated_statement : (t : TypeTree) (m : Method) (k : Callee) → stated_on t m ≡ Some k → k.kind ≡ Statement
 stated_statement (PromiseType t) m k e = sends_statement t m k e
 stated_statement (PromiseStreamType t) m k e = sends_statement t m k e
 stated_statement (FutureType t) m k e = cancels_statement m k e
@@ -213,7 +213,7 @@ pub record AreTyped (c : ScopeTree) (ts : List TypeTree) (es : ExprTrees) : Type
 given : (g : Option Signature) (ts us : List TypeTree) (t : TypeTree) → g ≡ takes ts t → same_types ts us ≡ true → applied g us ≡ Some t
 given g ts us t e h = ap (λ x. applied x us) e ∙ ap (λ b. if b then Some t else None) h
 
-from_start : (ns ms : List Need) → ns ≡ ms → (i : ℕ) → slice_get ns (0 + i) ≡ slice_get ms i
+pub from_start : (ns ms : List Need) → ns ≡ ms → (i : ℕ) → slice_get ns (0 + i) ≡ slice_get ms i
 from_start ns ms e i = let z : 0 + i ≡ i = omega arith in ap (slice_get ns) z ∙ ap (λ l. slice_get l i) e
 
 constant_typed : (s : Setting) (c : ScopeTree) → Agrees s c → (x : List ℕ) (o : Option ℕ) → variable_as s x o ≡ variable_in c.vars x o

@@ -1,3 +1,4 @@
 mod Names
 mod Expressions
 mod Agreement
+mod Statements
