@@ -107,9 +107,10 @@ differ x y k false e t f = refl
 
 apart_from : (all : Bool → Setting) (before ds : List DeclTree) (x : List ℕ) → decls_refusal all before ds ≡ None → is_there (known before x) ≡ true → Apart x ds
 apart_from all before [] x e t = tt
-apart_from all before (d ∷ ds) x e t =
-    (differ x (name_of d) (known before) (bytes_eq x (name_of d)) refl t (new_decl all before d (neither_first (decl_refusal all (known before) d) _ e)),
-    apart_from all (before ++ d ∷ []) ds x (neither_second (decl_refusal all (known before) d) _ e) (known_more before d x t))
+apart_from all before (d ∷ ds) x e t = (
+  differ x (name_of d) (known before) (bytes_eq x (name_of d)) refl t (new_decl all before d (neither_first (decl_refusal all (known before) d) _ e)),
+  apart_from all (before ++ d ∷ []) ds x (neither_second (decl_refusal all (known before) d) _ e) (known_more before d x t),
+)
 
 pub distinct : (all : Bool → Setting) (before ds : List DeclTree) → decls_refusal all before ds ≡ None → Distinct ds
 distinct all before [] e = tt
@@ -191,28 +192,34 @@ module _ (ds : List DeclTree) (vars : List ParamTree) (apart : Distinct ds) wher
   declared_as x None e f = tt
   declared_as x (Some (RecordOf fs)) e f =
       let r = ap (λ b. if b then takes (map (λ (f : List ℕ × TypeTree). f.1) packet_fields) (NamedType x) else option_map (λ (r : RecordTree). record { params = param_types r.fields; gives = NamedType x }) (record_named (records_in ds) x)) e
-          ∙ ap (option_map (λ (r : RecordTree). record { params = param_types r.fields; gives = NamedType x })) f.1 in
-      let t = ap (λ ts. takes ts (NamedType x)) (sym (ap (map (λ (f : List ℕ × TypeTree). f.1)) f.2 ∙ row_types f.0.fields)) in
-      (ap (λ o. or_else o (or_else (function_call (functions_in ds) x) (actor_call (actors_in ds) x))) r ∙ t,
-      ap (λ o. not (is_there o) && not (is_there (routine_named (functions_in ds) x)) && is_there (routine_named (actors_in ds) x)) r)
+      ∙ ap (option_map (λ (r : RecordTree). record { params = param_types r.fields; gives = NamedType x })) f.1 in
+      let t = ap (λ ts. takes ts (NamedType x)) (sym (ap (map (λ (f : List ℕ × TypeTree). f.1)) f.2 ∙ row_types f.0.fields)) in (
+        ap (λ o. or_else o (or_else (function_call (functions_in ds) x) (actor_call (actors_in ds) x))) r ∙ t,
+        ap (λ o. not (is_there o) && not (is_there (routine_named (functions_in ds) x)) && is_there (routine_named (actors_in ds) x)) r,
+      )
   declared_as x (Some (FunctionOf ts t)) e f =
       let r = ap (λ b. if b then takes (map (λ (f : List ℕ × TypeTree). f.1) packet_fields) (NamedType x) else option_map (λ (r : RecordTree). record { params = param_types r.fields; gives = NamedType x }) (record_named (records_in ds) x)) e
-          ∙ ap (option_map (λ (r : RecordTree). record { params = param_types r.fields; gives = NamedType x })) f.1 in
-      (ap (λ o. or_else o (or_else (function_call (functions_in ds) x) (actor_call (actors_in ds) x))) r
-      ∙ ap (λ o. or_else (option_map (λ (f : RoutineTree). record { params = param_types f.params; gives = f.returns }) o) (actor_call (actors_in ds) x)) f.2 ∙ ap₂ takes (sym f.3) (sym f.4),
-      ap₂ (λ o q. not (is_there o) && not (is_there q) && is_there (routine_named (actors_in ds) x)) r f.2, f.0, f.2, sym f.3)
+      ∙ ap (option_map (λ (r : RecordTree). record { params = param_types r.fields; gives = NamedType x })) f.1 in (
+        ap (λ o. or_else o (or_else (function_call (functions_in ds) x) (actor_call (actors_in ds) x))) r
+            ∙ ap (λ o. or_else (option_map (λ (f : RoutineTree). record { params = param_types f.params; gives = f.returns }) o) (actor_call (actors_in ds) x)) f.2 ∙ ap₂ takes (sym f.3) (sym f.4),
+        ap₂ (λ o q. not (is_there o) && not (is_there q) && is_there (routine_named (actors_in ds) x)) r f.2,
+        f.0,
+        f.2,
+        sym f.3,
+      )
   declared_as x (Some (ActorOf ts t)) e f =
       let r = ap (λ b. if b then takes (map (λ (f : List ℕ × TypeTree). f.1) packet_fields) (NamedType x) else option_map (λ (r : RecordTree). record { params = param_types r.fields; gives = NamedType x }) (record_named (records_in ds) x)) e
-          ∙ ap (option_map (λ (r : RecordTree). record { params = param_types r.fields; gives = NamedType x })) f.1 in
+      ∙ ap (option_map (λ (r : RecordTree). record { params = param_types r.fields; gives = NamedType x })) f.1 in
       ap (λ o. or_else o (or_else (function_call (functions_in ds) x) (actor_call (actors_in ds) x))) r
       ∙ ap₂ (λ o q. or_else (option_map (λ (f : RoutineTree). record { params = param_types f.params; gives = f.returns }) o) (option_map (λ (f : RoutineTree). record { params = param_types f.params; gives = FutureType f.returns }) q)) f.2 f.3
       ∙ ap₂ (λ ts t. takes ts (FutureType t)) (sym f.4) (sym f.5)
 
   packet_as : (x : List ℕ) → is_packet x ≡ true → IsDeclared scope x (Some (RecordOf packet_fields))
   packet_as x e =
-      let r = ap (λ b. if b then takes (map (λ (f : List ℕ × TypeTree). f.1) packet_fields) (NamedType x) else option_map (λ (r : RecordTree). record { params = param_types r.fields; gives = NamedType x }) (record_named (records_in ds) x)) e in
-      (ap (λ o. or_else o (or_else (function_call (functions_in ds) x) (actor_call (actors_in ds) x))) r,
-      ap (λ o. not (is_there o) && not (is_there (routine_named (functions_in ds) x)) && is_there (routine_named (actors_in ds) x)) r)
+      let r = ap (λ b. if b then takes (map (λ (f : List ℕ × TypeTree). f.1) packet_fields) (NamedType x) else option_map (λ (r : RecordTree). record { params = param_types r.fields; gives = NamedType x }) (record_named (records_in ds) x)) e in (
+        ap (λ o. or_else o (or_else (function_call (functions_in ds) x) (actor_call (actors_in ds) x))) r,
+        ap (λ o. not (is_there o) && not (is_there (routine_named (functions_in ds) x)) && is_there (routine_named (actors_in ds) x)) r,
+      )
 
   names_declared : (x : List ℕ) → IsDeclared scope x (known ds x)
   names_declared x = go (is_packet x) refl

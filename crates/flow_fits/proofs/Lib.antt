@@ -2,3 +2,6 @@ mod Names
 mod Expressions
 mod Agreement
 mod Statements
+mod Bodies
+mod PathsDerived
+mod Accepted

@@ -49,7 +49,7 @@ cut_second true o e = e
 cut_second false o e = absurd (false≢true e)
 
 -- a parameter that is found is found with more behind it
-more_params : (vs : List ParamTree) (q : ParamTree) (x : List ℕ) (p : ParamTree) → param_named vs x ≡ Some p → param_named (vs ++ q ∷ []) x ≡ Some p
+pub more_params : (vs : List ParamTree) (q : ParamTree) (x : List ℕ) (p : ParamTree) → param_named vs x ≡ Some p → param_named (vs ++ q ∷ []) x ≡ Some p
 more_params [] q x p e = absurd (none_some e)
 more_params (v ∷ vs) q x p e = go (bytes_eq v.name.name x) e (more_params vs q x p)
   where
@@ -57,7 +57,7 @@ more_params (v ∷ vs) q x p e = go (bytes_eq v.name.name x) e (more_params vs q
     go true e f = e
     go false e f = f e
 
-last_param : (vs : List ParamTree) (q : ParamTree) → is_there (param_named vs q.name.name) ≡ false → param_named (vs ++ q ∷ []) q.name.name ≡ Some q
+pub last_param : (vs : List ParamTree) (q : ParamTree) → is_there (param_named vs q.name.name) ≡ false → param_named (vs ++ q ∷ []) q.name.name ≡ Some q
 last_param [] q e = ap (λ b. cond b (Some q) None) (bytes_self q.name.name)
 last_param (v ∷ vs) q e = go (bytes_eq v.name.name q.name.name) e (last_param vs q)
   where
@@ -66,31 +66,31 @@ last_param (v ∷ vs) q e = go (bytes_eq v.name.name q.name.name) e (last_param 
     go true e f = absurd (true≢false e)
     go false e f = f e
 
-there_of : (o : Option ParamTree) → is_there (option_map (λ (p : ParamTree). p.ty) o) ≡ is_there o
+pub there_of : (o : Option ParamTree) → is_there (option_map (λ (p : ParamTree). p.ty) o) ≡ is_there o
 there_of None = refl
 there_of (Some p) = refl
 
 module _ (ds : List DeclTree) (apart : Distinct ds) where
-  abbrev rs : List RecordTree
+  abbrev pub rs : List RecordTree
   rs = records_in ds
 
-  abbrev fs : List RoutineTree
+  abbrev pub fs : List RoutineTree
   fs = functions_in ds
 
-  abbrev as' : List RoutineTree
+  abbrev pub as' : List RoutineTree
   as' = actors_in ds
 
-  abbrev at_vars : List ParamTree → Setting
+  abbrev pub at_vars : List ParamTree → Setting
   at_vars vars = setting_in ds true vars
 
   -- an expression of a type that is wanted
-  yields : (vars : List ParamTree) (whole : Bool) (e : ExprTree) (t : TypeTree) → wanted (at_vars vars) whole e t ≡ None → Yields rs fs as' vars e t
+  pub yields : (vars : List ParamTree) (whole : Bool) (e : ExprTree) (t : TypeTree) → wanted (at_vars vars) whole e t ≡ None → Yields rs fs as' vars e t
   yields vars whole e t h =
       let k = typed (at_vars vars) (scope_in ds vars) (agrees ds vars apart true) whole e (no_first (fault (at_vars vars) whole e) (wants (form (at_vars vars) e) t) h) in
       let same = wanted_is (form (at_vars vars) e) k.type t k.by_form (no_second (fault (at_vars vars) whole e) (wants (form (at_vars vars) e) t) h) in
       (k.in_scope ∙ ap Some same, k.quiet (inr refl))
 
-  maybe_yields : (vars : List ParamTree) (e : Option ExprTree) → maybe_test (at_vars vars) e ≡ None → MaybeYields rs fs as' vars e BoolType
+  pub maybe_yields : (vars : List ParamTree) (e : Option ExprTree) → maybe_test (at_vars vars) e ≡ None → MaybeYields rs fs as' vars e BoolType
   maybe_yields vars None h = tt
   maybe_yields vars (Some e) h = yields vars false e BoolType h
 
@@ -103,7 +103,7 @@ module _ (ds : List DeclTree) (apart : Distinct ds) where
   default_fits vars (PromiseStreamType t) w d = absurd (some_none (no_second (unless (type_known (at_vars vars).known (PromiseStreamType t)) UNKNOWN_NAME) (Some NOT_HERE) w))
   default_fits vars t w d = absurd (false≢true d)
 
-  declare_fits : (vars : List ParamTree) (states : List (List ℕ)) (i : IntoTree) (v : Option ExprTree) → declare_fault (at_vars vars) states i v ≡ None → DeclareFits rs fs as' vars i v
+  pub declare_fits : (vars : List ParamTree) (states : List (List ℕ)) (i : IntoTree) (v : Option ExprTree) → declare_fault (at_vars vars) states i v ≡ None → DeclareFits rs fs as' vars i v
   declare_fits vars states i None h =
       let a = no_first (into_fault (at_vars vars) states i) (value_fault (at_vars vars) i.ty None) h in
       let b = no_second (into_fault (at_vars vars) states i) (value_fault (at_vars vars) i.ty None) h in
@@ -150,7 +150,7 @@ module _ (ds : List DeclTree) (apart : Distinct ds) where
         in_scope = ap (λ z. fields_type rs z xs) (sym ((agrees ds vars apart true).vars x.name) ∙ f.is) ∙ r.in_scope;
       }
 
-  assign_fits : (vars : List ParamTree) (xs : List Ident) (v : ExprTree) → IsPath xs → assign_fault (at_vars vars) xs v ≡ None → (t : TypeTree) × (path_type rs vars xs ≡ Some t) × Yields rs fs as' vars v t
+  pub assign_fits : (vars : List ParamTree) (xs : List Ident) (v : ExprTree) → IsPath xs → assign_fault (at_vars vars) xs v ≡ None → (t : TypeTree) × (path_type rs vars xs ≡ Some t) × Yields rs fs as' vars v t
   assign_fits vars xs v p h =
       let s = at_vars vars in
       let l = lesser (target_fault s xs) (fault s true v) in
@@ -177,7 +177,7 @@ module _ (ds : List DeclTree) (apart : Distinct ds) where
   change_fits vars UpChange t h = type_same t IntType (holds (same_type t IntType) WRONG_TYPE h)
   change_fits vars DownChange t h = type_same t IntType (holds (same_type t IntType) WRONG_TYPE h)
 
-  modify_fits : (vars : List ParamTree) (xs : List Ident) (c : ChangeTree) → IsPath xs → modify_fault (at_vars vars) xs c ≡ None → (t : TypeTree) × (path_type rs vars xs ≡ Some t) × ChangeFits rs fs as' vars c t
+  pub modify_fits : (vars : List ParamTree) (xs : List Ident) (c : ChangeTree) → IsPath xs → modify_fault (at_vars vars) xs c ≡ None → (t : TypeTree) × (path_type rs vars xs ≡ Some t) × ChangeFits rs fs as' vars c t
   modify_fits vars xs c p h =
       let s = at_vars vars in
       let t = target vars xs p (no_first (target_fault s xs) (change_fault s (target_form s xs) c) h) in
@@ -242,14 +242,14 @@ module _ (ds : List DeclTree) (apart : Distinct ds) where
   on_out vars es None m h = some_none h
   on_out vars es (Some t) m h = by_out vars es t (named method_names m) h
 
-  call_fits : (vars : List ParamTree) (xs : List Ident) (es : ExprTrees) → IsPath xs → call_fault (at_vars vars) xs es ≡ None → CallFits rs fs as' vars xs es
+  pub call_fits : (vars : List ParamTree) (xs : List Ident) (es : ExprTrees) → IsPath xs → call_fault (at_vars vars) xs es ≡ None → CallFits rs fs as' vars xs es
   call_fits vars [] es p h = absurd p
   call_fits vars (x ∷ []) es p h =
       let s = at_vars vars in
       let n = needs_of (called s x.name) in
       let k = name_function vars x.name es (named call_names x.name) (no_second (faults s 0 n es) (calls es (called s x.name) (said s)) h) in
       let r = all_typed s (scope_in ds vars) (agrees ds vars apart true) 0 n (param_types k.function.params) es (from_start n (map Exactly (param_types k.function.params)) k.needs) k.many
-          (no_first (faults s 0 n es) (calls es (called s x.name) (said s)) h) in
+      (no_first (faults s 0 n es) (calls es (called s x.name) (said s)) h) in
       (x, k.function, r.types, refl, k.found, r.in_scope, r.same, r.quiet)
   call_fits vars (x ∷ (y ∷ ys)) es p h =
       let s = at_vars vars in

@@ -3,9 +3,9 @@ use Rattle.std.specs.Prelude.{◌≡◌, Bool, true, false, List, ◌⊎◌, map
 use Rattle.std.specs.declared.option.Option.{Option}
 use Rattle.std.specs.declared.option.Option.TheVariants.{None, Some}
 use Rattle.flow_tree.specs.Tree.{TypeTree, ExprTree}
-use Rattle.flow_tree.specs.Decls.{ParamTree, DeclTree}
+use Rattle.flow_tree.specs.Decls.{ParamTree, DeclTree, ProgramTree}
 use Rattle.flow_ast.specs.Typing.{ScopeTree, type_in, without_effects}
-use Rattle.flow_ast.specs.Fits.{scope_over}
+use Rattle.flow_ast.specs.Fits.{scope_over, FunctionsFit}
 use Rattle.flow_rules.specs.Known.{field_row}
 use Rattle.flow_rules.specs.Judged.{Setting, form, fault}
 use Rattle.flow_rules.specs.Rules.{setting_of}
@@ -25,3 +25,10 @@ pub record IsTyped (s : Setting) (c : ScopeTree) (whole : Bool) (e : ExprTree) :
   pub by_form : form s e ≡ Some type
   pub in_scope : type_in c e ≡ Some type
   pub quiet : (whole ≡ false) ⊎ (s.plain ≡ true) → without_effects c e ≡ true
+
+-- In a program that no rule refuses each expression in which none fails is typed, in a function and in an actor, over any
+-- variables; and its functions fit.
+pub record AcceptedFits (p : ProgramTree) : Type 0 where
+  pub expressions : (plain whole : Bool) (vars : List ParamTree) (e : ExprTree) → fault (setting_in p.decls plain vars) whole e ≡ None
+      → IsTyped (setting_in p.decls plain vars) (scope_in p.decls vars) whole e
+  pub functions : FunctionsFit (records_in p.decls) (functions_in p.decls) (actors_in p.decls)
