@@ -27,177 +27,84 @@ use Rattle.flow_fits.specs.Joined.{scope_in, setting_in}
 use Rattle.flow_fits.specs.Paths.{IsPath, HasPaths, AllHavePaths}
 use Rattle.flow_fits.proofs.Names.{none_some, some_none, some_same, no_first, no_second, holds}
 use Rattle.flow_fits.proofs.Agreement.{Distinct, rows_named, neither_first, neither_second, no_item, not_true, neither_left, neither_right}
-use Rattle.flow_fits.proofs.Statements.{more_params, last_param, there_of, rs, fs, as', at_vars, yields, maybe_yields, declare_fits, assign_fits, modify_fits, call_fits}
-
--- the parts of a `for`
-data InitKind : Body → Type 0 where
-  no_init : InitKind End
-  declares : (at : _) (i : _) (v : _) → InitKind (DeclareStmt at i v End)
-  assigns : (at : _) (xs : _) (v : _) → InitKind (AssignStmt at xs v End)
-  modifies : (at : _) (xs : _) (c : _) → InitKind (ModifyStmt at xs c End)
-
-init_kind : (i : Body) → IsInit i → InitKind i
-init_kind End s = no_init
-init_kind (DeclareStmt at i v End) s = declares at i v
-init_kind (AssignStmt at xs v End) s = assigns at xs v
-init_kind (ModifyStmt at xs c End) s = modifies at xs c
-init_kind b s = absurd s
-
-data StepKind : Body → Type 0 where
-  no_step : StepKind End
-  assigned : (at : _) (xs : _) (v : _) → StepKind (AssignStmt at xs v End)
-  modified : (at : _) (xs : _) (c : _) → StepKind (ModifyStmt at xs c End)
-
-step_kind : (t : Body) → IsStep t → StepKind t
-step_kind End s = no_step
-step_kind (AssignStmt at xs v End) s = assigned at xs v
-step_kind (ModifyStmt at xs c End) s = modified at xs c
-step_kind b s = absurd s
-
-abbrev param : IntoTree → ParamTree
-param i = record { ty = i.ty; name = i.name }
-
-abbrev caught_param : Ident → ParamTree
-caught_param x = record { ty = ErrorType; name = x }
+use Rattle.flow_fits.proofs.Standing.{InitKind, no_init, declares, assigns, modifies, init_kind, StepKind, no_step, assigned, modified, step_kind, param, caught_param, Stands, stands_behind, stands_loop, stands_declared, stands_caught, at_item, step_declares, stands_started}
+use Rattle.flow_fits.proofs.Statements.{yields, maybe_yields, declare_fits, assign_fits, modify_fits, call_fits}
 
 module _ (ds : List DeclTree) (apart : Distinct ds) where
-  -- what is in force in a function, in the words of both
-  record Stands (e : Env) (vars : List ParamTree) (r : TypeTree) (loop : Bool) (caught : Option (List ℕ)) : Type 0 where
-    setting : e.setting ≡ at_vars ds apart vars
-    returns : e.returns ≡ r
-    looped : e.looped ≡ true → loop ≡ true
-    in_caught : e.caught ≡ true → CaughtFits (records_in ds) (functions_in ds) (actors_in ds) vars caught
+  plain_out : (e : Env) (vars : List ParamTree) (at : Place) → e.setting ≡ setting_in ds true vars → item at (unless (not e.setting.plain) WAIT_OUTSIDE) ≡ None → ⊥
+  plain_out e vars at k h = some_none (at_item ds true e vars at (λ s. unless (not s.plain) WAIT_OUTSIDE) k h)
 
-  caught_more : (vars : List ParamTree) (q : ParamTree) (c : Option (List ℕ)) → CaughtFits (records_in ds) (functions_in ds) (actors_in ds) vars c → CaughtFits (records_in ds) (functions_in ds) (actors_in ds) (vars ++ q ∷ []) c
-  caught_more vars q None h = h
-  caught_more vars q (Some x) h = (h.0, more_params vars q x h.0 h.1, h.2)
-
-  with_one : (e : Env) (vars : List ParamTree) (q : ParamTree) → e.setting ≡ at_vars ds apart vars → (with_var e q.name.name q.ty).setting ≡ at_vars ds apart (vars ++ q ∷ [])
-  with_one e vars q k = ap (λ (s : Setting). record s { vars = s.vars ++ field_row q ∷ [] }) k ∙ ap (λ l. record (setting_of ds true) { vars = l }) (sym (map-append field_row vars (q ∷ [])))
-
-  stands_behind : (e : Env) (b : Body) (vars : List ParamTree) (r : TypeTree) (loop : Bool) (c : Option (List ℕ)) → Stands e vars r loop c → Stands (behind e b) vars r loop c
-  stands_behind e b vars r loop c k = record { setting = k.setting; returns = k.returns; looped = k.looped; in_caught = k.in_caught }
-
-  stands_loop : (e : Env) (vars : List ParamTree) (r : TypeTree) (loop : Bool) (c : Option (List ℕ)) → Stands e vars r loop c → Stands (in_loop e) vars r true c
-  stands_loop e vars r loop c k = record { setting = k.setting; returns = k.returns; looped = λ h. refl; in_caught = k.in_caught }
-
-  stands_declared : (e : Env) (i : IntoTree) (vars : List ParamTree) (r : TypeTree) (loop : Bool) (c : Option (List ℕ)) → Stands e vars r loop c → Stands (declared e i) (vars ++ param i ∷ []) r loop c
-  stands_declared e i vars r loop c k = record {
-    setting = with_one e vars (param i) k.setting;
-    returns = k.returns;
-    looped = k.looped;
-    in_caught = λ h. caught_more vars (param i) c (k.in_caught h);
-  }
-
-  -- a catch: its variable is new
-  new_caught : (vars : List ParamTree) (states : List (List ℕ)) (x : Ident) → fresh (at_vars ds apart vars) states false x.name ≡ None → param_named (vars ++ caught_param x ∷ []) x.name ≡ Some (caught_param x)
-  new_caught vars states x h =
-      let s = at_vars ds apart vars in
-      let a = is_there (named s.vars x.name) in
-      let b = is_predefined x.name in
-      let c = is_there (s.known x.name) in
-      let n = not_true (a || b || c || (false && among states x.name)) (holds (not (a || b || c || (false && among states x.name))) TWICE h) in
-      let m = neither_left a b (neither_left (a || b) c (neither_left (a || b || c) (false && among states x.name) n)) in
-      last_param vars (caught_param x) (sym (there_of (param_named vars x.name)) ∙ ap is_there (sym (rows_named vars x.name)) ∙ m)
-
-  stands_caught : (e : Env) (x : Ident) (states : List (List ℕ)) (vars : List ParamTree) (r : TypeTree) (loop : Bool) (c : Option (List ℕ)) → Stands e vars r loop c → fresh e.setting states false x.name ≡ None
-      → Stands (in_catch (with_var e x.name ErrorType)) (vars ++ caught_param x ∷ []) r loop (Some x.name)
-  stands_caught e x states vars r loop c k h = record {
-    setting = with_one e vars (caught_param x) k.setting;
-    returns = k.returns;
-    looped = k.looped;
-    in_caught = λ z. (caught_param x, new_caught vars states x (ap (λ s. fresh s states false x.name) (sym k.setting) ∙ h), refl);
-  }
-
-  -- a rule at an item, in the words of the scope
-  at_item : (e : Env) (vars : List ParamTree) (at : Place) (f : Setting → Option ℕ) → e.setting ≡ at_vars ds apart vars → item at (f e.setting) ≡ None → f (at_vars ds apart vars) ≡ None
-  at_item e vars at f k h = ap f (sym k) ∙ no_item at (f e.setting) h
-
-  plain_out : (e : Env) (vars : List ParamTree) (at : Place) → e.setting ≡ at_vars ds apart vars → item at (unless (not e.setting.plain) WAIT_OUTSIDE) ≡ None → ⊥
-  plain_out e vars at k h = some_none (at_item e vars at (λ s. unless (not s.plain) WAIT_OUTSIDE) k h)
-
-  throw_fits : (e : Env) (vars : List ParamTree) (r : TypeTree) (loop : Bool) (c : Option (List ℕ)) (at : Place) (v : Option ExprTree) → Stands e vars r loop c → item at (throw_fault e.setting e.caught v) ≡ None
+  throw_fits : (e : Env) (vars : List ParamTree) (r : TypeTree) (loop : Bool) (c : Option (List ℕ)) (at : Place) (v : Option ExprTree) → Stands ds true e vars r loop c → item at (throw_fault e.setting e.caught v) ≡ None
       → ThrowFits (records_in ds) (functions_in ds) (actors_in ds) vars c v
   throw_fits e vars r loop c at None k h = k.in_caught (holds e.caught BREAK_OUTSIDE (no_item at (throw_fault e.setting e.caught None) h))
-  throw_fits e vars r loop c at (Some v) k h = yields ds apart vars false v ErrorType (at_item e vars at (λ s. wanted s false v ErrorType) k.setting h)
+  throw_fits e vars r loop c at (Some v) k h = yields ds apart true vars v ErrorType (at_item ds true e vars at (λ s. wanted s false v ErrorType) k.setting h)
 
   abbrev Fitting : TypeTree → Bool → Option (List ℕ) → List ParamTree → Body → Type 0
   Fitting r loop c vars b = BodyFits (records_in ds) (functions_in ds) (actors_in ds) r loop c vars b
 
   -- the init and the step of a `for`
-  init_fits : (e : Env) (vars : List ParamTree) (r : TypeTree) (c : Option (List ℕ)) (i : Body) → e.setting ≡ at_vars ds apart vars → InitKind i → HasPaths i → body_refusal e i ≡ None → Fitting r false c vars i
+  init_fits : (e : Env) (vars : List ParamTree) (r : TypeTree) (c : Option (List ℕ)) (i : Body) → e.setting ≡ setting_in ds true vars → InitKind i → HasPaths i → body_refusal e i ≡ None → Fitting r false c vars i
   init_fits e vars r c _ k no_init p h = tt
-  init_fits e vars r c _ k (declares at i v) p h = (declare_fits ds apart vars e.states i v (at_item e vars at (λ s. declare_fault s e.states i v) k (neither_first (item at (declare_fault e.setting e.states i v)) None h)), tt)
-  init_fits e vars r c _ k (assigns at xs v) p h = (assign_fits ds apart vars xs v p.0 (at_item e vars at (λ s. assign_fault s xs v) k (neither_first (item at (assign_fault e.setting xs v)) None h)), tt)
-  init_fits e vars r c _ k (modifies at xs d) p h = (modify_fits ds apart vars xs d p.0 (at_item e vars at (λ s. modify_fault s xs d) k (neither_first (item at (modify_fault e.setting xs d)) None h)), tt)
+  init_fits e vars r c _ k (declares at i v) p h = (declare_fits ds apart vars e.states i v (at_item ds true e vars at (λ s. declare_fault s e.states i v) k (neither_first (item at (declare_fault e.setting e.states i v)) None h)), tt)
+  init_fits e vars r c _ k (assigns at xs v) p h = (assign_fits ds apart vars xs v p.0 (at_item ds true e vars at (λ s. assign_fault s xs v) k (neither_first (item at (assign_fault e.setting xs v)) None h)), tt)
+  init_fits e vars r c _ k (modifies at xs d) p h = (modify_fits ds apart true vars xs d p.0 (at_item ds true e vars at (λ s. modify_fault s xs d) k (neither_first (item at (modify_fault e.setting xs d)) None h)), tt)
 
-  step_fits : (e : Env) (vars : List ParamTree) (r : TypeTree) (c : Option (List ℕ)) (t : Body) → e.setting ≡ at_vars ds apart vars → StepKind t → HasPaths t → body_refusal e t ≡ None → Fitting r false c vars t
+  step_fits : (e : Env) (vars : List ParamTree) (r : TypeTree) (c : Option (List ℕ)) (t : Body) → e.setting ≡ setting_in ds true vars → StepKind t → HasPaths t → body_refusal e t ≡ None → Fitting r false c vars t
   step_fits e vars r c _ k no_step p h = tt
-  step_fits e vars r c _ k (assigned at xs v) p h = (assign_fits ds apart vars xs v p.0 (at_item e vars at (λ s. assign_fault s xs v) k (neither_first (item at (assign_fault e.setting xs v)) None h)), tt)
-  step_fits e vars r c _ k (modified at xs d) p h = (modify_fits ds apart vars xs d p.0 (at_item e vars at (λ s. modify_fault s xs d) k (neither_first (item at (modify_fault e.setting xs d)) None h)), tt)
+  step_fits e vars r c _ k (assigned at xs v) p h = (assign_fits ds apart vars xs v p.0 (at_item ds true e vars at (λ s. assign_fault s xs v) k (neither_first (item at (assign_fault e.setting xs v)) None h)), tt)
+  step_fits e vars r c _ k (modified at xs d) p h = (modify_fits ds apart true vars xs d p.0 (at_item ds true e vars at (λ s. modify_fault s xs d) k (neither_first (item at (modify_fault e.setting xs d)) None h)), tt)
 
-  step_declares : (t : Body) → StepKind t → declared_in t ≡ []
-  step_declares _ no_step = refl
-  step_declares _ (assigned at xs v) = refl
-  step_declares _ (modified at xs d) = refl
-
-  stands_started : (e : Env) (i : Body) (vars : List ParamTree) (r : TypeTree) (loop : Bool) (c : Option (List ℕ)) → InitKind i → Stands e vars r loop c → Stands (started e i) (vars ++ declared_in i) r loop c
-  stands_started e _ vars r loop c no_init k = subst (λ vs. Stands (behind e End) vs r loop c) (sym (append-nil vars)) (stands_behind e End vars r loop c k)
-  stands_started e _ vars r loop c (declares at i v) k = stands_declared e i vars r loop c k
-  stands_started e _ vars r loop c (assigns at xs v) k = subst (λ vs. Stands (behind e (AssignStmt at xs v End)) vs r loop c) (sym (append-nil vars)) (stands_behind e (AssignStmt at xs v End) vars r loop c k)
-  stands_started e _ vars r loop c (modifies at xs d) k = subst (λ vs. Stands (behind e (ModifyStmt at xs d End)) vs r loop c) (sym (append-nil vars)) (stands_behind e (ModifyStmt at xs d End) vars r loop c k)
-
-  body_fits : (b : Body) (e : Env) (vars : List ParamTree) (r : TypeTree) (loop : Bool) (c : Option (List ℕ)) → Stands e vars r loop c → HasSimpleParts b → HasPaths b → body_refusal e b ≡ None → Fitting r loop c vars b
+  body_fits : (b : Body) (e : Env) (vars : List ParamTree) (r : TypeTree) (loop : Bool) (c : Option (List ℕ)) → Stands ds true e vars r loop c → HasSimpleParts b → HasPaths b → body_refusal e b ≡ None → Fitting r loop c vars b
   body_fits End e vars r loop c k s p h = tt
   body_fits (BlockStmt at b t) e vars r loop c k s p h =
-      (body_fits b e vars r loop c k s.0 p.0 (neither_first (body_refusal e b) _ h), body_fits t (behind e b) vars r loop c (stands_behind e b vars r loop c k) s.1 p.1 (neither_second (body_refusal e b) _ h))
+      (body_fits b e vars r loop c k s.0 p.0 (neither_first (body_refusal e b) _ h), body_fits t (behind e b) vars r loop c (stands_behind ds true e b vars r loop c k) s.1 p.1 (neither_second (body_refusal e b) _ h))
   body_fits (IfStmt at q b t) e vars r loop c k s p h =
       let i = item at (test_fault e.setting q) in
       let l = neither_second i _ h in (
-        yields ds apart vars false q BoolType (at_item e vars at (λ s. test_fault s q) k.setting (neither_first i _ h)),
+        yields ds apart true vars q BoolType (at_item ds true e vars at (λ s. test_fault s q) k.setting (neither_first i _ h)),
         body_fits b e vars r loop c k s.0 p.0 (neither_first (body_refusal e b) _ l),
-        body_fits t (behind e b) vars r loop c (stands_behind e b vars r loop c k) s.1 p.1 (neither_second (body_refusal e b) _ l),
+        body_fits t (behind e b) vars r loop c (stands_behind ds true e b vars r loop c k) s.1 p.1 (neither_second (body_refusal e b) _ l),
       )
   body_fits (IfElseStmt at q b o t) e vars r loop c k s p h =
       let i = item at (test_fault e.setting q) in
       let l = neither_second i _ h in
       let m = neither_second (body_refusal e b) _ l in
-      let kb = stands_behind e b vars r loop c k in (
-        yields ds apart vars false q BoolType (at_item e vars at (λ s. test_fault s q) k.setting (neither_first i _ h)),
+      let kb = stands_behind ds true e b vars r loop c k in (
+        yields ds apart true vars q BoolType (at_item ds true e vars at (λ s. test_fault s q) k.setting (neither_first i _ h)),
         body_fits b e vars r loop c k s.0 p.0 (neither_first (body_refusal e b) _ l),
         body_fits o (behind e b) vars r loop c kb s.1 p.1 (neither_first (body_refusal (behind e b) o) _ m),
-        body_fits t (behind (behind e b) o) vars r loop c (stands_behind (behind e b) o vars r loop c kb) s.2 p.2 (neither_second (body_refusal (behind e b) o) _ m),
+        body_fits t (behind (behind e b) o) vars r loop c (stands_behind ds true (behind e b) o vars r loop c kb) s.2 p.2 (neither_second (body_refusal (behind e b) o) _ m),
       )
   body_fits (WhileStmt at q b t) e vars r loop c k s p h =
       let i = item at (test_fault e.setting q) in
       let l = neither_second i _ h in (
-        yields ds apart vars false q BoolType (at_item e vars at (λ s. test_fault s q) k.setting (neither_first i _ h)),
-        body_fits b (in_loop e) vars r true c (stands_loop e vars r loop c k) s.0 p.0 (neither_first (body_refusal (in_loop e) b) _ l),
-        body_fits t (behind e b) vars r loop c (stands_behind e b vars r loop c k) s.1 p.1 (neither_second (body_refusal (in_loop e) b) _ l),
+        yields ds apart true vars q BoolType (at_item ds true e vars at (λ s. test_fault s q) k.setting (neither_first i _ h)),
+        body_fits b (in_loop e) vars r true c (stands_loop ds true e vars r loop c k) s.0 p.0 (neither_first (body_refusal (in_loop e) b) _ l),
+        body_fits t (behind e b) vars r loop c (stands_behind ds true e b vars r loop c k) s.1 p.1 (neither_second (body_refusal (in_loop e) b) _ l),
       )
   body_fits (ForStmt at j q n b t) e vars r loop c k s p h =
       let kind = init_kind j s.0 in
       let ws = vars ++ declared_in j in
       let e' = started e j in
-      let ks = stands_started e j vars r loop c kind k in
+      let ks = stands_started ds true e j vars r loop c kind k in
       let l = neither_second (body_refusal e j) _ h in
       let i = item at (maybe_test e'.setting q) in
       let m = neither_second i _ l in
       let o = neither_second (body_refusal e' n) _ m in
       let e'' = behind e' n in
-      let kn = stands_behind e' n ws r loop c ks in
+      let kn = stands_behind ds true e' n ws r loop c ks in
       let ej = behind e j in
       let en = behind ej n in (
         init_fits e vars r c j k.setting kind p.0 (neither_first (body_refusal e j) _ h),
-        maybe_yields ds apart ws q (at_item e' ws at (λ s. maybe_test s q) ks.setting (neither_first i _ l)),
+        maybe_yields ds apart true ws q (at_item ds true e' ws at (λ s. maybe_test s q) ks.setting (neither_first i _ l)),
         step_fits e' ws r c n ks.setting (step_kind n s.1) p.1 (neither_first (body_refusal e' n) _ m),
-        step_declares n (step_kind n s.1),
-        body_fits b (in_loop e'') ws r true c (stands_loop e'' ws r loop c kn) s.2 p.2 (neither_first (body_refusal (in_loop e'') b) _ o),
-        body_fits t (behind en b) vars r loop c (stands_behind en b vars r loop c (stands_behind ej n vars r loop c (stands_behind e j vars r loop c k))) s.3 p.3 (neither_second (body_refusal (in_loop e'') b) _ o),
+        step_declares ds true n (step_kind n s.1),
+        body_fits b (in_loop e'') ws r true c (stands_loop ds true e'' ws r loop c kn) s.2 p.2 (neither_first (body_refusal (in_loop e'') b) _ o),
+        body_fits t (behind en b) vars r loop c (stands_behind ds true en b vars r loop c (stands_behind ds true ej n vars r loop c (stands_behind ds true e j vars r loop c k))) s.3 p.3 (neither_second (body_refusal (in_loop e'') b) _ o),
       )
   body_fits (LoopStmt at b t) e vars r loop c k s p h = (
-    body_fits b (in_loop e) vars r true c (stands_loop e vars r loop c k) s.0 p.0 (neither_first (body_refusal (in_loop e) b) _ h),
-    body_fits t (behind e b) vars r loop c (stands_behind e b vars r loop c k) s.1 p.1 (neither_second (body_refusal (in_loop e) b) _ h),
+    body_fits b (in_loop e) vars r true c (stands_loop ds true e vars r loop c k) s.0 p.0 (neither_first (body_refusal (in_loop e) b) _ h),
+    body_fits t (behind e b) vars r loop c (stands_behind ds true e b vars r loop c k) s.1 p.1 (neither_second (body_refusal (in_loop e) b) _ h),
   )
   body_fits (BreakStmt at t) e vars r loop c k s p h =
       let i = unless e.looped BREAK_OUTSIDE in
@@ -207,7 +114,7 @@ module _ (ds : List DeclTree) (apart : Distinct ds) where
       (k.looped (holds e.looped BREAK_OUTSIDE (no_item at i (neither_first (item at i) _ h))), body_fits t e vars r loop c k s p (neither_second (item at i) _ h))
   body_fits (ReturnStmt at v t) e vars r loop c k s p h =
       let i = item at (wanted e.setting false v e.returns) in (
-        yields ds apart vars false v r (ap (wanted (at_vars ds apart vars) false v) (sym k.returns) ∙ at_item e vars at (λ s. wanted s false v e.returns) k.setting (neither_first i _ h)),
+        yields ds apart true vars v r (ap (wanted (setting_in ds true vars) false v) (sym k.returns) ∙ at_item ds true e vars at (λ s. wanted s false v e.returns) k.setting (neither_first i _ h)),
         body_fits t e vars r loop c k s p (neither_second i _ h),
       )
   body_fits (ThrowStmt at v t) e vars r loop c k s p h =
@@ -215,31 +122,31 @@ module _ (ds : List DeclTree) (apart : Distinct ds) where
       (throw_fits e vars r loop c at v k (neither_first i _ h), body_fits t e vars r loop c k s p (neither_second i _ h))
   body_fits (TryStmt at b q x o t) e vars r loop c k s p h =
       let eb = behind e b in
-      let kb = stands_behind e b vars r loop c k in
+      let kb = stands_behind ds true e b vars r loop c k in
       let l = neither_second (body_refusal e b) _ h in
       let i = item q (fresh e.setting eb.states false x.name) in
       let m = neither_second i _ l in
       let ec = in_catch (with_var eb x.name ErrorType) in
-      let kc = stands_caught eb x eb.states vars r loop c kb (no_item q (fresh e.setting eb.states false x.name) (neither_first i _ l)) in (
+      let kc = stands_caught ds true eb x eb.states vars r loop c kb (no_item q (fresh e.setting eb.states false x.name) (neither_first i _ l)) in (
         body_fits b e vars r loop c k s.0 p.0 (neither_first (body_refusal e b) _ h),
         body_fits o ec (vars ++ caught_param x ∷ []) r loop (Some x.name) kc s.1 p.1 (neither_first (body_refusal ec o) _ m),
-        body_fits t (behind eb o) vars r loop c (stands_behind eb o vars r loop c kb) s.2 p.2 (neither_second (body_refusal ec o) _ m),
+        body_fits t (behind eb o) vars r loop c (stands_behind ds true eb o vars r loop c kb) s.2 p.2 (neither_second (body_refusal ec o) _ m),
       )
   body_fits (ChooseStmt at bs t) e vars r loop c k s p h = plain_out e vars at k.setting (neither_first (item at (unless (not e.setting.plain) WAIT_OUTSIDE)) _ h)
   body_fits (DeclareStmt at i v t) e vars r loop c k s p h =
       let f = item at (declare_fault e.setting e.states i v) in (
-        declare_fits ds apart vars e.states i v (at_item e vars at (λ s. declare_fault s e.states i v) k.setting (neither_first f _ h)),
-        body_fits t (declared e i) (vars ++ param i ∷ []) r loop c (stands_declared e i vars r loop c k) s p (neither_second f _ h),
+        declare_fits ds apart vars e.states i v (at_item ds true e vars at (λ s. declare_fault s e.states i v) k.setting (neither_first f _ h)),
+        body_fits t (declared e i) (vars ++ param i ∷ []) r loop c (stands_declared ds true e i vars r loop c k) s p (neither_second f _ h),
       )
   body_fits (AssignStmt at xs v t) e vars r loop c k s p h =
       let f = item at (assign_fault e.setting xs v) in
-      (assign_fits ds apart vars xs v p.0 (at_item e vars at (λ s. assign_fault s xs v) k.setting (neither_first f _ h)), body_fits t e vars r loop c k s p.1 (neither_second f _ h))
+      (assign_fits ds apart vars xs v p.0 (at_item ds true e vars at (λ s. assign_fault s xs v) k.setting (neither_first f _ h)), body_fits t e vars r loop c k s p.1 (neither_second f _ h))
   body_fits (ModifyStmt at xs d t) e vars r loop c k s p h =
       let f = item at (modify_fault e.setting xs d) in
-      (modify_fits ds apart vars xs d p.0 (at_item e vars at (λ s. modify_fault s xs d) k.setting (neither_first f _ h)), body_fits t e vars r loop c k s p.1 (neither_second f _ h))
+      (modify_fits ds apart true vars xs d p.0 (at_item ds true e vars at (λ s. modify_fault s xs d) k.setting (neither_first f _ h)), body_fits t e vars r loop c k s p.1 (neither_second f _ h))
   body_fits (CallStmt at xs es t) e vars r loop c k s p h =
       let f = item at (call_fault e.setting xs es) in
-      (call_fits ds apart vars xs es p.0 (at_item e vars at (λ s. call_fault s xs es) k.setting (neither_first f _ h)), body_fits t e vars r loop c k s p.1 (neither_second f _ h))
+      (call_fits ds apart vars xs es p.0 (at_item ds true e vars at (λ s. call_fault s xs es) k.setting (neither_first f _ h)), body_fits t e vars r loop c k s p.1 (neither_second f _ h))
   body_fits (WaitStmt at w t) e vars r loop c k s p h =
       let f = wait_fault e.setting e.states w in
       let i = no_item at f (neither_first (item at f) _ h) in
@@ -315,7 +222,7 @@ module _ (ds : List DeclTree) (apart : Distinct ds) where
       let e = body_env (setting_of ds true) f in
       let i = item f.at (header_fault (known before) (setting_of ds true) f) in
       let l = neither_second i _ h in
-      let k : Stands ds apart e f.params f.returns false None = record { setting = refl; returns = refl; looped = λ z. z; in_caught = λ z. absurd (false≢true z) } in
+      let k : Stands ds true e f.params f.returns false None = record { setting = refl; returns = refl; looped = λ z. z; in_caught = λ z. absurd (false≢true z) } in
       let b = body_fits ds apart f.body e f.params f.returns false None k s p (neither_first (body_refusal e f.body) _ l) in
       let q = no_item f.close (unless (not (closing.ways f.body).end) FALLS_OFF) (neither_second (body_refusal e f.body) _ l) in
       (b, (same_ends (records_in ds) (functions_in ds) (actors_in ds) f.returns f.body false None f.params b).ends ∙ not_true (closing.ways f.body).end (holds (not (closing.ways f.body).end) FALLS_OFF q))

@@ -233,6 +233,7 @@ module _ (s : Setting) (c : ScopeTree) (a : Agrees s c) where
         by_form = k.gives;
         in_scope = ap (λ o. with_type o (applied (call_in c f.name (named call_names f.name)))) r.in_scope ∙ given _ k.params r.types k.result k.signs r.same;
         quiet = λ q. both_true (not (effect_in c f.name (named call_names f.name))) (all_without_effects c xs) (not_false (effect_in c f.name (named call_names f.name)) (k.quiet q)) r.quiet;
+        inside = r.quiet;
       }
 
   of_method : (whole : Bool) (e : ExprTree) (m : Ident) (xs : ExprTrees) → IsTyped s c false e → calls_on (form s e) xs (called_on (form s e) m.name) (placed s false) ≡ None
@@ -248,6 +249,7 @@ module _ (s : Setting) (c : ScopeTree) (a : Agrees s c) where
             ap (λ o. with_type o (λ t. with_type (types_in c xs) (applied (method_in t (named method_names m.name))))) b.in_scope
             ∙ ap (λ o. with_type o (applied (method_in b.type (named method_names m.name)))) r.in_scope ∙ given _ k.params r.types k.result k.signs r.same;
         quiet = λ q. both_true (without_effects c e) (all_without_effects c xs) (b.quiet (inl refl)) r.quiet;
+        inside = both_true (without_effects c e) (all_without_effects c xs) (b.quiet (inl refl)) r.quiet;
       }
 
   of_field_expr : (whole : Bool) (e : ExprTree) (x : Ident) → IsTyped s c false e → of_field s (form s e) x.name ≡ None → IsTyped s c whole (FieldExpr e x)
@@ -259,6 +261,7 @@ module _ (s : Setting) (c : ScopeTree) (a : Agrees s c) where
         by_form = ap (λ o. with_type o (λ t. field_form s t x.name)) b.by_form ∙ t.is;
         in_scope = ap (λ o. with_type o (λ t. field_type c.records t x.name)) b.in_scope ∙ sym (a.fields b.type x.name) ∙ t.is;
         quiet = λ q. b.quiet (inl refl);
+        inside = b.quiet (inl refl);
       }
 
   of_binary : (whole : Bool) (op : Op) (e f : ExprTree) → IsTyped s c false e → IsTyped s c false f → operands op (form s e) (form s f) ≡ None → IsTyped s c whole (BinaryExpr op e f)
@@ -271,6 +274,7 @@ module _ (s : Setting) (c : ScopeTree) (a : Agrees s c) where
         by_form = ap₂ (sign_form op) b.by_form d.by_form ∙ sym (signed op b.type d.type ok) ∙ t.is;
         in_scope = ap (λ o. with_type o (λ t. with_type (type_in c f) (binary_type op t))) b.in_scope ∙ ap (λ o. with_type o (binary_type op b.type)) d.in_scope ∙ t.is;
         quiet = λ q. both_true (without_effects c e) (without_effects c f) (b.quiet (inl refl)) (d.quiet (inl refl));
+        inside = both_true (without_effects c e) (without_effects c f) (b.quiet (inl refl)) (d.quiet (inl refl));
       }
 
   of_not : (whole : Bool) (e : ExprTree) → IsTyped s c false e → wants (form s e) BoolType ≡ None → IsTyped s c whole (NotExpr e)
@@ -279,6 +283,7 @@ module _ (s : Setting) (c : ScopeTree) (a : Agrees s c) where
     by_form = refl;
     in_scope = ap (λ o. with_type o bool_only) b.in_scope ∙ ap bool_only (wanted_is (form s e) b.type BoolType b.by_form h);
     quiet = λ q. b.quiet (inl refl);
+    inside = b.quiet (inl refl);
   }
 
   of_neg : (whole : Bool) (e : ExprTree) → IsTyped s c false e → wants (form s e) IntType ≡ None → IsTyped s c whole (NegExpr e)
@@ -287,6 +292,7 @@ module _ (s : Setting) (c : ScopeTree) (a : Agrees s c) where
     by_form = refl;
     in_scope = ap (λ o. with_type o int_only) b.in_scope ∙ ap int_only (wanted_is (form s e) b.type IntType b.by_form h);
     quiet = λ q. b.quiet (inl refl);
+    inside = b.quiet (inl refl);
   }
 
   more_typed : (t : TypeTree) (ts : List TypeTree) (e : ExprTree) (es : ExprTrees) (n : Option Need) → n ≡ Some (Exactly t) → fits (form s e) n ≡ None → IsTyped s c false e → AreTyped c ts es → AreTyped c (t ∷ ts) (MoreExprs e es)
@@ -301,13 +307,13 @@ module _ (s : Setting) (c : ScopeTree) (a : Agrees s c) where
 
   mutual
     pub typed : (whole : Bool) (e : ExprTree) → fault s whole e ≡ None → IsTyped s c whole e
-    typed whole (IntExpr n) h = record { type = IntType; by_form = refl; in_scope = refl; quiet = λ q. refl }
-    typed whole (TextExpr t) h = record { type = StringType; by_form = refl; in_scope = refl; quiet = λ q. refl }
-    typed whole (BoolExpr b) h = record { type = BoolType; by_form = refl; in_scope = refl; quiet = λ q. refl }
-    typed whole VoidExpr h = record { type = VoidType; by_form = refl; in_scope = refl; quiet = λ q. refl }
+    typed whole (IntExpr n) h = record { type = IntType; by_form = refl; in_scope = refl; quiet = λ q. refl; inside = refl }
+    typed whole (TextExpr t) h = record { type = StringType; by_form = refl; in_scope = refl; quiet = λ q. refl; inside = refl }
+    typed whole (BoolExpr b) h = record { type = BoolType; by_form = refl; in_scope = refl; quiet = λ q. refl; inside = refl }
+    typed whole VoidExpr h = record { type = VoidType; by_form = refl; in_scope = refl; quiet = λ q. refl; inside = refl }
     typed whole (VarExpr x) h =
         let t = there (variable_form s x.name) (holds (is_there (variable_form s x.name)) UNKNOWN_NAME h) in
-        record { type = t.value; by_form = t.is; in_scope = sym (constant_typed s c a x.name (named constant_names x.name)) ∙ t.is; quiet = λ q. refl }
+        record { type = t.value; by_form = t.is; in_scope = sym (constant_typed s c a x.name (named constant_names x.name)) ∙ t.is; quiet = λ q. refl; inside = refl }
     typed whole (CallExpr f xs) h =
         of_call whole f xs (name_called s c a whole xs f.name (named call_names f.name) (no_second (faults s 0 (needs_of (called s f.name)) xs) (calls xs (called s f.name) (placed s whole)) h))
         (λ ts n m. all_typed 0 (needs_of (called s f.name)) ts xs (from_start (needs_of (called s f.name)) (map Exactly ts) n) m (no_first (faults s 0 (needs_of (called s f.name)) xs) (calls xs (called s f.name) (placed s whole)) h))
@@ -324,7 +330,7 @@ module _ (s : Setting) (c : ScopeTree) (a : Agrees s c) where
         let l = lesser (fault s false e) (fault s false f) in
         let r = no_first l (operands op (form s e) (form s f)) h in
         of_binary whole op e f (typed false e (no_first (fault s false e) (fault s false f) r)) (typed false f (no_second (fault s false e) (fault s false f) r)) (no_second l (operands op (form s e) (form s f)) h)
-    typed whole (ParenExpr e) h = let t = typed false e h in record { type = t.type; by_form = t.by_form; in_scope = t.in_scope; quiet = λ q. t.quiet (inl refl) }
+    typed whole (ParenExpr e) h = let t = typed false e h in record { type = t.type; by_form = t.by_form; in_scope = t.in_scope; quiet = λ q. t.quiet (inl refl); inside = t.quiet (inl refl) }
 
     pub all_typed : (k : ℕ) (ns : List Need) (ts : List TypeTree) (es : ExprTrees) → ((i : ℕ) → slice_get ns (k + i) ≡ slice_get (map Exactly ts) i) → as_many es (map Exactly ts) ≡ true → faults s k ns es ≡ None → AreTyped c ts es
     all_typed k ns [] NoExprs n m h = record { types = []; in_scope = refl; same = refl; quiet = refl }

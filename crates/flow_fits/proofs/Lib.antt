@@ -2,6 +2,7 @@ mod Names
 mod Expressions
 mod Agreement
 mod Statements
+mod Standing
 mod Bodies
 mod PathsDerived
 mod Accepted

@@ -2,9 +2,9 @@
 use Rattle.std.specs.Prelude.{◌≡◌, Bool, true, false, List, ◌⊎◌, map}
 use Rattle.std.specs.declared.option.Option.{Option}
 use Rattle.std.specs.declared.option.Option.TheVariants.{None, Some}
-use Rattle.flow_tree.specs.Tree.{TypeTree, ExprTree}
+use Rattle.flow_tree.specs.Tree.{TypeTree, ExprTree, CallExpr}
 use Rattle.flow_tree.specs.Decls.{ParamTree, DeclTree, ProgramTree}
-use Rattle.flow_ast.specs.Typing.{ScopeTree, type_in, without_effects}
+use Rattle.flow_ast.specs.Typing.{ScopeTree, type_in, without_effects, all_without_effects}
 use Rattle.flow_ast.specs.Fits.{scope_over, FunctionsFit}
 use Rattle.flow_rules.specs.Known.{field_row}
 use Rattle.flow_rules.specs.Judged.{Setting, form, fault}
@@ -18,13 +18,19 @@ scope_in ds vars = scope_over (records_in ds) (functions_in ds) (actors_in ds) v
 abbrev pub setting_in : List DeclTree → Bool → List ParamTree → Setting
 setting_in ds plain vars = record (setting_of ds plain) { vars = map field_row vars }
 
+-- no effects stand inside an expression, which may be one itself
+abbrev pub QuietInside : ScopeTree → ExprTree → Type 0
+QuietInside c (CallExpr f xs) = all_without_effects c xs ≡ true
+QuietInside c e = without_effects c e ≡ true
+
 -- An expression in which no rule fails has the type that its form gives. It has no effects, unless it is a whole one in an
--- actor.
+-- actor, and none inside.
 pub record IsTyped (s : Setting) (c : ScopeTree) (whole : Bool) (e : ExprTree) : Type 0 where
   pub type : TypeTree
   pub by_form : form s e ≡ Some type
   pub in_scope : type_in c e ≡ Some type
   pub quiet : (whole ≡ false) ⊎ (s.plain ≡ true) → without_effects c e ≡ true
+  pub inside : QuietInside c e
 
 -- In a program that no rule refuses each expression in which none fails is typed, in a function and in an actor, over any
 -- variables; and its functions fit.
