@@ -1,0 +1,19 @@
+// Laws of what fits.
+
+ghost use Rattle.std.specs.Prelude.{◌≡◌};
+ghost use Rattle.std.specs.declared.option.Option.TheVariants.{None};
+ghost use Rattle.flow_tree.specs.Decls.{ProgramTree};
+ghost use Rattle.flow_tree.specs.declared.token.Tokens.{Tokens};
+ghost use Rattle.flow_tree.specs.GrammarDecl.{IsProgram};
+ghost use Rattle.flow_rules.specs.Rules.{refusal_of};
+ghost use Rattle.flow_fits.specs.Joined.{AcceptedFits};
+
+use flow_walks::laws::parts_are_simple;
+
+/// A program that the grammar derives and no rule refuses is well typed: an expression in which no rule fails has the type that
+/// its form gives, and no effects but a whole one in an actor; and its functions fit, as their evaluation asks.
+pub fn accepted_fits()
+    ensures { (tokens : Tokens) (program : ProgramTree) → IsProgram tokens program → refusal_of program ≡ None → AcceptedFits program }
+{
+    parts_are_simple();
+}
