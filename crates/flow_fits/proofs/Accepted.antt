@@ -1,5 +1,5 @@
 -- A program that no rule refuses is well typed.
-use Rattle.std.proofs.Common.{◌≡◌, List, []}
+use Rattle.std.proofs.Common.{◌≡◌, []}
 use Rattle.std.specs.declared.option.Option.TheVariants.{None}
 use Rattle.flow_tree.specs.Decls.{ProgramTree}
 use Rattle.flow_tree.specs.declared.token.Tokens.{Tokens}
@@ -7,10 +7,12 @@ use Rattle.flow_tree.specs.GrammarDecl.{IsProgram}
 use Rattle.flow_rules.specs.Rules.{setting_of, decls_refusal, refusal_of}
 use Rattle.flow_walks.specs.Laws.{AllHaveSimpleParts}
 use Rattle.flow_fits.specs.Paths.{AllHavePaths}
-use Rattle.flow_fits.specs.Joined.{scope_in, setting_in, AcceptedFits}
+use Rattle.flow_fits.specs.Scopes.{scope_in, setting_in}
+use Rattle.flow_fits.specs.Joined.{AcceptedFits}
 use Rattle.flow_fits.proofs.Expressions.{typed}
 use Rattle.flow_fits.proofs.Agreement.{distinct, agrees, neither_first}
 use Rattle.flow_fits.proofs.Bodies.{all_fit}
+use Rattle.flow_fits.proofs.Actors.{actors_fit}
 use Rattle.flow_fits.proofs.PathsDerived.{program_paths}
 
 fits : (p : ProgramTree) → refusal_of p ≡ None → AllHaveSimpleParts p.decls → AllHavePaths p.decls → AcceptedFits p
@@ -20,6 +22,7 @@ fits p h s q =
     record {
       expressions = λ plain whole vars e n. typed (setting_in p.decls plain vars) (scope_in p.decls vars) (agrees p.decls vars d plain) whole e n;
       functions = all_fit p.decls d r s q;
+      actors = actors_fit p.decls d [] p.decls r s q;
     }
 
 -- with what the grammar derives

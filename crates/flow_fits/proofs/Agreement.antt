@@ -1,6 +1,6 @@
 -- What the names at the top of an accepted program mean, its scope has.
-use Rattle.std.proofs.Common.{◌≡◌, ℕ, zero, suc, Bool, true, false, not, cond, ◌&&◌, ◌||◌, List, [], ◌∷◌, ◌++◌, map, find, refl, sym, ap, ap₂, subst, ◌∙◌, append_assoc}
-use Rattle.std.specs.Prelude.{codes, if◌then◌else◌}
+use Rattle.std.proofs.Common.{◌≡◌, ℕ, Bool, true, false, not, cond, ◌&&◌, ◌||◌, List, [], ◌∷◌, ◌++◌, map, refl, sym, ap, ap₂, subst, ◌∙◌}
+use Rattle.std.specs.Prelude.{if◌then◌else◌}
 use Rattle.std.specs.Str.{bytes_eq}
 use Rattle.std.specs.Option.{option_map}
 use Rattle.std.proofs.lemmas.Bool.{false≢true, true≢false}
@@ -11,17 +11,17 @@ use Rattle.flow_base.specs.declared.place.Place.{Place}
 use Rattle.flow_tree.specs.Tree.{TypeTree, IntType, BoolType, StringType, VoidType, ErrorType, NamedType, FutureType, FutureStreamType, PromiseType, PromiseStreamType}
 use Rattle.flow_tree.specs.Decls.{ParamTree, RecordTree, RoutineTree, DeclTree, StructDecl, FunctionDecl, ActorDecl}
 use Rattle.flow_ast.specs.TypingNames.{named}
-use Rattle.flow_ast.specs.Typing.{ScopeTree, Signature, takes, or_else, is_there, is_packet, packet_fields, record_named, routine_named, param_named, param_types, record_call, function_call, actor_call, declared_call, effect_in, declared_field, record_field, field_type}
-use Rattle.flow_rules.specs.declared.rule.TheConstants.{UNKNOWN_NAME, TWICE}
-use Rattle.flow_rules.specs.Least.{lesser, unless}
+use Rattle.flow_ast.specs.Typing.{ScopeTree, takes, or_else, is_there, is_packet, packet_fields, record_named, routine_named, param_named, param_types, function_call, actor_call, declared_field, record_field, field_type}
+use Rattle.flow_rules.specs.declared.rule.TheConstants.{TWICE}
+use Rattle.flow_rules.specs.Least.{lesser}
 use Rattle.flow_rules.specs.Known.{Meaning, RecordOf, FunctionOf, ActorOf, field_row, row_of, packet_row, known, is_predefined}
 use Rattle.flow_rules.specs.Judged.{Setting, field_of, field_form}
 use Rattle.flow_rules.specs.Items.{item, written}
-use Rattle.flow_rules.specs.Rules.{setting_of, name_fault, fields_fault, record_fault, params_fault, header_fault, body_env, routine_refusal, decl_refusal, decls_refusal}
+use Rattle.flow_rules.specs.Rules.{name_fault, fields_fault, record_fault, params_fault, header_fault, routine_refusal, decl_refusal, decls_refusal}
 use Rattle.flow_meaning.specs.Source.{records_in, functions_in, actors_in}
 use Rattle.flow_fits.specs.Agreeing.{IsDeclared, Agrees}
-use Rattle.flow_fits.specs.Joined.{scope_in, setting_in}
-use Rattle.flow_fits.proofs.Names.{bytes_same, bytes_self, bytes_sym, none_some, some_none, some_same, no_first, no_second, holds}
+use Rattle.flow_fits.specs.Scopes.{scope_in, setting_in}
+use Rattle.flow_fits.proofs.Names.{bytes_same, bytes_self, bytes_sym, some_none, no_first, holds}
 
 -- no refusal comes of two parts
 pub neither_first : {A : Type 0} (x y : Option A) → or_else x y ≡ None → x ≡ None

@@ -1,32 +1,28 @@
 -- The bodies of functions in which no rule fails are well typed.
-use Rattle.std.proofs.Common.{◌≡◌, ℕ, zero, suc, Bool, true, false, not, cond, ◌&&◌, ◌||◌, List, [], ◌∷◌, ◌++◌, map, slice_get, refl, sym, ap, ap₂, subst, ◌∙◌, append-nil, rules}
-use Rattle.std.specs.Option.{option_map}
-use Rattle.std.proofs.lemmas.Bool.{false≢true, true≢false}
-use Rattle.std.proofs.lemmas.List.{map-append}
+use Rattle.std.proofs.Common.{◌≡◌, ℕ, zero, suc, Bool, true, false, not, ◌&&◌, ◌||◌, List, [], ◌∷◌, ◌++◌, slice_get, refl, sym, ap, ap₂, subst, ◌∙◌}
+use Rattle.std.proofs.lemmas.Bool.{false≢true}
 use Rattle.std.specs.declared.option.Option.{Option}
 use Rattle.std.specs.declared.option.Option.TheVariants.{None, Some}
 use Rattle.flow_base.specs.declared.place.Place.{Place}
-use Rattle.flow_tree.specs.declared.ty.Ident.{Ident}
-use Rattle.flow_tree.specs.Tree.{TypeTree, BoolType, ErrorType, ExprTree, ExprTrees}
-use Rattle.flow_tree.specs.Body.{IntoTree, Body, End, BlockStmt, IfStmt, IfElseStmt, WhileStmt, ForStmt, LoopStmt, BreakStmt, ContinueStmt, ReturnStmt, ThrowStmt, TryStmt, ChooseStmt, DeclareStmt, AssignStmt, ModifyStmt, CallStmt, WaitStmt}
+use Rattle.flow_tree.specs.Tree.{TypeTree, BoolType, ErrorType, ExprTree}
+use Rattle.flow_tree.specs.Body.{Body, End, BlockStmt, IfStmt, IfElseStmt, WhileStmt, ForStmt, LoopStmt, BreakStmt, ContinueStmt, ReturnStmt, ThrowStmt, TryStmt, ChooseStmt, DeclareStmt, AssignStmt, ModifyStmt, CallStmt, WaitStmt}
 use Rattle.flow_tree.specs.Decls.{ParamTree, RecordTree, RoutineTree, DeclTree, StructDecl, FunctionDecl, ActorDecl}
-use Rattle.flow_ast.specs.TypingNames.{named}
-use Rattle.flow_ast.specs.Typing.{or_else, is_there, param_named}
+use Rattle.flow_ast.specs.Typing.{is_there}
 use Rattle.flow_ast.specs.Leaving.{has_statement, reaches_end, reaches_break}
-use Rattle.flow_ast.specs.Fits.{declared_in, Yields, MaybeYields, DeclareFits, CaughtFits, ThrowFits, BodyFits, FunctionFits, FunctionsFit}
-use Rattle.flow_rules.specs.declared.rule.TheConstants.{TWICE, FALLS_OFF, BREAK_OUTSIDE, WAIT_OUTSIDE}
-use Rattle.flow_rules.specs.Least.{lesser, unless}
-use Rattle.flow_rules.specs.Known.{field_row, known, is_predefined}
+use Rattle.flow_ast.specs.Fits.{declared_in, ThrowFits, BodyFits, FunctionFits, FunctionsFit}
+use Rattle.flow_rules.specs.declared.rule.TheConstants.{FALLS_OFF, BREAK_OUTSIDE, WAIT_OUTSIDE}
+use Rattle.flow_rules.specs.Least.{unless}
+use Rattle.flow_rules.specs.Known.{known}
 use Rattle.flow_rules.specs.Judged.{Setting, wanted}
 use Rattle.flow_rules.specs.Closing as closing
-use Rattle.flow_rules.specs.Items.{Env, item, with_var, with_states, in_loop, in_catch, behind, declared, started, among, fresh, assign_fault, modify_fault, call_fault, test_fault, maybe_test, throw_fault, declare_fault, wait_fault, maybe_into, wait_type, body_refusal}
+use Rattle.flow_rules.specs.Items.{Env, item, with_var, in_loop, in_catch, behind, declared, started, fresh, assign_fault, modify_fault, call_fault, test_fault, maybe_test, throw_fault, declare_fault, wait_fault, maybe_into, wait_type, body_refusal}
 use Rattle.flow_rules.specs.Rules.{setting_of, header_fault, body_env, routine_refusal, decl_refusal, decls_refusal}
-use Rattle.flow_walks.specs.Laws.{IsInit, IsStep, HasSimpleParts, AllHaveSimpleParts}
+use Rattle.flow_walks.specs.Laws.{HasSimpleParts, AllHaveSimpleParts}
 use Rattle.flow_meaning.specs.Source.{records_in, functions_in, actors_in}
-use Rattle.flow_fits.specs.Joined.{scope_in, setting_in}
-use Rattle.flow_fits.specs.Paths.{IsPath, HasPaths, AllHavePaths}
-use Rattle.flow_fits.proofs.Names.{none_some, some_none, some_same, no_first, no_second, holds}
-use Rattle.flow_fits.proofs.Agreement.{Distinct, rows_named, neither_first, neither_second, no_item, not_true, neither_left, neither_right}
+use Rattle.flow_fits.specs.Scopes.{setting_in}
+use Rattle.flow_fits.specs.Paths.{HasPaths, AllHavePaths}
+use Rattle.flow_fits.proofs.Names.{none_some, some_none, some_same, no_second, holds}
+use Rattle.flow_fits.proofs.Agreement.{Distinct, neither_first, neither_second, no_item, not_true}
 use Rattle.flow_fits.proofs.Standing.{InitKind, no_init, declares, assigns, modifies, init_kind, StepKind, no_step, assigned, modified, step_kind, param, caught_param, Stands, stands_behind, stands_loop, stands_declared, stands_caught, at_item, step_declares, stands_started}
 use Rattle.flow_fits.proofs.Statements.{yields, maybe_yields, declare_fits, assign_fits, modify_fits, call_fits}
 

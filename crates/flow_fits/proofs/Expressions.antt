@@ -1,5 +1,5 @@
 -- An expression in which no rule fails has the type that its form gives.
-use Rattle.std.proofs.Common.{◌≡◌, ℕ, zero, suc, ◌+◌, Bool, true, false, not, ◌&&◌, ◌⊎◌, inl, inr, List, [], ◌∷◌, map, slice_get, refl, sym, ap, ap₂, subst, ◌∙◌, arith, if◌then◌else◌}
+use Rattle.std.proofs.Common.{◌≡◌, ℕ, suc, ◌+◌, Bool, true, false, not, ◌&&◌, ◌⊎◌, inl, inr, List, [], ◌∷◌, map, slice_get, refl, sym, ap, ap₂, subst, ◌∙◌, arith, if◌then◌else◌}
 use Rattle.std.specs.Option.{option_map}
 use Rattle.std.proofs.lemmas.Bool.{false≢true, true≢false}
 use Rattle.std.specs.declared.option.Option.{Option}
@@ -11,17 +11,16 @@ use Rattle.flow_ast.specs.declared.predefined.Predefined.{Predefined}
 use Rattle.flow_ast.specs.declared.predefined.Predefined.TheVariants as predefined
 use Rattle.flow_ast.specs.declared.predefined.Method.{Method}
 use Rattle.flow_ast.specs.declared.predefined.Method.TheVariants as method
-use Rattle.flow_tree.specs.Tree.{TypeTree, IntType, BoolType, StringType, VoidType, ErrorType, NamedType, FutureType, FutureStreamType, PromiseType, PromiseStreamType, ExprTree, ExprTrees, IntExpr, TextExpr, BoolExpr, VoidExpr, VarExpr, CallExpr, FieldExpr, MethodExpr, NotExpr, NegExpr, BinaryExpr, ParenExpr, NoExprs, MoreExprs}
-use Rattle.flow_tree.specs.Decls.{ParamTree}
+use Rattle.flow_tree.specs.Tree.{TypeTree, IntType, BoolType, StringType, VoidType, NamedType, FutureType, PromiseType, PromiseStreamType, ExprTree, ExprTrees, IntExpr, TextExpr, BoolExpr, VoidExpr, VarExpr, CallExpr, FieldExpr, MethodExpr, NotExpr, NegExpr, BinaryExpr, ParenExpr, NoExprs, MoreExprs}
 use Rattle.flow_ast.specs.TypingNames.{named, call_names, method_names, constant_names}
-use Rattle.flow_ast.specs.Typing.{ScopeTree, Signature, takes, signature, is_effect, applied, same_type, same_types, sum_type, order_type, equality_type, int_only, bool_only, sign_type, binary_type, with_type, more_types, type_in, types_in, method_in, call_in, declared_call, effect_in, field_type, param_named, variable_in, is_there, without_effects, all_without_effects}
-use Rattle.flow_rules.specs.declared.rule.TheConstants.{UNKNOWN_NAME, WRONG_TYPE, WRONG_COUNT, EFFECT_INSIDE, NOT_HERE, DISCARD}
+use Rattle.flow_ast.specs.Typing.{ScopeTree, Signature, takes, signature, is_effect, applied, same_type, same_types, sum_type, order_type, equality_type, int_only, bool_only, binary_type, with_type, more_types, type_in, types_in, method_in, call_in, declared_call, effect_in, field_type, variable_in, is_there, without_effects, all_without_effects}
+use Rattle.flow_rules.specs.declared.rule.TheConstants.{UNKNOWN_NAME, WRONG_TYPE, WRONG_COUNT, EFFECT_INSIDE, NOT_HERE}
 use Rattle.flow_rules.specs.Least.{lesser, unless}
 use Rattle.flow_rules.specs.Known.{Meaning, RecordOf, FunctionOf, ActorOf}
-use Rattle.flow_rules.specs.Judged.{Setting, Need, Exactly, Traced, Kind, Value, OfFunction, Clock, Effect, Statement, Callee, callee, statement, predefined_kind, stated, predefined_callee, declared_callee, called_as, called, sends, cancels, stated_on, method_callee, called_by, called_on, needs_of, gives_of, field_form, variable_as, variable_form, sum_form, sign_form, form, wants, fits, operands, not_here, placed, as_many, calls, calls_on, of_field, fault, faults, wanted}
+use Rattle.flow_rules.specs.Judged.{Setting, Need, Exactly, Value, OfFunction, Effect, Statement, Callee, predefined_kind, stated, predefined_callee, declared_callee, called_as, called, sends, cancels, stated_on, method_callee, called_by, called_on, needs_of, gives_of, field_form, variable_as, variable_form, sign_form, form, wants, fits, operands, not_here, placed, as_many, calls, calls_on, of_field, fault, faults}
 use Rattle.flow_fits.specs.Agreeing.{IsDeclared, Agrees}
 use Rattle.flow_fits.specs.Joined.{IsTyped}
-use Rattle.flow_fits.proofs.Names.{type_same, type_self, none_some, some_none, some_same, Held, there, no_first, no_second, holds}
+use Rattle.flow_fits.proofs.Names.{type_same, type_self, none_some, some_none, some_same, there, no_first, no_second, holds}
 
 -- what a sign gives where its operands fit it
 bool_there : (t : TypeTree) → is_there (bool_only t) ≡ true → bool_only t ≡ Some BoolType
@@ -216,7 +215,7 @@ given g ts us t e h = ap (λ x. applied x us) e ∙ ap (λ b. if b then Some t e
 pub from_start : (ns ms : List Need) → ns ≡ ms → (i : ℕ) → slice_get ns (0 + i) ≡ slice_get ms i
 from_start ns ms e i = let z : 0 + i ≡ i = omega arith in ap (slice_get ns) z ∙ ap (λ l. slice_get l i) e
 
-constant_typed : (s : Setting) (c : ScopeTree) → Agrees s c → (x : List ℕ) (o : Option ℕ) → variable_as s x o ≡ variable_in c.vars x o
+pub constant_typed : (s : Setting) (c : ScopeTree) → Agrees s c → (x : List ℕ) (o : Option ℕ) → variable_as s x o ≡ variable_in c.vars x o
 constant_typed s c a x None = a.vars x
 constant_typed s c a x (Some n) = refl
 

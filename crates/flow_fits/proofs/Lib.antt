@@ -4,5 +4,6 @@ mod Agreement
 mod Statements
 mod Standing
 mod Bodies
+mod Actors
 mod PathsDerived
 mod Accepted

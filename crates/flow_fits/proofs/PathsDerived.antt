@@ -3,7 +3,7 @@ use Rattle.std.proofs.Common.{ℕ, Bool, List}
 use Rattle.flow_base.specs.declared.place.Place.{Place}
 use Rattle.flow_tree.specs.declared.ty.Ident.{Ident}
 use Rattle.flow_tree.specs.declared.token.Tokens.{Tokens}
-use Rattle.flow_tree.specs.Body.{Body, End, Branches}
+use Rattle.flow_tree.specs.Body.{Body, Branches}
 use Rattle.flow_tree.specs.Decls.{RoutineTree, DeclTree, ProgramTree}
 use Rattle.flow_tree.specs.GrammarToken.{Marked}
 use Rattle.flow_tree.specs.GrammarStmt.{Counts, PathRule, last_name, more_names, AssignRule, assign, plus, minus, up, down, InitRule, declare, declare_value, change, InitPart, no_init, some_init, StepPart, no_step, some_step, PlainRule, if_stmt, if_else_stmt, while_stmt, for_stmt, loop_stmt, break_stmt, continue_stmt, return_stmt, throw_stmt, try_stmt, choose_stmt, init_stmt, wait_stmt, call_stmt, StmtRule, block_stmt, plain_stmt, BlockRule, braces, BodyRule, block_body, one_body, StmtsRule, no_stmts, more_stmts, WhensRule, no_whens, more_whens, WhenRule, branch}

@@ -1,32 +1,26 @@
 -- What is in force at a statement, in the words of the rules and of what fits.
-use Rattle.std.proofs.Common.{◌≡◌, ℕ, zero, suc, Bool, true, false, not, cond, ◌&&◌, ◌||◌, List, [], ◌∷◌, ◌++◌, map, slice_get, refl, sym, ap, ap₂, subst, ◌∙◌, append-nil, rules}
-use Rattle.std.specs.Option.{option_map}
-use Rattle.std.proofs.lemmas.Bool.{false≢true, true≢false}
+use Rattle.std.proofs.Common.{◌≡◌, ℕ, Bool, true, false, not, ◌&&◌, ◌||◌, List, [], ◌∷◌, ◌++◌, refl, sym, ap, subst, ◌∙◌, append-nil}
 use Rattle.std.proofs.lemmas.List.{map-append}
 use Rattle.std.specs.declared.option.Option.{Option}
 use Rattle.std.specs.declared.option.Option.TheVariants.{None, Some}
 use Rattle.flow_base.specs.declared.place.Place.{Place}
 use Rattle.flow_tree.specs.declared.ty.Ident.{Ident}
-use Rattle.flow_tree.specs.Tree.{TypeTree, BoolType, ErrorType, ExprTree, ExprTrees}
-use Rattle.flow_tree.specs.Body.{IntoTree, Body, End, BlockStmt, IfStmt, IfElseStmt, WhileStmt, ForStmt, LoopStmt, BreakStmt, ContinueStmt, ReturnStmt, ThrowStmt, TryStmt, ChooseStmt, DeclareStmt, AssignStmt, ModifyStmt, CallStmt, WaitStmt}
-use Rattle.flow_tree.specs.Decls.{ParamTree, RecordTree, RoutineTree, DeclTree, StructDecl, FunctionDecl, ActorDecl}
+use Rattle.flow_tree.specs.Tree.{TypeTree, ErrorType}
+use Rattle.flow_tree.specs.Body.{IntoTree, Body, End, DeclareStmt, AssignStmt, ModifyStmt}
+use Rattle.flow_tree.specs.Decls.{ParamTree, DeclTree}
 use Rattle.flow_ast.specs.TypingNames.{named}
-use Rattle.flow_ast.specs.Typing.{or_else, is_there, param_named}
-use Rattle.flow_ast.specs.Leaving.{has_statement, reaches_end, reaches_break}
-use Rattle.flow_ast.specs.Fits.{declared_in, Yields, MaybeYields, DeclareFits, CaughtFits, ThrowFits, BodyFits, FunctionFits, FunctionsFit}
-use Rattle.flow_rules.specs.declared.rule.TheConstants.{TWICE, FALLS_OFF, BREAK_OUTSIDE, WAIT_OUTSIDE}
-use Rattle.flow_rules.specs.Least.{lesser, unless}
-use Rattle.flow_rules.specs.Known.{field_row, known, is_predefined}
-use Rattle.flow_rules.specs.Judged.{Setting, wanted}
-use Rattle.flow_rules.specs.Closing as closing
-use Rattle.flow_rules.specs.Items.{Env, item, with_var, with_states, in_loop, in_catch, behind, declared, started, among, fresh, assign_fault, modify_fault, call_fault, test_fault, maybe_test, throw_fault, declare_fault, wait_fault, maybe_into, wait_type, body_refusal}
-use Rattle.flow_rules.specs.Rules.{setting_of, header_fault, body_env, routine_refusal, decl_refusal, decls_refusal}
-use Rattle.flow_walks.specs.Laws.{IsInit, IsStep, HasSimpleParts, AllHaveSimpleParts}
+use Rattle.flow_ast.specs.Typing.{is_there, param_named}
+use Rattle.flow_ast.specs.Fits.{declared_in, CaughtFits}
+use Rattle.flow_rules.specs.declared.rule.TheConstants.{TWICE}
+use Rattle.flow_rules.specs.Known.{field_row, is_predefined}
+use Rattle.flow_rules.specs.Judged.{Setting}
+use Rattle.flow_rules.specs.Items.{Env, item, with_var, in_loop, in_catch, behind, declared, started, among, fresh}
+use Rattle.flow_rules.specs.Rules.{setting_of}
+use Rattle.flow_walks.specs.Laws.{IsInit, IsStep}
 use Rattle.flow_meaning.specs.Source.{records_in, functions_in, actors_in}
-use Rattle.flow_fits.specs.Joined.{scope_in, setting_in}
-use Rattle.flow_fits.specs.Paths.{IsPath, HasPaths, AllHavePaths}
-use Rattle.flow_fits.proofs.Names.{none_some, some_none, some_same, no_first, no_second, holds}
-use Rattle.flow_fits.proofs.Agreement.{Distinct, rows_named, neither_first, neither_second, no_item, not_true, neither_left, neither_right}
+use Rattle.flow_fits.specs.Scopes.{setting_in}
+use Rattle.flow_fits.proofs.Names.{holds}
+use Rattle.flow_fits.proofs.Agreement.{rows_named, no_item, not_true, neither_left}
 use Rattle.flow_fits.proofs.Statements.{more_params, last_param, there_of}
 
 -- the parts of a `for`

@@ -1,39 +1,35 @@
 -- The statements of a function in which no rule fails are well typed.
-use Rattle.std.proofs.Common.{◌≡◌, ℕ, zero, suc, Bool, true, false, not, cond, ◌&&◌, ◌||◌, ◌⊎◌, inl, inr, List, [], ◌∷◌, ◌++◌, map, find, slice_get, refl, sym, ap, ap₂, subst, ◌∙◌, append-nil}
+use Rattle.std.proofs.Common.{◌≡◌, ℕ, Bool, true, false, cond, inl, inr, List, [], ◌∷◌, ◌++◌, map, refl, sym, ap, ◌∙◌}
 use Rattle.std.specs.Prelude.{if◌then◌else◌}
 use Rattle.std.specs.Str.{bytes_eq}
 use Rattle.std.specs.Option.{option_map}
 use Rattle.std.proofs.lemmas.Bool.{false≢true, true≢false}
-use Rattle.std.proofs.lemmas.List.{map-append}
 use Rattle.std.specs.declared.option.Option.{Option}
 use Rattle.std.specs.declared.option.Option.TheVariants.{None, Some}
-use Rattle.flow_base.specs.declared.place.Place.{Place}
 use Rattle.flow_tree.specs.declared.ty.Ident.{Ident}
 use Rattle.flow_tree.specs.declared.expr.Op.TheVariants.{Add, Sub}
 use Rattle.flow_ast.specs.declared.predefined.Predefined.{Predefined}
 use Rattle.flow_ast.specs.declared.predefined.Predefined.TheVariants as predefined
 use Rattle.flow_ast.specs.declared.predefined.Method.{Method}
-use Rattle.flow_tree.specs.Tree.{TypeTree, IntType, BoolType, StringType, VoidType, ErrorType, NamedType, FutureType, FutureStreamType, PromiseType, PromiseStreamType, ExprTree, ExprTrees}
-use Rattle.flow_tree.specs.Body.{IntoTree, ChangeTree, PlusChange, MinusChange, UpChange, DownChange, Body, End, BlockStmt, IfStmt, IfElseStmt, WhileStmt, ForStmt, LoopStmt, BreakStmt, ContinueStmt, ReturnStmt, ThrowStmt, TryStmt, ChooseStmt, DeclareStmt, AssignStmt, ModifyStmt, CallStmt, WaitStmt, Branches}
-use Rattle.flow_tree.specs.Decls.{ParamTree, RecordTree, RoutineTree, DeclTree, StructDecl, FunctionDecl, ActorDecl}
+use Rattle.flow_tree.specs.Tree.{TypeTree, IntType, BoolType, StringType, PromiseType, PromiseStreamType, ExprTree, ExprTrees}
+use Rattle.flow_tree.specs.Body.{IntoTree, ChangeTree, PlusChange, MinusChange, UpChange, DownChange}
+use Rattle.flow_tree.specs.Decls.{ParamTree, RecordTree, RoutineTree, DeclTree}
 use Rattle.flow_ast.specs.TypingNames.{named, call_names, method_names}
-use Rattle.flow_ast.specs.Typing.{ScopeTree, Signature, signature, or_else, is_there, routine_named, param_named, param_types, same_type, same_types, sum_type, int_only, sign_type, binary_type, type_in, types_in, method_in, field_type, without_effects, all_without_effects}
-use Rattle.flow_ast.specs.Fits.{declared_in, fields_type, path_type, has_default, scope_over, Yields, MaybeYields, ChangeFits, DeclareFits, CallFits, CaughtFits, ThrowFits, BodyFits, FunctionFits, FunctionsFit}
-use Rattle.flow_rules.specs.declared.rule.TheConstants.{UNKNOWN_NAME, TWICE, WRONG_TYPE, WRONG_COUNT, NOT_HERE, NEEDS_VALUE, BREAK_OUTSIDE, WAIT_OUTSIDE, DISCARD}
+use Rattle.flow_ast.specs.Typing.{Signature, signature, is_there, routine_named, param_named, param_types, same_type, sum_type, int_only, binary_type, method_in}
+use Rattle.flow_ast.specs.Fits.{fields_type, path_type, has_default, Yields, MaybeYields, ChangeFits, DeclareFits, CallFits}
+use Rattle.flow_rules.specs.declared.rule.TheConstants.{UNKNOWN_NAME, WRONG_TYPE, WRONG_COUNT, NOT_HERE, NEEDS_VALUE, DISCARD}
 use Rattle.flow_rules.specs.Least.{lesser, unless}
-use Rattle.flow_rules.specs.Known.{Meaning, RecordOf, FunctionOf, ActorOf, field_row, type_known, is_predefined}
-use Rattle.flow_rules.specs.Judged.{Setting, Need, Exactly, Kind, Value, OfFunction, Clock, Effect, Statement, Callee, predefined_kind, stated, predefined_callee, declared_callee, called_as, called, stated_on, method_callee, called_by, called_on, needs_of, field_form, form, fault, faults, wanted, wants, operands, not_here, said, as_many, calls, of_field}
+use Rattle.flow_rules.specs.Known.{Meaning, RecordOf, FunctionOf, ActorOf, type_known}
+use Rattle.flow_rules.specs.Judged.{Setting, Exactly, Callee, predefined_kind, stated, predefined_callee, declared_callee, called_as, called, stated_on, method_callee, called_by, called_on, needs_of, field_form, form, fault, faults, wanted, wants, operands, not_here, said, as_many, calls, of_field}
 use Rattle.flow_rules.specs.Items.{Env, item, with_var, with_states, in_loop, in_catch, behind, declared, started, written, fresh, state_here, into_fault, value_fault, path_form, path_fault, target_form, target_fault, assigned, assign_fault, change_fault, modify_fault, ends_of, base_form, base_fault, call_by_name, call_on, call_fault, test_fault, maybe_test, throw_fault, declare_fault, wait_fault, body_refusal}
 use Rattle.flow_rules.specs.Items as rule
-use Rattle.flow_rules.specs.Rules.{setting_of}
-use Rattle.flow_walks.specs.Laws.{HasSimpleParts}
 use Rattle.flow_meaning.specs.Source.{records_in, functions_in, actors_in}
-use Rattle.flow_fits.specs.Agreeing.{IsDeclared, Agrees}
-use Rattle.flow_fits.specs.Joined.{scope_in, setting_in, IsTyped}
-use Rattle.flow_fits.specs.Paths.{IsPath, HasPaths}
-use Rattle.flow_fits.proofs.Names.{bytes_self, type_same, none_some, some_none, some_same, Held, there, no_first, no_second, holds}
-use Rattle.flow_fits.proofs.Expressions.{typed, all_typed, AreTyped, wanted_is, sum_there, stated_statement, from_start}
-use Rattle.flow_fits.proofs.Agreement.{Distinct, agrees, neither_first, neither_second, no_item, not_true, neither_left, neither_right}
+use Rattle.flow_fits.specs.Agreeing.{IsDeclared}
+use Rattle.flow_fits.specs.Scopes.{scope_in, setting_in}
+use Rattle.flow_fits.specs.Paths.{IsPath}
+use Rattle.flow_fits.proofs.Names.{bytes_self, type_same, none_some, some_none, there, no_first, no_second, holds}
+use Rattle.flow_fits.proofs.Expressions.{typed, all_typed, wanted_is, sum_there, stated_statement, from_start}
+use Rattle.flow_fits.proofs.Agreement.{Distinct, agrees}
 
 -- the sum of a variable and what is added to it
 int_self : (t : TypeTree) → is_there (int_only t) ≡ true → int_only t ≡ Some t
@@ -95,12 +91,12 @@ module _ (ds : List DeclTree) (apart : Distinct ds) (plain : Bool) where
   maybe_yields vars (Some e) h = yields vars e BoolType h
 
   -- what a path leads to
-  record IsPathTo (vars : List ParamTree) (o : Option TypeTree) (xs : List Ident) : Type 0 where
-    type : TypeTree
-    by_form : path_form (at_vars vars) o xs ≡ Some type
-    in_scope : fields_type rs o xs ≡ Some type
+  pub record IsPathTo (vars : List ParamTree) (o : Option TypeTree) (xs : List Ident) : Type 0 where
+    pub type : TypeTree
+    pub by_form : path_form (at_vars vars) o xs ≡ Some type
+    pub in_scope : fields_type rs o xs ≡ Some type
 
-  path_to : (vars : List ParamTree) (xs : List Ident) (t : TypeTree) → path_fault (at_vars vars) (Some t) xs ≡ None → IsPathTo vars (Some t) xs
+  pub path_to : (vars : List ParamTree) (xs : List Ident) (t : TypeTree) → path_fault (at_vars vars) (Some t) xs ≡ None → IsPathTo vars (Some t) xs
   path_to vars [] t h = record { type = t; by_form = refl; in_scope = refl }
   path_to vars (x ∷ xs) t h =
       let s = at_vars vars in
@@ -114,12 +110,12 @@ module _ (ds : List DeclTree) (apart : Distinct ds) (plain : Bool) where
         in_scope = ap (λ o. fields_type rs o xs) (sym ((agrees ds vars apart plain).fields t x.name) ∙ f.is) ∙ r.in_scope;
       }
 
-  record IsTarget (vars : List ParamTree) (xs : List Ident) : Type 0 where
-    type : TypeTree
-    by_form : target_form (at_vars vars) xs ≡ Some type
-    in_scope : path_type rs vars xs ≡ Some type
+  pub record IsTarget (vars : List ParamTree) (xs : List Ident) : Type 0 where
+    pub type : TypeTree
+    pub by_form : target_form (at_vars vars) xs ≡ Some type
+    pub in_scope : path_type rs vars xs ≡ Some type
 
-  target : (vars : List ParamTree) (xs : List Ident) → IsPath xs → target_fault (at_vars vars) xs ≡ None → IsTarget vars xs
+  pub target : (vars : List ParamTree) (xs : List Ident) → IsPath xs → target_fault (at_vars vars) xs ≡ None → IsTarget vars xs
   target vars [] p h = absurd p
   target vars (x ∷ xs) p h =
       let s = at_vars vars in

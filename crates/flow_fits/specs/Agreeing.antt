@@ -1,12 +1,12 @@
 -- What a setting knows is what a scope has.
-use Rattle.std.specs.Prelude.{◌≡◌, ℕ, Bool, false, List, map}
+use Rattle.std.specs.Prelude.{◌≡◌, ℕ, false, List, map}
 use Rattle.std.specs.Option.{option_map}
 use Rattle.std.specs.declared.option.Option.{Option}
 use Rattle.std.specs.declared.option.Option.TheVariants.{None, Some}
 use Rattle.flow_tree.specs.Tree.{TypeTree, NamedType, FutureType}
 use Rattle.flow_tree.specs.Decls.{ParamTree, RoutineTree}
 use Rattle.flow_ast.specs.TypingNames.{named}
-use Rattle.flow_ast.specs.Typing.{ScopeTree, Signature, takes, declared_call, effect_in, field_type, param_named, param_types, routine_named}
+use Rattle.flow_ast.specs.Typing.{ScopeTree, takes, declared_call, effect_in, field_type, param_named, param_types, routine_named}
 use Rattle.flow_rules.specs.Known.{Meaning, RecordOf, FunctionOf, ActorOf}
 use Rattle.flow_rules.specs.Judged.{Setting, field_form}
 

@@ -1,3 +1,5 @@
+pub mod Scopes
+pub mod ActorFits
 pub mod Joined
 pub mod Agreeing
 pub mod Paths

@@ -11,7 +11,8 @@ ghost use Rattle.flow_fits.specs.Joined.{AcceptedFits};
 use flow_walks::laws::parts_are_simple;
 
 /// A program that the grammar derives and no rule refuses is well typed: an expression in which no rule fails has the type that
-/// its form gives, and no effects but a whole one in an actor; and its functions fit, as their evaluation asks.
+/// its form gives, and no effects but a whole one in an actor; its functions fit, as their evaluation asks, and so do its
+/// actors.
 pub fn accepted_fits()
     ensures { (tokens : Tokens) (program : ProgramTree) → IsProgram tokens program → refusal_of program ≡ None → AcceptedFits program }
 {
