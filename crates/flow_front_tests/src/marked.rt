@@ -7,6 +7,7 @@ use std::alloc::{AllocError, Global};
 
 /// A program text, and how many bytes stand before the place of its refusal, before the name of the local that it
 /// loses, and before the wait at which it loses it: before `@`, `#` and `$` in the marked text.
+#[derive(Drop)]
 pub struct Marked {
     text: Vec<u8>,
     refused: Option<usize>,
