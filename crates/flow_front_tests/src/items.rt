@@ -1,390 +1,144 @@
-// Records, functions and actors with one fault or more.
+// Records, functions and actors with one fault or more, a line each: the rule, and the text with a `@` before the place.
 
-/// The number of the rule K that refuses them, and the place.
-pub const REFUSED_ITEMS: [(u8, &str); 126] = [
-    (1, "@struct S { U u; };"),
-    (1, "@int h(U u) { return 1; }"),
-    (1, "@ACTOR Future<U> h(int n) { return n; }"),
-    (2, "@struct R { int z; };"),
-    (2, "@struct S { int u; bool u; };"),
-    (2, "@int f(bool b) { return 1; }"),
-    (2, "@int h(int k, int k) { return k; }"),
-    (2, "@int a(int n) { return n; }"),
-    (2, "@ACTOR Future<int> R(int n) { return n; }"),
-    (2, "@struct now { int x; };"),
-    (2, "@int h(int f) { return f; }"),
-    (2, "@struct f { int x; };"),
-    (2, "@int R(int n) { return n; }"),
-    (2, "@ACTOR Future<int> f(int n) { return n; }"),
-    (2, "@struct a { int x; };"),
-    (2, "@ACTOR Future<int> a(int n) { return n; }"),
-    (6, "struct T { Promise<int> q; }; @int h(T u) { return 1; }"),
-    (6, "@Future<int> h(int n) { return Never(); }"),
-    (6, "@int h(Promise<int> q) { return 1; }"),
-    (8, "int h(int n) { @}"),
-    (8, "int h(int n) { if (n == 0) { return 1; } @}"),
-    (8, "int h(int n) { while (true) { return 1; } @}"),
-    (8, "ACTOR Future<int> h(int n) { loop { break; } @}"),
-    (
-        8,
-        "ACTOR Future<int> h(int n) { try { return n; } catch (Error& e) { } @}",
-    ),
-    (8, "int h(int n) { for (; n < 2; n++) { return n; } @}"),
-    (
-        8,
-        "ACTOR Future<int> h(int n) { choose { when (wait(Never())) { return n; } when (int x = wait(a(1))) { } } @}",
-    ),
-    (
-        1,
-        "ACTOR Future<int> h(int n) { choose { when (wait(Never())) { return n; } when (int x = wait(a(1))) { @throw operation_failed(); } } }",
-    ),
-    (1, "@struct S { U u; }; int kk(U u) { return 1; }"),
-    (
-        1,
-        "@struct S { U u; }; ACTOR Future<U> kk(int n) { return n; }",
-    ),
-    (1, "@struct S { U u; }; int kk(int k, int k) { return k; }"),
-    (1, "@struct S { U u; }; int a(int n) { return n; }"),
-    (1, "@struct S { U u; }; struct f { int x; };"),
-    (
-        1,
-        "@struct S { U u; }; ACTOR Future<int> kk(int n) { try { return n; } catch (Error& e) { } }",
-    ),
-    (1, "@int h(U u) { return 1; } struct WW { int u; bool u; };"),
-    (1, "@int h(U u) { return 1; } struct now { int x; };"),
-    (
-        1,
-        "@ACTOR Future<U> h(int n) { return n; } int kk(int k, int k) { return k; }",
-    ),
-    (
-        1,
-        "@ACTOR Future<U> h(int n) { return n; } int a(int n) { return n; }",
-    ),
-    (2, "@struct R { int z; }; int kk(U u) { return 1; }"),
-    (2, "@struct S { int u; bool u; }; struct R { int z; };"),
-    (
-        2,
-        "@int f(bool b) { return 1; } struct WW { int u; bool u; };",
-    ),
-    (
-        2,
-        "@int f(bool b) { return 1; } ACTOR Future<int> R(int n) { return n; }",
-    ),
-    (
-        2,
-        "@int h(int k, int k) { return k; } int kk(int n) { while (true) { return 1; } }",
-    ),
-    (
-        2,
-        "@int h(int k, int k) { return k; } ACTOR Future<int> kk(int n) { try { return n; } catch (Error& e) { } }",
-    ),
-    (
-        2,
-        "@int a(int n) { return n; } int kk(int n) { while (true) { return 1; } }",
-    ),
-    (
-        2,
-        "@int a(int n) { return n; } int kk(int n) { for (; n < 2; n++) { return n; } }",
-    ),
-    (
-        2,
-        "@ACTOR Future<int> R(int n) { return n; } ACTOR Future<U> kk(int n) { return n; }",
-    ),
-    (
-        2,
-        "@ACTOR Future<int> R(int n) { return n; } struct now { int x; };",
-    ),
-    (
-        2,
-        "@ACTOR Future<int> R(int n) { return n; } int kk(int n) { while (true) { return 1; } }",
-    ),
-    (
-        2,
-        "@ACTOR Future<int> R(int n) { return n; } ACTOR Future<int> kk(int n) { loop { break; } }",
-    ),
-    (
-        2,
-        "@ACTOR Future<int> R(int n) { return n; } ACTOR Future<int> kk(int n) { choose { when (wait(Never())) { return n; } when (int x = wait(a(1))) { } } }",
-    ),
-    (2, "@struct now { int x; }; struct R { int z; };"),
-    (2, "@struct now { int x; }; int f(bool b) { return 1; }"),
-    (
-        2,
-        "@struct now { int x; }; int kk(Promise<int> q) { return 1; }",
-    ),
-    (2, "@int h(int f) { return f; } int kk(U u) { return 1; }"),
-    (2, "@int h(int f) { return f; } struct R { int z; };"),
-    (
-        2,
-        "@int h(int f) { return f; } ACTOR Future<int> kk(int n) { choose { when (wait(Never())) { return n; } when (int x = wait(a(1))) { } } }",
-    ),
-    (2, "@struct f { int x; }; int kk(U u) { return 1; }"),
-    (2, "@struct f { int x; }; int f(bool b) { return 1; }"),
-    (
-        2,
-        "@struct f { int x; }; int kk(int n) { for (; n < 2; n++) { return n; } }",
-    ),
-    (
-        2,
-        "@int R(int n) { return n; } struct WW { int u; bool u; };",
-    ),
-    (
-        2,
-        "@int R(int n) { return n; } int kk(int k, int k) { return k; }",
-    ),
-    (
-        2,
-        "@int R(int n) { return n; } ACTOR Future<int> R(int n) { return n; }",
-    ),
-    (2, "@int R(int n) { return n; } struct now { int x; };"),
-    (
-        2,
-        "@int R(int n) { return n; } ACTOR Future<int> kk(int n) { choose { when (wait(Never())) { return n; } when (int x = wait(a(1))) { } } }",
-    ),
-    (
-        2,
-        "@ACTOR Future<int> f(int n) { return n; } Future<int> kk(int n) { return Never(); }",
-    ),
-    (2, "@struct a { int x; }; int kk(U u) { return 1; }"),
-    (2, "@struct a { int x; }; int a(int n) { return n; }"),
-    (2, "@struct a { int x; }; int kk(int f) { return f; }"),
-    (
-        2,
-        "@struct a { int x; }; int kk(int n) { for (; n < 2; n++) { return n; } }",
-    ),
-    (
-        2,
-        "@ACTOR Future<int> a(int n) { return n; } struct WW { int u; bool u; };",
-    ),
-    (
-        2,
-        "@ACTOR Future<int> a(int n) { return n; } int f(bool b) { return 1; }",
-    ),
-    (
-        2,
-        "@ACTOR Future<int> a(int n) { return n; } int kk(int n) { if (n == 0) { return 1; } }",
-    ),
-    (
-        6,
-        "struct T { Promise<int> q; }; @int h(T u) { return 1; } ACTOR Future<int> a(int n) { return n; }",
-    ),
-    (
-        6,
-        "struct T { Promise<int> q; }; @int h(T u) { return 1; } Future<int> kk(int n) { return Never(); }",
-    ),
-    (
-        6,
-        "struct T { Promise<int> q; }; @int h(T u) { return 1; } ACTOR Future<int> kk(int n) { choose { when (wait(Never())) { return n; } when (int x = wait(a(1))) { } } }",
-    ),
-    (
-        6,
-        "@Future<int> h(int n) { return Never(); } struct a { int x; };",
-    ),
-    (
-        6,
-        "@int h(Promise<int> q) { return 1; } int a(int n) { return n; }",
-    ),
-    (
-        6,
-        "@int h(Promise<int> q) { return 1; } ACTOR Future<int> f(int n) { return n; }",
-    ),
-    (8, "int h(int n) { @} int R(int n) { return n; }"),
-    (8, "int h(int n) { @} struct a { int x; };"),
-    (
-        8,
-        "int h(int n) { if (n == 0) { return 1; } @} struct WW { U u; };",
-    ),
-    (
-        8,
-        "int h(int n) { if (n == 0) { return 1; } @} ACTOR Future<int> a(int n) { return n; }",
-    ),
-    (
-        8,
-        "int h(int n) { if (n == 0) { return 1; } @} struct XX { Promise<int> q; }; int kk(XX u) { return 1; }",
-    ),
-    (
-        8,
-        "int h(int n) { if (n == 0) { return 1; } @} ACTOR Future<int> kk(int n) { loop { break; } }",
-    ),
-    (
-        8,
-        "int h(int n) { while (true) { return 1; } @} ACTOR Future<int> f(int n) { return n; }",
-    ),
-    (
-        8,
-        "int h(int n) { while (true) { return 1; } @} ACTOR Future<int> kk(int n) { choose { when (wait(Never())) { return n; } when (int x = wait(a(1))) { } } }",
-    ),
-    (
-        8,
-        "ACTOR Future<int> h(int n) { loop { break; } @} int f(bool b) { return 1; }",
-    ),
-    (
-        8,
-        "ACTOR Future<int> h(int n) { loop { break; } @} Future<int> kk(int n) { return Never(); }",
-    ),
-    (
-        8,
-        "ACTOR Future<int> h(int n) { try { return n; } catch (Error& e) { } @} struct WW { U u; };",
-    ),
-    (
-        8,
-        "int h(int n) { for (; n < 2; n++) { return n; } @} struct R { int z; };",
-    ),
-    (
-        8,
-        "int h(int n) { for (; n < 2; n++) { return n; } @} struct WW { int u; bool u; };",
-    ),
-    (
-        8,
-        "int h(int n) { for (; n < 2; n++) { return n; } @} ACTOR Future<int> a(int n) { return n; }",
-    ),
-    (
-        8,
-        "int h(int n) { for (; n < 2; n++) { return n; } @} int kk(int n) { while (true) { return 1; } }",
-    ),
-    (
-        8,
-        "ACTOR Future<int> h(int n) { choose { when (wait(Never())) { return n; } when (int x = wait(a(1))) { } } @} int a(int n) { return n; }",
-    ),
-    (
-        8,
-        "ACTOR Future<int> h(int n) { choose { when (wait(Never())) { return n; } when (int x = wait(a(1))) { } } @} struct a { int x; };",
-    ),
-    (
-        8,
-        "ACTOR Future<int> h(int n) { choose { when (wait(Never())) { return n; } when (int x = wait(a(1))) { } } @} int kk(Promise<int> q) { return 1; }",
-    ),
-    (
-        8,
-        "ACTOR Future<int> h(int n) { choose { when (wait(Never())) { return n; } when (int x = wait(a(1))) { } } @} int kk(int n) { }",
-    ),
-    (
-        8,
-        "ACTOR Future<int> h(int n) { choose { when (wait(Never())) { return n; } when (int x = wait(a(1))) { } } @} int kk(int n) { if (n == 0) { return 1; } }",
-    ),
-    (
-        5,
-        "int g(int n) { int i = 0; string t = \"\"; R r = R(1, 2); @Future<int> x = a(randomInt(0, 2)); return 1; } int h(int n) { for (; n < 2; n++) { return n; } }",
-    ),
-    (
-        8,
-        "int h(int n) { for (; n < 2; n++) { return n; } @} int g(int n) { int i = 0; string t = \"\"; R r = R(1, 2); Future<int> x = a(randomInt(0, 2)); return 1; }",
-    ),
-    (
-        6,
-        "int g(int n) { int i = 0; string t = \"\"; R r = R(1, 2); @trace(i); return 1; } int h(int n) { }",
-    ),
-    (
-        8,
-        "int h(int n) { @} int g(int n) { int i = 0; string t = \"\"; R r = R(1, 2); trace(i); return 1; }",
-    ),
-    (
-        4,
-        "int g(int n) { int i = 0; string t = \"\"; R r = R(1, 2); @r = R(1); return 1; } ACTOR Future<int> h(int n) { choose { when (wait(Never())) { return n; } when (int x = wait(a(1))) { } } }",
-    ),
-    (
-        8,
-        "ACTOR Future<int> h(int n) { choose { when (wait(Never())) { return n; } when (int x = wait(a(1))) { } } @} int g(int n) { int i = 0; string t = \"\"; R r = R(1, 2); r = R(1); return 1; }",
-    ),
-    (
-        5,
-        "int g(int n) { int i = 0; string t = \"\"; R r = R(1, 2); @if (randomInt(0, 2) == 0) { } return 1; } int h(int n) { if (n == 0) { return 1; } }",
-    ),
-    (
-        8,
-        "int h(int n) { if (n == 0) { return 1; } @} int g(int n) { int i = 0; string t = \"\"; R r = R(1, 2); if (randomInt(0, 2) == 0) { } return 1; }",
-    ),
-    (
-        1,
-        "int g(int n) { int i = 0; string t = \"\"; R r = R(1, 2); @t = r.w; return 1; } ACTOR Future<U> h(int n) { return n; }",
-    ),
-    (
-        1,
-        "@ACTOR Future<U> h(int n) { return n; } int g(int n) { int i = 0; string t = \"\"; R r = R(1, 2); t = r.w; return 1; }",
-    ),
-    (
-        2,
-        "int g(int n) { int i = 0; string t = \"\"; R r = R(1, 2); @bool i = true; return 1; } struct S { U u; };",
-    ),
-    (
-        1,
-        "@struct S { U u; }; int g(int n) { int i = 0; string t = \"\"; R r = R(1, 2); bool i = true; return 1; }",
-    ),
-    (
-        6,
-        "int g(int n) { int i = 0; string t = \"\"; R r = R(1, 2); @int x = randomInt(0, 2); return 1; } int a(int n) { return n; }",
-    ),
-    (
-        2,
-        "@int a(int n) { return n; } int g(int n) { int i = 0; string t = \"\"; R r = R(1, 2); int x = randomInt(0, 2); return 1; }",
-    ),
-    (
-        6,
-        "int g(int n) { int i = 0; string t = \"\"; R r = R(1, 2); @int x = now(); return 1; } struct R { int z; };",
-    ),
-    (
-        2,
-        "@struct R { int z; }; int g(int n) { int i = 0; string t = \"\"; R r = R(1, 2); int x = now(); return 1; }",
-    ),
-    (
-        6,
-        "int g(int n) { int i = 0; string t = \"\"; R r = R(1, 2); @state int x = 1; return 1; } ACTOR Future<int> a(int n) { return n; }",
-    ),
-    (
-        2,
-        "@ACTOR Future<int> a(int n) { return n; } int g(int n) { int i = 0; string t = \"\"; R r = R(1, 2); state int x = 1; return 1; }",
-    ),
-    (
-        3,
-        "int g(int n) { int i = 0; string t = \"\"; R r = R(1, 2); @i = t + 1; return 1; } ACTOR Future<int> h(int n) { loop { break; } }",
-    ),
-    (
-        8,
-        "ACTOR Future<int> h(int n) { loop { break; } @} int g(int n) { int i = 0; string t = \"\"; R r = R(1, 2); i = t + 1; return 1; }",
-    ),
-    (
-        2,
-        "int g(int n) { int i = 0; string t = \"\"; R r = R(1, 2); for (@int i = 0; i < 2; i++) { } return 1; } struct a { int x; };",
-    ),
-    (
-        2,
-        "@struct a { int x; }; int g(int n) { int i = 0; string t = \"\"; R r = R(1, 2); for (int i = 0; i < 2; i++) { } return 1; }",
-    ),
-    (
-        3,
-        "int g(int n) { int i = 0; string t = \"\"; R r = R(1, 2); @i = \"a\"; return 1; } int h(int n) { for (; n < 2; n++) { return n; } }",
-    ),
-    (
-        8,
-        "int h(int n) { for (; n < 2; n++) { return n; } @} int g(int n) { int i = 0; string t = \"\"; R r = R(1, 2); i = \"a\"; return 1; }",
-    ),
-    (
-        1,
-        "int g(int n) { int i = 0; string t = \"\"; R r = R(1, 2); @z = 1; return 1; } int R(int n) { return n; }",
-    ),
-    (
-        2,
-        "@int R(int n) { return n; } int g(int n) { int i = 0; string t = \"\"; R r = R(1, 2); z = 1; return 1; }",
-    ),
-    (
-        6,
-        "int g(int n) { int i = 0; string t = \"\"; R r = R(1, 2); @randomInt(0, 2); return 1; } ACTOR Future<int> h(int n) { choose { when (wait(Never())) { return n; } when (int x = wait(a(1))) { } } }",
-    ),
-    (
-        8,
-        "ACTOR Future<int> h(int n) { choose { when (wait(Never())) { return n; } when (int x = wait(a(1))) { } } @} int g(int n) { int i = 0; string t = \"\"; R r = R(1, 2); randomInt(0, 2); return 1; }",
-    ),
-];
+/// Beside a record `R`, a function `f` and an actor `a`.
+pub const REFUSED_ITEMS: &str = "\
+K1 @struct S { U u; };
+K1 @int h(U u) { return 1; }
+K1 @ACTOR Future<U> h(int n) { return n; }
+K2 @struct R { int z; };
+K2 @struct S { int u; bool u; };
+K2 @int f(bool b) { return 1; }
+K2 @int h(int k, int k) { return k; }
+K2 @int a(int n) { return n; }
+K2 @ACTOR Future<int> R(int n) { return n; }
+K2 @struct now { int x; };
+K2 @int h(int f) { return f; }
+K2 @struct f { int x; };
+K2 @int R(int n) { return n; }
+K2 @ACTOR Future<int> f(int n) { return n; }
+K2 @struct a { int x; };
+K2 @ACTOR Future<int> a(int n) { return n; }
+K6 struct T { Promise<int> q; }; @int h(T u) { return 1; }
+K6 @Future<int> h(int n) { return Never(); }
+K6 @int h(Promise<int> q) { return 1; }
+K8 int h(int n) { @}
+K8 int h(int n) { if (n == 0) { return 1; } @}
+K8 int h(int n) { while (true) { return 1; } @}
+K8 ACTOR Future<int> h(int n) { loop { break; } @}
+K8 ACTOR Future<int> h(int n) { try { return n; } catch (Error& e) { } @}
+K8 int h(int n) { for (; n < 2; n++) { return n; } @}
+K8 ACTOR Future<int> h(int n) { choose { when (wait(Never())) { return n; } when (int x = wait(a(1))) { } } @}
+K1 ACTOR Future<int> h(int n) { choose { when (wait(Never())) { return n; } when (int x = wait(a(1))) { @throw operation_failed(); } } }
+K1 @struct S { U u; }; int kk(U u) { return 1; }
+K1 @struct S { U u; }; ACTOR Future<U> kk(int n) { return n; }
+K1 @struct S { U u; }; int kk(int k, int k) { return k; }
+K1 @struct S { U u; }; int a(int n) { return n; }
+K1 @struct S { U u; }; struct f { int x; };
+K1 @struct S { U u; }; ACTOR Future<int> kk(int n) { try { return n; } catch (Error& e) { } }
+K1 @int h(U u) { return 1; } struct WW { int u; bool u; };
+K1 @int h(U u) { return 1; } struct now { int x; };
+K1 @ACTOR Future<U> h(int n) { return n; } int kk(int k, int k) { return k; }
+K1 @ACTOR Future<U> h(int n) { return n; } int a(int n) { return n; }
+K2 @struct R { int z; }; int kk(U u) { return 1; }
+K2 @struct S { int u; bool u; }; struct R { int z; };
+K2 @int f(bool b) { return 1; } struct WW { int u; bool u; };
+K2 @int f(bool b) { return 1; } ACTOR Future<int> R(int n) { return n; }
+K2 @int h(int k, int k) { return k; } int kk(int n) { while (true) { return 1; } }
+K2 @int h(int k, int k) { return k; } ACTOR Future<int> kk(int n) { try { return n; } catch (Error& e) { } }
+K2 @int a(int n) { return n; } int kk(int n) { while (true) { return 1; } }
+K2 @int a(int n) { return n; } int kk(int n) { for (; n < 2; n++) { return n; } }
+K2 @ACTOR Future<int> R(int n) { return n; } ACTOR Future<U> kk(int n) { return n; }
+K2 @ACTOR Future<int> R(int n) { return n; } struct now { int x; };
+K2 @ACTOR Future<int> R(int n) { return n; } int kk(int n) { while (true) { return 1; } }
+K2 @ACTOR Future<int> R(int n) { return n; } ACTOR Future<int> kk(int n) { loop { break; } }
+K2 @ACTOR Future<int> R(int n) { return n; } ACTOR Future<int> kk(int n) { choose { when (wait(Never())) { return n; } when (int x = wait(a(1))) { } } }
+K2 @struct now { int x; }; struct R { int z; };
+K2 @struct now { int x; }; int f(bool b) { return 1; }
+K2 @struct now { int x; }; int kk(Promise<int> q) { return 1; }
+K2 @int h(int f) { return f; } int kk(U u) { return 1; }
+K2 @int h(int f) { return f; } struct R { int z; };
+K2 @int h(int f) { return f; } ACTOR Future<int> kk(int n) { choose { when (wait(Never())) { return n; } when (int x = wait(a(1))) { } } }
+K2 @struct f { int x; }; int kk(U u) { return 1; }
+K2 @struct f { int x; }; int f(bool b) { return 1; }
+K2 @struct f { int x; }; int kk(int n) { for (; n < 2; n++) { return n; } }
+K2 @int R(int n) { return n; } struct WW { int u; bool u; };
+K2 @int R(int n) { return n; } int kk(int k, int k) { return k; }
+K2 @int R(int n) { return n; } ACTOR Future<int> R(int n) { return n; }
+K2 @int R(int n) { return n; } struct now { int x; };
+K2 @int R(int n) { return n; } ACTOR Future<int> kk(int n) { choose { when (wait(Never())) { return n; } when (int x = wait(a(1))) { } } }
+K2 @ACTOR Future<int> f(int n) { return n; } Future<int> kk(int n) { return Never(); }
+K2 @struct a { int x; }; int kk(U u) { return 1; }
+K2 @struct a { int x; }; int a(int n) { return n; }
+K2 @struct a { int x; }; int kk(int f) { return f; }
+K2 @struct a { int x; }; int kk(int n) { for (; n < 2; n++) { return n; } }
+K2 @ACTOR Future<int> a(int n) { return n; } struct WW { int u; bool u; };
+K2 @ACTOR Future<int> a(int n) { return n; } int f(bool b) { return 1; }
+K2 @ACTOR Future<int> a(int n) { return n; } int kk(int n) { if (n == 0) { return 1; } }
+K6 struct T { Promise<int> q; }; @int h(T u) { return 1; } ACTOR Future<int> a(int n) { return n; }
+K6 struct T { Promise<int> q; }; @int h(T u) { return 1; } Future<int> kk(int n) { return Never(); }
+K6 struct T { Promise<int> q; }; @int h(T u) { return 1; } ACTOR Future<int> kk(int n) { choose { when (wait(Never())) { return n; } when (int x = wait(a(1))) { } } }
+K6 @Future<int> h(int n) { return Never(); } struct a { int x; };
+K6 @int h(Promise<int> q) { return 1; } int a(int n) { return n; }
+K6 @int h(Promise<int> q) { return 1; } ACTOR Future<int> f(int n) { return n; }
+K8 int h(int n) { @} int R(int n) { return n; }
+K8 int h(int n) { @} struct a { int x; };
+K8 int h(int n) { if (n == 0) { return 1; } @} struct WW { U u; };
+K8 int h(int n) { if (n == 0) { return 1; } @} ACTOR Future<int> a(int n) { return n; }
+K8 int h(int n) { if (n == 0) { return 1; } @} struct XX { Promise<int> q; }; int kk(XX u) { return 1; }
+K8 int h(int n) { if (n == 0) { return 1; } @} ACTOR Future<int> kk(int n) { loop { break; } }
+K8 int h(int n) { while (true) { return 1; } @} ACTOR Future<int> f(int n) { return n; }
+K8 int h(int n) { while (true) { return 1; } @} ACTOR Future<int> kk(int n) { choose { when (wait(Never())) { return n; } when (int x = wait(a(1))) { } } }
+K8 ACTOR Future<int> h(int n) { loop { break; } @} int f(bool b) { return 1; }
+K8 ACTOR Future<int> h(int n) { loop { break; } @} Future<int> kk(int n) { return Never(); }
+K8 ACTOR Future<int> h(int n) { try { return n; } catch (Error& e) { } @} struct WW { U u; };
+K8 int h(int n) { for (; n < 2; n++) { return n; } @} struct R { int z; };
+K8 int h(int n) { for (; n < 2; n++) { return n; } @} struct WW { int u; bool u; };
+K8 int h(int n) { for (; n < 2; n++) { return n; } @} ACTOR Future<int> a(int n) { return n; }
+K8 int h(int n) { for (; n < 2; n++) { return n; } @} int kk(int n) { while (true) { return 1; } }
+K8 ACTOR Future<int> h(int n) { choose { when (wait(Never())) { return n; } when (int x = wait(a(1))) { } } @} int a(int n) { return n; }
+K8 ACTOR Future<int> h(int n) { choose { when (wait(Never())) { return n; } when (int x = wait(a(1))) { } } @} struct a { int x; };
+K8 ACTOR Future<int> h(int n) { choose { when (wait(Never())) { return n; } when (int x = wait(a(1))) { } } @} int kk(Promise<int> q) { return 1; }
+K8 ACTOR Future<int> h(int n) { choose { when (wait(Never())) { return n; } when (int x = wait(a(1))) { } } @} int kk(int n) { }
+K8 ACTOR Future<int> h(int n) { choose { when (wait(Never())) { return n; } when (int x = wait(a(1))) { } } @} int kk(int n) { if (n == 0) { return 1; } }
+K5 int g(int n) { int i = 0; string t = \"\"; R r = R(1, 2); @Future<int> x = a(randomInt(0, 2)); return 1; } int h(int n) { for (; n < 2; n++) { return n; } }
+K8 int h(int n) { for (; n < 2; n++) { return n; } @} int g(int n) { int i = 0; string t = \"\"; R r = R(1, 2); Future<int> x = a(randomInt(0, 2)); return 1; }
+K6 int g(int n) { int i = 0; string t = \"\"; R r = R(1, 2); @trace(i); return 1; } int h(int n) { }
+K8 int h(int n) { @} int g(int n) { int i = 0; string t = \"\"; R r = R(1, 2); trace(i); return 1; }
+K4 int g(int n) { int i = 0; string t = \"\"; R r = R(1, 2); @r = R(1); return 1; } ACTOR Future<int> h(int n) { choose { when (wait(Never())) { return n; } when (int x = wait(a(1))) { } } }
+K8 ACTOR Future<int> h(int n) { choose { when (wait(Never())) { return n; } when (int x = wait(a(1))) { } } @} int g(int n) { int i = 0; string t = \"\"; R r = R(1, 2); r = R(1); return 1; }
+K5 int g(int n) { int i = 0; string t = \"\"; R r = R(1, 2); @if (randomInt(0, 2) == 0) { } return 1; } int h(int n) { if (n == 0) { return 1; } }
+K8 int h(int n) { if (n == 0) { return 1; } @} int g(int n) { int i = 0; string t = \"\"; R r = R(1, 2); if (randomInt(0, 2) == 0) { } return 1; }
+K1 int g(int n) { int i = 0; string t = \"\"; R r = R(1, 2); @t = r.w; return 1; } ACTOR Future<U> h(int n) { return n; }
+K1 @ACTOR Future<U> h(int n) { return n; } int g(int n) { int i = 0; string t = \"\"; R r = R(1, 2); t = r.w; return 1; }
+K2 int g(int n) { int i = 0; string t = \"\"; R r = R(1, 2); @bool i = true; return 1; } struct S { U u; };
+K1 @struct S { U u; }; int g(int n) { int i = 0; string t = \"\"; R r = R(1, 2); bool i = true; return 1; }
+K6 int g(int n) { int i = 0; string t = \"\"; R r = R(1, 2); @int x = randomInt(0, 2); return 1; } int a(int n) { return n; }
+K2 @int a(int n) { return n; } int g(int n) { int i = 0; string t = \"\"; R r = R(1, 2); int x = randomInt(0, 2); return 1; }
+K6 int g(int n) { int i = 0; string t = \"\"; R r = R(1, 2); @int x = now(); return 1; } struct R { int z; };
+K2 @struct R { int z; }; int g(int n) { int i = 0; string t = \"\"; R r = R(1, 2); int x = now(); return 1; }
+K6 int g(int n) { int i = 0; string t = \"\"; R r = R(1, 2); @state int x = 1; return 1; } ACTOR Future<int> a(int n) { return n; }
+K2 @ACTOR Future<int> a(int n) { return n; } int g(int n) { int i = 0; string t = \"\"; R r = R(1, 2); state int x = 1; return 1; }
+K3 int g(int n) { int i = 0; string t = \"\"; R r = R(1, 2); @i = t + 1; return 1; } ACTOR Future<int> h(int n) { loop { break; } }
+K8 ACTOR Future<int> h(int n) { loop { break; } @} int g(int n) { int i = 0; string t = \"\"; R r = R(1, 2); i = t + 1; return 1; }
+K2 int g(int n) { int i = 0; string t = \"\"; R r = R(1, 2); for (@int i = 0; i < 2; i++) { } return 1; } struct a { int x; };
+K2 @struct a { int x; }; int g(int n) { int i = 0; string t = \"\"; R r = R(1, 2); for (int i = 0; i < 2; i++) { } return 1; }
+K3 int g(int n) { int i = 0; string t = \"\"; R r = R(1, 2); @i = \"a\"; return 1; } int h(int n) { for (; n < 2; n++) { return n; } }
+K8 int h(int n) { for (; n < 2; n++) { return n; } @} int g(int n) { int i = 0; string t = \"\"; R r = R(1, 2); i = \"a\"; return 1; }
+K1 int g(int n) { int i = 0; string t = \"\"; R r = R(1, 2); @z = 1; return 1; } int R(int n) { return n; }
+K2 @int R(int n) { return n; } int g(int n) { int i = 0; string t = \"\"; R r = R(1, 2); z = 1; return 1; }
+K6 int g(int n) { int i = 0; string t = \"\"; R r = R(1, 2); @randomInt(0, 2); return 1; } ACTOR Future<int> h(int n) { choose { when (wait(Never())) { return n; } when (int x = wait(a(1))) { } } }
+K8 ACTOR Future<int> h(int n) { choose { when (wait(Never())) { return n; } when (int x = wait(a(1))) { } } @} int g(int n) { int i = 0; string t = \"\"; R r = R(1, 2); randomInt(0, 2); return 1; }
+";
 
-/// Whole texts without a `main` that can be run: rule K11, told at the end.
-pub const NO_MAIN: [&str; 9] = [
-    "@",
-    "int f(int n) { return n; }@",
-    "ACTOR Future<Void> main(bool p) { return Void(); }@",
-    "ACTOR Future<int> main(int p) { return 1; }@",
-    "ACTOR Future<Void> main(int p, int q) { return Void(); }@",
-    "ACTOR Future<Void> main() { return Void(); }@",
-    "int main(int p) { return 1; }@",
-    "struct main { int x; };@",
-    "ACTOR Future<Void> maim(int p) { return Void(); }@",
-];
+/// Whole texts without a `main` that can be run.
+pub const NO_MAIN: &str = "\
+K11 @
+K11 int f(int n) { return n; }@
+K11 ACTOR Future<Void> main(bool p) { return Void(); }@
+K11 ACTOR Future<int> main(int p) { return 1; }@
+K11 ACTOR Future<Void> main(int p, int q) { return Void(); }@
+K11 ACTOR Future<Void> main() { return Void(); }@
+K11 int main(int p) { return 1; }@
+K11 struct main { int x; };@
+K11 ACTOR Future<Void> maim(int p) { return Void(); }@
+";

@@ -15,10 +15,16 @@ const NAMES: &str =
 
 const MAIN: &str = " ACTOR Future<Void> main(int p) { return Void(); }";
 
+// What stands before and behind statements of an actor, and of a function.
 const IN_ACTOR: &str =
-    "ACTOR Future<Void> b(int n) { int i = 0; string t = \"\"; R r = R(1, 2); Promise<int> q; state int s = 0; ";
+    "struct R { int x; int y; }; int f(int n) { return n; } ACTOR Future<int> a(int n) { return n; } ACTOR Future<Void> b(int n) { int i = 0; string t = \"\"; R r = R(1, 2); Promise<int> q; state int s = 0; ";
 
-const IN_FUNCTION: &str = "int g(int n) { int i = 0; string t = \"\"; R r = R(1, 2); ";
+const ACTOR_ENDS: &str = " return Void(); } ACTOR Future<Void> main(int p) { return Void(); }";
+
+const IN_FUNCTION: &str =
+    "struct R { int x; int y; }; int f(int n) { return n; } ACTOR Future<int> a(int n) { return n; } int g(int n) { int i = 0; string t = \"\"; R r = R(1, 2); ";
+
+const FUNCTION_ENDS: &str = " return i; } ACTOR Future<Void> main(int p) { return Void(); }";
 
 const IN_MAIN: &str =
     "int f(int n) { return n; } ACTOR Future<int> a(int n) { return n; } ACTOR Future<Void> main(int n) { ";
@@ -32,65 +38,66 @@ fn is_judged(alloc: Global, parts: &[&str], wanted: Option<Rule>) -> Result<bool
     Ok(text.is_judged(alloc, wanted))
 }
 
+// The rule K with which a line of a table begins, and what stands behind it.
+fn refused(line: &str) -> Option<(Rule, &str)> {
+    let (rule, marked) = line.split_once(' ')?;
+    let number = rule.strip_prefix('K')?.parse::<u8>().ok()?;
+    Some((Rule::K(number), marked))
+}
+
+// Whether each line of a table, between these texts, is refused by its rule at its mark.
+fn are_refused(alloc: Global, table: &str, before: &str, after: &str) -> Result<bool, AllocError> {
+    for line in table.lines() {
+        let Some((rule, marked)) = refused(line) else {
+            return Ok(false);
+        };
+        if !is_judged(alloc, &[before, marked, after], Some(rule))? {
+            return Ok(false);
+        }
+    }
+    Ok(true)
+}
+
+// Whether each line of a table, between these texts, loses the local at its marks, or is accepted where there are none.
+fn are_judged(alloc: Global, table: &str, before: &str, after: &str) -> Result<bool, AllocError> {
+    for line in table.lines() {
+        if !is_judged(alloc, &[before, line, after], None)? {
+            return Ok(false);
+        }
+    }
+    Ok(true)
+}
+
 #[test]
 fn statements_in_actors(rt: HostRuntime) -> Result<(), AllocError> {
     let alloc = rt.alloc();
-    for (rule, marked) in REFUSED_IN_ACTORS {
-        let parts = [NAMES, IN_ACTOR, marked, " return Void(); }", MAIN];
-        assert!(rt; is_judged(alloc, &parts, Some(Rule::K(rule)))?, "{marked}");
-    }
-    for text in ACTOR_STATEMENTS {
-        let parts = [NAMES, IN_ACTOR, text, " return Void(); }", MAIN];
-        assert!(rt; is_judged(alloc, &parts, None)?, "{text}");
-    }
+    assert!(rt; are_refused(alloc, REFUSED_IN_ACTORS, IN_ACTOR, ACTOR_ENDS)?);
+    assert!(rt; are_judged(alloc, ACTOR_STATEMENTS, IN_ACTOR, ACTOR_ENDS)?);
     Ok(())
 }
 
 #[test]
 fn statements_in_functions(rt: HostRuntime) -> Result<(), AllocError> {
     let alloc = rt.alloc();
-    for (rule, marked) in REFUSED_IN_FUNCTIONS {
-        let parts = [NAMES, IN_FUNCTION, marked, " return i; }", MAIN];
-        assert!(rt; is_judged(alloc, &parts, Some(Rule::K(rule)))?, "{marked}");
-    }
-    for text in FUNCTION_STATEMENTS {
-        let parts = [NAMES, IN_FUNCTION, text, " return i; }", MAIN];
-        assert!(rt; is_judged(alloc, &parts, None)?, "{text}");
-    }
+    assert!(rt; are_refused(alloc, REFUSED_IN_FUNCTIONS, IN_FUNCTION, FUNCTION_ENDS)?);
+    assert!(rt; are_judged(alloc, FUNCTION_STATEMENTS, IN_FUNCTION, FUNCTION_ENDS)?);
     Ok(())
 }
 
 #[test]
 fn declarations(rt: HostRuntime) -> Result<(), AllocError> {
     let alloc = rt.alloc();
-    for (rule, marked) in REFUSED_ITEMS {
-        assert!(rt;
-            is_judged(alloc, &[NAMES, marked, MAIN], Some(Rule::K(rule)))?,
-            "{marked}"
-        );
-    }
-    for text in ITEMS {
-        assert!(rt; is_judged(alloc, &[NAMES, text, MAIN], None)?, "{text}");
-    }
-    for marked in NO_MAIN {
-        assert!(rt; is_judged(alloc, &[marked], Some(Rule::K(11)))?, "{marked}");
-    }
+    assert!(rt; are_refused(alloc, REFUSED_ITEMS, NAMES, MAIN)?);
+    assert!(rt; are_judged(alloc, ITEMS, NAMES, MAIN)?);
+    assert!(rt; are_refused(alloc, NO_MAIN, "", "")?);
     Ok(())
 }
 
 #[test]
 fn locals_at_waits(rt: HostRuntime) -> Result<(), AllocError> {
     let alloc = rt.alloc();
-    for marked in STATE {
-        let parts = [IN_MAIN, marked, " return Void(); }"];
-        assert!(rt; is_judged(alloc, &parts, None)?, "{marked}");
-    }
-    for marked in LOOPS {
-        assert!(rt;
-            is_judged(alloc, &[IN_MAIN, marked, " }"], None)?,
-            "{marked}"
-        );
-    }
+    assert!(rt; are_judged(alloc, STATE, IN_MAIN, " return Void(); }")?);
+    assert!(rt; are_judged(alloc, LOOPS, IN_MAIN, " }")?);
     Ok(())
 }
 
