@@ -45,59 +45,85 @@ fn refused(line: &str) -> Option<(Rule, &str)> {
     Some((Rule::K(number), marked))
 }
 
-// Whether each line of a table, between these texts, is refused by its rule at its mark.
-fn are_refused(alloc: Global, table: &str, before: &str, after: &str) -> Result<bool, AllocError> {
+// The first line of a table that, between these texts, isn't refused by its rule at its mark.
+fn first_unrefused<'a>(
+    alloc: Global,
+    table: &'a str,
+    before: &str,
+    after: &str,
+) -> Result<Option<&'a str>, AllocError> {
     for line in table.lines() {
         let Some((rule, marked)) = refused(line) else {
-            return Ok(false);
+            return Ok(Some(line));
         };
         if !is_judged(alloc, &[before, marked, after], Some(rule))? {
-            return Ok(false);
+            return Ok(Some(line));
         }
     }
-    Ok(true)
+    Ok(None)
 }
 
-// Whether each line of a table, between these texts, loses the local at its marks, or is accepted where there are none.
-fn are_judged(alloc: Global, table: &str, before: &str, after: &str) -> Result<bool, AllocError> {
+// The first line of a table that, between these texts, doesn't lose the local at its marks, or isn't accepted where there
+// are none.
+fn first_misjudged<'a>(
+    alloc: Global,
+    table: &'a str,
+    before: &str,
+    after: &str,
+) -> Result<Option<&'a str>, AllocError> {
     for line in table.lines() {
         if !is_judged(alloc, &[before, line, after], None)? {
-            return Ok(false);
+            return Ok(Some(line));
         }
     }
-    Ok(true)
+    Ok(None)
 }
 
 #[test]
 fn statements_in_actors(rt: HostRuntime) -> Result<(), AllocError> {
     let alloc = rt.alloc();
-    assert!(rt; are_refused(alloc, REFUSED_IN_ACTORS, IN_ACTOR, ACTOR_ENDS)?);
-    assert!(rt; are_judged(alloc, ACTOR_STATEMENTS, IN_ACTOR, ACTOR_ENDS)?);
+    assert_eq!(rt;
+        first_unrefused(alloc, REFUSED_IN_ACTORS, IN_ACTOR, ACTOR_ENDS)?,
+        None
+    );
+    assert_eq!(rt;
+        first_misjudged(alloc, ACTOR_STATEMENTS, IN_ACTOR, ACTOR_ENDS)?,
+        None
+    );
     Ok(())
 }
 
 #[test]
 fn statements_in_functions(rt: HostRuntime) -> Result<(), AllocError> {
     let alloc = rt.alloc();
-    assert!(rt; are_refused(alloc, REFUSED_IN_FUNCTIONS, IN_FUNCTION, FUNCTION_ENDS)?);
-    assert!(rt; are_judged(alloc, FUNCTION_STATEMENTS, IN_FUNCTION, FUNCTION_ENDS)?);
+    assert_eq!(rt;
+        first_unrefused(alloc, REFUSED_IN_FUNCTIONS, IN_FUNCTION, FUNCTION_ENDS)?,
+        None
+    );
+    assert_eq!(rt;
+        first_misjudged(alloc, FUNCTION_STATEMENTS, IN_FUNCTION, FUNCTION_ENDS)?,
+        None
+    );
     Ok(())
 }
 
 #[test]
 fn declarations(rt: HostRuntime) -> Result<(), AllocError> {
     let alloc = rt.alloc();
-    assert!(rt; are_refused(alloc, REFUSED_ITEMS, NAMES, MAIN)?);
-    assert!(rt; are_judged(alloc, ITEMS, NAMES, MAIN)?);
-    assert!(rt; are_refused(alloc, NO_MAIN, "", "")?);
+    assert_eq!(rt; first_unrefused(alloc, REFUSED_ITEMS, NAMES, MAIN)?, None);
+    assert_eq!(rt; first_misjudged(alloc, ITEMS, NAMES, MAIN)?, None);
+    assert_eq!(rt; first_unrefused(alloc, NO_MAIN, "", "")?, None);
     Ok(())
 }
 
 #[test]
 fn locals_at_waits(rt: HostRuntime) -> Result<(), AllocError> {
     let alloc = rt.alloc();
-    assert!(rt; are_judged(alloc, STATE, IN_MAIN, " return Void(); }")?);
-    assert!(rt; are_judged(alloc, LOOPS, IN_MAIN, " }")?);
+    assert_eq!(rt;
+        first_misjudged(alloc, STATE, IN_MAIN, " return Void(); }")?,
+        None
+    );
+    assert_eq!(rt; first_misjudged(alloc, LOOPS, IN_MAIN, " }")?, None);
     Ok(())
 }
 
