@@ -11,6 +11,7 @@ use flow_parse::parse::parse;
 use flow_split::lower::lower;
 use flow_tree::decl::{ActorDecl, Decl, Program};
 use flow_tree::fault::SourceFault;
+use flow_tree::limits::PROGRAM_BYTES;
 use std::alloc::Global;
 use std::test::Fail;
 
@@ -25,7 +26,11 @@ fn first_actor(program: &Program) -> Option<&ActorDecl> {
 
 // The layout and the class of the first actor of a text.
 fn lowered(alloc: Global, text: &str) -> Result<Option<(Layout, Class)>, SourceFault> {
-    let tokens = lex(alloc, text.as_bytes())?;
+    let bytes = text.as_bytes();
+    if bytes.len() > PROGRAM_BYTES {
+        return Err(SourceFault::OutOfMemory);
+    }
+    let tokens = lex(alloc, bytes)?;
     let program = parse(alloc, &tokens)?;
     match first_actor(&program) {
         None => Ok(None),
