@@ -142,3 +142,23 @@ K11 int main(int p) { return 1; }@
 K11 struct main { int x; };@
 K11 ACTOR Future<Void> maim(int p) { return Void(); }@
 ";
+
+/// Whole texts, one for each of the rules K1 to K10 and K12, and for each of the rules S.
+pub const ONE_PER_RULE: &str = "\
+K1 ACTOR Future<Void> main(int p) { @trace(q); return Void(); }
+K2 ACTOR Future<Void> main(int p) { @int p = 1; return Void(); }
+K3 ACTOR Future<Void> main(int p) { @int x = true; return Void(); }
+K4 ACTOR Future<Void> main(int p) { @trace(); return Void(); }
+K5 ACTOR Future<Void> main(int p) { @trace(to_string(randomInt(0, 2))); return Void(); }
+K6 int f() { @state int x = 1; return x; }
+K7 ACTOR Future<Void> main(int p) { @Error e; return Void(); }
+K8 ACTOR Future<Void> main(int p) { @}
+K9 ACTOR Future<Void> main(int p) { @break; return Void(); }
+K10 int f() { @choose { when (wait(Never())) { } } return 0; }
+K12 ACTOR Future<Void> main(int p) { @delay(1); return Void(); }
+S1 a @?
+S2 @\"abc
+S3 @/* x
+S4 @9223372036854775808
+S5 ACTOR @main
+";

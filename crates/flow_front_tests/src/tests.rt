@@ -1,7 +1,7 @@
 // Verdicts on program texts.
 
 use crate::accepted::{ACTOR_STATEMENTS, FUNCTION_STATEMENTS, ITEMS};
-use crate::items::{NO_MAIN, REFUSED_ITEMS};
+use crate::items::{NO_MAIN, ONE_PER_RULE, REFUSED_ITEMS};
 use crate::marked::Marked;
 use crate::state::{LOOPS, STATE};
 use crate::statements::{REFUSED_IN_ACTORS, REFUSED_IN_FUNCTIONS};
@@ -38,9 +38,12 @@ fn is_judged(alloc: Global, parts: &[&str], wanted: Option<Rule>) -> Result<bool
     Ok(text.is_judged(alloc, wanted))
 }
 
-// The rule K with which a line of a table begins, and what stands behind it.
+// The rule S or K with which a line of a table begins, and what stands behind it.
 fn refused(line: &str) -> Option<(Rule, &str)> {
     let (rule, marked) = line.split_once(' ')?;
+    if let Some(number) = rule.strip_prefix('S') {
+        return Some((Rule::S(number.parse::<u8>().ok()?), marked));
+    }
     let number = rule.strip_prefix('K')?.parse::<u8>().ok()?;
     Some((Rule::K(number), marked))
 }
@@ -77,6 +80,12 @@ fn first_misjudged<'a>(
         }
     }
     Ok(None)
+}
+
+#[test]
+fn one_refusal_per_rule(rt: HostRuntime) -> Result<(), AllocError> {
+    assert_eq!(rt; first_unrefused(rt.alloc(), ONE_PER_RULE, "", "")?, None);
+    Ok(())
 }
 
 #[test]
