@@ -1,5 +1,6 @@
 // Actors and the classes that they are lowered to.
 
+use crate::pairs::PAIRS;
 use flow_catch::catcher::catcher;
 use flow_catch::scopes::Scopes;
 use flow_choose::places::{place_of, var_over};
@@ -86,6 +87,34 @@ fn outlined(alloc: Global, text: &str) -> Result<String, SourceFault> {
         None => Ok(String::new(alloc)),
         Some((_, class)) => outline(alloc, &class),
     }
+}
+
+// Whether the outline of an actor with this body is this one.
+fn has_outline(alloc: Global, body: &str, wanted: &str) -> Result<bool, SourceFault> {
+    let mut text = String::new(alloc);
+    text.push_str("ACTOR Future<Void> main(int p) { state int s = 0; ")?;
+    text.push_str(body)?;
+    text.push_str(" return Void(); } ACTOR Future<int> f(int n) { wait(delay(n)); return n; }")?;
+    Ok(outlined(alloc, text.as_str())?.as_str().trim_end() == wanted)
+}
+
+// The first line of a table whose outline is another one.
+fn first_other(alloc: Global, table: &str) -> Result<Option<&str>, SourceFault> {
+    for line in table.lines() {
+        let Some((body, wanted)) = line.split_once(" => ") else {
+            return Ok(Some(line));
+        };
+        if !has_outline(alloc, body, wanted)? {
+            return Ok(Some(line));
+        }
+    }
+    Ok(None)
+}
+
+#[test]
+fn each_statement_alone_and_in_each_other(rt: HostRuntime) -> Result<(), SourceFault> {
+    assert_eq!(rt; first_other(rt.alloc(), PAIRS)?, None);
+    Ok(())
 }
 
 #[test]
