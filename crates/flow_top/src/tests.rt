@@ -6,7 +6,7 @@ use crate::samples::{
     SECOND_OPERAND_CLASSES, SECOND_OPERAND_NEVER_STARTS, STOP_CANCELS_IN_ORDER,
 };
 use crate::top::flow_main;
-use crate::traces::{RUNS, STOP_CANCELS_IN_ORDER_TRACE, STOP_CANCELS_IN_ORDER_WORLD};
+use crate::traces::{RUNS, STOP_CANCELS_IN_ORDER_TRACE, STOP_CANCELS_IN_ORDER_WORLD, TOUR_RUNS};
 use flow_base::mem_files::MemFiles;
 use flow_base::mem_sink::MemSink;
 use flow_tree::limits::PROGRAM_BYTES;
@@ -106,6 +106,15 @@ fn several_texts_and_blanks_of_all_kinds(rt: HostRuntime) -> Result<(), AllocErr
 fn runs_the_examples(rt: HostRuntime) -> Result<(), AllocError> {
     let alloc = rt.alloc();
     for (program, world, trace, status) in RUNS {
+        assert!(rt; runs_in(alloc, &["run", "p", "w"], program, world, status, trace)?);
+    }
+    Ok(())
+}
+
+#[test]
+fn runs_the_tour(rt: HostRuntime) -> Result<(), AllocError> {
+    let alloc = rt.alloc();
+    for (program, world, trace, status) in TOUR_RUNS {
         assert!(rt; runs_in(alloc, &["run", "p", "w"], program, world, status, trace)?);
     }
     Ok(())

@@ -533,8 +533,26 @@ event 6 20 timer 0 5
 end idle
 ";
 
+/// Programs of the tour of the language, each with its world, its trace without frames, and its status.
+pub const TOUR_RUNS: [(&[u8], &[u8], &[u8], u8); 4] = [
+    (CHOOSE_WITH_TIMEOUT, b"", CHOOSE_WITH_TIMEOUT_TRACE, 0),
+    (
+        HANDLER_SEES_CANCELLATION,
+        b"",
+        HANDLER_SEES_CANCELLATION_TRACE,
+        0,
+    ),
+    (PROMISE_AND_FUTURE, b"", PROMISE_AND_FUTURE_TRACE, 0),
+    (
+        RETRIES_UNTIL_ANSWERED,
+        RETRIES_UNTIL_ANSWERED_WORLD,
+        RETRIES_UNTIL_ANSWERED_TRACE,
+        0,
+    ),
+];
+
 /// Programs, each with its world, its trace without frames, and its status.
-pub const RUNS: [(&[u8], &[u8], &[u8], u8); 24] = [
+pub const RUNS: [(&[u8], &[u8], &[u8], u8); 20] = [
     (CALLS_A_FUNCTION, b"", CALLS_A_FUNCTION_TRACE, 0),
     (CANCEL_BY_NAME, b"", CANCEL_BY_NAME_TRACE, 0),
     (
@@ -563,20 +581,6 @@ pub const RUNS: [(&[u8], &[u8], &[u8], u8); 24] = [
     ),
     (DRAWN_WORDS, DRAWN_WORDS_WORLD, DRAWN_WORDS_TRACE, 0),
     (DROPPED_WHILE_RUNNING, b"", DROPPED_WHILE_RUNNING_TRACE, 0),
-    (CHOOSE_WITH_TIMEOUT, b"", CHOOSE_WITH_TIMEOUT_TRACE, 0),
-    (
-        HANDLER_SEES_CANCELLATION,
-        b"",
-        HANDLER_SEES_CANCELLATION_TRACE,
-        0,
-    ),
-    (PROMISE_AND_FUTURE, b"", PROMISE_AND_FUTURE_TRACE, 0),
-    (
-        RETRIES_UNTIL_ANSWERED,
-        RETRIES_UNTIL_ANSWERED_WORLD,
-        RETRIES_UNTIL_ANSWERED_TRACE,
-        0,
-    ),
     (HELLO, b"", HELLO_TRACE, 0),
     (
         LOST_PING_TIMES_OUT,
