@@ -139,13 +139,13 @@ fn locals_at_waits(rt: HostRuntime) -> Result<(), AllocError> {
 // Records inside one another, the last so many deep with a mark where it is too deep, and `main`.
 fn nested(alloc: Global, depth: u32, mark: &str) -> Result<String, Fail> {
     let mut text = String::new(alloc);
-    text.push_str("struct R1 { int x; }; ")?;
+    text.push_str("struct Deep1 { int x; }; ")?;
     for level in 2..depth {
         let inner = level.saturating_sub(1);
-        text.push_str(format!(in alloc; "struct R{level} {{ R{inner} r; }}; ")?.as_str())?;
+        text.push_str(format!(in alloc; "struct Deep{level} {{ Deep{inner} r; }}; ")?.as_str())?;
     }
     let inner = depth.saturating_sub(1);
-    text.push_str(format!(in alloc; "{mark}struct R{depth} {{ R{inner} r; }}; ")?.as_str())?;
+    text.push_str(format!(in alloc; "{mark}struct Deep{depth} {{ Deep{inner} r; }}; ")?.as_str())?;
     text.push_str(MAIN)?;
     Ok(text)
 }
