@@ -4,6 +4,7 @@ mod Agreement
 mod Statements
 mod Standing
 mod Bodies
+mod CallsFitting
 mod Actors
 mod PathsDerived
 mod Accepted
