@@ -1,0 +1,6 @@
+pub mod Naming
+pub mod Chunks
+pub mod Rooms
+pub mod Kinds
+pub mod Waits
+pub mod Numbered

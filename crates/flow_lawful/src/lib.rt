@@ -1,0 +1,2 @@
+//! Laws of compiled programs: their classes are valid.
+#![tactic(auto)]
