@@ -3,7 +3,3 @@ pub mod View
 pub mod Places
 pub mod Code
 pub mod Scopes
-pub mod Heads
-pub mod Named
-pub mod Filling
-pub mod Validity

@@ -1,6 +1,5 @@
 -- Which class programs are valid, and which rule is broken first.
 use Rattle.std.specs.Prelude.{◌≡◌, ℕ, suc, ◌+◌, ◌<◌, Bool, true, false, not, ◌&&◌, nat_eq, nat_lt, is_none, List, [], ◌∷◌, ◌++◌, slice_get, if◌then◌else◌}
-use Rattle.std.specs.Option.{option_map}
 use Rattle.std.specs.List.{list_all, list_any}
 use Rattle.std.specs.declared.option.Option.{Option}
 use Rattle.std.specs.declared.option.Option.TheVariants.{None, Some}
@@ -17,9 +16,9 @@ use Rattle.flow_class.specs.declared.class.Slotted.TheVariants.{Slot, Local}
 use Rattle.flow_class.specs.Places.{place_name}
 use Rattle.flow_class.specs.Classes.{CatcherTree, InstrTree, SetInstr, EffectInstr, NewInstr, ActInstr, DropInstr, LastTree, GotoLast, TestLast, ChooseLast, ReturnLast, ThrowLast, BlockTree, CallbackTree, ClassTree, RawTree}
 use Rattle.flow_class.specs.Code.{type_at}
-use Rattle.flow_class.specs.Heads.{all_decls, declarations_kept, broken_head, has_main}
-use Rattle.flow_class.specs.Named.{names_exist}
-use Rattle.flow_class.specs.Filling.{ReadsEmpty, ReadsFilled}
+use Rattle.flow_valid.specs.Heads.{all_decls, declarations_kept, broken_head, has_main}
+use Rattle.flow_valid.specs.Named.{names_exist}
+use Rattle.flow_valid.specs.Filling.{ReadsEmpty, ReadsFilled}
 
 -- each block, with its number, is so
 abbrev pub all_blocks : (ℕ → BlockTree → Bool) → (from : ℕ) → List BlockTree → Bool
@@ -122,7 +121,7 @@ module _ (c : ClassTree) (s : Setting) where
   instr_fits (DropInstr ns) = true
 
   abbrev pub last_fits : LastTree → Bool
-  last_fits (TestLast e yes no) = has_type s false e BoolType
+  last_fits (TestLast e b n) = has_type s false e BoolType
   last_fits (ReturnLast e) = has_type s false e c.returns
   last_fits (ThrowLast e) = has_type s false e ErrorType
   last_fits _ = true

@@ -2,16 +2,16 @@
 --
 -- A walk begins at block 0 with the parameters filled, and goes on from instruction to instruction. An error may lead to the
 -- handler of a block before each of its instructions, and behind its last one.
-use Rattle.std.specs.Prelude.{◌≡◌, ℕ, suc, Bool, true, false, not, ◌&&◌, ◌||◌, nat_eq, nat_lt, List, [], ◌∷◌, ◌++◌, Contains, is_some, if◌then◌else◌}
+use Rattle.std.specs.Prelude.{◌≡◌, ℕ, suc, Bool, true, false, not, ◌&&◌, ◌||◌, nat_eq, nat_lt, List, [], ◌∷◌, ◌++◌, Contains}
 use Rattle.std.specs.List.{list_any}
 use Rattle.std.specs.declared.option.Option.{Option}
 use Rattle.std.specs.declared.option.Option.TheVariants.{None, Some}
 use Rattle.flow_tree.specs.declared.ty.Ident.{Ident}
 use Rattle.flow_class.specs.declared.class.Slotted.{Slotted}
 use Rattle.flow_class.specs.declared.class.Slotted.TheVariants.{Slot, Local}
-use Rattle.flow_class.specs.Classes.{CatcherTree, InstrTree, SetInstr, EffectInstr, NewInstr, ActInstr, DropInstr, LastTree, TestLast, ChooseLast, ReturnLast, ThrowLast, CallbackTree, ClassTree}
+use Rattle.flow_class.specs.Classes.{CatcherTree, InstrTree, SetInstr, EffectInstr, NewInstr, ActInstr, DropInstr, LastTree, ChooseLast, CallbackTree, ClassTree}
 use Rattle.flow_class.specs.Code.{Fetched, Body, Last, Nothing, fetch, catcher_at, callback_at, group_at}
-use Rattle.flow_class.specs.Named.{listed, expr_places, exprs_places, path_place, base_place, last_places, targets}
+use Rattle.flow_valid.specs.Named.{listed, expr_places, exprs_places, path_place, base_place, last_places, targets}
 
 abbrev pub same_place : Slotted → Slotted → Bool
 same_place (Slot m) (Slot n) = nat_eq m n
