@@ -25,11 +25,12 @@ use Rattle.flow_meaning.specs.Source.{records_in, functions_in, actors_in}
 use Rattle.flow_fits.specs.Scopes.{scope_in, setting_in}
 use Rattle.flow_fits.specs.Joined.{IsTyped}
 use Rattle.flow_fits.specs.Paths.{IsPath, HasPaths, HavePaths, AllHavePaths}
-use Rattle.flow_fits.specs.ActorFits.{into_param, waited_params, Gives, ValueGiven, HaveTypes, base_type, CallStands, StandsWell, StandWell, ActorFits}
+use Rattle.flow_fits.specs.ActorFits.{into_param, waited_params, Gives, ValueGiven, StandsWell, StandWell, ActorFits}
 use Rattle.flow_fits.proofs.Names.{none_some, some_same, there, no_first, no_second, holds}
 use Rattle.flow_fits.proofs.Expressions.{typed, wanted_is, constant_typed}
 use Rattle.flow_fits.proofs.Agreement.{Distinct, agrees, neither_first, neither_second, no_item, not_true}
 use Rattle.flow_fits.proofs.Standing.{InitKind, no_init, declares, assigns, modifies, init_kind, StepKind, no_step, assigned, modified, step_kind, caught_param, Stands, stands_behind, stands_loop, stands_declared, stands_caught, at_item, stands_started}
+use Rattle.flow_fits.proofs.CallsFitting.{call_stands}
 use Rattle.flow_fits.proofs.Statements.{yields, maybe_yields, target, path_to, modify_fits}
 
 module _ (ds : List DeclTree) (apart : Distinct ds) where

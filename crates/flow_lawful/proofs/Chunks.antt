@@ -9,8 +9,8 @@ use Rattle.flow_class.specs.declared.class.Slotted.TheVariants as place
 use Rattle.flow_class.specs.Classes.{InstrTree, DropInstr, LastTree, GotoLast, PassLast, TestLast, ChooseLast, ReturnLast, ThrowLast, BlockTree, CallbackTree, ClassTree}
 use Rattle.flow_class.specs.Code.{type_at}
 use Rattle.flow_class.specs.Scopes.{Scope}
-use Rattle.flow_class.specs.Named.{targets, last_places, has_place, has_block, has_group, has_last, has_catcher, has_named, has_operand}
-use Rattle.flow_class.specs.Validity.{leads_on, is_of, catches}
+use Rattle.flow_valid.specs.Named.{targets, last_places, has_place, has_block, has_group, has_last, has_catcher, has_named, has_operand}
+use Rattle.flow_valid.specs.Validity.{leads_on, is_of, catches}
 use Rattle.flow_catch.specs.Inner.{inner_locals, left_lists}
 use Rattle.flow_split.specs.Around.{Hand, Around}
 use Rattle.flow_split.specs.Counts.{Next, exit_blocks}

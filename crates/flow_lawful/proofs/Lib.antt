@@ -4,3 +4,4 @@ pub mod Rooms
 pub mod Kinds
 pub mod Waits
 pub mod Numbered
+pub mod Choosing

@@ -20,8 +20,8 @@ use Rattle.flow_class.specs.declared.class.Slotted.TheVariants as place
 use Rattle.flow_class.specs.Classes.{InstrTree, SetInstr, EffectInstr, NewInstr, ActInstr, DropInstr, ClassTree}
 use Rattle.flow_class.specs.Places.{place_name, place_named}
 use Rattle.flow_class.specs.Scopes.{Scope, Mark, Var, find, scope, outside, place_by, place_of, var_over, name_over, ident_over, over, over_all, path_over, act_over}
-use Rattle.flow_class.specs.Named.{listed, expr_places, exprs_places, path_place, base_place, instr_places, has_place}
-use Rattle.flow_class.specs.Validity.{distinct}
+use Rattle.flow_valid.specs.Named.{listed, expr_places, exprs_places, path_place, base_place, instr_places, has_place}
+use Rattle.flow_valid.specs.Validity.{distinct}
 use Rattle.flow_catch.specs.Inner.{inner_locals, listed as with_list, left_lists}
 use Rattle.flow_choose.specs.Places.{ident_at}
 use Rattle.flow_meaning.specs.Evaluating.{Names, effect_in}

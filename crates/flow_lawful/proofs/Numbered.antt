@@ -1,13 +1,14 @@
 -- The class of an actor names what there is, leads on, and catches further on.
-use Rattle.std.proofs.Common.{◌≡◌, ℕ, suc, ◌+◌, ◌^◌, ◌<◌, ◌≤◌, Bool, true, false, ◌&&◌, List, [], ◌∷◌, length, refl, ap, sym, arith}
+use Rattle.std.proofs.Common.{◌≡◌, ℕ, suc, ◌+◌, ◌^◌, ◌<◌, ◌≤◌, Bool, true, false, ◌&&◌, List, [], ◌∷◌, ◌++◌, length, slice_get, refl, ap, sym, subst, ◌∙◌, arith, length-append, append_assoc}
 use Rattle.std.specs.List.{list_all}
-use Rattle.std.specs.declared.option.Option.TheVariants.{None}
+use Rattle.std.specs.declared.option.Option.TheVariants.{None, Some}
+use Rattle.flow_tree.specs.Tree.{TypeTree}
 use Rattle.flow_tree.specs.Body.{Body, End, BlockStmt, IfStmt, IfElseStmt, WhileStmt, ForStmt, LoopStmt, BreakStmt, ContinueStmt, ReturnStmt, ThrowStmt, TryStmt, ChooseStmt, DeclareStmt, AssignStmt, ModifyStmt, CallStmt, WaitStmt, Branches, NoBranches, MoreBranches}
 use Rattle.flow_tree.specs.Decls.{RoutineTree}
 use Rattle.flow_ast.specs.Slots.{slots_of}
 use Rattle.flow_class.specs.Classes.{BlockTree, ClassTree}
-use Rattle.flow_class.specs.Named.{has_named, has_operand, names_exist}
-use Rattle.flow_class.specs.Validity.{all_blocks as each_block, leads_on, leads_forward, catches, catchers_kept}
+use Rattle.flow_valid.specs.Named.{has_named, has_operand, names_exist}
+use Rattle.flow_valid.specs.Validity.{all_blocks as each_block, leads_on, leads_forward, catches, catchers_kept}
 use Rattle.flow_layout.specs.Laying.{layout_of}
 use Rattle.flow_meaning.specs.Evaluating.{Names}
 use Rattle.flow_split.specs.Around.{whole}
@@ -18,7 +19,6 @@ use Rattle.flow_lowered.specs.Parts.{HasParts}
 use Rattle.flow_lowered.specs.InPlace.{InPlace}
 use Rattle.flow_lowered.specs.Laws.{IsSmall}
 use Rattle.flow_lowered.proofs.Standing.{LocalsAt}
-use Rattle.flow_lowered.proofs.Whole.{all_locals}
 use Rattle.flow_lowered.proofs.Further.{locals_count}
 use Rattle.flow_lawful.proofs.Naming.{both}
 use Rattle.flow_lawful.proofs.Chunks.{AllSound, block_sound}
@@ -64,6 +64,21 @@ module _ (ns : Names) (c : ClassTree) (few_slots : length c.slots < 2 ^ 64) (few
   all_caught n [] h = refl
   all_caught n (b ∷ bs) h = both (catches c n b.catcher) _ h.0.caught (all_caught (suc n) bs h.1)
 
+seam : {A : Type 0} (pre xs : List A) (x : A) → slice_get (pre ++ x ∷ xs) (length pre) ≡ Some x
+seam [] xs x = refl
+seam (y ∷ pre) xs x = seam pre xs x
+
+one_more : {A : Type 0} (pre : List A) (x : A) → length (pre ++ x ∷ []) ≡ suc (length pre)
+one_more pre x = omega (arith, length-append pre (x ∷ []))
+
+-- the locals of a class stand in it from the first on
+all_types : (ns : Names) (c : ClassTree) (pre ts : List TypeTree) → c.locals ≡ pre ++ ts → LocalsAt ns c (length pre) ts
+all_types ns c pre [] e = tt
+all_types ns c pre (t ∷ ts) e = (
+  ap (λ xs. slice_get xs (length pre)) e ∙ seam pre ts t,
+  subst (λ n. LocalsAt ns c n ts) (one_more pre t) (all_types ns c (pre ++ t ∷ []) ts (e ∙ sym (append_assoc pre (t ∷ []) ts))),
+)
+
 -- what a class keeps of the rules on its numbers
 pub record IsNumberedWell (c : ClassTree) : Type 0 where
   pub named : names_exist c ≡ true
@@ -83,7 +98,7 @@ numbered_well ns a small parts ok =
     let ls = locals_count a.body in
     let g = all_kept ns c small.slots small.locals a.body false false [] [] w start 0 (length c.blocks)
     (record { within = omega arith; exit = tt; hand = tt; out = λ e. absurd (no_loop e); again = λ e. absurd (no_loop e) })
-    (record { blocks = omega (arith, more); locals = omega (arith, ls); groups = omega (arith, gs); first = omega arith; types = all_locals ns c [] c.locals refl }) tt (omega arith) parts ok in
+    (record { blocks = omega (arith, more); locals = omega (arith, ls); groups = omega (arith, gs); first = omega arith; types = all_types ns c [] c.locals refl }) tt (omega arith) parts ok in
     let s = block_sound c small.slots small.locals (length c.blocks) 0 1 (1 + blocks_in false a.body) None ch tt (omega arith) g in
     let all : AllSound c small.slots small.locals 0 c.blocks = (s, g.more) in
     record {

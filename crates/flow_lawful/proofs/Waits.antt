@@ -12,7 +12,7 @@ use Rattle.flow_ast.specs.Typing.{is_there}
 use Rattle.flow_class.specs.Classes.{InstrTree, ActInstr, LastTree, GotoLast, PassLast, TestLast, ChooseLast, ReturnLast, ThrowLast, CallbackTree, ClassTree}
 use Rattle.flow_class.specs.Code.{group_at}
 use Rattle.flow_class.specs.Scopes.{Scope, Mark, Var, scope, over, over_all, path_over, act_over}
-use Rattle.flow_class.specs.Named.{listed, expr_places, has_place, has_block, has_group, has_last, has_operand}
+use Rattle.flow_valid.specs.Named.{listed, expr_places, has_place, has_block, has_group, has_last, has_operand}
 use Rattle.flow_layout.specs.Locals.{body_locals, branch_locals, declared_locals, into_locals}
 use Rattle.flow_meaning.specs.Evaluating.{Names}
 use Rattle.flow_meaning.specs.Items.{change}
