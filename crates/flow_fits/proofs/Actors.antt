@@ -1,20 +1,18 @@
 -- The actors in which no rule fails are well typed.
-use Rattle.std.proofs.Common.{◌≡◌, ℕ, zero, suc, Bool, true, false, not, ◌&&◌, List, [], ◌∷◌, ◌++◌, slice_get, refl, sym, ap, ap₂, subst, ◌∙◌, inl}
+use Rattle.std.proofs.Common.{◌≡◌, ℕ, zero, suc, Bool, true, false, not, List, [], ◌∷◌, ◌++◌, slice_get, refl, sym, ap, subst, ◌∙◌}
 use Rattle.std.proofs.lemmas.Bool.{false≢true}
 use Rattle.std.specs.declared.option.Option.{Option}
 use Rattle.std.specs.declared.option.Option.TheVariants.{None, Some}
 use Rattle.flow_base.specs.declared.place.Place.{Place}
 use Rattle.flow_tree.specs.declared.ty.Ident.{Ident}
-use Rattle.flow_tree.specs.Tree.{TypeTree, BoolType, ErrorType, ExprTree, ExprTrees, NoExprs, MoreExprs}
+use Rattle.flow_tree.specs.Tree.{TypeTree, BoolType, ErrorType, ExprTree}
 use Rattle.flow_tree.specs.Body.{IntoTree, WaitTree, Body, End, BlockStmt, IfStmt, IfElseStmt, WhileStmt, ForStmt, LoopStmt, BreakStmt, ContinueStmt, ReturnStmt, ThrowStmt, TryStmt, ChooseStmt, DeclareStmt, AssignStmt, ModifyStmt, CallStmt, WaitStmt, Branches, NoBranches, MoreBranches}
 use Rattle.flow_tree.specs.Decls.{ParamTree, RoutineTree, DeclTree, StructDecl, FunctionDecl, ActorDecl}
-use Rattle.flow_ast.specs.TypingNames.{named, constant_names}
-use Rattle.flow_ast.specs.Typing.{is_there, more_types, without_effects, all_without_effects}
-use Rattle.flow_ast.specs.Fits.{declared_in, fields_type, path_type, ThrowFits}
-use Rattle.flow_rules.specs.declared.rule.TheConstants.{UNKNOWN_NAME, NEEDS_VALUE, FALLS_OFF, BREAK_OUTSIDE, WAIT_OUTSIDE}
+use Rattle.flow_ast.specs.Fits.{declared_in, path_type, ThrowFits}
+use Rattle.flow_rules.specs.declared.rule.TheConstants.{NEEDS_VALUE, FALLS_OFF, BREAK_OUTSIDE, WAIT_OUTSIDE}
 use Rattle.flow_rules.specs.Least.{lesser, unless}
 use Rattle.flow_rules.specs.Known.{known}
-use Rattle.flow_rules.specs.Judged.{Setting, Need, called, called_on, needs_of, calls, said, form, fault, faults, fits, wanted, wants, variable_form}
+use Rattle.flow_rules.specs.Judged.{Setting, form, fault, wanted, wants}
 use Rattle.flow_rules.specs.Closing as closing
 use Rattle.flow_rules.specs.Items.{Env, item, with_var, with_states, in_loop, in_catch, behind, declared, waited, started, fresh, into_fault, value_fault, target_form, target_fault, assign_fault, modify_fault, ends_of, base_form, base_fault, path_fault, call_by_name, call_on, call_fault, test_fault, maybe_test, throw_fault, declare_fault, wait_fault, maybe_into, wait_type, body_refusal, branch_refusal, slot_names}
 use Rattle.flow_rules.specs.Items as rule
@@ -26,12 +24,12 @@ use Rattle.flow_fits.specs.Scopes.{scope_in, setting_in}
 use Rattle.flow_fits.specs.Joined.{IsTyped}
 use Rattle.flow_fits.specs.Paths.{IsPath, HasPaths, HavePaths, AllHavePaths}
 use Rattle.flow_fits.specs.ActorFits.{into_param, waited_params, Gives, ValueGiven, StandsWell, StandWell, ActorFits}
-use Rattle.flow_fits.proofs.Names.{none_some, some_same, there, no_first, no_second, holds}
-use Rattle.flow_fits.proofs.Expressions.{typed, wanted_is, constant_typed}
+use Rattle.flow_fits.proofs.Names.{none_some, some_same, no_first, no_second, holds}
+use Rattle.flow_fits.proofs.Expressions.{typed, wanted_is}
 use Rattle.flow_fits.proofs.Agreement.{Distinct, agrees, neither_first, neither_second, no_item, not_true}
 use Rattle.flow_fits.proofs.Standing.{InitKind, no_init, declares, assigns, modifies, init_kind, StepKind, no_step, assigned, modified, step_kind, caught_param, Stands, stands_behind, stands_loop, stands_declared, stands_caught, at_item, stands_started}
 use Rattle.flow_fits.proofs.CallsFitting.{call_stands}
-use Rattle.flow_fits.proofs.Statements.{yields, maybe_yields, target, path_to, modify_fits}
+use Rattle.flow_fits.proofs.Statements.{yields, maybe_yields, target, modify_fits}
 
 module _ (ds : List DeclTree) (apart : Distinct ds) where
   abbrev at_actor : List ParamTree → Setting

@@ -5,7 +5,7 @@ use Rattle.std.proofs.lemmas.Bool.{false≢true}
 use Rattle.std.specs.declared.option.Option.{Option}
 use Rattle.std.specs.declared.option.Option.TheVariants.{None, Some}
 use Rattle.flow_tree.specs.declared.ty.Ident.{Ident}
-use Rattle.flow_tree.specs.Tree.{TypeTree, IntType, StringType, ErrorType, FutureType, PromiseType, PromiseStreamType, ExprTree, ExprTrees, NoExprs, MoreExprs}
+use Rattle.flow_tree.specs.Tree.{TypeTree, IntType, StringType, ErrorType, FutureType, PromiseType, PromiseStreamType, ExprTrees, NoExprs, MoreExprs}
 use Rattle.flow_tree.specs.Decls.{ParamTree, DeclTree}
 use Rattle.flow_ast.specs.declared.predefined.Predefined.{Predefined}
 use Rattle.flow_ast.specs.declared.predefined.Predefined.TheVariants as predefined
