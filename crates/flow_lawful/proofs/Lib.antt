@@ -1,7 +1,9 @@
 pub mod Naming
 pub mod Chunks
 pub mod Rooms
-pub mod Kinds
+pub mod Statements
 pub mod Waits
 pub mod Numbered
 pub mod Choosing
+pub mod Sorting
+pub mod Declaring

@@ -23,7 +23,7 @@ use Rattle.flow_lowered.proofs.Further.{locals_count}
 use Rattle.flow_lawful.proofs.Naming.{both}
 use Rattle.flow_lawful.proofs.Chunks.{AllSound, block_sound}
 use Rattle.flow_lawful.proofs.Rooms.{Kept}
-use Rattle.flow_lawful.proofs.Kinds.{end_kept, block_kept, if_kept, if_else_kept, while_kept, loop_kept, break_kept, continue_kept, return_kept, throw_kept, try_kept}
+use Rattle.flow_lawful.proofs.Statements.{end_kept, block_kept, if_kept, if_else_kept, while_kept, loop_kept, break_kept, continue_kept, return_kept, throw_kept, try_kept}
 use Rattle.flow_lawful.proofs.Waits.{for_kept, declare_kept, assign_kept, modify_kept, call_kept, wait_kept, BranchesKept, no_branches_kept, more_branches_kept, choose_kept}
 
 module _ (ns : Names) (c : ClassTree) (few_slots : length c.slots < 2 ^ 64) (few_locals : length c.locals < 2 ^ 64) where

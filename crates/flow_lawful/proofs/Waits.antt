@@ -29,7 +29,7 @@ use Rattle.flow_lowered.proofs.Fors.{step_later, step_locals, test_block, test_l
 use Rattle.flow_lawful.proofs.Naming.{both, all_both, less_is, inside, Falling, falling_more, Falls, scope_falls, There, falling_knows, there_both, place_there, expr_there, path_there, one_named, assigned_named, changed_named, declares_named, thrown_there, act_named, taken_place, AllInstrsNamed, drop_named, Knows}
 use Rattle.flow_lawful.proofs.Chunks.{Good, good_up_to, HandGood, Leads, LastGood, joined_good, acting_good, dropping_good, ends_good, goto_good, pass_good, leads_good, test_good, exits_good}
 use Rattle.flow_lawful.proofs.Rooms.{GoodHere, ExitGood, Fits, fits_inner, fits_scoped, fits_handling, fits_guarded, fits_loop, Room, Kept, rest_kept, dead_kept, falling_into, falling_taken, falling_later}
-use Rattle.flow_lawful.proofs.Kinds.{knows, whole_falling, test_ends}
+use Rattle.flow_lawful.proofs.Statements.{knows, whole_falling, test_ends}
 
 module _ (ns : Names) (c : ClassTree) (few_slots : length c.slots < 2 ^ 64) (few_locals : length c.locals < 2 ^ 64) where
   abbrev Keeps : Body → Type 0
