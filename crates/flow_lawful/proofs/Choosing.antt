@@ -42,6 +42,12 @@ once_to n k j f e o = subst (λ z. Once n z f) e o
 none_named : (n : ℕ) (f : ℕ → ℕ) → ((g : ℕ) → f g ≡ 0) → Once n n f
 none_named n f h = record { up = omega arith; before = λ g lt. h g; within = λ g le lt. absurd (omega arith); behind = λ g le. h g }
 
+is_less : (a b : ℕ) → nat_lt a b ≡ true → a < b
+is_less a b e = grind (arith, e)
+
+is_not : (a b : ℕ) → nat_lt a b ≡ false → b ≤ a
+is_not a b e = grind (arith, e)
+
 -- one after another
 split : (n k j : ℕ) (f h : ℕ → ℕ) → Once n k f → Once k j h → (g : ℕ) → n ≤ g → g < j → f g + h g ≡ 1
 split n k j f h a b g le lt = by_cases (nat_lt g k) refl
@@ -49,12 +55,6 @@ split n k j f h a b g le lt = by_cases (nat_lt g k) refl
     by_cases : (t : Bool) → nat_lt g k ≡ t → f g + h g ≡ 1
     by_cases true e = omega (arith, a.within g le (is_less g k e), b.before g (is_less g k e))
     by_cases false e = omega (arith, a.behind g (is_not g k e), b.within g (is_not g k e) lt)
-
-    is_less : (a b : ℕ) → nat_lt a b ≡ true → a < b
-    is_less a b e = grind (arith, e)
-
-    is_not : (a b : ℕ) → nat_lt a b ≡ false → b ≤ a
-    is_not a b e = grind (arith, e)
 
 sum_once : (n k j : ℕ) (f h : ℕ → ℕ) → Once n k f → Once k j h → Once n j (λ g. f g + h g)
 sum_once n k j f h a b = record {

@@ -45,21 +45,21 @@ LessAt o q = (is_there o ≡ false → is_there q ≡ false) × (is_record o ≡
 
 less_named : (ds : List DeclTree) (x : List ℕ) → LessAt (named (rows ds) x) (named (rows (structs ds)) x)
 less_named [] x = (λ e. e, λ e. e)
-less_named (StructDecl r ∷ ds) x = by_name (bytes_eq x r.name.name)
+less_named (StructDecl r ∷ ds) x = by_name (bytes_eq x r.name.name) (less_named ds x)
   where
-    by_name : (b : Bool) → LessAt (if b then Some (row_of (StructDecl r)).1 else named (rows ds) x) (if b then Some (row_of (StructDecl r)).1 else named (rows (structs ds)) x)
-    by_name true = (λ e. e, λ e. e)
-    by_name false = less_named ds x
-less_named (FunctionDecl f ∷ ds) x = by_name (bytes_eq x f.name.name)
+    by_name : (b : Bool) → LessAt (named (rows ds) x) (named (rows (structs ds)) x) → LessAt (if b then Some (row_of (StructDecl r)).1 else named (rows ds) x) (if b then Some (row_of (StructDecl r)).1 else named (rows (structs ds)) x)
+    by_name true h = (λ e. e, λ e. e)
+    by_name false h = h
+less_named (FunctionDecl f ∷ ds) x = by_name (bytes_eq x f.name.name) (less_named ds x)
   where
-    by_name : (b : Bool) → LessAt (if b then Some (row_of (FunctionDecl f)).1 else named (rows ds) x) (named (rows (structs ds)) x)
-    by_name true = (λ e. cc, λ e. cc)
-    by_name false = less_named ds x
-less_named (ActorDecl f ∷ ds) x = by_name (bytes_eq x f.name.name)
+    by_name : (b : Bool) → LessAt (named (rows ds) x) (named (rows (structs ds)) x) → LessAt (if b then Some (row_of (FunctionDecl f)).1 else named (rows ds) x) (named (rows (structs ds)) x)
+    by_name true h = (λ e. cc, λ e. cc)
+    by_name false h = h
+less_named (ActorDecl f ∷ ds) x = by_name (bytes_eq x f.name.name) (less_named ds x)
   where
-    by_name : (b : Bool) → LessAt (if b then Some (row_of (ActorDecl f)).1 else named (rows ds) x) (named (rows (structs ds)) x)
-    by_name true = (λ e. cc, λ e. cc)
-    by_name false = less_named ds x
+    by_name : (b : Bool) → LessAt (named (rows ds) x) (named (rows (structs ds)) x) → LessAt (if b then Some (row_of (ActorDecl f)).1 else named (rows ds) x) (named (rows (structs ds)) x)
+    by_name true h = (λ e. cc, λ e. cc)
+    by_name false h = h
 
 less_at : (ds : List DeclTree) (x : List ℕ) → LessAt (known ds x) (known (structs ds) x)
 less_at ds x = by_name (bytes_eq x packet_row.0)

@@ -7,3 +7,6 @@ pub mod Numbered
 pub mod Choosing
 pub mod Sorting
 pub mod Declaring
+pub mod TypesKnown
+pub mod Heading
+pub mod OverPlaces

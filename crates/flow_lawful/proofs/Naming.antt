@@ -1,5 +1,5 @@
 -- What a lowered statement names is in its class.
-use Rattle.std.proofs.Common.{◌≡◌, ℕ, zero, suc, ◌+◌, ◌^◌, ◌<◌, ◌≤◌, Bool, true, false, not, ◌&&◌, ◌||◌, nat_eq, nat_lt, List, [], ◌∷◌, ◌++◌, length, map, position, slice_get, if◌then◌else◌, refl, ap, ap₂, sym, subst, ◌∙◌, arith}
+use Rattle.std.proofs.Common.{◌≡◌, ℕ, zero, suc, ◌+◌, ◌^◌, ◌<◌, ◌≤◌, Bool, true, false, not, ◌&&◌, ◌||◌, nat_eq, nat_lt, pos, List, [], ◌∷◌, ◌++◌, length, map, position, slice_get, if◌then◌else◌, refl, ap, ap₂, sym, subst, ◌∙◌, arith}
 use Rattle.std.specs.List.{list_all, list_any}
 use Rattle.std.specs.Str.{bytes_eq}
 use Rattle.std.specs.Option.{option_map, option_and_then}
@@ -107,11 +107,11 @@ below_more l m (Some n) le h = omega arith
 find_below : (l : ℕ) (s : Scope) (x : List ℕ) → Falling l s → Below l (find s x)
 find_below l [] x f = tt
 find_below l (Mark ∷ s) x f = find_below l s x f
-find_below l (Var y k ∷ s) x f = by_name (bytes_eq x y)
+find_below l (Var y k ∷ s) x f = by_name (bytes_eq x y) (find_below k s x f.1)
   where
-    by_name : (b : Bool) → Below l (if b then Some k else find s x)
-    by_name true = f.0
-    by_name false = below_more k l (find s x) (omega (arith, f.0)) (find_below k s x f.1)
+    by_name : (b : Bool) → Below k (find s x) → Below l (if b then Some k else find s x)
+    by_name true h = f.0
+    by_name false h = below_more k l (find s x) (omega (arith, f.0)) h
 
 position_below : (p : SlotTree → Bool) (ss : List SlotTree) (o : Option ℕ) → position p ss ≡ o → Below (length ss) o
 position_below p ss None e = tt
@@ -124,14 +124,14 @@ NoPlaces (r ∷ rs) = (place_named r.0 ≡ None) × NoPlaces rs
 
 no_place : (rows : List (List ℕ × ℕ)) (x : List ℕ) (n : ℕ) → NoPlaces rows → named rows x ≡ Some n → place_named x ≡ None
 no_place [] x n h e = cc
-no_place (r ∷ rows) x n h e = by_name (bytes_eq x r.0) refl e
+no_place (r ∷ rows) x n h e = by_name (bytes_eq x r.0) refl e (no_place rows x n h.1)
   where
-    by_name : (b : Bool) → bytes_eq x r.0 ≡ b → (if b then Some r.1 else named rows x) ≡ Some n → place_named x ≡ None
-    by_name true is e = ap place_named ((bytes_eq-Decides x r.0).0 is) ∙ h.0
-    by_name false is e = no_place rows x n h.1 e
+    by_name : (b : Bool) → bytes_eq x r.0 ≡ b → (if b then Some r.1 else named rows x) ≡ Some n → (named rows x ≡ Some n → place_named x ≡ None) → place_named x ≡ None
+    by_name true is e f = ap place_named ((bytes_eq-Decides x r.0).0 is) ∙ h.0
+    by_name false is e f = f e
 
 pub constant_no_place : (x : List ℕ) (n : ℕ) → named constant_names x ≡ Some n → place_named x ≡ None
-constant_no_place x n e = no_place constant_names x n (refl, refl, refl, refl, refl, tt) e
+constant_no_place x n e = no_place constant_names x n (refl, (refl, (refl, (refl, (refl, tt))))) e
 
 module _ (c : ClassTree) (few_slots : length c.slots < 2 ^ 64) (few_locals : length c.locals < 2 ^ 64) where
   -- these places are in the class
@@ -256,9 +256,9 @@ module _ (c : ClassTree) (few_slots : length c.slots < 2 ^ 64) (few_locals : len
     new_named (Some p) h = one_named (NewInstr p) (place_there (Some p) h)
 
     value_named : (t : TypeTree) (i : IntoTree) (o : Option Slotted) → IsPlace o → AllNamed (first_at i o (first_value t))
-    value_named IntType i o h = one_named (SetInstr (ident_at o i.name ∷ []) _) (there_both (listed (place_named (var_over o))) [] (name_there o h) refl)
-    value_named BoolType i o h = one_named (SetInstr (ident_at o i.name ∷ []) _) (there_both (listed (place_named (var_over o))) [] (name_there o h) refl)
-    value_named StringType i o h = one_named (SetInstr (ident_at o i.name ∷ []) _) (there_both (listed (place_named (var_over o))) [] (name_there o h) refl)
+    value_named IntType i o h = one_named (SetInstr (ident_at o i.name ∷ []) (IntExpr (pos 0))) (there_both (listed (place_named (var_over o))) [] (name_there o h) refl)
+    value_named BoolType i o h = one_named (SetInstr (ident_at o i.name ∷ []) (BoolExpr false)) (there_both (listed (place_named (var_over o))) [] (name_there o h) refl)
+    value_named StringType i o h = one_named (SetInstr (ident_at o i.name ∷ []) (TextExpr [])) (there_both (listed (place_named (var_over o))) [] (name_there o h) refl)
     value_named t i o h = new_named o h
 
     pub declares_named : (ns : Names) (l : ℕ) (i : IntoTree) (e : Option ExprTree) → l + local_count i ≤ length c.locals → AllNamed (declares ns c.slots s l i e)

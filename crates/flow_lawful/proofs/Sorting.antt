@@ -62,18 +62,18 @@ pub apart_both : {A : Type 0} (x : List ℕ) (rs ss : List (List ℕ × A)) → 
 apart_both x [] ss a b = b
 apart_both x (r ∷ rs) ss a b = (a.0, apart_both x rs ss a.1 b)
 
+true_false : true ≡ false → ⊥
+true_false h = cc
+
 -- a row among rows of other names may stand first
 moved_front : {A : Type 0} (rs ss : List (List ℕ × A)) (r : List ℕ × A) (x : List ℕ) → RowsApart r.0 rs → named (rs ++ r ∷ ss) x ≡ (if bytes_eq x r.0 then Some r.1 else named (rs ++ ss) x)
 moved_front [] ss r x a = refl
-moved_front (q ∷ rs) ss r x a = by_name (bytes_eq x q.0) (bytes_eq x r.0) refl refl
+moved_front (q ∷ rs) ss r x a = by_name (bytes_eq x q.0) (bytes_eq x r.0) refl refl (moved_front rs ss r x a.1)
   where
-    by_name : (b d : Bool) → bytes_eq x q.0 ≡ b → bytes_eq x r.0 ≡ d → (if b then Some q.1 else named (rs ++ r ∷ ss) x) ≡ (if d then Some r.1 else if b then Some q.1 else named (rs ++ ss) x)
-    by_name true true e f = absurd (both_same (sym (ap (λ z. bytes_eq z q.0) (sym (bytes_same x r.0 f)) ∙ e) ∙ a.0))
-      where
-        both_same : true ≡ false → ⊥
-        both_same h = cc
-    by_name true false e f = refl
-    by_name false d e f = moved_front rs ss r x a.1 ∙ ap (λ z. if z then Some r.1 else named (rs ++ ss) x) f
+    by_name : (b d : Bool) → bytes_eq x q.0 ≡ b → bytes_eq x r.0 ≡ d → named (rs ++ r ∷ ss) x ≡ (if bytes_eq x r.0 then Some r.1 else named (rs ++ ss) x) → (if b then Some q.1 else named (rs ++ r ∷ ss) x) ≡ (if d then Some r.1 else if b then Some q.1 else named (rs ++ ss) x)
+    by_name true true e f g = absurd (true_false (sym (ap (λ z. bytes_eq z q.0) (sym (bytes_same x r.0 f)) ∙ e) ∙ a.0))
+    by_name true false e f g = refl
+    by_name false d e f g = g ∙ ap (λ z. if z then Some r.1 else named (rs ++ ss) x) f
 
 -- the rows of declarations of one kind, and their names
 abbrev pub rows : List DeclTree → List (List ℕ × Meaning)

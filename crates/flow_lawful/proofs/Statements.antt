@@ -86,7 +86,7 @@ module _ (ns : Names) (c : ClassTree) (few_slots : length c.slots < 2 ^ 64) (few
       good_up_to c few_slots few_locals m n.block (suc j.block + blocks_in d k) (n.block + (blocks_in d b + suc (blocks_in d k))) (joined w.hand c1 (lowered ns c.slots s w (begun j) k)) (omega arith) g
 
   -- a test in the block at hand
-  test_ends : (m n y z : ℕ) (l : ℕ) (w : Around) (s : Scope) (e : ExprTree) → l ≤ length c.locals → Falling l s → m < y → m < z → y < length c.blocks → z < length c.blocks
+  pub test_ends : (m n y z : ℕ) (l : ℕ) (w : Around) (s : Scope) (e : ExprTree) → l ≤ length c.locals → Falling l s → m < y → m < z → y < length c.blocks → z < length c.blocks
       → GoodHere ns c few_slots few_locals m n n (ends w s true [] (TestLast (over c.slots s e) y z))
   test_ends m n y z l w s e le f ly lz by bz =
       ends_good c few_slots few_locals m n w s true [] (TestLast (over c.slots s e) y z) (whole_falling l s le f) refl

@@ -19,7 +19,7 @@ use Rattle.flow_meaning.specs.Items.{change}
 use Rattle.flow_split.specs.Around.{Exit, Text, Scoped, Part, Hand, Around, inner, pass, guarded, handling}
 use Rattle.flow_split.specs.Counts.{Next, begun, taken, grouped, past, past_branches, behind, exit_blocks, test_blocks, blocks_in, branch_blocks, local_count, into_count, locals_in, branch_local_count, groups_in, branch_group_count}
 use Rattle.flow_split.specs.Lowered as lowering
-use Rattle.flow_split.specs.Lowered.{Chunk, joined, ends, acting, finished, exits, exited, with_into, with_taken, later, tested, assigned, changed, taken_in, declares, thrown, callback, callbacks, test_before, lowered, branches, drop_of}
+use Rattle.flow_split.specs.Lowered.{Chunk, joined, ends, acting, dropping, finished, exits, exited, with_into, with_taken, later, tested, assigned, changed, taken_in, declares, thrown, callback, callbacks, test_before, lowered, branches, drop_of}
 use Rattle.flow_lowered.specs.Parts.{IsStep, IsInit, HasParts, HaveParts}
 use Rattle.flow_lowered.specs.InPlace.{naming, naming_any, started, InPlace, AllInPlace}
 use Rattle.flow_lowered.proofs.Standing.{LocalsAt, locals_front, locals_back}
