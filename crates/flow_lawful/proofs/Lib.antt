@@ -10,3 +10,5 @@ pub mod Declaring
 pub mod TypesKnown
 pub mod Heading
 pub mod OverPlaces
+pub mod InForce
+pub mod Instructions
