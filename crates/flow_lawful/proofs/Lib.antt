@@ -12,3 +12,4 @@ pub mod Heading
 pub mod OverPlaces
 pub mod InForce
 pub mod Instructions
+pub mod Fitting
