@@ -1,19 +1,19 @@
 -- Each group of a lowered class is named by exactly one `choose`.
-use Rattle.std.proofs.Common.{◌≡◌, ℕ, zero, suc, ◌+◌, ◌<◌, ◌≤◌, Bool, true, false, ◌&&◌, nat_eq, nat_lt, List, [], ◌∷◌, ◌++◌, length, if◌then◌else◌, refl, ap, sym, subst, ◌∙◌, arith}
+use Rattle.std.proofs.Common.{◌≡◌, ℕ, suc, ◌+◌, ◌<◌, ◌≤◌, Bool, true, false, nat_eq, nat_lt, List, [], ◌∷◌, ◌++◌, length, if◌then◌else◌, refl, ap, sym, subst, ◌∙◌, arith}
 use Rattle.std.specs.declared.option.Option.{Option}
 use Rattle.std.specs.declared.option.Option.TheVariants.{None, Some}
 use Rattle.flow_tree.specs.Tree.{ExprTree}
 use Rattle.flow_tree.specs.Body.{Body, End, BlockStmt, IfStmt, IfElseStmt, WhileStmt, ForStmt, LoopStmt, BreakStmt, ContinueStmt, ReturnStmt, ThrowStmt, TryStmt, ChooseStmt, DeclareStmt, AssignStmt, ModifyStmt, CallStmt, WaitStmt, Branches, NoBranches, MoreBranches}
 use Rattle.flow_tree.specs.Decls.{SlotTree, RoutineTree}
 use Rattle.flow_ast.specs.Leaving.{has_statement}
-use Rattle.flow_class.specs.Classes.{InstrTree, LastTree, GotoLast, PassLast, TestLast, ChooseLast, ReturnLast, ThrowLast, BlockTree, CallbackTree, ClassTree}
+use Rattle.flow_class.specs.Classes.{InstrTree, LastTree, GotoLast, PassLast, TestLast, ChooseLast, ReturnLast, ThrowLast, BlockTree, CallbackTree}
 use Rattle.flow_class.specs.Scopes.{Scope, Mark, Var, scope, over}
 use Rattle.flow_valid.specs.Validity.{chooses, times_chosen, each_once, groups_chosen}
 use Rattle.flow_layout.specs.Laying.{layout_of}
 use Rattle.flow_meaning.specs.Evaluating.{Names}
 use Rattle.flow_split.specs.Around.{Exit, Text, Scoped, Part, Hand, Around, whole, inner, pass, guarded, handling}
 use Rattle.flow_split.specs.Counts.{Next, begun, taken, grouped, past, past_branches, groups_in, branch_group_count}
-use Rattle.flow_split.specs.Lowered.{Chunk, block_with, blocks_of, joined, ends, before_rest, dropping, exits, exited, finished, thrown, with_into, with_taken, later, tested, callback, callbacks, test_before, lowered, branches, lowered_class}
+use Rattle.flow_split.specs.Lowered.{Chunk, blocks_of, joined, ends, before_rest, dropping, exits, exited, finished, thrown, with_into, with_taken, later, tested, callback, callbacks, test_before, lowered, branches, lowered_class}
 use Rattle.flow_split.proofs.Lengths.{lowered_groups}
 use Rattle.flow_lowered.proofs.Further.{exited_group}
 use Rattle.flow_lawful.proofs.Naming.{both}

@@ -1,17 +1,17 @@
 -- What holds of the blocks of a chunk holds of the blocks that chunks are joined to.
-use Rattle.std.proofs.Common.{◌≡◌, ℕ, zero, suc, ◌+◌, ◌^◌, ◌<◌, ◌≤◌, Bool, true, false, ◌&&◌, nat_lt, List, [], ◌∷◌, ◌++◌, length, map, if◌then◌else◌, refl, ap, sym, subst, ◌∙◌, arith, length-append}
+use Rattle.std.proofs.Common.{◌≡◌, ℕ, suc, ◌+◌, ◌^◌, ◌<◌, ◌≤◌, Bool, true, false, ◌&&◌, nat_lt, List, [], ◌∷◌, ◌++◌, length, map, refl, ap, sym, subst, ◌∙◌, arith, length-append}
 use Rattle.std.specs.List.{list_all}
 use Rattle.std.specs.declared.option.Option.{Option}
 use Rattle.std.specs.declared.option.Option.TheVariants.{None, Some}
-use Rattle.flow_tree.specs.Tree.{TypeTree, ErrorType, ExprTree}
-use Rattle.flow_ast.specs.Typing.{is_there, same_type}
+use Rattle.flow_tree.specs.Tree.{ErrorType, ExprTree}
+use Rattle.flow_ast.specs.Typing.{is_there}
 use Rattle.flow_class.specs.declared.class.Slotted.TheVariants as place
-use Rattle.flow_class.specs.Classes.{InstrTree, DropInstr, LastTree, GotoLast, PassLast, TestLast, ChooseLast, ReturnLast, ThrowLast, BlockTree, CallbackTree, ClassTree}
+use Rattle.flow_class.specs.Classes.{InstrTree, DropInstr, LastTree, GotoLast, PassLast, TestLast, BlockTree, ClassTree}
 use Rattle.flow_class.specs.Code.{type_at}
 use Rattle.flow_class.specs.Scopes.{Scope}
-use Rattle.flow_valid.specs.Named.{targets, last_places, has_place, has_block, has_group, has_last, has_catcher, has_named, has_operand}
+use Rattle.flow_valid.specs.Named.{last_places, has_place, has_last, has_catcher, has_named, has_operand}
 use Rattle.flow_valid.specs.Validity.{leads_on, is_of, catches}
-use Rattle.flow_catch.specs.Inner.{inner_locals, left_lists}
+use Rattle.flow_catch.specs.Inner.{left_lists}
 use Rattle.flow_split.specs.Around.{Hand, Around}
 use Rattle.flow_split.specs.Counts.{Next, exit_blocks}
 use Rattle.flow_split.specs.Lowered.{Chunk, catch_part, block_with, blocks_of, joined, ends, acting, drop_of, dropping, exits}

@@ -1,24 +1,23 @@
 -- The records and functions of a program keep the rules by themselves, and the heads of its classes stand behind them.
-use Rattle.std.proofs.Common.{◌≡◌, ℕ, zero, suc, ◌+◌, ◌≤◌, Bool, true, false, not, ◌&&◌, ◌||◌, nat_le, is_none, List, [], ◌∷◌, ◌++◌, length, map, take, if◌then◌else◌, codes, refl, ap, ap₂, sym, subst, ◌∙◌, arith, length-append, append_assoc}
-use Rattle.std.specs.List.{list_all}
+use Rattle.std.proofs.Common.{◌≡◌, ℕ, Bool, true, false, not, ◌||◌, is_none, List, [], ◌∷◌, ◌++◌, map, if◌then◌else◌, codes, refl, ap, ap₂, sym, subst, ◌∙◌, append_assoc}
 use Rattle.std.specs.Str.{bytes_eq}
 use Rattle.std.proofs.lemmas.List.{append-nil, map-append}
 use Rattle.std.specs.declared.option.Option.{Option}
 use Rattle.std.specs.declared.option.Option.TheVariants.{None, Some}
 use Rattle.flow_base.specs.declared.place.Place.{Place}
 use Rattle.flow_tree.specs.Tree.{TypeTree, IntType, BoolType, StringType, VoidType, ErrorType, NamedType, FutureType, FutureStreamType, PromiseType, PromiseStreamType}
-use Rattle.flow_tree.specs.Decls.{ParamTree, SlotTree, RecordTree, RoutineTree, DeclTree, StructDecl, FunctionDecl, ActorDecl, ProgramTree}
+use Rattle.flow_tree.specs.Decls.{ParamTree, RecordTree, RoutineTree, DeclTree, StructDecl, FunctionDecl, ActorDecl, ProgramTree}
 use Rattle.flow_ast.specs.TypingNames.{named}
 use Rattle.flow_ast.specs.Typing.{or_else, is_there, is_packet}
 use Rattle.flow_rules.specs.declared.rule.TheConstants.{UNKNOWN_NAME, TWICE, NO_MAIN}
 use Rattle.flow_rules.specs.Least.{lesser, unless}
-use Rattle.flow_rules.specs.Known.{Meaning, RecordOf, FunctionOf, ActorOf, row_of, packet_row, known, is_record, type_known, is_predefined}
+use Rattle.flow_rules.specs.Known.{Meaning, row_of, packet_row, known, is_record, type_known, is_predefined}
 use Rattle.flow_rules.specs.Judged.{Setting}
-use Rattle.flow_rules.specs.Items.{item, written, body_refusal, Refusal}
-use Rattle.flow_rules.specs.Rules.{setting_of, name_fault, with_name, fields_fault, record_fault, params_fault, header_fault, body_env, routine_refusal, decl_refusal, decls_refusal, Size, packet_size, record_size, too_large, large_record, with_size, first_large, is_main, refusal_of}
-use Rattle.flow_meaning.specs.Source.{records_in, functions_in, actors_in, names_of}
+use Rattle.flow_rules.specs.Items.{item, written}
+use Rattle.flow_rules.specs.Rules.{setting_of, name_fault, with_name, fields_fault, record_fault, params_fault, header_fault, routine_refusal, decl_refusal, decls_refusal, Size, packet_size, record_size, too_large, large_record, with_size, first_large, is_main, refusal_of}
+use Rattle.flow_meaning.specs.Source.{functions_in}
 use Rattle.flow_compile.specs.Compiled.{compiled}
-use Rattle.flow_valid.specs.Heads.{plain_decls, all_decls, declarations_kept, has_main}
+use Rattle.flow_valid.specs.Heads.{all_decls, declarations_kept, has_main}
 use Rattle.flow_fits.proofs.Names.{bytes_sym, some_none, no_first, no_second, holds}
 use Rattle.flow_fits.proofs.Agreement.{neither_first, neither_second, no_item, not_true, neither_left, neither_right, Apart, Distinct, distinct}
 use Rattle.flow_lawful.proofs.Sorting.{structs, functions, structs_append, plain_append, RowsApart, none_of, apart_both, rows, structs_apart, functions_apart, known_same, setting_same}

@@ -1,35 +1,30 @@
 -- The blocks and groups of a lowered body fit their types.
-use Rattle.std.proofs.Common.{◌≡◌, ℕ, zero, suc, ◌+◌, ◌^◌, ◌<◌, ◌≤◌, Bool, true, false, not, ◌&&◌, List, [], ◌∷◌, ◌++◌, length, map, if◌then◌else◌, refl, ap, ap₂, sym, subst, ◌∙◌, arith, length-append}
+use Rattle.std.proofs.Common.{◌≡◌, ℕ, suc, ◌+◌, ◌^◌, ◌<◌, Bool, true, false, not, List, [], ◌∷◌, ◌++◌, length, map, if◌then◌else◌, refl, ap, sym, subst, ◌∙◌, arith, length-append}
 use Rattle.std.specs.List.{list_all}
-use Rattle.std.proofs.lemmas.List.{append-nil}
-use Rattle.std.proofs.lemmas.Option.{slice_get_within}
 use Rattle.std.specs.declared.option.Option.{Option}
 use Rattle.std.specs.declared.option.Option.TheVariants.{None, Some}
 use Rattle.flow_base.specs.declared.place.Place.{Place}
-use Rattle.flow_tree.specs.declared.ty.Ident.{Ident}
-use Rattle.flow_tree.specs.Tree.{TypeTree, BoolType, ErrorType, ExprTree, ExprTrees}
-use Rattle.flow_tree.specs.Body.{IntoTree, WaitTree, ChangeTree, Body, End, BlockStmt, IfStmt, IfElseStmt, WhileStmt, ForStmt, LoopStmt, BreakStmt, ContinueStmt, ReturnStmt, ThrowStmt, TryStmt, ChooseStmt, DeclareStmt, AssignStmt, ModifyStmt, CallStmt, WaitStmt, Branches, NoBranches, MoreBranches}
+use Rattle.flow_tree.specs.Tree.{TypeTree, BoolType, ErrorType, ExprTree}
+use Rattle.flow_tree.specs.Body.{IntoTree, WaitTree, Body, End, BlockStmt, IfStmt, IfElseStmt, WhileStmt, ForStmt, LoopStmt, BreakStmt, ContinueStmt, ReturnStmt, ThrowStmt, TryStmt, ChooseStmt, DeclareStmt, AssignStmt, ModifyStmt, CallStmt, WaitStmt, Branches, NoBranches, MoreBranches}
 use Rattle.flow_ast.specs.Slots.{body_slots, branch_slots, waited_slots}
 use Rattle.flow_ast.specs.Leaving.{has_statement}
 use Rattle.flow_ast.specs.TypingNames.{named}
 use Rattle.flow_ast.specs.Typing.{is_there}
-use Rattle.flow_class.specs.declared.class.Slotted.TheVariants as place
-use Rattle.flow_class.specs.Classes.{InstrTree, DropInstr, ActInstr, LastTree, GotoLast, PassLast, TestLast, ChooseLast, ReturnLast, ThrowLast, BlockTree, CallbackTree, ClassTree}
-use Rattle.flow_class.specs.Code.{type_at}
-use Rattle.flow_class.specs.Scopes.{Scope, Mark, Var, scope, outside, over, over_all, path_over, act_over, Above}
-use Rattle.flow_catch.specs.Inner.{listed as with_list, left_lists}
+use Rattle.flow_class.specs.Classes.{InstrTree, DropInstr, ActInstr, LastTree, GotoLast, PassLast, TestLast, ChooseLast, ReturnLast, ThrowLast, ClassTree}
+use Rattle.flow_class.specs.Scopes.{Scope, Mark, Var, scope, over, over_all, path_over, act_over, Above}
+use Rattle.flow_catch.specs.Inner.{left_lists}
 use Rattle.flow_layout.specs.Locals.{body_locals, branch_locals, declared_locals, into_locals}
-use Rattle.flow_rules.specs.declared.rule.TheConstants.{BREAK_OUTSIDE, WAIT_OUTSIDE}
-use Rattle.flow_rules.specs.Least.{lesser, unless}
+use Rattle.flow_rules.specs.declared.rule.TheConstants.{WAIT_OUTSIDE}
+use Rattle.flow_rules.specs.Least.{unless}
 use Rattle.flow_rules.specs.Judged.{Setting, called, wanted}
 use Rattle.flow_rules.specs.Items.{Env, item, with_var, with_states, in_loop, in_catch, behind, declared, waited, started, fresh, into_fault, value_fault, declare_fault, assign_fault, modify_fault, call_fault, wait_fault, maybe_into, wait_type, test_fault, maybe_test, throw_fault, slot_names, body_refusal, branch_refusal}
 use Rattle.flow_meaning.specs.Evaluating.{Names, effectful}
 use Rattle.flow_meaning.specs.Items.{change}
 use Rattle.flow_split.specs.Around.{Exit, Text, Scoped, Part, Hand, Around, inner, pass, guarded, handling}
-use Rattle.flow_split.specs.Counts.{Next, begun, taken, grouped, past, past_branches, local_count, into_count, locals_in, branch_local_count}
-use Rattle.flow_split.specs.Lowered.{Chunk, block_with, blocks_of, joined, ends, acting, dropping, drop_of, before_rest, finished, exits, exited, with_local, with_into, with_taken, later, tested, assigned, changed, taken_in, place_in, declares, thrown, cancelled, callback, callbacks, test_before, lowered, branches}
+use Rattle.flow_split.specs.Counts.{Next, begun, taken, grouped, past, past_branches, local_count, into_count, locals_in}
+use Rattle.flow_split.specs.Lowered.{Chunk, block_with, blocks_of, joined, ends, acting, dropping, drop_of, finished, exits, exited, with_local, with_into, with_taken, later, tested, assigned, changed, taken_in, place_in, declares, thrown, cancelled, callback, callbacks, test_before, lowered, branches}
 use Rattle.flow_valid.specs.Validity.{calls_effect, instr_fits, last_fits, block_fits, callback_fits}
-use Rattle.flow_lowered.specs.Parts.{IsStep, IsInit, HasParts, HaveParts}
+use Rattle.flow_lowered.specs.Parts.{IsInit, HasParts, HaveParts}
 use Rattle.flow_lowered.specs.InPlace.{naming, naming_any, MayTake, InPlace, AllInPlace}
 use Rattle.flow_lowered.specs.InPlace as place_of_names
 use Rattle.flow_lowered.proofs.Standing.{LocalsAt, locals_front, locals_back}
@@ -37,14 +32,14 @@ use Rattle.flow_lowered.proofs.Groups.{step_parts, init_parts}
 use Rattle.flow_lowered.proofs.Around.{above_more}
 use Rattle.flow_lowered.proofs.Places.{names, names_with, Placing, placing}
 use Rattle.flow_lowered.proofs.Further.{locals_count, branch_locals_count, into_locals_count, locals_after, exited_local, names_taken}
-use Rattle.flow_lowered.proofs.Fors.{step_later, step_locals, test_local}
+use Rattle.flow_lowered.proofs.Fors.{step_locals, test_local}
 use Rattle.std.specs.Str.{bytes_eq}
-use Rattle.flow_fits.proofs.Names.{bytes_self, no_first, no_second, holds}
+use Rattle.flow_fits.proofs.Names.{bytes_self, no_first, no_second}
 use Rattle.flow_fits.proofs.Agreement.{neither_first, neither_second, no_item}
 use Rattle.flow_lawful.proofs.Naming.{both, all_both}
 use Rattle.flow_lawful.proofs.OverPlaces.{over_names, over_class, Sees}
 use Rattle.flow_lawful.proofs.InForce.{New, is_new, new_into, class_var, sees_into, sees_error}
-use Rattle.flow_lawful.proofs.Instructions.{InstrsFit, IsAt, at_place, assign_fits, change_fits, act_fits, declare_fits, type_fits, Caught, throw_fits, IsTaken, callback_suits, cancelled_fits}
+use Rattle.flow_lawful.proofs.Instructions.{IsAt, at_place, assign_fits, change_fits, act_fits, declare_fits, type_fits, Caught, throw_fits, IsTaken, callback_suits}
 
 -- a setting with one more variable
 abbrev with_row : List ℕ → TypeTree → Setting → Setting

@@ -1,31 +1,28 @@
 -- The heads of a program's classes stand behind its records and functions.
-use Rattle.std.proofs.Common.{◌≡◌, ℕ, zero, suc, ◌+◌, ◌≤◌, Bool, true, false, not, ◌&&◌, ◌||◌, nat_le, List, [], ◌∷◌, ◌++◌, length, map, if◌then◌else◌, refl, ap, ap₂, sym, subst, ◌∙◌, arith, length-append, append_assoc}
+use Rattle.std.proofs.Common.{◌≡◌, ℕ, suc, ◌≤◌, Bool, true, false, not, ◌&&◌, ◌||◌, nat_le, List, [], ◌∷◌, ◌++◌, length, map, if◌then◌else◌, refl, ap, ap₂, sym, subst, ◌∙◌, arith, length-append, append_assoc}
 use Rattle.std.specs.List.{list_all}
 use Rattle.std.proofs.lemmas.List.{append-nil, map-append}
 use Rattle.std.specs.declared.option.Option.{Option}
 use Rattle.std.specs.declared.option.Option.TheVariants.{None, Some}
-use Rattle.flow_tree.specs.Tree.{TypeTree}
-use Rattle.flow_tree.specs.Decls.{ParamTree, SlotTree, RoutineTree, DeclTree, StructDecl, FunctionDecl, ActorDecl, ProgramTree}
+use Rattle.flow_tree.specs.Decls.{ParamTree, SlotTree, DeclTree, StructDecl, FunctionDecl, ActorDecl, ProgramTree}
 use Rattle.flow_ast.specs.Slots.{param_slot, body_slots, slots_of}
 use Rattle.flow_ast.specs.Typing.{is_there}
-use Rattle.flow_class.specs.Classes.{ClassTree}
-use Rattle.flow_layout.specs.Locals.{locals_of}
-use Rattle.flow_rules.specs.declared.rule.TheConstants.{UNKNOWN_NAME, TWICE}
-use Rattle.flow_rules.specs.Least.{lesser, unless}
-use Rattle.flow_rules.specs.Known.{Meaning, row_of, known, type_known, is_predefined}
+use Rattle.flow_rules.specs.declared.rule.TheConstants.{UNKNOWN_NAME}
+use Rattle.flow_rules.specs.Least.{unless}
+use Rattle.flow_rules.specs.Known.{row_of, known, type_known, is_predefined}
 use Rattle.flow_rules.specs.Judged.{Setting}
 use Rattle.flow_rules.specs.Items.{item, written, body_refusal}
 use Rattle.flow_rules.specs.Rules.{setting_of, with_name, name_fault, param_fault, params_fault, header_fault, body_env, decl_refusal, decls_refusal}
 use Rattle.flow_meaning.specs.Evaluating.{Names}
-use Rattle.flow_meaning.specs.Source.{records_in, functions_in, actors_in, names_of}
+use Rattle.flow_meaning.specs.Source.{actors_in, names_of}
 use Rattle.flow_compile.specs.Compiled.{class_in, compiled}
-use Rattle.flow_valid.specs.Heads.{head_of, plain_decls, all_decls, head_kept, first_head, broken_head}
+use Rattle.flow_valid.specs.Heads.{head_of, head_kept, first_head, broken_head}
 use Rattle.flow_fits.proofs.Names.{no_first, no_second, holds}
 use Rattle.flow_fits.proofs.Agreement.{neither_first, neither_second, no_item, Distinct}
 use Rattle.flow_lawful.proofs.Naming.{both, all_both}
-use Rattle.flow_lawful.proofs.Sorting.{structs, functions, actors, structs_append, plain_append, RowsApart, apart_both, rows, structs_apart, functions_apart, actors_apart, head_rows, known_same}
+use Rattle.flow_lawful.proofs.Sorting.{structs, functions, structs_append, plain_append, RowsApart, apart_both, rows, structs_apart, functions_apart, actors_apart, head_rows, known_same}
 use Rattle.flow_lawful.proofs.Declaring.{Accepted, alone, not_known, no_packet, header_new}
-use Rattle.flow_lawful.proofs.TypesKnown.{SlotsKnown, LocalsKnown, body_known}
+use Rattle.flow_lawful.proofs.TypesKnown.{SlotsKnown, body_known}
 
 actors_append : (xs ys : List DeclTree) → actors_in (xs ++ ys) ≡ actors_in xs ++ actors_in ys
 actors_append [] ys = refl

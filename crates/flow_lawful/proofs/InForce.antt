@@ -1,5 +1,5 @@
 -- The variables in force have places in the class, of their types.
-use Rattle.std.proofs.Common.{◌≡◌, ℕ, zero, suc, ◌+◌, ◌^◌, ◌<◌, ◌≤◌, Bool, true, false, not, ◌&&◌, ◌||◌, cond, List, [], ◌∷◌, ◌++◌, length, map, slice_get, position, if◌then◌else◌, refl, ap, ap₂, sym, subst, ◌∙◌, arith}
+use Rattle.std.proofs.Common.{◌≡◌, ℕ, zero, suc, ◌+◌, ◌^◌, ◌<◌, ◌≤◌, Bool, true, false, ◌&&◌, ◌||◌, cond, List, [], ◌∷◌, ◌++◌, length, map, slice_get, position, if◌then◌else◌, refl, ap, sym, subst, ◌∙◌, arith}
 use Rattle.std.specs.Str.{bytes_eq}
 use Rattle.std.specs.Option.{option_map}
 use Rattle.std.specs.List.{position_from}
@@ -17,9 +17,9 @@ use Rattle.flow_class.specs.declared.class.Slotted.TheVariants as place
 use Rattle.flow_class.specs.Places.{place_name, place_named}
 use Rattle.flow_class.specs.Classes.{ClassTree}
 use Rattle.flow_class.specs.Code.{type_at}
-use Rattle.flow_class.specs.Scopes.{Scope, Mark, Var, find, slot_place, place_by, place_of}
+use Rattle.flow_class.specs.Scopes.{Scope, Var, find, slot_place, place_by, place_of}
 use Rattle.flow_rules.specs.declared.rule.TheConstants.{TWICE}
-use Rattle.flow_rules.specs.Least.{lesser, unless}
+use Rattle.flow_rules.specs.Least.{lesser}
 use Rattle.flow_rules.specs.Known.{field_row, is_predefined}
 use Rattle.flow_rules.specs.Judged.{Setting}
 use Rattle.flow_rules.specs.Items.{written, state_here, among, fresh, into_fault}
@@ -29,7 +29,7 @@ use Rattle.flow_meaning.specs.Carry.{DeclaredAs}
 use Rattle.flow_split.specs.Lowered.{with_into}
 use Rattle.flow_valid.specs.Validity.{slot_rows, local_rows}
 use Rattle.flow_lowered.proofs.Places.{slot_named, local_named, Placing}
-use Rattle.flow_fits.proofs.Names.{bytes_same, bytes_self, some_none, none_some, some_same, no_first, no_second, holds}
+use Rattle.flow_fits.proofs.Names.{bytes_same, bytes_self, none_some, some_same, no_first, no_second, holds}
 use Rattle.flow_fits.proofs.Agreement.{not_true, neither_left, neither_right}
 use Rattle.flow_lawful.proofs.Naming.{constant_no_place}
 use Rattle.flow_lawful.proofs.OverPlaces.{class_vars, Placed, Sees}

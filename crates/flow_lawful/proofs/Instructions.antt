@@ -1,5 +1,5 @@
 -- The instructions of a lowered statement fit, as its parts did over names.
-use Rattle.std.proofs.Common.{◌≡◌, ℕ, zero, suc, ◌+◌, pos, Bool, true, false, not, ◌&&◌, is_none, List, [], ◌∷◌, ◌++◌, codes, if◌then◌else◌, refl, ap, ap₂, sym, subst, ◌∙◌}
+use Rattle.std.proofs.Common.{◌≡◌, ℕ, pos, Bool, true, false, is_none, List, [], ◌∷◌, if◌then◌else◌, refl, ap, sym, subst, ◌∙◌}
 use Rattle.std.specs.Option.{option_map, option_and_then}
 use Rattle.std.specs.List.{list_all}
 use Rattle.std.specs.declared.option.Option.{Option}
@@ -7,13 +7,13 @@ use Rattle.std.specs.declared.option.Option.TheVariants.{None, Some}
 use Rattle.flow_base.specs.declared.place.Place.{Place}
 use Rattle.flow_tree.specs.declared.ty.Ident.{Ident}
 use Rattle.flow_tree.specs.declared.expr.Op.TheVariants.{Add, Sub}
-use Rattle.flow_tree.specs.Tree.{TypeTree, IntType, BoolType, StringType, VoidType, ErrorType, PromiseType, PromiseStreamType, ExprTree, ExprTrees, IntExpr, TextExpr, BoolExpr, VoidExpr, VarExpr, CallExpr, FieldExpr, MethodExpr, NotExpr, NegExpr, BinaryExpr, ParenExpr, NoExprs, MoreExprs}
+use Rattle.flow_tree.specs.Tree.{TypeTree, IntType, BoolType, StringType, VoidType, ErrorType, PromiseType, PromiseStreamType, ExprTree, ExprTrees, IntExpr, TextExpr, BoolExpr, VoidExpr, VarExpr, CallExpr, FieldExpr, MethodExpr, NotExpr, NegExpr, BinaryExpr, ParenExpr}
 use Rattle.flow_tree.specs.Body.{IntoTree, WaitTree, ChangeTree, PlusChange, MinusChange, UpChange, DownChange}
-use Rattle.flow_ast.specs.TypingNames.{named, constant_names}
-use Rattle.flow_ast.specs.Typing.{is_there, with_type, same_type, sum_type, int_only, sign_type, binary_type}
+use Rattle.flow_ast.specs.TypingNames.{named}
+use Rattle.flow_ast.specs.Typing.{is_there, with_type, same_type, sum_type, int_only, binary_type}
 use Rattle.flow_class.specs.declared.class.Slotted.{Slotted}
 use Rattle.flow_class.specs.Places.{place_name}
-use Rattle.flow_class.specs.Classes.{InstrTree, SetInstr, EffectInstr, NewInstr, ActInstr, DropInstr, LastTree, ThrowLast, CallbackTree, ClassTree}
+use Rattle.flow_class.specs.Classes.{InstrTree, SetInstr, NewInstr, ActInstr, ThrowLast, ClassTree}
 use Rattle.flow_class.specs.Code.{type_at}
 use Rattle.flow_class.specs.Scopes.{Scope, place_of, var_over, over, over_all, path_over, act_over}
 use Rattle.flow_rules.specs.declared.rule.TheConstants.{UNKNOWN_NAME, WRONG_TYPE, NEEDS_VALUE}
@@ -23,12 +23,12 @@ use Rattle.flow_rules.specs.Items.{has_default, value_fault, path_form, path_fau
 use Rattle.flow_choose.specs.Places.{ident_at}
 use Rattle.flow_meaning.specs.Evaluating.{Names, effectful, effect_in}
 use Rattle.flow_meaning.specs.Items.{path_from, modified, change}
-use Rattle.flow_split.specs.Lowered.{first_value, new_at, first_at, assign_by, assigned, changed, place_in, taken_in, declares, thrown, callback, cancelled, drop_of}
+use Rattle.flow_split.specs.Lowered.{first_value, new_at, first_at, assign_by, assigned, changed, place_in, taken_in, declares, thrown, callback, cancelled}
 use Rattle.flow_valid.specs.Validity.{calls_effect, is_effect, put_fault, is_promise, operand_type, has_type, instr_fits, last_fits, operand_fits, taken_type, callback_fits}
-use Rattle.flow_fits.proofs.Names.{some_none, none_some, some_same, type_same, type_self, no_first, no_second, holds, there}
+use Rattle.flow_fits.proofs.Names.{some_none, type_same, type_self, no_first, no_second, holds, there}
 use Rattle.flow_fits.proofs.Expressions.{sum_there}
 use Rattle.flow_lawful.proofs.Naming.{both}
-use Rattle.flow_lawful.proofs.OverPlaces.{no_lesser, class_vars, over_names, over_class, Placed, Sees, place_form, same, wanted_same, target_same, put_same, call_same, quiet}
+use Rattle.flow_lawful.proofs.OverPlaces.{no_lesser, class_vars, over_names, over_class, Sees, place_form, same, wanted_same, put_same, call_same, quiet}
 
 pub none_is : {A : Type 0} (o : Option A) → o ≡ None → is_none o ≡ true
 none_is None e = refl

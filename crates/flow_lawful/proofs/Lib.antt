@@ -13,3 +13,5 @@ pub mod OverPlaces
 pub mod InForce
 pub mod Instructions
 pub mod Fitting
+pub mod Effects
+pub mod Tested

@@ -1,5 +1,5 @@
 -- What a lowered statement names is in its class.
-use Rattle.std.proofs.Common.{◌≡◌, ℕ, zero, suc, ◌+◌, ◌^◌, ◌<◌, ◌≤◌, Bool, true, false, not, ◌&&◌, ◌||◌, nat_eq, nat_lt, pos, List, [], ◌∷◌, ◌++◌, length, map, position, slice_get, if◌then◌else◌, refl, ap, ap₂, sym, subst, ◌∙◌, arith}
+use Rattle.std.proofs.Common.{◌≡◌, ℕ, zero, suc, ◌+◌, ◌^◌, ◌<◌, ◌≤◌, Bool, true, false, not, ◌&&◌, ◌||◌, nat_eq, nat_lt, pos, List, [], ◌∷◌, ◌++◌, length, map, position, slice_get, if◌then◌else◌, refl, ap, sym, subst, ◌∙◌, arith}
 use Rattle.std.specs.List.{list_all, list_any}
 use Rattle.std.specs.Str.{bytes_eq}
 use Rattle.std.specs.Option.{option_map, option_and_then}
@@ -11,15 +11,15 @@ use Rattle.std.specs.declared.option.Option.TheVariants.{None, Some}
 use Rattle.flow_base.specs.declared.place.Place.{Place}
 use Rattle.flow_tree.specs.declared.ty.Ident.{Ident}
 use Rattle.flow_tree.specs.Tree.{TypeTree, IntType, BoolType, StringType, ExprTree, ExprTrees, IntExpr, TextExpr, BoolExpr, VoidExpr, VarExpr, CallExpr, FieldExpr, MethodExpr, NotExpr, NegExpr, BinaryExpr, ParenExpr, NoExprs, MoreExprs}
-use Rattle.flow_tree.specs.Body.{IntoTree, WaitTree}
+use Rattle.flow_tree.specs.Body.{IntoTree}
 use Rattle.flow_tree.specs.Decls.{SlotTree}
 use Rattle.flow_ast.specs.TypingNames.{named, constant_names}
 use Rattle.flow_ast.specs.Typing.{is_there}
 use Rattle.flow_class.specs.declared.class.Slotted.{Slotted}
 use Rattle.flow_class.specs.declared.class.Slotted.TheVariants as place
-use Rattle.flow_class.specs.Classes.{InstrTree, SetInstr, EffectInstr, NewInstr, ActInstr, DropInstr, ClassTree}
+use Rattle.flow_class.specs.Classes.{InstrTree, SetInstr, NewInstr, ActInstr, DropInstr, ClassTree}
 use Rattle.flow_class.specs.Places.{place_name, place_named}
-use Rattle.flow_class.specs.Scopes.{Scope, Mark, Var, find, scope, outside, place_by, place_of, var_over, name_over, ident_over, over, over_all, path_over, act_over}
+use Rattle.flow_class.specs.Scopes.{Scope, Mark, Var, find, scope, outside, place_by, place_of, var_over, name_over, over, over_all, path_over, act_over}
 use Rattle.flow_valid.specs.Named.{listed, expr_places, exprs_places, path_place, base_place, instr_places, has_place}
 use Rattle.flow_valid.specs.Validity.{distinct}
 use Rattle.flow_catch.specs.Inner.{inner_locals, listed as with_list, left_lists}

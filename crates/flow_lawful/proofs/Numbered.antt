@@ -1,5 +1,5 @@
 -- The class of an actor names what there is, leads on, and catches further on.
-use Rattle.std.proofs.Common.{◌≡◌, ℕ, suc, ◌+◌, ◌^◌, ◌<◌, ◌≤◌, Bool, true, false, ◌&&◌, List, [], ◌∷◌, ◌++◌, length, slice_get, refl, ap, sym, subst, ◌∙◌, arith, length-append, append_assoc}
+use Rattle.std.proofs.Common.{◌≡◌, ℕ, suc, ◌+◌, ◌^◌, ◌<◌, true, false, List, [], ◌∷◌, ◌++◌, length, slice_get, refl, ap, sym, subst, ◌∙◌, arith, length-append, append_assoc}
 use Rattle.std.specs.List.{list_all}
 use Rattle.std.specs.declared.option.Option.TheVariants.{None, Some}
 use Rattle.flow_tree.specs.Tree.{TypeTree}
@@ -7,7 +7,7 @@ use Rattle.flow_tree.specs.Body.{Body, End, BlockStmt, IfStmt, IfElseStmt, While
 use Rattle.flow_tree.specs.Decls.{RoutineTree}
 use Rattle.flow_ast.specs.Slots.{slots_of}
 use Rattle.flow_class.specs.Classes.{BlockTree, ClassTree}
-use Rattle.flow_valid.specs.Named.{has_named, has_operand, names_exist}
+use Rattle.flow_valid.specs.Named.{has_named, names_exist}
 use Rattle.flow_valid.specs.Validity.{all_blocks as each_block, leads_on, leads_forward, catches, catchers_kept}
 use Rattle.flow_layout.specs.Laying.{layout_of}
 use Rattle.flow_meaning.specs.Evaluating.{Names}
@@ -72,7 +72,7 @@ one_more : {A : Type 0} (pre : List A) (x : A) → length (pre ++ x ∷ []) ≡ 
 one_more pre x = omega (arith, length-append pre (x ∷ []))
 
 -- the locals of a class stand in it from the first on
-all_types : (ns : Names) (c : ClassTree) (pre ts : List TypeTree) → c.locals ≡ pre ++ ts → LocalsAt ns c (length pre) ts
+pub all_types : (ns : Names) (c : ClassTree) (pre ts : List TypeTree) → c.locals ≡ pre ++ ts → LocalsAt ns c (length pre) ts
 all_types ns c pre [] e = tt
 all_types ns c pre (t ∷ ts) e = (
   ap (λ xs. slice_get xs (length pre)) e ∙ seam pre ts t,

@@ -1,5 +1,5 @@
 -- An expression over places is judged as it was over names.
-use Rattle.std.proofs.Common.{◌≡◌, ℕ, zero, suc, ◌+◌, Bool, true, false, not, List, [], ◌∷◌, ◌++◌, slice_get, refl, ap, ap₂, sym, subst, ◌∙◌}
+use Rattle.std.proofs.Common.{◌≡◌, ℕ, suc, Bool, true, false, List, [], ◌∷◌, ◌++◌, slice_get, refl, ap, ap₂, sym, subst, ◌∙◌}
 use Rattle.std.specs.declared.option.Option.{Option}
 use Rattle.std.specs.declared.option.Option.TheVariants.{None, Some}
 use Rattle.flow_tree.specs.declared.ty.Ident.{Ident}
@@ -14,9 +14,9 @@ use Rattle.flow_class.specs.Scopes.{Scope, place_of, var_over, name_over, over, 
 use Rattle.flow_rules.specs.declared.rule.TheConstants.{UNKNOWN_NAME, WRONG_COUNT}
 use Rattle.flow_rules.specs.Least.{lesser, unless}
 use Rattle.flow_rules.specs.Judged.{Setting, Need, Kind, Value, OfFunction, Clock, Effect, Statement, Callee, called, called_by, called_on, needs_of, gives_of, field_form, variable_as, variable_form, sign_form, form, wants, fits, operands, placed, said, as_many, calls, calls_on, of_field, fault, faults, wanted}
-use Rattle.flow_rules.specs.Items.{path_form, path_fault, target_form, target_fault, assigned, ends_of, base_form, base_fault, call_by_name, call_on, call_fault}
+use Rattle.flow_rules.specs.Items.{path_form, path_fault, target_form, target_fault, assigned, ends_of, call_fault}
 use Rattle.flow_valid.specs.Validity.{slot_rows, local_rows, is_effect_kind, calls_effect, is_effect, put_fault}
-use Rattle.flow_fits.proofs.Names.{some_none, none_some, no_first, no_second, holds, there}
+use Rattle.flow_fits.proofs.Names.{some_none, no_first, no_second, holds, there}
 
 pub no_lesser : (x y : Option ℕ) → x ≡ None → y ≡ None → lesser x y ≡ None
 no_lesser None y e f = f

@@ -1,16 +1,15 @@
 -- The numbers of a lowered body are within its class.
-use Rattle.std.proofs.Common.{◌≡◌, ℕ, zero, suc, ◌+◌, ◌^◌, ◌<◌, ◌≤◌, Bool, true, false, ◌&&◌, List, [], ◌∷◌, ◌++◌, length, if◌then◌else◌, refl, ap, sym, subst, ◌∙◌, arith, length-append}
+use Rattle.std.proofs.Common.{◌≡◌, ℕ, suc, ◌+◌, ◌^◌, ◌<◌, ◌≤◌, Bool, true, false, List, length, if◌then◌else◌, refl, sym, subst, arith}
 use Rattle.std.specs.declared.option.Option.{Option}
 use Rattle.std.specs.declared.option.Option.TheVariants.{None, Some}
-use Rattle.flow_tree.specs.Tree.{TypeTree, ErrorType, ExprTree}
 use Rattle.flow_tree.specs.Body.{IntoTree, Body, End, DeclareStmt, AssignStmt, ModifyStmt}
 use Rattle.flow_ast.specs.Leaving.{has_statement}
-use Rattle.flow_class.specs.Classes.{LastTree, GotoLast, PassLast, ClassTree}
-use Rattle.flow_class.specs.Scopes.{Scope, Mark, Var}
-use Rattle.flow_layout.specs.Locals.{body_locals, branch_locals}
+use Rattle.flow_class.specs.Classes.{LastTree, GotoLast, ClassTree}
+use Rattle.flow_class.specs.Scopes.{Scope}
+use Rattle.flow_layout.specs.Locals.{body_locals}
 use Rattle.flow_meaning.specs.Evaluating.{Names}
 use Rattle.flow_split.specs.Around.{Exit, Text, Scoped, Part, Hand, Around, inner, pass, guarded, handling}
-use Rattle.flow_split.specs.Counts.{Next, begun, taken, past, past_branches, behind, blocks_in, branch_blocks, local_count, into_count, locals_in, branch_local_count, groups_in, branch_group_count}
+use Rattle.flow_split.specs.Counts.{Next, begun, behind, blocks_in, local_count, into_count, locals_in, groups_in}
 use Rattle.flow_split.specs.Lowered.{Chunk, joined, before_rest, with_local, with_into, with_taken, later, lowered}
 use Rattle.flow_lowered.specs.Parts.{IsInit, HasParts}
 use Rattle.flow_lowered.specs.InPlace.{InPlace}

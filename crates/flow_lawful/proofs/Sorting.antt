@@ -1,24 +1,21 @@
 -- A program's declarations, with the records first, then the functions, then the actors, mean the same.
-use Rattle.std.proofs.Common.{◌≡◌, ℕ, zero, suc, ◌+◌, Bool, true, false, not, ◌||◌, List, [], ◌∷◌, ◌++◌, length, map, take, if◌then◌else◌, codes, refl, ap, ap₂, sym, subst, ◌∙◌, arith, length-append, append_assoc}
+use Rattle.std.proofs.Common.{◌≡◌, ℕ, suc, ◌+◌, Bool, true, false, List, [], ◌∷◌, ◌++◌, length, map, take, if◌then◌else◌, refl, ap, ap₂, sym, ◌∙◌, arith, length-append, append_assoc}
 use Rattle.std.specs.Str.{bytes_eq}
-use Rattle.std.proofs.lemmas.List.{append-nil, map-append}
+use Rattle.std.proofs.lemmas.List.{map-append}
 use Rattle.std.proofs.Math.Path.{fun_ext}
-use Rattle.std.specs.declared.option.Option.{Option}
 use Rattle.std.specs.declared.option.Option.TheVariants.{None, Some}
-use Rattle.flow_tree.specs.Tree.{TypeTree}
-use Rattle.flow_tree.specs.Decls.{ParamTree, SlotTree, RecordTree, RoutineTree, DeclTree, StructDecl, FunctionDecl, ActorDecl, ProgramTree}
-use Rattle.flow_ast.specs.Slots.{param_slot, body_slots, slots_of}
+use Rattle.flow_tree.specs.Decls.{ParamTree, SlotTree, RoutineTree, DeclTree, StructDecl, FunctionDecl, ActorDecl, ProgramTree}
+use Rattle.flow_ast.specs.Slots.{param_slot, body_slots}
 use Rattle.flow_ast.specs.TypingNames.{named}
-use Rattle.flow_ast.specs.Typing.{is_there, param_types}
-use Rattle.flow_class.specs.Classes.{ClassTree, RawTree}
-use Rattle.flow_rules.specs.Known.{Meaning, RecordOf, FunctionOf, ActorOf, row_of, packet_row, known, holds}
-use Rattle.flow_rules.specs.Judged.{Setting}
+use Rattle.flow_ast.specs.Typing.{param_types}
+use Rattle.flow_class.specs.Classes.{RawTree}
+use Rattle.flow_rules.specs.Known.{Meaning, ActorOf, row_of, packet_row, known, holds}
 use Rattle.flow_rules.specs.Rules.{setting_of}
 use Rattle.flow_meaning.specs.Evaluating.{Names}
 use Rattle.flow_meaning.specs.Source.{records_in, functions_in, actors_in, names_of}
 use Rattle.flow_compile.specs.Compiled.{class_in, compiled}
 use Rattle.flow_valid.specs.Heads.{slot_param, head_of, plain_decls, all_decls}
-use Rattle.flow_fits.proofs.Names.{bytes_same, bytes_sym}
+use Rattle.flow_fits.proofs.Names.{bytes_same}
 use Rattle.flow_fits.proofs.Agreement.{Apart, Distinct}
 
 -- the declarations of each kind

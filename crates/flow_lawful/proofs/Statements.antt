@@ -1,34 +1,26 @@
 -- The blocks of each kind of statement name what there is, lead on, and catch further on.
-use Rattle.std.proofs.Common.{◌≡◌, ℕ, zero, suc, ◌+◌, ◌^◌, ◌<◌, ◌≤◌, Bool, true, false, ◌&&◌, List, [], ◌∷◌, ◌++◌, length, if◌then◌else◌, refl, ap, sym, subst, ◌∙◌, arith, length-append}
-use Rattle.std.specs.List.{list_all}
-use Rattle.std.proofs.lemmas.Option.{slice_get_within}
+use Rattle.std.proofs.Common.{◌≡◌, ℕ, suc, ◌+◌, ◌^◌, ◌<◌, ◌≤◌, Bool, true, false, List, [], ◌∷◌, ◌++◌, length, refl, sym, arith, length-append}
 use Rattle.std.specs.declared.option.Option.{Option}
-use Rattle.std.specs.declared.option.Option.TheVariants.{None, Some}
+use Rattle.std.specs.declared.option.Option.TheVariants.{Some}
 use Rattle.flow_base.specs.declared.place.Place.{Place}
 use Rattle.flow_tree.specs.declared.ty.Ident.{Ident}
-use Rattle.flow_tree.specs.Tree.{TypeTree, ErrorType, ExprTree, ExprTrees}
-use Rattle.flow_tree.specs.Body.{IntoTree, WaitTree, ChangeTree, Body, End, BlockStmt, IfStmt, IfElseStmt, WhileStmt, ForStmt, LoopStmt, BreakStmt, ContinueStmt, ReturnStmt, ThrowStmt, TryStmt, ChooseStmt, DeclareStmt, AssignStmt, ModifyStmt, CallStmt, WaitStmt, Branches, NoBranches, MoreBranches}
-use Rattle.flow_ast.specs.Typing.{is_there}
-use Rattle.flow_class.specs.Classes.{InstrTree, ActInstr, LastTree, GotoLast, PassLast, TestLast, ChooseLast, ReturnLast, ThrowLast, CallbackTree, ClassTree}
-use Rattle.flow_class.specs.Code.{group_at}
-use Rattle.flow_class.specs.Scopes.{Scope, Mark, Var, scope, over, over_all, path_over, act_over}
-use Rattle.flow_valid.specs.Named.{listed, expr_places, has_place, has_block, has_group, has_last, has_operand}
-use Rattle.flow_layout.specs.Locals.{body_locals, branch_locals, declared_locals, into_locals}
+use Rattle.flow_tree.specs.Tree.{ErrorType, ExprTree}
+use Rattle.flow_tree.specs.Body.{Body, End, BlockStmt, IfStmt, IfElseStmt, WhileStmt, LoopStmt, BreakStmt, ContinueStmt, ReturnStmt, ThrowStmt, TryStmt}
+use Rattle.flow_class.specs.Classes.{LastTree, GotoLast, PassLast, TestLast, ReturnLast, ThrowLast, ClassTree}
+use Rattle.flow_class.specs.Scopes.{Scope, Mark, Var, scope, over}
+use Rattle.flow_layout.specs.Locals.{body_locals}
 use Rattle.flow_meaning.specs.Evaluating.{Names}
-use Rattle.flow_meaning.specs.Items.{change}
 use Rattle.flow_split.specs.Around.{Exit, Text, Scoped, Part, Hand, Around, inner, pass, guarded, handling}
-use Rattle.flow_split.specs.Counts.{Next, begun, taken, grouped, past, past_branches, behind, exit_blocks, test_blocks, blocks_in, branch_blocks, local_count, into_count, locals_in, branch_local_count, groups_in, branch_group_count}
+use Rattle.flow_split.specs.Counts.{Next, begun, past, behind, exit_blocks, blocks_in, locals_in, groups_in}
 use Rattle.flow_split.specs.Lowered as lowering
 use Rattle.flow_split.specs.Lowered.{Chunk, joined, ends, acting, finished, exits, exited, with_into, with_taken, later, tested, assigned, changed, taken_in, declares, thrown, callback, callbacks, test_before, lowered, branches, drop_of}
-use Rattle.flow_lowered.specs.Parts.{IsStep, IsInit, HasParts, HaveParts}
-use Rattle.flow_lowered.specs.InPlace.{naming_any, started, InPlace, AllInPlace}
+use Rattle.flow_lowered.specs.Parts.{HasParts}
+use Rattle.flow_lowered.specs.InPlace.{InPlace}
 use Rattle.flow_lowered.proofs.Standing.{LocalsAt, locals_front, locals_back}
-use Rattle.flow_lowered.proofs.Groups.{step_parts, init_parts}
-use Rattle.flow_lowered.proofs.Further.{locals_count, branch_locals_count, into_locals_count, locals_after, exited_local, exited_group}
-use Rattle.flow_lowered.proofs.Fors.{step_later, step_locals, test_block, test_local, test_group}
-use Rattle.flow_lawful.proofs.Naming.{both, all_both, less_is, inside, Falling, falling_more, Falls, scope_falls, There, falling_knows, there_both, place_there, expr_there, path_there, one_named, assigned_named, changed_named, declares_named, thrown_there, act_named, taken_place, AllInstrsNamed, drop_named, Knows}
-use Rattle.flow_lawful.proofs.Chunks.{Good, good_up_to, HandGood, Leads, LastGood, joined_good, acting_good, dropping_good, ends_good, goto_good, pass_good, leads_good, test_good, exits_good}
-use Rattle.flow_lawful.proofs.Rooms.{GoodHere, ExitGood, Fits, fits_inner, fits_scoped, fits_handling, fits_guarded, fits_loop, Room, Kept, rest_kept, dead_kept, falling_into, falling_taken, falling_later}
+use Rattle.flow_lowered.proofs.Further.{locals_count, locals_after, exited_local, exited_group}
+use Rattle.flow_lawful.proofs.Naming.{Falling, falling_more, scope_falls, falling_knows, expr_there, thrown_there, drop_named, Knows}
+use Rattle.flow_lawful.proofs.Chunks.{good_up_to, HandGood, Leads, LastGood, joined_good, ends_good, goto_good, pass_good, leads_good, test_good, exits_good}
+use Rattle.flow_lawful.proofs.Rooms.{GoodHere, ExitGood, Fits, fits_scoped, fits_handling, fits_guarded, fits_loop, Room, Kept, rest_kept, dead_kept}
 
 module _ (ns : Names) (c : ClassTree) (few_slots : length c.slots < 2 ^ 64) (few_locals : length c.locals < 2 ^ 64) where
   abbrev FitsHere : Bool → ℕ → Around → Type 0

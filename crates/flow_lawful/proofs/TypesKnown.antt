@@ -4,7 +4,7 @@ use Rattle.std.specs.List.{list_all}
 use Rattle.std.specs.declared.option.Option.{Option}
 use Rattle.std.specs.declared.option.Option.TheVariants.{None, Some}
 use Rattle.flow_base.specs.declared.place.Place.{Place}
-use Rattle.flow_tree.specs.Tree.{TypeTree, ErrorType, ExprTree}
+use Rattle.flow_tree.specs.Tree.{TypeTree, ErrorType}
 use Rattle.flow_tree.specs.Body.{IntoTree, WaitTree, Body, End, BlockStmt, IfStmt, IfElseStmt, WhileStmt, ForStmt, LoopStmt, BreakStmt, ContinueStmt, ReturnStmt, ThrowStmt, TryStmt, ChooseStmt, DeclareStmt, AssignStmt, ModifyStmt, CallStmt, WaitStmt, Branches, NoBranches, MoreBranches}
 use Rattle.flow_tree.specs.Decls.{SlotTree}
 use Rattle.flow_ast.specs.Slots.{body_slots, branch_slots, declared_slots, into_slots}
@@ -14,7 +14,7 @@ use Rattle.flow_rules.specs.Least.{lesser, unless}
 use Rattle.flow_rules.specs.Known.{Meaning, type_known}
 use Rattle.flow_rules.specs.Judged.{Setting}
 use Rattle.flow_rules.specs.Items.{Env, item, with_var, with_states, in_loop, in_catch, behind, declared, waited, started, written, fresh, state_here, into_fault, declare_fault, wait_fault, maybe_into, slot_names, body_refusal, branch_refusal}
-use Rattle.flow_fits.proofs.Names.{no_first, no_second, holds}
+use Rattle.flow_fits.proofs.Names.{no_first, holds}
 use Rattle.flow_fits.proofs.Agreement.{neither_first, neither_second, no_item}
 use Rattle.flow_lawful.proofs.Naming.{both, all_both}
 
