@@ -1,0 +1,2 @@
+//! That nothing is stuck, and that every event ends.
+#![tactic(auto)]
