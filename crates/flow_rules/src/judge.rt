@@ -280,8 +280,8 @@ impl<'n, 'a> Setting<'n, 'a> {
         }
     }
 
-    // What a name without a base calls.
-    fn called(&self, name: &'a Name) -> Option<Callee<'a>>
+    /// What a name without a base calls.
+    pub fn called(&self, name: &'a Name) -> Option<Callee<'a>>
         ensures { option_map callee_of result ≡ called (setting_view self.now) name.now }
     {
         match predefined_call(name.bytes()) {

@@ -259,8 +259,9 @@ fn declare<'a>(before: &mut Meanings<'a>, decl: &'a Decl) -> Result<(), NoMemory
     Ok(())
 }
 
-// One declaration after another.
-fn declarations<'a>(
+/// The rules hold in these declarations, one after another, where these names stand at the top; or the least rule that fails at the
+/// first item in which one does.
+pub fn declarations<'a>(
     alloc: Global,
     names: &Names<'a>,
     packet: &'a [Param],
@@ -277,8 +278,8 @@ fn declarations<'a>(
     Ok(())
 }
 
-// `main` is an actor with one int and the result `Void`.
-fn is_main(meaning: Option<Meaning<'_>>) -> bool
+/// Whether this is an actor with one int and the result `Void`, as `main` is.
+pub fn is_main(meaning: Option<Meaning<'_>>) -> bool
     ensures { result ≡ is_main (option_map meaning_of meaning.entry) }
 {
     match meaning {

@@ -1,0 +1,4 @@
+pub mod Heads
+pub mod Named
+pub mod Filling
+pub mod Validity
