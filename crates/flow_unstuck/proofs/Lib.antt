@@ -1,1 +1,2 @@
-mod FewerTurns
+pub mod FewerTurns
+pub mod KeptPhases
