@@ -1,2 +1,4 @@
 pub mod FewerTurns
 pub mod KeptPhases
+pub mod Calls
+pub mod Goes
