@@ -2,3 +2,4 @@ pub mod FewerTurns
 pub mod KeptPhases
 pub mod Calls
 pub mod Goes
+pub mod Ahead
