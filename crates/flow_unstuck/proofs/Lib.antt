@@ -3,3 +3,5 @@ pub mod KeptPhases
 pub mod Calls
 pub mod Goes
 pub mod Ahead
+pub mod Weights
+pub mod TurnsTaken
