@@ -5,3 +5,4 @@ pub mod Goes
 pub mod Ahead
 pub mod Weights
 pub mod TurnsTaken
+pub mod Reacts

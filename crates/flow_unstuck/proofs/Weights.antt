@@ -172,17 +172,30 @@ two_falls i n t c xs e f h own next room =
         λ j o. still_less j c d xs ((refl, other_task i j t k.tasks own o ∙ other_task i j (Run i) c.tasks next o), refl))
 
 -- an actor leaves its wait and goes on by a task
+pub leave_still : (i : ℕ) (e : Entry) (vs : List ValueTree) (t : Task) (c : Core) → IsOf i t → (j : ℕ) → (i ≡ j → ⊥) → Still j c (leave_for i e vs t c)
+leave_still i e vs t c own j k =
+    let ts = drops (refs_in vs) (t ∷ c.tasks) in (
+      (ap is_suspended (thing_put_other c.entries i j (running e) k), drops_tasks j e.operands ts ∙ drops_tasks j (refs_in vs) (t ∷ c.tasks) ∙ other_task i j t c.tasks own k),
+      ap kept_by (thing_put_other c.entries i j (running e) k),
+    )
+
+pub leave_fires : (i : ℕ) (e : Entry) (vs : List ValueTree) (t : Task) (c : Core) → IsOf i t → fires (leave_for i e vs t c).tasks ≡ fires c.tasks
+leave_fires i e vs t c own = drops_fires e.operands (drops (refs_in vs) (t ∷ c.tasks)) ∙ drops_fires (refs_in vs) (t ∷ c.tasks) ∙ quiet_task i t c.tasks own.own
+
+pub leave_weight : (i : ℕ) (e e0 : Entry) (vs : List ValueTree) (t : Task) (c : Core) (xs : Numbered Frame) (f : Frame) → thing c.entries i ≡ Some e0 → thing xs i ≡ Some f → IsOf i t
+    → weight (leave_for i e vs t c) xs i ≡ busy f 0 (t ∷ tasks_of i c.tasks)
+leave_weight i e e0 vs t c xs f at fr own =
+    let d = leave_for i e vs t c in
+    hand_weight i d xs (running e) f (t ∷ tasks_of i c.tasks) (record { entry = thing_put c.entries i e0 (running e) at; awake = refl; frame = fr })
+    (drops_tasks i e.operands (drops (refs_in vs) (t ∷ c.tasks)) ∙ drops_tasks i (refs_in vs) (t ∷ c.tasks) ∙ own_task i t c.tasks own)
+
 pub leave_falls : (i n : ℕ) (e e0 : Entry) (vs : List ValueTree) (t : Task) (c : Core) (xs : Numbered Frame) (f : Frame) → thing c.entries i ≡ Some e0 → thing xs i ≡ Some f → IsOf i t → ((ts : List Task) → busy f 0 (t ∷ ts) < n)
     → Falls i n c (leave_for i e vs t c) xs
 leave_falls i n e e0 vs t c xs f at fr own room =
     let d = leave_for i e vs t c in
-    let ts = drops (refs_in vs) (t ∷ c.tasks) in
-    let tasks : (j : ℕ) → tasks_of j d.tasks ≡ tasks_of j (t ∷ c.tasks) = λ j. drops_tasks j e.operands ts ∙ drops_tasks j (refs_in vs) (t ∷ c.tasks) in
-    let w : weight d xs i ≡ busy f 0 (t ∷ tasks_of i c.tasks) =
-        hand_weight i d xs (running e) f (t ∷ tasks_of i c.tasks) (record { entry = thing_put c.entries i e0 (running e) at; awake = refl; frame = fr }) (tasks i ∙ own_task i t c.tasks own) in
-    let q : fires d.tasks ≡ fires c.tasks = drops_fires e.operands ts ∙ drops_fires (refs_in vs) (t ∷ c.tasks) ∙ quiet_task i t c.tasks own.own in
-    inr (omega arith, omega (arith, q), refl, omega (arith, w, room (tasks_of i c.tasks)),
-        λ j k. still_less j c d xs ((ap is_suspended (thing_put_other c.entries i j (running e) k), tasks j ∙ other_task i j t c.tasks own k), ap kept_by (thing_put_other c.entries i j (running e) k)))
+    let w = leave_weight i e e0 vs t c xs f at fr own in
+    let q = leave_fires i e vs t c own in
+    inr (omega arith, omega (arith, q), refl, omega (arith, w, room (tasks_of i c.tasks)), λ j k. still_less j c d xs (leave_still i e vs t c own j k))
 
 -- where no frame stands, an actor weighs nothing
 pub unframed : (s : Option Bool) (kept : ℕ) (ts : List Task) → weigh s kept ts None ≡ 0
