@@ -6,3 +6,4 @@ pub mod Ahead
 pub mod Weights
 pub mod TurnsTaken
 pub mod Reacts
+pub mod Rooms
