@@ -7,3 +7,6 @@ pub mod Weights
 pub mod TurnsTaken
 pub mod Reacts
 pub mod Rooms
+pub mod StepFalls
+pub mod TaskFalls
+pub mod Ending

@@ -10,6 +10,7 @@ use Rattle.flow_value.specs.Values.{ValueTree, IntValue, BoolValue, TextValue, V
 use Rattle.flow_draw.specs.Words.{scaled}
 use Rattle.flow_eval.specs.Predefined.{natural}
 use Rattle.flow_trace.specs.declared.line.Line.{Line}
+use Rattle.flow_class.specs.Code.{fetch}
 use Rattle.flow_meaning.specs.Numbered.{Numbered, thing, added, put}
 use Rattle.flow_meaning.specs.Cells.{Cell, Single, Stream, is_complete}
 use Rattle.flow_meaning.specs.Asks.{Spot, Act, Goes, Pass, Drops, Effects, Operand, Waits, Sends, Cancels, Prints, SendsTo, Returns, Throws, RunsOut, Stuck, DiskCall, Effect, Make, Start, Draw, Delay, Never, Listen, Disk, Goal, Stored, Kept, Supply}
@@ -24,12 +25,12 @@ use Rattle.flow_meaning.specs.Frame.{Frame}
 use Rattle.flow_meaning.proofs.Posture.{each_number, thing_put_other, thing_put, Unless, unless, unless_map, drops_tasks}
 use Rattle.flow_meaning.proofs.Shifts.{run_of, throw_of, store_of, keep_of, close_of, either, Owned, owned}
 use Rattle.flow_unstuck.proofs.Ahead.{behind, ahead, whole}
-use Rattle.flow_unstuck.proofs.Weights.{fires, busy, weigh, weight, Lighter, Eased, Falls, lighter_self, lighter_on, falls_on, Still, still_less, all_lighter, dropping_lighter, Hand, push_falls, two_falls, leave_still, leave_fires, leave_weight, leave_falls, unframed, took}
+use Rattle.flow_unstuck.proofs.Weights.{fires, stored_room, busy, weigh, weight, Lighter, Eased, Falls, lighter_self, lighter_on, falls_on, Still, still_less, all_lighter, dropping_lighter, Hand, push_falls, two_falls, leave_still, leave_fires, leave_weight, leave_falls, took}
 use Rattle.flow_unstuck.proofs.TurnsTaken.{LeftAtMost, fill_left, branch_turns}
 
 -- what is ahead of a frame when the result of its effect has come
 abbrev pub goal_room : Goal → Frame → (kept : ℕ) → ℕ
-goal_room Stored f kept = 1 + ahead f.code f.block (suc f.instr) kept
+goal_room Stored f kept = 1 + stored_room (fetch f.code f.block f.instr) f kept
 goal_room (Kept spot) f kept = 1 + ahead f.code f.block f.instr (suc kept)
 
 -- An ask leaves less than n to do for its actor, whatever the process answers, or it takes a turn.
@@ -70,11 +71,10 @@ cancelled_less true i e c xs o fr at s =
 
     own : (o : Option Frame) → thing xs i ≡ o → weight (leave_for i (marked e) [] (Throw i operation_cancelled) c) xs i ≤ weight c xs i
     own None fr =
-        let d = leave_for i (marked e) [] (Throw i operation_cancelled) c in
-        let w : weight d xs i ≡ 0 = ap (weigh (is_suspended (thing d.entries i)) (kept_by (thing d.entries i)) (tasks_of i d.tasks)) fr ∙ unframed (is_suspended (thing d.entries i)) (kept_by (thing d.entries i)) (tasks_of i d.tasks) in
+        let w = leave_weight i (marked e) e [] (Throw i operation_cancelled) c xs None at fr (throw_of i operation_cancelled) in
         omega (arith, w)
     own (Some f) fr =
-        let w = leave_weight i (marked e) e [] (Throw i operation_cancelled) c xs f at fr (throw_of i operation_cancelled) in
+        let w = leave_weight i (marked e) e [] (Throw i operation_cancelled) c xs (Some f) at fr (throw_of i operation_cancelled) in
         omega (arith, w, before f fr)
 cancelled_less false i e c xs o fr at s =
     let d = record c { entries = put c.entries i (marked e) } in

@@ -25,6 +25,7 @@ use Rattle.flow_meaning.specs.Class.{promise_kind, placed, effects, instruction,
 use Rattle.flow_unstuck.proofs.FewerTurns.{AtMost, then_fewer, whole_fewer, all_fewer, call_fewer_whole}
 use Rattle.flow_unstuck.proofs.Calls.{IsCalled, Comes, act_called}
 use Rattle.flow_unstuck.proofs.Ahead.{behind, ahead, ahead_behind, ahead_next, ahead_kept, ahead_jump, Leads, leads_at}
+use Rattle.flow_unstuck.proofs.Weights.{stored_room}
 use Rattle.flow_unstuck.proofs.Reacts.{goal_room, Room}
 
 -- a call statement leaves no more turns than it has
@@ -114,19 +115,23 @@ module _ (v : View) (f : Frame) where
     act_leaves left RunsOut le h b a = absurd h
     act_leaves left Stuck le h b a = absurd h
 
-    instruction_leaves : (i : InstrTree) → behind f.code f.block + 6 ≤ now → ahead f.code f.block (suc f.instr) v.kept + 2 ≤ now → Leaves (instruction ns v f i)
-    instruction_leaves (SetInstr path e) b a =
+    -- at an instruction the result of its effect leads to the next one
+    result_room : (i : InstrTree) → fetch f.code f.block f.instr ≡ Body i → ahead f.code f.block (suc f.instr) v.kept + 2 ≤ now → goal_room Stored f v.kept < now
+    result_room i q a = subst (λ o. 1 + stored_room o f v.kept < now) (sym q) (omega (arith, a))
+
+    instruction_leaves : (i : InstrTree) → fetch f.code f.block f.instr ≡ Body i → behind f.code f.block + 6 ≤ now → ahead f.code f.block (suc f.instr) v.kept + 2 ≤ now → Leaves (instruction ns v f i)
+    instruction_leaves (SetInstr path e) q b a =
         valued_leaves (value ns v (look f.mem) e) (λ u left. given f (assign ns.records f.mem path u) (placed ns v f left)) b (value_fewer e)
         (λ u left le. given_leaves (assign ns.records f.mem path u) (placed ns v f left) (λ p. (le, omega (arith, a))))
-    instruction_leaves (EffectInstr path e) b a = given_leaves (effect_in ns e) (effects ns v f Stored) (λ g. effects_leaves Stored g b (omega (arith, a)))
-    instruction_leaves (NewInstr p) b a =
-        given_leaves (bind (type_at f.code p) promise_kind) (λ k. asks v.left (Effects Stored (Make k)) f) (λ k. (omega arith, (omega (arith, a), omega (arith, b))))
-    instruction_leaves (ActInstr path es) b a =
+    instruction_leaves (EffectInstr path e) q b a = given_leaves (effect_in ns e) (effects ns v f Stored) (λ g. effects_leaves Stored g b (result_room (EffectInstr path e) q a))
+    instruction_leaves (NewInstr p) q b a =
+        given_leaves (bind (type_at f.code p) promise_kind) (λ k. asks v.left (Effects Stored (Make k)) f) (λ k. (omega arith, (result_room (NewInstr p) q a, omega (arith, b))))
+    instruction_leaves (ActInstr path es) q b a =
         evaluated_leaves IsCalled (call_act ns v (look f.mem) path es) (λ act left. asks left act (next_instr f.mem f)) b (act_fewer ns v (look f.mem) path es) (act_called ns v (look f.mem) path es) asked
       where
         asked : (act : Act) (left : ℕ) → left ≤ v.left → IsCalled act → Leaves (asks left act (next_instr f.mem f))
         asked act left le h = act_leaves left act le h b (omega (arith, a))
-    instruction_leaves (DropInstr locals) b a = (omega arith, omega (arith, a))
+    instruction_leaves (DropInstr locals) q b a = (omega arith, omega (arith, a))
 
     test_leaves : (left : ℕ) (o : Option Bool) (x y : ℕ) → left ≤ v.left → behind f.code f.block + 6 ≤ now → f.block < x → f.block < y → Leaves (test ns v f left o x y)
     test_leaves left None x y le b p q = (omega arith, tt)
@@ -165,7 +170,7 @@ module _ (v : View) (f : Frame) where
     there o q h = ahead_behind f.code f.block f.instr v.kept (subst (λ x. x ≡ Nothing → ⊥) (sym q) h)
 
     fetched_leaves : (o : Fetched) → fetch f.code f.block f.instr ≡ o → Leaves (fetched ns v f o)
-    fetched_leaves (Body i) q = instruction_leaves i (there (Body i) q body_there) (ahead_next f.code f.block f.instr v.kept v.kept i q)
+    fetched_leaves (Body i) q = instruction_leaves i q (there (Body i) q body_there) (ahead_next f.code f.block f.instr v.kept v.kept i q)
       where
         body_there : Body i ≡ Nothing → ⊥
         body_there h = cc

@@ -3,6 +3,7 @@ use Rattle.std.proofs.Common.{◌≡◌, ℕ, zero, suc, ◌+◌, ◌<◌, ◌�
 use Rattle.std.specs.declared.option.Option.{Option}
 use Rattle.std.specs.declared.option.Option.TheVariants.{None, Some}
 use Rattle.flow_value.specs.Values.{ValueTree}
+use Rattle.flow_class.specs.Code.{Fetched, Last, fetch}
 use Rattle.flow_meaning.specs.Numbered.{Numbered, thing, put}
 use Rattle.flow_meaning.specs.Cells.{Ref}
 use Rattle.flow_meaning.specs.Process.{Task, Run, Give, Throw, Catch, Store, Keep, Close, Fire, Drop, Entry, Halt, Core}
@@ -20,21 +21,32 @@ fires [] = 0
 fires (Fire k ∷ ts) = 1 + fires ts
 fires (t ∷ ts) = fires ts
 
+-- what is ahead when the result of an effect has come
+abbrev pub stored_room : Fetched → Frame → (kept : ℕ) → ℕ
+stored_room (Last l) f kept = ahead f.code f.block f.instr kept
+stored_room o f kept = ahead f.code f.block (suc f.instr) kept
+
 -- What is ahead of an actor that runs, by the first of its tasks, with so many operands kept. What takes a turn weighs
 -- nothing.
 abbrev pub busy : Frame → (kept : ℕ) → List Task → ℕ
 busy f kept (Run i ∷ ts) = ahead f.code f.block f.instr kept
-busy f kept (Store i v ∷ ts) = 1 + ahead f.code f.block (suc f.instr) kept
+busy f kept (Store i v ∷ ts) = 1 + stored_room (fetch f.code f.block f.instr) f kept
 busy f kept (Keep i spot r ∷ ts) = 1 + ahead f.code f.block f.instr (suc kept)
 busy f kept (Give i b o ∷ ts) = 5 + whole f.code
 busy f kept (Throw i e ∷ ts) = 3 + behind f.code f.block
 busy f kept (Catch i e ∷ ts) = 1 + ahead f.code f.block f.instr kept
 busy f kept ts = 0
 
+-- where no frame stands, the event is stopped at the next step
+abbrev pub lonely : List Task → ℕ
+lonely (Catch i e ∷ ts) = 1
+lonely ts = 0
+
 -- an actor that is suspended may be cancelled without a turn
 abbrev pub weigh : Option Bool → (kept : ℕ) → List Task → Option Frame → ℕ
 weigh (Some true) kept ts (Some f) = 4 + behind f.code f.block
 weigh (Some false) kept ts (Some f) = busy f kept ts
+weigh (Some false) kept ts None = lonely ts
 weigh s kept ts o = 0
 
 abbrev pub weight : Core → Numbered Frame → ℕ → ℕ
@@ -143,12 +155,16 @@ pub record Hand (i : ℕ) (c : Core) (xs : Numbered Frame) (e : Entry) (f : Fram
   pub awake : e.suspended ≡ false
   pub frame : thing xs i ≡ Some f
 
-pub hand_weight : (i : ℕ) (c : Core) (xs : Numbered Frame) (e : Entry) (f : Frame) (ts : List Task) → Hand i c xs e f → tasks_of i c.tasks ≡ ts → weight c xs i ≡ busy f (length e.operands) ts
-hand_weight i c xs e f ts h t =
-    ap (λ o. weigh (is_suspended o) (kept_by o) (tasks_of i c.tasks) (thing xs i)) h.entry
-    ∙ ap (λ b. weigh (Some b) (length e.operands) (tasks_of i c.tasks) (thing xs i)) h.awake
+pub weight_at : (i : ℕ) (c : Core) (xs : Numbered Frame) (e : Entry) (o : Option Frame) (ts : List Task) → thing c.entries i ≡ Some e → e.suspended ≡ false → thing xs i ≡ o → tasks_of i c.tasks ≡ ts
+    → weight c xs i ≡ weigh (Some false) (length e.operands) ts o
+weight_at i c xs e o ts at awake fr t =
+    ap (λ o. weigh (is_suspended o) (kept_by o) (tasks_of i c.tasks) (thing xs i)) at
+    ∙ ap (λ b. weigh (Some b) (length e.operands) (tasks_of i c.tasks) (thing xs i)) awake
     ∙ ap (λ us. weigh (Some false) (length e.operands) us (thing xs i)) t
-    ∙ ap (weigh (Some false) (length e.operands) ts) h.frame
+    ∙ ap (weigh (Some false) (length e.operands) ts) fr
+
+pub hand_weight : (i : ℕ) (c : Core) (xs : Numbered Frame) (e : Entry) (f : Frame) (ts : List Task) → Hand i c xs e f → tasks_of i c.tasks ≡ ts → weight c xs i ≡ busy f (length e.operands) ts
+hand_weight i c xs e f ts h t = weight_at i c xs e (Some f) ts h.entry h.awake h.frame t
 
 -- a task on top
 pub push_falls : (i n : ℕ) (t : Task) (c : Core) (xs : Numbered Frame) (e : Entry) (f : Frame) → Hand i c xs e f → IsOf i t → ((ts : List Task) → busy f (length e.operands) (t ∷ ts) < n) → Falls i n c (pushed t c) xs
@@ -182,26 +198,19 @@ leave_still i e vs t c own j k =
 pub leave_fires : (i : ℕ) (e : Entry) (vs : List ValueTree) (t : Task) (c : Core) → IsOf i t → fires (leave_for i e vs t c).tasks ≡ fires c.tasks
 leave_fires i e vs t c own = drops_fires e.operands (drops (refs_in vs) (t ∷ c.tasks)) ∙ drops_fires (refs_in vs) (t ∷ c.tasks) ∙ quiet_task i t c.tasks own.own
 
-pub leave_weight : (i : ℕ) (e e0 : Entry) (vs : List ValueTree) (t : Task) (c : Core) (xs : Numbered Frame) (f : Frame) → thing c.entries i ≡ Some e0 → thing xs i ≡ Some f → IsOf i t
-    → weight (leave_for i e vs t c) xs i ≡ busy f 0 (t ∷ tasks_of i c.tasks)
-leave_weight i e e0 vs t c xs f at fr own =
-    let d = leave_for i e vs t c in
-    hand_weight i d xs (running e) f (t ∷ tasks_of i c.tasks) (record { entry = thing_put c.entries i e0 (running e) at; awake = refl; frame = fr })
+pub leave_weight : (i : ℕ) (e e0 : Entry) (vs : List ValueTree) (t : Task) (c : Core) (xs : Numbered Frame) (o : Option Frame) → thing c.entries i ≡ Some e0 → thing xs i ≡ o → IsOf i t
+    → weight (leave_for i e vs t c) xs i ≡ weigh (Some false) 0 (t ∷ tasks_of i c.tasks) o
+leave_weight i e e0 vs t c xs o at fr own =
+    weight_at i (leave_for i e vs t c) xs (running e) o (t ∷ tasks_of i c.tasks) (thing_put c.entries i e0 (running e) at) refl fr
     (drops_tasks i e.operands (drops (refs_in vs) (t ∷ c.tasks)) ∙ drops_tasks i (refs_in vs) (t ∷ c.tasks) ∙ own_task i t c.tasks own)
 
 pub leave_falls : (i n : ℕ) (e e0 : Entry) (vs : List ValueTree) (t : Task) (c : Core) (xs : Numbered Frame) (f : Frame) → thing c.entries i ≡ Some e0 → thing xs i ≡ Some f → IsOf i t → ((ts : List Task) → busy f 0 (t ∷ ts) < n)
     → Falls i n c (leave_for i e vs t c) xs
 leave_falls i n e e0 vs t c xs f at fr own room =
     let d = leave_for i e vs t c in
-    let w = leave_weight i e e0 vs t c xs f at fr own in
+    let w = leave_weight i e e0 vs t c xs (Some f) at fr own in
     let q = leave_fires i e vs t c own in
     inr (omega arith, omega (arith, q), refl, omega (arith, w, room (tasks_of i c.tasks)), λ j k. still_less j c d xs (leave_still i e vs t c own j k))
-
--- where no frame stands, an actor weighs nothing
-pub unframed : (s : Option Bool) (kept : ℕ) (ts : List Task) → weigh s kept ts None ≡ 0
-unframed None kept ts = refl
-unframed (Some true) kept ts = refl
-unframed (Some false) kept ts = refl
 
 -- a turn is taken, or none was left
 pub took : (P : Core → Type 0) (f : Core → Core) (c : Core) → ((n : ℕ) → n < c.left → Unless P (f (record c { left = n }))) → Unless P (turn c f)
