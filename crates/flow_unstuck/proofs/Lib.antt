@@ -10,3 +10,4 @@ pub mod Rooms
 pub mod StepFalls
 pub mod TaskFalls
 pub mod Ending
+pub mod Valid
