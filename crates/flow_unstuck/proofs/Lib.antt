@@ -11,3 +11,4 @@ pub mod StepFalls
 pub mod TaskFalls
 pub mod Ending
 pub mod Valid
+pub mod Beginnings
