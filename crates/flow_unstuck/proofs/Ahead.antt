@@ -1,10 +1,10 @@
 -- How much lies ahead of a frame in its class before it takes a turn, since jumps and tests lead forward.
-use Rattle.std.proofs.Common.{◌≡◌, ℕ, zero, suc, ◌+◌, ◌*◌, ◌-◌, ◌<◌, ◌≤◌, Bool, true, false, List, [], ◌∷◌, length, refl, sym, ap, subst, arith}
+use Rattle.std.proofs.Common.{◌≡◌, ℕ, zero, suc, ◌+◌, ◌*◌, ◌-◌, ◌<◌, ◌≤◌, Bool, true, false, List, [], ◌∷◌, length, refl, sym, subst, arith}
 use Rattle.std.specs.Prelude.{nat_lt, ◌&&◌, slice_get}
 use Rattle.std.specs.declared.option.Option.{Option}
 use Rattle.std.specs.declared.option.Option.TheVariants.{None, Some}
-use Rattle.flow_class.specs.Classes.{CatcherTree, InstrTree, LastTree, GotoLast, PassLast, TestLast, ChooseLast, ReturnLast, ThrowLast, BlockTree, CallbackTree, ClassTree, RawTree}
-use Rattle.flow_class.specs.Code.{Fetched, Body, Last, Nothing, fetch_in, fetch_at, fetch, catcher_in, catcher_at, group_at, callback_at}
+use Rattle.flow_class.specs.Classes.{CatcherTree, InstrTree, LastTree, GotoLast, PassLast, TestLast, ChooseLast, ReturnLast, ThrowLast, BlockTree, CallbackTree, ClassTree}
+use Rattle.flow_class.specs.Code.{Body, Last, Nothing, fetch_in, fetch_at, fetch, catcher_in, catcher_at, group_at, callback_at}
 use Rattle.flow_valid.specs.Validity.{all_blocks, leads_on, leads_forward, takes_error, distinct, catches, catchers_kept}
 
 -- the branches of a group

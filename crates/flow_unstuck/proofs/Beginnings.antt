@@ -1,5 +1,5 @@
 -- Each event begins with its process in place, and counts as one more.
-use Rattle.std.proofs.Common.{◌≡◌, ℕ, zero, suc, List, [], ◌∷◌, refl, sym, ap, ◌∙◌, subst, arith}
+use Rattle.std.proofs.Common.{◌≡◌, ℕ, zero, suc, List, [], ◌∷◌, refl, subst}
 use Rattle.std.specs.Prelude.{pos, false, replicate, slice_index_or, slice_set}
 use Rattle.std.specs.List.{AllByRecursion}
 use Rattle.std.specs.declared.option.Option.{Option}
@@ -9,13 +9,12 @@ use Rattle.flow_worldfile.specs.declared.directive.Order.TheVariants.{Kill, Stop
 use Rattle.flow_value.specs.Values.{IntValue, VoidValue, OutcomeTree, GoodOutcome}
 use Rattle.flow_class.specs.Classes.{RawTree}
 use Rattle.flow_meaning.specs.Numbered.{Numbered}
-use Rattle.flow_meaning.specs.Process.{Core, Proc, Engine}
+use Rattle.flow_meaning.specs.Process.{Core}
 use Rattle.flow_meaning.specs.Step.{proc}
-use Rattle.flow_meaning.specs.Deliver.{idle_core, idle, begin, boot_core, boot_with, stop, deliver, arrive}
+use Rattle.flow_meaning.specs.Deliver.{idle_core, idle, boot_core, boot_with, stop, deliver, arrive}
 use Rattle.flow_meaning.specs.Orderly.{Orderly, InOrder, UnlessStopped, Free}
-use Rattle.flow_meaning.specs.Law.{AtRest}
 use Rattle.flow_meaning.specs.Outside.{What, Boots, Rings, Arrives, Answers, Outside}
-use Rattle.flow_meaning.specs.World.{Place, World, Begun, Next, Nothing, Script, Event, with_core, booted, ordered, packet, arrived, listener, happened, process_of, process_in, ready, counted, with_left, begun_by, at_start}
+use Rattle.flow_meaning.specs.World.{Place, World, Begun, Next, Nothing, Script, Event, booted, ordered, packet, arrived, listener, happened, process_of, process_in, ready, counted, with_left, begun_by}
 use Rattle.flow_meaning.specs.Frame.{Frame}
 use Rattle.flow_meaning.specs.Class.{classes}
 use Rattle.flow_meaning.proofs.Posture.{Unless, unless, unless_map, unless_both, Eases}
@@ -134,6 +133,6 @@ module _ (r : RawTree) where
       let x = at_event w (process_in p.what) h in
       subst Begins (same_of g) (happened_begins p.what (ready w (process_in p.what)) (counted p.time (process_in p.what) (with_left w.out left)) x.0 x.1)
 
-  start_places : (n : ℕ) → AllByRecursion (λ (a : Place Frame). RestsInPlace r a) (replicate n (record { up = false; proc = idle }))
+  pub start_places : (n : ℕ) → AllByRecursion (λ (a : Place Frame). RestsInPlace r a) (replicate n (record { up = false; proc = idle }))
   start_places zero = tt
   start_places (suc n) = (idle_place, start_places n)

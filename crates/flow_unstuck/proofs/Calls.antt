@@ -13,7 +13,7 @@ use Rattle.flow_ast.specs.Typing.{routine_named}
 use Rattle.flow_ast.specs.TypingNames.{named, call_names, method_names}
 use Rattle.flow_value.specs.declared.value.Kind.TheVariants as kind
 use Rattle.flow_value.specs.Values.{ValueTree, RefValue, OutcomeTree}
-use Rattle.flow_eval.specs.Answers.{int_of, text_of, error_of, arg}
+use Rattle.flow_eval.specs.Answers.{int_of, text_of, arg}
 use Rattle.flow_eval.specs.Eval.{Res, Done, Fails, Spent, Meaningless, then}
 use Rattle.flow_eval.specs.Functions.{Call, read_in}
 use Rattle.flow_meaning.specs.Asks.{Act, Goes, Cancels, Prints, Sends, SendsTo}

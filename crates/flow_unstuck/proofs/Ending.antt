@@ -12,18 +12,17 @@ use Rattle.flow_meaning.specs.Burst.{Host, Live, serve, advanced, advance}
 use Rattle.flow_meaning.specs.Frame.{Frame}
 use Rattle.flow_meaning.specs.Class.{classes}
 use Rattle.flow_meaning.proofs.Posture.{Unless, unless_map, unless_both}
-use Rattle.flow_meaning.proofs.Shifts.{same_of}
 use Rattle.flow_meaning.proofs.InOrder.{advance_in_order}
 use Rattle.flow_unstuck.specs.Phases.{Placed}
 use Rattle.flow_unstuck.specs.Going.{Going}
-use Rattle.flow_unstuck.specs.Ending.{LeadOn, InPlace, Reaches, here, onward, NoPlace, Ends, BurstsEnd}
+use Rattle.flow_unstuck.specs.Ending.{LeadOn, InPlace, here, onward, NoPlace, Ends, BurstsEnd}
 use Rattle.flow_unstuck.proofs.KeptPhases.{PlacedMaybe, step_placed}
 use Rattle.flow_unstuck.proofs.Goes.{frames_going}
 use Rattle.flow_unstuck.proofs.Weights.{load, Less}
 use Rattle.flow_unstuck.proofs.TaskFalls.{Comes_to, step_less}
 
 module _ {W : Type 0} (r : RawTree) (leads : LeadOn r) (h : Host W) where
-  abbrev InPlaceNow : Live W Frame → Type 0
+  abbrev pub InPlaceNow : Live W Frame → Type 0
   InPlaceNow s = UnlessStopped s.proc.core.halted (InPlace r s.proc.core s.proc.actors)
 
   -- both parts of it

@@ -1,16 +1,14 @@
 -- What is known of actors by their phases is kept by each step of a process.
-use Rattle.std.proofs.Common.{◌≡◌, ℕ, ◌<◌, ◌⊎◌, inl, List, [], ◌∷◌, refl, sym, subst, arith}
+use Rattle.std.proofs.Common.{◌≡◌, ℕ, ◌<◌, inl, List, [], ◌∷◌, refl, subst, arith}
 use Rattle.std.specs.List.{AllByRecursion}
 use Rattle.std.specs.declared.option.Option.{Option}
 use Rattle.std.specs.declared.option.Option.TheVariants.{None, Some}
-use Rattle.flow_value.specs.Values.{ValueTree}
 use Rattle.flow_meaning.specs.Numbered.{Numbered, thing, put}
-use Rattle.flow_meaning.specs.Asks.{Ask, Request, Supply}
-use Rattle.flow_meaning.specs.Process.{Task, Run, Halt, Core, Proc, View, Engine}
-use Rattle.flow_meaning.specs.Step.{Stepped, proc, view, answer, run_next, run, popped, do_task, step_tasks, step_if, step}
-use Rattle.flow_meaning.specs.Burst.{Host, Live, serve, advanced, advance}
-use Rattle.flow_meaning.specs.Orderly.{Orderly, UnlessStopped, Phase, Free, Risky, Due, Waiting, phase_of}
-use Rattle.flow_meaning.specs.Law.{Quietly, still, Moves, Answers, Alike, BothOrNone, Simulates, AllRelated, Related}
+use Rattle.flow_meaning.specs.Asks.{Ask, Supply}
+use Rattle.flow_meaning.specs.Process.{Task, Run, Halt, Core, View, Engine}
+use Rattle.flow_meaning.specs.Step.{Stepped, proc, view, answer, run_next, run, popped, do_task, step_tasks, step_if}
+use Rattle.flow_meaning.specs.Orderly.{Orderly, UnlessStopped, Phase, Free, Due, phase_of}
+use Rattle.flow_meaning.specs.Law.{still, Answers, Alike, BothOrNone, Simulates, AllRelated, Related}
 use Rattle.flow_meaning.proofs.Posture.{same_rank, Unless, unless, unless_map}
 use Rattle.flow_meaning.proofs.Shifts.{run_of, same_of}
 use Rattle.flow_meaning.proofs.TaskShifts.{popped_at}

@@ -12,3 +12,4 @@ pub mod TaskFalls
 pub mod Ending
 pub mod Valid
 pub mod Beginnings
+pub mod Existing

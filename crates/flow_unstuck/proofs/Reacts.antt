@@ -1,5 +1,5 @@
 -- What a process does for an ask takes a turn, or leaves less to do for the actor, and no more for the others.
-use Rattle.std.proofs.Common.{◌≡◌, ℕ, zero, suc, ◌+◌, ◌<◌, ◌≤◌, Bool, true, false, List, [], ◌∷◌, ◌++◌, length, if◌then◌else◌, ◌⊎◌, inl, inr, refl, sym, ap, ◌∙◌, subst, arith}
+use Rattle.std.proofs.Common.{◌≡◌, ℕ, suc, ◌+◌, ◌<◌, ◌≤◌, Bool, true, false, List, [], ◌∷◌, ◌++◌, length, inl, inr, refl, sym, ap, ◌∙◌, subst, arith}
 use Rattle.std.specs.Prelude.{ℤ, pos, ◌-ℤ◌, ◌^◌, int_le, nat_le, nat_lt, ◌&&◌}
 use Rattle.std.specs.declared.option.Option.{Option}
 use Rattle.std.specs.declared.option.Option.TheVariants.{None, Some}
@@ -14,19 +14,19 @@ use Rattle.flow_class.specs.Code.{fetch}
 use Rattle.flow_meaning.specs.Numbered.{Numbered, thing, added, put}
 use Rattle.flow_meaning.specs.Cells.{Cell, Single, Stream, is_complete}
 use Rattle.flow_meaning.specs.Asks.{Spot, Act, Goes, Pass, Drops, Effects, Operand, Waits, Sends, Cancels, Prints, SendsTo, Returns, Throws, RunsOut, Stuck, DiskCall, Effect, Make, Start, Draw, Delay, Never, Listen, Disk, Goal, Stored, Kept, Supply}
-use Rattle.flow_meaning.specs.Process.{Task, Run, Throw, Store, Keep, Close, Entry, Core}
+use Rattle.flow_meaning.specs.Process.{Run, Throw, Store, Keep, Close, Entry, Core}
 use Rattle.flow_meaning.specs.Lines.{wait_line, print_line, cancel_line}
 use Rattle.flow_meaning.specs.Work.{turn, writes, pushed, dropping_values, new_cell, fill, leave_for, take_branch, first_ready, Registration, Registered, Refused, Missing, register, owner, marked, cancel_by, cancel, cancel_owner}
-use Rattle.flow_meaning.specs.Effects.{Reaction, throws, gives, gives_new, gives_open, empty_cell, between, is_port, open_port, judged, ask_disk, effect, send_to}
+use Rattle.flow_meaning.specs.Effects.{throws, gives, gives_new, gives_open, empty_cell, between, is_port, open_port, judged, ask_disk, effect, send_to}
 use Rattle.flow_meaning.specs.React.{send_by, send_in, print, at_spot, suspend, wait_by, wait, react}
 use Rattle.flow_meaning.specs.Step.{kept_by}
 use Rattle.flow_meaning.specs.Orderly.{tasks_of, is_suspended, Rising}
 use Rattle.flow_meaning.specs.Frame.{Frame}
-use Rattle.flow_meaning.proofs.Posture.{each_number, thing_put_other, thing_put, Unless, unless, unless_map, drops_tasks}
+use Rattle.flow_meaning.proofs.Posture.{each_number, thing_put_other, thing_put, Unless, unless, unless_map}
 use Rattle.flow_meaning.proofs.Shifts.{run_of, throw_of, store_of, keep_of, close_of, either, Owned, owned}
-use Rattle.flow_unstuck.proofs.Ahead.{behind, ahead, whole}
-use Rattle.flow_unstuck.proofs.Weights.{fires, stored_room, busy, weigh, weight, Lighter, Eased, Falls, lighter_self, lighter_on, falls_on, Still, still_less, all_lighter, dropping_lighter, Hand, push_falls, two_falls, leave_still, leave_fires, leave_weight, leave_falls, took}
-use Rattle.flow_unstuck.proofs.TurnsTaken.{LeftAtMost, fill_left, branch_turns}
+use Rattle.flow_unstuck.proofs.Ahead.{behind, ahead}
+use Rattle.flow_unstuck.proofs.Weights.{stored_room, weigh, weight, Lighter, Falls, lighter_self, falls_on, Still, still_less, all_lighter, dropping_lighter, Hand, push_falls, two_falls, leave_still, leave_fires, leave_weight, leave_falls, took}
+use Rattle.flow_unstuck.proofs.TurnsTaken.{fill_left, branch_turns}
 
 -- what is ahead of a frame when the result of its effect has come
 abbrev pub goal_room : Goal → Frame → (kept : ℕ) → ℕ
@@ -59,9 +59,12 @@ cancelled_less : (s : Bool) (i : ℕ) (e : Entry) (c : Core) (xs : Numbered Fram
 cancelled_less true i e c xs o fr at s =
     let t = Throw i operation_cancelled in
     let d = leave_for i (marked e) [] t c in
-    let q = leave_fires i (marked e) [] t c (throw_of i operation_cancelled) in
-    (omega arith, omega (arith, q), refl,
-      each_number i (λ j. weight d xs j ≤ weight c xs j) (own o fr) (λ j k. still_less j c d xs (leave_still i (marked e) [] t c (throw_of i operation_cancelled) j k)))
+    let q = leave_fires i (marked e) [] t c (throw_of i operation_cancelled) in (
+      omega arith,
+      omega (arith, q),
+      refl,
+      each_number i (λ j. weight d xs j ≤ weight c xs j) (own o fr) (λ j k. still_less j c d xs (leave_still i (marked e) [] t c (throw_of i operation_cancelled) j k)),
+    )
   where
     before : (f : Frame) → thing xs i ≡ Some f → weight c xs i ≡ 4 + behind f.code f.block
     before f fr =
@@ -174,10 +177,15 @@ module _ (i n : ℕ) (xs : Numbered Frame) (e : Entry) (f : Frame) where
       let en = record (at_spot spot e) { suspended = true } in
       let d = record (writes (wait_line i spot.group) c) { cells = cells; entries = put c.entries i en } in
       let w : weight d xs i ≡ 4 + behind f.code f.block =
-          ap (λ o. weigh (is_suspended o) (kept_by o) (tasks_of i c.tasks) (thing xs i)) (thing_put c.entries i e en h.entry)
-          ∙ ap (weigh (Some true) (length e.operands) (tasks_of i c.tasks)) h.frame in
-      inr (omega arith, omega arith, refl, omega (arith, w, room),
-          λ j k. still_less j c d xs ((ap is_suspended (thing_put_other c.entries i j en k), refl), ap kept_by (thing_put_other c.entries i j en k)))
+      ap (λ o. weigh (is_suspended o) (kept_by o) (tasks_of i c.tasks) (thing xs i)) (thing_put c.entries i e en h.entry)
+      ∙ ap (weigh (Some true) (length e.operands) (tasks_of i c.tasks)) h.frame in
+      inr (
+        omega arith,
+        omega arith,
+        refl,
+        omega (arith, w, room),
+        λ j k. still_less j c d xs ((ap is_suspended (thing_put_other c.entries i j en k), refl), ap kept_by (thing_put_other c.entries i j en k)),
+      )
 
   suspend_at : (spot : Spot) (vs : List ValueTree) (r : Registration) (c : Core) → Hand i c xs e f → 4 + behind f.code f.block < n → Fallen c (suspend i spot (at_spot spot e) vs r c)
   suspend_at spot vs Missing c h room = tt

@@ -1,5 +1,5 @@
 -- Each step of a frame leaves less ahead of it, or asks for what takes a turn.
-use Rattle.std.proofs.Common.{◌≡◌, ℕ, zero, suc, ◌+◌, ◌<◌, ◌≤◌, Bool, true, false, List, [], ◌∷◌, refl, sym, ap, subst, arith}
+use Rattle.std.proofs.Common.{◌≡◌, ℕ, suc, ◌+◌, ◌<◌, ◌≤◌, Bool, true, false, List, [], ◌∷◌, refl, sym, subst, arith}
 use Rattle.std.specs.declared.option.Option.{Option}
 use Rattle.std.specs.declared.option.Option.TheVariants.{None, Some}
 use Rattle.flow_ast.specs.declared.predefined.Predefined.{Predefined}
@@ -11,13 +11,13 @@ use Rattle.flow_tree.specs.declared.ty.Ident.{Ident}
 use Rattle.flow_tree.specs.Tree.{ExprTree, ExprTrees}
 use Rattle.flow_tree.specs.Decls.{RoutineTree}
 use Rattle.flow_value.specs.Values.{ValueTree, RefValue}
-use Rattle.flow_eval.specs.Eval.{Res, Done, Fails, Spent, Meaningless, then}
+use Rattle.flow_eval.specs.Eval.{Res, Done, Fails, Spent, Meaningless}
 use Rattle.flow_eval.specs.Answers.{int_of, text_of, bool_of, error_of, arg}
 use Rattle.flow_eval.specs.Functions.{Call, read_in}
 use Rattle.flow_class.specs.Classes.{InstrTree, SetInstr, EffectInstr, NewInstr, ActInstr, DropInstr, LastTree, GotoLast, PassLast, TestLast, ChooseLast, ReturnLast, ThrowLast, CallbackTree}
 use Rattle.flow_class.specs.Code.{type_at, Fetched, Body, Last, Nothing, fetch, callback_at}
 use Rattle.flow_valid.specs.Validity.{leads_forward}
-use Rattle.flow_meaning.specs.Asks.{Ask, Act, Goes, Pass, Drops, Effects, Operand, Waits, Sends, Cancels, Prints, SendsTo, Returns, Throws, RunsOut, Stuck, Spot, Make, Goal, Stored, Kept}
+use Rattle.flow_meaning.specs.Asks.{Act, Goes, Pass, Drops, Effects, Operand, Waits, Sends, Cancels, Prints, SendsTo, Returns, Throws, RunsOut, Stuck, Spot, Make, Goal, Stored, Kept}
 use Rattle.flow_meaning.specs.Process.{View}
 use Rattle.flow_meaning.specs.Evaluating.{Names, Look, setting, bind, StepOf, asks, given, evaluated, Effectful, effect_in, effect_of, method_act, done, before_last, last_of, value, values, function_act, plain_act, based_act, call_act}
 use Rattle.flow_meaning.specs.Frame.{Frame, look, assign, spot_of, next_instr, over}

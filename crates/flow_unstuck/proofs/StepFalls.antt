@@ -1,41 +1,32 @@
 -- Each step of a process takes a turn or leaves less to do, unless the result of an effect has no place.
-use Rattle.std.proofs.Common.{◌≡◌, ℕ, zero, suc, ◌+◌, ◌<◌, ◌≤◌, Bool, true, false, List, [], ◌∷◌, ◌++◌, length, ◌⊎◌, inl, inr, refl, sym, ap, ◌∙◌, subst, arith}
-use Rattle.std.specs.Prelude.{slice_get}
+use Rattle.std.proofs.Common.{◌≡◌, ℕ, suc, ◌<◌, ◌≤◌, Bool, true, false, List, [], ◌∷◌, ◌++◌, length, inl, inr, refl, sym, ap, ◌∙◌, subst, arith}
 use Rattle.std.specs.declared.option.Option.{Option}
 use Rattle.std.specs.declared.option.Option.TheVariants.{None, Some}
-use Rattle.flow_base.specs.ErrorNumbers.{operation_cancelled, broken_promise}
-use Rattle.flow_tree.specs.declared.ty.Ident.{Ident}
-use Rattle.flow_tree.specs.Tree.{ExprTree}
-use Rattle.flow_value.specs.declared.value.Kind.{Kind}
-use Rattle.flow_value.specs.Values.{ValueTree, OutcomeTree, GoodOutcome, BadOutcome}
-use Rattle.flow_class.specs.Classes.{CatcherTree, InstrTree, SetInstr, EffectInstr, NewInstr, ActInstr, DropInstr, LastTree, GotoLast, PassLast, TestLast, ChooseLast, ReturnLast, ThrowLast, CallbackTree, ClassTree, RawTree}
-use Rattle.flow_class.specs.Code.{Fetched, Body, Last, Nothing, fetch, catcher_at, callback_at}
+use Rattle.flow_base.specs.ErrorNumbers.{broken_promise}
+use Rattle.flow_value.specs.Values.{ValueTree, BadOutcome}
+use Rattle.flow_class.specs.Classes.{GotoLast, PassLast, TestLast, ChooseLast, ReturnLast, ThrowLast, CallbackTree, ClassTree, RawTree}
+use Rattle.flow_class.specs.Code.{Fetched, Body, Last, Nothing, callback_at}
 use Rattle.flow_valid.specs.Validity.{leads_forward, catchers_kept}
 use Rattle.flow_meaning.specs.Numbered.{Numbered, thing, put, removed}
 use Rattle.flow_meaning.specs.Cells.{Side, PromiseSide, FutureSide, Ref, Waiter, Cell, is_ready, waiters, held}
-use Rattle.flow_meaning.specs.Asks.{Spot, Act, Effects, Effect, Start, Goal, Ask, Supply}
-use Rattle.flow_meaning.specs.Process.{Task, Run, Give, Throw, Catch, Store, Keep, Close, Fire, Drop, Entry, Halt, Core, View}
-use Rattle.flow_meaning.specs.Lines.{broken_line, throw_line, catch_line}
-use Rattle.flow_meaning.specs.Occ.{Scan, Occ, scan_of}
-use Rattle.flow_meaning.specs.Work.{turn, writes, pushed, dropping_values, fill, free_cell, free, leave_for, take_branch, is_ready_at, owner}
+use Rattle.flow_meaning.specs.Process.{Task, Fire, Entry, Core}
+use Rattle.flow_meaning.specs.Lines.{broken_line}
+use Rattle.flow_meaning.specs.Occ.{Scan, Occ}
+use Rattle.flow_meaning.specs.Work.{writes, pushed, fill, free_cell, take_branch, owner}
 use Rattle.flow_meaning.specs.Dropping.{Loss, Freed, Broken, Orphan, Unheard, loss, port_of, suffer, lose_cell, lose_ref, drop, fire_to, fire_at, fire_cell, fire}
 use Rattle.flow_meaning.specs.Dropping as dropping
-use Rattle.flow_meaning.specs.React.{react}
-use Rattle.flow_meaning.specs.Step.{Stepped, proc, kept_by, view, start, start_core, answer_effect, answer, run_next, run, give, store, throw, throw_core, Verdict, GoesOn, Cancelled, Ready, verdict, with_operand, below, leave_kept, keep_by, keep, close_actor, popped, do_task, step_tasks, step_if}
-use Rattle.flow_meaning.specs.Orderly.{is_of, tasks_of, is_suspended, NextStep, Orderly, UnlessStopped, Due, phase_of, phase_first}
-use Rattle.flow_meaning.specs.Frame.{Memory, Frame, no_class, assign, put_at, lose, raise, raised}
-use Rattle.flow_meaning.specs.Class.{stored, store_at, bound, onward, take_callback, take_at, class_names, classes}
-use Rattle.flow_meaning.proofs.Posture.{thing_put_other, thing_put, Unless, unless, unless_map, Unmoved, IsOf, own_task, awake_entry, Awake}
-use Rattle.flow_meaning.proofs.Shifts.{run_of, give_of, throw_of, catch_of, store_of, keep_of, close_of, owned, OwnedLoss, owned_loss}
-use Rattle.flow_meaning.proofs.TaskShifts.{Popped, popped_at, next_below, below_unmoved}
-use Rattle.flow_unstuck.specs.Phases.{Placed}
-use Rattle.flow_unstuck.specs.Going.{IsOf as OfClasses, AsksHere, Going}
-use Rattle.flow_unstuck.specs.Ending.{LeadOn, NoPlace}
-use Rattle.flow_unstuck.proofs.Ahead.{behind, ahead, whole, ahead_whole, behind_whole, ahead_behind, ahead_jump, catches_at}
-use Rattle.flow_unstuck.proofs.Weights.{fires, busy, weigh, weight, load, Less, Lighter, Eased, Falls, lighter_self, lighter_on, falls_on, still_weight, all_lighter, dropping_lighter, Hand, hand_weight, quiet_task, push_falls, leave_falls, took, within_started, fallen, eased_less}
-use Rattle.flow_unstuck.proofs.TurnsTaken.{fill_left, branch_turns, drop_turns, close_turns, start_turns}
-use Rattle.flow_unstuck.proofs.Reacts.{Room, rehand, cancel_lighter, react_falls}
-use Rattle.flow_unstuck.proofs.Rooms.{Leaves, next_leaves}
+use Rattle.flow_meaning.specs.Step.{kept_by, below}
+use Rattle.flow_meaning.specs.Orderly.{tasks_of, is_suspended, Orderly}
+use Rattle.flow_meaning.specs.Frame.{Memory, Frame}
+use Rattle.flow_meaning.specs.Class.{bound, onward, take_callback, take_at, class_names}
+use Rattle.flow_meaning.proofs.Posture.{thing_put_other, Unless, unless, unless_map, IsOf, own_task, awake_entry}
+use Rattle.flow_meaning.proofs.Shifts.{owned, OwnedLoss, owned_loss}
+use Rattle.flow_meaning.proofs.TaskShifts.{Popped, popped_at}
+use Rattle.flow_unstuck.specs.Going.{IsOf as OfClasses}
+use Rattle.flow_unstuck.specs.Ending.{LeadOn}
+use Rattle.flow_unstuck.proofs.Weights.{fires, busy, weigh, weight, load, Less, Eased, Falls, lighter_self, still_weight, dropping_lighter, hand_weight, quiet_task, took, within_started, fallen}
+use Rattle.flow_unstuck.proofs.TurnsTaken.{fill_left, branch_turns}
+use Rattle.flow_unstuck.proofs.Reacts.{cancel_lighter}
 
 -- a class that a frame runs leads on
 pub leads_of_frame : (r : RawTree) (c : ClassTree) → LeadOn r → OfClasses r c → (leads_forward c ≡ true) × (catchers_kept c ≡ true)
@@ -128,15 +119,17 @@ module _ (i : ℕ) (t : Task) (ts : List Task) (c : Core) (xs : Numbered Frame) 
   off_by o top own =
       let pop = popped_at i c.left t ts c o top own in
       let en = awake_entry i c (thing c.entries i) pop.awake in
-      let q : fires c.tasks ≡ fires ts = ap fires top ∙ quiet_task i t ts own.own in
-      (en.0, record {
-        entry = en.1;
-        awake = en.2;
-        pop = pop;
-        all = ap (tasks_of i) top ∙ own_task i t ts own;
-        few = omega (arith, q);
-        within = within_started c i en.0 o.numbered en.1;
-      })
+      let q : fires c.tasks ≡ fires ts = ap fires top ∙ quiet_task i t ts own.own in (
+        en.0,
+        record {
+          entry = en.1;
+          awake = en.2;
+          pop = pop;
+          all = ap (tasks_of i) top ∙ own_task i t ts own;
+          few = omega (arith, q);
+          within = within_started c i en.0 o.numbered en.1;
+        },
+      )
 
   weighed : (e : Entry) (f : Frame) → Off i t ts c xs e → thing xs i ≡ Some f → weight c xs i ≡ busy f (length e.operands) (t ∷ tasks_of i ts)
   weighed e f h fr = hand_weight i c xs e f (t ∷ tasks_of i ts) (record { entry = h.entry; awake = h.awake; frame = fr }) h.all

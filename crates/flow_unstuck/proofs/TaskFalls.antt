@@ -1,12 +1,12 @@
 -- Each task takes a turn or leaves less to do.
-use Rattle.std.proofs.Common.{◌≡◌, ℕ, zero, suc, ◌+◌, ◌<◌, ◌≤◌, Bool, true, false, List, [], ◌∷◌, ◌++◌, length, ◌⊎◌, inl, inr, refl, sym, ap, ◌∙◌, subst, arith}
+use Rattle.std.proofs.Common.{◌≡◌, ℕ, suc, ◌+◌, ◌<◌, ◌≤◌, true, List, [], ◌∷◌, ◌++◌, length, ◌⊎◌, inl, inr, refl, sym, ap, ◌∙◌, subst, arith}
 use Rattle.std.specs.declared.option.Option.{Option}
 use Rattle.std.specs.declared.option.Option.TheVariants.{None, Some}
 use Rattle.flow_base.specs.ErrorNumbers.{operation_cancelled}
 use Rattle.flow_tree.specs.declared.ty.Ident.{Ident}
 use Rattle.flow_tree.specs.Tree.{ExprTree}
 use Rattle.flow_value.specs.Values.{ValueTree, OutcomeTree, GoodOutcome, BadOutcome}
-use Rattle.flow_class.specs.Classes.{CatcherTree, InstrTree, SetInstr, EffectInstr, NewInstr, ActInstr, DropInstr, LastTree, GotoLast, PassLast, TestLast, ChooseLast, ReturnLast, ThrowLast, RawTree}
+use Rattle.flow_class.specs.Classes.{CatcherTree, InstrTree, SetInstr, EffectInstr, NewInstr, ActInstr, DropInstr, RawTree}
 use Rattle.flow_class.specs.Code.{Fetched, Body, Last, Nothing, fetch, catcher_at}
 use Rattle.flow_valid.specs.Validity.{catchers_kept}
 use Rattle.flow_meaning.specs.Numbered.{Numbered, thing, put, removed}
@@ -18,11 +18,11 @@ use Rattle.flow_meaning.specs.Occ.{scan_of}
 use Rattle.flow_meaning.specs.Work.{writes, pushed, dropping_values, leave_for, take_branch, is_ready_at}
 use Rattle.flow_meaning.specs.Dropping.{drop, fire, close}
 use Rattle.flow_meaning.specs.React.{react}
-use Rattle.flow_meaning.specs.Step.{Stepped, proc, kept_by, view, start, start_core, answer_effect, answer, run_next, run, give, store, throw, throw_core, Verdict, GoesOn, Cancelled, Ready, verdict, with_operand, below, leave_kept, keep_by, keep, handle, close_actor, do_task, step_tasks, step_if}
-use Rattle.flow_meaning.specs.Orderly.{tasks_of, is_suspended, NextStep, Stands, Paired, Orderly, UnlessStopped, Phase, Free, Risky, Due, Waiting, phase_of}
+use Rattle.flow_meaning.specs.Step.{Stepped, proc, kept_by, view, start, start_core, answer_effect, answer, run_next, run, give, store, throw, throw_core, Verdict, GoesOn, Cancelled, Ready, verdict, with_operand, below, keep_by, keep, handle, close_actor, step_tasks, step_if}
+use Rattle.flow_meaning.specs.Orderly.{tasks_of, is_suspended, Stands, Paired, Orderly, UnlessStopped, Phase, Free, Risky, Due, Waiting, phase_of}
 use Rattle.flow_meaning.specs.Variables.{filled}
 use Rattle.flow_meaning.specs.Frame.{Memory, Frame, read, write, next_instr, assign, lose, raise, raised}
-use Rattle.flow_meaning.specs.Class.{stored, store_at, take_at, class_names, classes}
+use Rattle.flow_meaning.specs.Class.{stored, store_at, class_names, classes}
 use Rattle.flow_meaning.proofs.Posture.{thing_put_other, thing_put, own_task, other_task, Unless, unless, unless_map, phase_awake, Awake}
 use Rattle.flow_meaning.proofs.Shifts.{run_of, give_of, throw_of, catch_of, store_of, keep_of, close_of, same_of}
 use Rattle.flow_meaning.proofs.TaskShifts.{next_below, below_unmoved}
@@ -30,7 +30,7 @@ use Rattle.flow_unstuck.specs.Phases.{Placed}
 use Rattle.flow_unstuck.specs.Going.{IsOf as OfClasses, AsksHere, Going}
 use Rattle.flow_unstuck.specs.Ending.{LeadOn, NoPlace}
 use Rattle.flow_unstuck.proofs.Ahead.{behind, ahead, whole, ahead_whole, behind_whole, ahead_behind, ahead_jump, catches_at}
-use Rattle.flow_unstuck.proofs.Weights.{fires, stored_room, busy, weigh, weight, load, Less, Falls, Eased, lighter_self, falls_on, still_weight, still_less, dropping_lighter, Hand, weight_at, hand_weight, push_falls, leave_falls, fallen, eased_less}
+use Rattle.flow_unstuck.proofs.Weights.{fires, stored_room, busy, weigh, weight, load, Less, Falls, falls_on, still_weight, still_less, dropping_lighter, Hand, weight_at, hand_weight, push_falls, leave_falls, fallen, eased_less}
 use Rattle.flow_unstuck.proofs.TurnsTaken.{branch_turns, drop_turns, close_turns, start_turns}
 use Rattle.flow_unstuck.proofs.Reacts.{Room, react_falls}
 use Rattle.flow_unstuck.proofs.Rooms.{Leaves, next_leaves}
@@ -96,14 +96,19 @@ module _ (r : RawTree) (leads : LeadOn r) (s : Supply) where
   next_less i ts c xs e f (None, g) o top h fr l =
       let kept : kept_by (thing c.entries i) ≡ length e.operands = ap kept_by h.entry in
       let room : ahead g.code g.block g.instr (length e.operands) < ahead f.code f.block f.instr (length e.operands) =
-          subst (λ k. ahead g.code g.block g.instr k < ahead f.code f.block f.instr k) kept l in
+      subst (λ k. ahead g.code g.block g.instr k < ahead f.code f.block f.instr k) kept l in
       let before : weight c xs i ≡ ahead f.code f.block f.instr (length e.operands) = hand_weight i c xs e f (Run i ∷ tasks_of i ts) (record { entry = h.entry; awake = h.awake; frame = fr }) h.all in
       let now : weight c (put xs i g) i ≡ ahead g.code g.block g.instr (length e.operands) =
-          hand_weight i c (put xs i g) e g (Run i ∷ tasks_of i ts) (record { entry = h.entry; awake = h.awake; frame = thing_put xs i f g fr }) h.all in
+      hand_weight i c (put xs i g) e g (Run i ∷ tasks_of i ts) (record { entry = h.entry; awake = h.awake; frame = thing_put xs i f g fr }) h.all in
       unless c.halted (fallen i (weight c xs i) c c c xs (put xs i g) h.within (omega arith) (omega arith) (omega arith) refl
       (λ j k. ap (weigh (is_suspended (thing c.entries j)) (kept_by (thing c.entries j)) (tasks_of j c.tasks)) (thing_put_other xs i j g k))
-      (inr (omega arith, omega arith, refl, omega (arith, now, before, room),
-          λ j k. omega arith)))
+      (inr (
+        omega arith,
+        omega arith,
+        refl,
+        omega (arith, now, before, room),
+        λ j k. omega arith,
+      )))
   next_less i ts c xs e f (Some ask, g) o top h fr l =
       let kept : kept_by (thing c.entries i) ≡ length e.operands = ap kept_by h.entry in
       answer_less i ts c xs e f g ask.left h fr l.0 ask.act (subst (λ k. Room ask.act g k (ahead f.code f.block f.instr k)) kept l.1)
@@ -186,7 +191,7 @@ module _ (r : RawTree) (leads : LeadOn r) (s : Supply) where
     moved e g vs h room =
         let n = busy f (length e.operands) (Store i v ∷ tasks_of i ts) in
         let now : weight left_over (put xs i g) i ≡ ahead g.code g.block g.instr (length e.operands) =
-            hand_weight i left_over (put xs i g) e g (Run i ∷ []) (put_hand i (Store i v) ts c left_over xs e f g h h.entry fr) h.pop.rest in
+        hand_weight i left_over (put xs i g) e g (Run i ∷ []) (put_hand i (Store i v) ts c left_over xs e f g h h.entry fr) h.pop.rest in
         shrinks i (Store i v) ts c xs e f g c.left (dropping_values vs left_over) h fr (omega arith)
         (unless c.halted (falls_on i n left_over left_over (dropping_values vs left_over) (put xs i g)
         (inr (omega arith, omega arith, refl, omega (arith, now, room (length e.operands)), λ j o. omega arith)) (inr (dropping_lighter vs left_over (put xs i g)))))
@@ -237,12 +242,17 @@ module _ (r : RawTree) (leads : LeadOn r) (s : Supply) where
         let n = busy f (length e.operands) (Keep i spot q ∷ tasks_of i ts) in
         let d = record unkept { entries = put c.entries i more_kept } in
         let now : weight d xs i ≡ ahead f.code f.block f.instr (length (e.operands ++ q ∷ [])) =
-            hand_weight i d xs more_kept f (Run i ∷ []) (record { entry = thing_put c.entries i e more_kept h.entry; awake = h.awake; frame = fr }) h.pop.rest in
+        hand_weight i d xs more_kept f (Run i ∷ []) (record { entry = thing_put c.entries i e more_kept h.entry; awake = h.awake; frame = fr }) h.pop.rest in
         let longer : length (e.operands ++ q ∷ []) ≡ suc (length e.operands) = one_more e.operands q in
         let now2 : weight d xs i ≡ ahead f.code f.block f.instr (suc (length e.operands)) = subst (λ m. weight d xs i ≡ ahead f.code f.block f.instr m) longer now in
         shrinks_same i (Keep i spot q) ts c xs e f d h fr
-        (unless c.halted (inr (omega arith, omega arith, refl, omega (arith, now2),
-            λ j k. still_less j unkept d xs ((ap is_suspended (thing_put_other c.entries i j more_kept k), refl), ap kept_by (thing_put_other c.entries i j more_kept k)))))
+        (unless c.halted (inr (
+          omega arith,
+          omega arith,
+          refl,
+          omega (arith, now2),
+          λ j k. still_less j unkept d xs ((ap is_suspended (thing_put_other c.entries i j more_kept k), refl), ap kept_by (thing_put_other c.entries i j more_kept k)),
+        )))
 
     -- the actor leaves its wait: its step is off the stack too
     abbrev stepless : Core

@@ -1,5 +1,5 @@
 -- What a process does to itself gives it no turns.
-use Rattle.std.proofs.Common.{◌≡◌, ℕ, zero, suc, ◌<◌, ◌≤◌, Bool, true, false, List, [], ◌∷◌, arith}
+use Rattle.std.proofs.Common.{ℕ, zero, suc, ◌<◌, ◌≤◌, Bool, true, false, List, arith}
 use Rattle.std.specs.declared.option.Option.{Option}
 use Rattle.std.specs.declared.option.Option.TheVariants.{None, Some}
 use Rattle.flow_base.specs.ErrorNumbers.{broken_promise}
@@ -8,11 +8,11 @@ use Rattle.flow_value.specs.declared.value.Kind.TheVariants as kind
 use Rattle.flow_value.specs.Values.{ValueTree, IntValue, BoolValue, TextValue, VoidValue, ErrorValue, RecordValue, RefValue, OutcomeTree, BadOutcome}
 use Rattle.flow_meaning.specs.Numbered.{thing, put, removed}
 use Rattle.flow_meaning.specs.Cells.{Side, FutureSide, PromiseSide, side_of, Cell, taken, after_taking}
-use Rattle.flow_meaning.specs.Asks.{Spot, Goal, Stored, Kept}
+use Rattle.flow_meaning.specs.Asks.{Goal, Stored, Kept}
 use Rattle.flow_meaning.specs.Process.{Entry, Core}
 use Rattle.flow_meaning.specs.Lines.{take_line, cancel_line, broken_line, end_line}
-use Rattle.flow_meaning.specs.Occ.{Scan, Occ, value_in}
-use Rattle.flow_meaning.specs.Work.{turn, writes, pushed, fill_cell, fill, free_cell, free, give, take_branch, owner, cancel_by, cancel}
+use Rattle.flow_meaning.specs.Occ.{Scan, Occ}
+use Rattle.flow_meaning.specs.Work.{writes, fill_cell, fill, free_cell, free, give, take_branch, owner, cancel_by, cancel}
 use Rattle.flow_meaning.specs.Dropping.{Loss, Freed, Broken, Orphan, Unheard, loss, port_of, suffer, lose_cell, lose_ref, drop, set_result, give_result, close}
 use Rattle.flow_meaning.specs.Dropping as dropping
 use Rattle.flow_meaning.specs.Effects.{result_task, push_result}

@@ -1,10 +1,9 @@
 -- What the rules say of a class of a valid class program.
-use Rattle.std.proofs.Common.{◌≡◌, ℕ, Bool, true, false, List, [], ◌∷◌, if◌then◌else◌, refl}
-use Rattle.std.specs.Prelude.{slice_get}
+use Rattle.std.proofs.Common.{◌≡◌, ℕ, Bool, true, false, List, [], ◌∷◌, refl}
 use Rattle.std.specs.declared.option.Option.TheVariants.{None, Some}
 use Rattle.flow_class.specs.Classes.{ClassTree, RawTree}
 use Rattle.flow_valid.specs.Named.{names_exist}
-use Rattle.flow_valid.specs.Validity.{first_broken, broken_rule, leads_forward, groups_chosen, catchers_kept, types_fit, IsSoundClass, IsValid}
+use Rattle.flow_valid.specs.Validity.{first_broken, broken_rule, leads_forward, groups_chosen, catchers_kept, types_fit, IsValid}
 use Rattle.flow_unstuck.specs.Ending.{LeadOn}
 
 -- the first rule holds, and the others do

@@ -1,18 +1,18 @@
 -- What a process still has to do before it takes a turn, as a number.
-use Rattle.std.proofs.Common.{◌≡◌, ℕ, zero, suc, ◌+◌, ◌<◌, ◌≤◌, nat_eq, Bool, true, false, List, [], ◌∷◌, length, if◌then◌else◌, ◌⊎◌, inl, inr, refl, sym, ap, ◌∙◌, subst, arith}
+use Rattle.std.proofs.Common.{◌≡◌, ℕ, zero, suc, ◌+◌, ◌<◌, ◌≤◌, nat_eq, Bool, true, false, List, [], ◌∷◌, length, ◌⊎◌, inl, inr, refl, sym, ap, ◌∙◌, subst, arith}
 use Rattle.std.specs.declared.option.Option.{Option}
 use Rattle.std.specs.declared.option.Option.TheVariants.{None, Some}
 use Rattle.flow_value.specs.Values.{ValueTree}
 use Rattle.flow_class.specs.Code.{Fetched, Last, fetch}
-use Rattle.flow_meaning.specs.Numbered.{Numbered, thing, put}
+use Rattle.flow_meaning.specs.Numbered.{Numbered, thing}
 use Rattle.flow_meaning.specs.Cells.{Ref}
-use Rattle.flow_meaning.specs.Process.{Task, Run, Give, Throw, Catch, Store, Keep, Close, Fire, Drop, Entry, Halt, Core}
+use Rattle.flow_meaning.specs.Process.{Task, Run, Give, Throw, Catch, Store, Keep, Close, Fire, Drop, Entry, Core}
 use Rattle.flow_meaning.specs.Occ.{refs_in}
 use Rattle.flow_meaning.specs.Work.{turn_of, turn, pushed, running, drops, dropping_values, leave_for}
 use Rattle.flow_meaning.specs.Step.{kept_by}
-use Rattle.flow_meaning.specs.Orderly.{is_of, tasks_of, is_suspended, UnlessStopped, Rising}
+use Rattle.flow_meaning.specs.Orderly.{is_of, tasks_of, is_suspended, Rising}
 use Rattle.flow_meaning.specs.Frame.{Frame}
-use Rattle.flow_meaning.proofs.Posture.{each_number, thing_put_other, thing_put, Unless, unless, drops_tasks, Unmoved, IsOf, own_task, other_task}
+use Rattle.flow_meaning.proofs.Posture.{each_number, thing_put_other, thing_put, Unless, drops_tasks, Unmoved, IsOf, own_task, other_task}
 use Rattle.flow_meaning.proofs.TaskShifts.{beyond_none}
 use Rattle.flow_unstuck.proofs.Ahead.{behind, ahead, whole}
 
@@ -171,7 +171,7 @@ pub push_falls : (i n : ℕ) (t : Task) (c : Core) (xs : Numbered Frame) (e : En
 push_falls i n t c xs e f h own room =
     let d = pushed t c in
     let w : weight d xs i ≡ busy f (length e.operands) (t ∷ tasks_of i c.tasks) =
-        hand_weight i d xs e f (t ∷ tasks_of i c.tasks) (record { entry = h.entry; awake = h.awake; frame = h.frame }) (own_task i t c.tasks own) in
+    hand_weight i d xs e f (t ∷ tasks_of i c.tasks) (record { entry = h.entry; awake = h.awake; frame = h.frame }) (own_task i t c.tasks own) in
     let q = quiet_task i t c.tasks own.own in
     inr (omega arith, omega (arith, q), refl, omega (arith, w, room (tasks_of i c.tasks)), λ j k. still_less j c d xs ((refl, other_task i j t c.tasks own k), refl))
 
@@ -182,10 +182,15 @@ two_falls i n t c xs e f h own next room =
     let k = pushed (Run i) c in
     let d = pushed t k in
     let w : weight d xs i ≡ busy f (length e.operands) (t ∷ tasks_of i k.tasks) =
-        hand_weight i d xs e f (t ∷ tasks_of i k.tasks) (record { entry = h.entry; awake = h.awake; frame = h.frame }) (own_task i t k.tasks own) in
+    hand_weight i d xs e f (t ∷ tasks_of i k.tasks) (record { entry = h.entry; awake = h.awake; frame = h.frame }) (own_task i t k.tasks own) in
     let q = quiet_task i t k.tasks own.own in
-    inr (omega arith, omega (arith, q), refl, omega (arith, w, room (tasks_of i k.tasks)),
-        λ j o. still_less j c d xs ((refl, other_task i j t k.tasks own o ∙ other_task i j (Run i) c.tasks next o), refl))
+    inr (
+      omega arith,
+      omega (arith, q),
+      refl,
+      omega (arith, w, room (tasks_of i k.tasks)),
+      λ j o. still_less j c d xs ((refl, other_task i j t k.tasks own o ∙ other_task i j (Run i) c.tasks next o), refl),
+    )
 
 -- an actor leaves its wait and goes on by a task
 pub leave_still : (i : ℕ) (e : Entry) (vs : List ValueTree) (t : Task) (c : Core) → IsOf i t → (j : ℕ) → (i ≡ j → ⊥) → Still j c (leave_for i e vs t c)
@@ -246,7 +251,7 @@ pub fallen : (i n : ℕ) (c k d : Core) (xs ys : Numbered Frame) → i ≤ c.sta
 fallen i n c k d xs ys within w l f s same (inl t) = inl (omega (arith, t, l))
 fallen i n c k d xs ys within w l f s same (inr h) =
     let all : (j : ℕ) → weight d ys j ≤ weight c xs j =
-        each_number i (λ j. weight d ys j ≤ weight c xs j) (omega (arith, h.3, w)) (λ j o. let e = same j o in omega (arith, h.4 j o, e)) in
+    each_number i (λ j. weight d ys j ≤ weight c xs j) (omega (arith, h.3, w)) (λ j o. let e = same j o in omega (arith, h.4 j o, e)) in
     let e : d.started ≡ c.started = h.2 ∙ s in
     let t : total (weight d ys) c.started < total (weight c xs) c.started = total_fewer (weight d ys) (weight c xs) i c.started within (omega (arith, h.3, w)) all in
     let t2 : total (weight d ys) d.started < total (weight c xs) c.started = subst (λ m. total (weight d ys) m < total (weight c xs) c.started) (sym e) t in

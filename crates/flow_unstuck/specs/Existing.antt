@@ -36,6 +36,9 @@ RestsInPlace r a = AtRest a.proc.core × Placed (Going r) a.proc.core a.proc.act
 abbrev pub WorldInPlace : RawTree → World Frame → Type 0
 WorldInPlace r w = AllByRecursion (λ (a : Place Frame). RestsInPlace r a) w.places
 
--- in the world of each file the classes have a trace, or come to what has no meaning
+-- In the world of each file the classes have a trace, and only one; or they come to what has no meaning.
 abbrev pub RunsOrStrays : RawTree → Type 0
 RunsOrStrays r = (w : file.World) → ((lines : List Line) × ClassTrace r w lines) ⊎ Strays r (at_start w)
+
+abbrev pub OneTrace : RawTree → Type 0
+OneTrace r = (w : file.World) (lines more : List Line) → ClassTrace r w lines → ClassTrace r w more → lines ≡ more

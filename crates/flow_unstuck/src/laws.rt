@@ -3,6 +3,7 @@
 ghost use Rattle.flow_class.specs.Classes.{RawTree};
 ghost use Rattle.flow_valid.specs.Validity.{IsValid};
 ghost use Rattle.flow_unstuck.specs.Ending.{BurstsEnd};
+ghost use Rattle.flow_unstuck.specs.Existing.{RunsOrStrays, OneTrace};
 
 /// The world around a process.
 pub trait Around {
@@ -20,4 +21,11 @@ pub trait Around {
 /// no field.
 pub fn bursts_end<K: Around>()
     ensures { (r : RawTree) → IsValid r → BurstsEnd r K.host }
+{}
+
+/// In the world of each world file valid classes have a trace, and only one; or a run comes to an event that is stopped
+/// for want of meaning, or to the result of an effect that has no place. No event goes on for ever.
+pub fn runs_or_strays()
+    ensures runs { (r : RawTree) → IsValid r → RunsOrStrays r }
+    ensures once { (r : RawTree) → IsValid r → OneTrace r }
 {}
