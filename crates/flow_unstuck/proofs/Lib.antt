@@ -1,0 +1,15 @@
+pub mod FewerTurns
+pub mod KeptPhases
+pub mod Calls
+pub mod Goes
+pub mod Ahead
+pub mod Weights
+pub mod TurnsTaken
+pub mod Reacts
+pub mod Rooms
+pub mod StepFalls
+pub mod TaskFalls
+pub mod Ending
+pub mod Valid
+pub mod Beginnings
+pub mod Existing

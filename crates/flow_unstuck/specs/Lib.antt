@@ -1,0 +1,4 @@
+pub mod Phases
+pub mod Going
+pub mod Ending
+pub mod Existing

@@ -1,0 +1,31 @@
+// Laws of valid classes.
+
+ghost use Rattle.flow_class.specs.Classes.{RawTree};
+ghost use Rattle.flow_valid.specs.Validity.{IsValid};
+ghost use Rattle.flow_unstuck.specs.Ending.{BurstsEnd};
+ghost use Rattle.flow_unstuck.specs.Existing.{RunsOrStrays, OneTrace};
+
+/// The world around a process.
+pub trait Around {
+    ghost use Rattle.flow_meaning.specs.Burst.{Host};
+
+    /// What can change in the world.
+    ghost World: { Type 0 };
+
+    /// How the world answers.
+    ghost host: { Host World };
+}
+
+/// Every burst of valid classes ends, from a process in order whose frames are known by what they asked for last: after
+/// some steps nothing is left to do, or the event was stopped; or the result of an effect comes to a path that leads to
+/// no field.
+pub fn bursts_end<K: Around>()
+    ensures { (r : RawTree) → IsValid r → BurstsEnd r K.host }
+{}
+
+/// In the world of each world file valid classes have a trace, and only one; or a run comes to an event that is stopped
+/// for want of meaning, or to the result of an effect that has no place. No event goes on for ever.
+pub fn runs_or_strays()
+    ensures runs { (r : RawTree) → IsValid r → RunsOrStrays r }
+    ensures once { (r : RawTree) → IsValid r → OneTrace r }
+{}
