@@ -1,1 +1,5 @@
-
+pub mod Finds
+pub mod Cells
+pub mod Tasks
+pub mod Actors
+pub mod Waits
