@@ -1,5 +1,5 @@
 -- What is found by number after a change, in memory and in the process.
-use Rattle.std.proofs.Common.{◌≡◌, ℕ, nat_eq, Bool, true, false, List, [], ◌∷◌, if◌then◌else◌, refl, sym, ap, ◌∙◌, subst, arith}
+use Rattle.std.proofs.Common.{◌≡◌, ℕ, ◌<◌, nat_eq, Bool, true, false, List, [], ◌∷◌, if◌then◌else◌, refl, sym, ap, ◌∙◌, subst, arith}
 use Rattle.std.specs.declared.option.Option.{Option}
 use Rattle.std.specs.declared.option.Option.TheVariants.{None, Some}
 use Rattle.flow_numbered.specs.Numbered as stored
@@ -58,3 +58,10 @@ thing_removed (x ∷ xs) above most i h = by_test (nat_eq i x.0) refl (thing_rem
 
 pub stored_gone : {A : Type 0} (xs : stored.Numbered A) (most i : ℕ) → stored.IsRising 0 xs most → stored.thing (stored.removed xs i) i ≡ None
 stored_gone xs most i h = things.thing_removed 0 xs most i i h ∙ ap (λ b. if b then None else stored.thing xs i) (same_number i)
+
+-- no number is above the last
+pub none_above : {A : Type 0} (xs : Numbered A) (above most i : ℕ) → Rising above most xs → most < i → thing xs i ≡ None
+none_above [] above most i h l = refl
+none_above (x ∷ xs) above most i h l =
+    let f : nat_eq i x.0 ≡ false = other_number x.0 i (λ e. omega (arith, h.1)) in
+    ap (λ b. if b then Some x.1 else thing xs i) f ∙ none_above xs x.0 most i h.2 l

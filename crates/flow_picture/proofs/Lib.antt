@@ -3,3 +3,4 @@ pub mod Cells
 pub mod Tasks
 pub mod Actors
 pub mod Waits
+pub mod Shown

@@ -1,3 +1,4 @@
 pub mod Shows
 pub mod Counted
 pub mod Rested
+pub mod Changes
