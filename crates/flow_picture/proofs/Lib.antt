@@ -4,3 +4,4 @@ pub mod Tasks
 pub mod Actors
 pub mod Waits
 pub mod Shown
+pub mod Acted

@@ -16,6 +16,7 @@ use Rattle.flow_meaning.specs.Work.{drops}
 use Rattle.flow_meaning.specs.Orderly.{is_of, tasks_of}
 use Rattle.flow_meaning.proofs.Posture.{same_number}
 use Rattle.flow_picture.specs.Shows.{TaskShows, TasksShow}
+use Rattle.flow_picture.specs.Acting.{NoKeep}
 
 -- the newest task
 pub record First (spots : ℕ → Spot) (kept : ℕ → ℕ) (t : stack.Task) (ts : List stack.Task) (us : List Task) : Type 0 where
@@ -43,42 +44,37 @@ pub refs_same : (vs : List Value) → memory.refs_in vs ≡ refs_in (map value_o
 refs_same [] = refl
 refs_same (v ∷ vs) = ap (λ rs. refs_of (value_of v) ++ rs) (refs_same vs)
 
--- Where each actor stands, or how many operands it has kept, may change where nothing is to be done for it.
+-- Where each actor stands, or how many operands it has kept, may change where it has no operand to keep.
 module _ (spots spots' : ℕ → Spot) (kept kept' : ℕ → ℕ) (i : ℕ) (same : (j : ℕ) → (i ≡ j → ⊥) → (spots' j ≡ spots j) × (kept' j ≡ kept j)) where
-  none_of : (u : Task) (us : List Task) → tasks_of i (u ∷ us) ≡ [] → is_of i u ≡ false
-  none_of u us h = by_test (is_of i u) refl
-    where
-      some_is_none : (vs : List Task) → u ∷ vs ≡ [] → ⊥
-      some_is_none vs e = cc
+  no_keep_rest : (u : Task) (us : List Task) → NoKeep i (u ∷ us) → NoKeep i us
+  no_keep_rest (Run j) us n = n
+  no_keep_rest (Give j b o) us n = n
+  no_keep_rest (Throw j e) us n = n
+  no_keep_rest (Catch j e) us n = n
+  no_keep_rest (Store j v) us n = n
+  no_keep_rest (Keep j spot x) us n = n.1
+  no_keep_rest (Close j o) us n = n
+  no_keep_rest (Fire k) us n = n
+  no_keep_rest (Drop kind k) us n = n
 
-      by_test : (b : Bool) → is_of i u ≡ b → b ≡ false
-      by_test true e = absurd (some_is_none (tasks_of i us) (ap (λ c. if c then u ∷ tasks_of i us else tasks_of i us) (sym e) ∙ h))
-      by_test false e = refl
-
-  rest_of : (u : Task) (us : List Task) → tasks_of i (u ∷ us) ≡ [] → tasks_of i us ≡ []
-  rest_of u us h = ap (λ c. if c then u ∷ tasks_of i us else tasks_of i us) (sym (none_of u us h)) ∙ h
-
-  other : (a : ℕ) → nat_eq i a ≡ false → i ≡ a → ⊥
-  other a e f = grind arith
-
-  task_aside : (t : stack.Task) (u : Task) → is_of i u ≡ false → TaskShows spots kept t u → TaskShows spots' kept' t u
-  task_aside (task.Run a) u n h = h
-  task_aside (task.Give a b o) u n h = h
-  task_aside (task.Throw a e) u n h = h
-  task_aside (task.Catch a e) u n h = h
-  task_aside (task.Fire k) u n h = h
-  task_aside (task.Drop kind k) u n h = h
-  task_aside (task.Store a v) u n h = h
-  task_aside (task.Keep a m k) u n h =
-      let s = same a.0 (other a.0 (ap (is_of i) (sym h.2) ∙ n)) in
+  task_aside : (t : stack.Task) (u : Task) (us : List Task) → NoKeep i (u ∷ us) → TaskShows spots kept t u → TaskShows spots' kept' t u
+  task_aside (task.Run a) u us n h = h
+  task_aside (task.Give a b o) u us n h = h
+  task_aside (task.Throw a e) u us n h = h
+  task_aside (task.Catch a e) u us n h = h
+  task_aside (task.Fire k) u us n h = h
+  task_aside (task.Drop kind k) u us n h = h
+  task_aside (task.Store a v) u us n h = h
+  task_aside (task.Keep a m k) u us n h =
+      let s = same a.0 (subst (λ x. NoKeep i (x ∷ us)) h.2 n).0 in
       (h.0, h.1 ∙ (rw (s.0, s.1) refl), h.2 ∙ (rw s.0 refl))
-  task_aside (task.Close a o) u n h = h
+  task_aside (task.Close a o) u us n h = h
 
-  pub tasks_aside : (ts : List stack.Task) (us : List Task) → tasks_of i us ≡ [] → TasksShow spots kept ts us → TasksShow spots' kept' ts us
+  pub tasks_aside : (ts : List stack.Task) (us : List Task) → NoKeep i us → TasksShow spots kept ts us → TasksShow spots' kept' ts us
   tasks_aside [] [] n h = tt
-  tasks_aside [] (u ∷ us) n h = h
-  tasks_aside (t ∷ ts) [] n h = h
-  tasks_aside (t ∷ ts) (u ∷ us) n h = (task_aside t u (none_of u us n) h.0, tasks_aside ts us (rest_of u us n) h.1)
+  tasks_aside [] (u ∷ us) n h = absurd h
+  tasks_aside (t ∷ ts) [] n h = absurd h
+  tasks_aside (t ∷ ts) (u ∷ us) n h = (task_aside t u us n h.0, tasks_aside ts us (no_keep_rest u us n) h.1)
 
 -- nothing has changed where they are the same
 pub tasks_same : (spots spots' : ℕ → Spot) (kept kept' : ℕ → ℕ) → ((j : ℕ) → (spots' j ≡ spots j) × (kept' j ≡ kept j)) → (ts : List stack.Task) (us : List Task) → TasksShow spots kept ts us → TasksShow spots' kept' ts us
@@ -97,3 +93,26 @@ tasks_same spots spots' kept kept' same (t ∷ ts) (u ∷ us) h = (task_same t u
     task_same (task.Store a v) u h = h
     task_same (task.Keep a m k) u h = let s = same a.0 in (h.0, h.1 ∙ (rw (s.0, s.1) refl), h.2 ∙ (rw s.0 refl))
     task_same (task.Close a o) u h = h
+
+-- an actor for which nothing is to be done has no operand to keep
+pub idle_keeps : (i : ℕ) (us : List Task) → tasks_of i us ≡ [] → NoKeep i us
+idle_keeps i [] h = tt
+idle_keeps i (u ∷ us) h = by_test (is_of i u) refl (idle_keeps i us)
+  where
+    some_is_none : (vs : List Task) → u ∷ vs ≡ [] → ⊥
+    some_is_none vs e = cc
+
+    none_of : (u : Task) (us : List Task) → is_of i u ≡ false → NoKeep i us → NoKeep i (u ∷ us)
+    none_of (Run j) us n k = k
+    none_of (Give j b o) us n k = k
+    none_of (Throw j e) us n k = k
+    none_of (Catch j e) us n k = k
+    none_of (Store j v) us n k = k
+    none_of (Keep j spot x) us n k = (λ e. grind (arith, n, e), k)
+    none_of (Close j o) us n k = k
+    none_of (Fire c) us n k = k
+    none_of (Drop kind c) us n k = k
+
+    by_test : (b : Bool) → is_of i u ≡ b → (tasks_of i us ≡ [] → NoKeep i us) → NoKeep i (u ∷ us)
+    by_test true e rest = absurd (some_is_none (tasks_of i us) (ap (λ c. if c then u ∷ tasks_of i us else tasks_of i us) (sym e) ∙ h))
+    by_test false e rest = none_of u us e (rest (ap (λ c. if c then u ∷ tasks_of i us else tasks_of i us) (sym e) ∙ h))

@@ -2,3 +2,4 @@ pub mod Shows
 pub mod Counted
 pub mod Rested
 pub mod Changes
+pub mod Acting
