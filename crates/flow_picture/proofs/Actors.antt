@@ -69,6 +69,42 @@ module _ (r : RawTree) (ns : stored.Numbered Note) (ms : stored.Numbered (FrameT
       }))
       (λ j differ. rw (stored_other ns i j n differ, stored_other ms i j m differ, thing_put_other es i j e differ, thing_put_other fs i j f differ) (all j))
 
+  -- what memory notes of it and its frame in the process stay
+  pub entry_put : (s : Somebody r (stored.thing ns i) (stored.thing ms i) (thing es i) (thing fs i)) (m : FrameTree Value) (e : Entry) → OneActor r s.note m e s.frame
+      → ActorsShow r ns (stored.put ms i m) (put es i e) fs
+  entry_put s m e now =
+      each_number i (λ j. ActorShows r (stored.thing ns j) (stored.thing (stored.put ms i m) j) (thing (put es i e) j) (thing fs j))
+      (somebody (record {
+        note = s.note;
+        memory = m;
+        entry = e;
+        frame = s.frame;
+        noted = s.noted;
+        framed = stored_put ms i s.memory m s.framed;
+        entered = thing_put es i s.entry e s.entered;
+        acting = s.acting;
+        same = now;
+      }))
+      (λ j differ. rw (stored_other ms i j m differ, thing_put_other es i j e differ) (all j))
+
+  -- what memory notes of it and its entry change
+  pub note_put : (s : Somebody r (stored.thing ns i) (stored.thing ms i) (thing es i) (thing fs i)) (n : Note) (e : Entry) → OneActor r n s.memory e s.frame
+      → ActorsShow r (stored.put ns i n) ms (put es i e) fs
+  note_put s n e now =
+      each_number i (λ j. ActorShows r (stored.thing (stored.put ns i n) j) (stored.thing ms j) (thing (put es i e) j) (thing fs j))
+      (somebody (record {
+        note = n;
+        memory = s.memory;
+        entry = e;
+        frame = s.frame;
+        noted = stored_put ns i s.note n s.noted;
+        framed = s.framed;
+        entered = thing_put es i s.entry e s.entered;
+        acting = s.acting;
+        same = now;
+      }))
+      (λ j differ. rw (stored_other ns i j n differ, thing_put_other es i j e differ) (all j))
+
   -- a new actor
   pub actor_added : thing es i ≡ None → (n : Note) (m : FrameTree Value) (e : Entry) (f : Frame) → OneActor r n m e f
       → ActorsShow r (stored.added ns i n) (stored.added ms i m) (added es i e) (added fs i f)

@@ -5,3 +5,6 @@ pub mod Actors
 pub mod Waits
 pub mod Shown
 pub mod Acted
+pub mod Leaving
+pub mod Withdrawn
+pub mod Left

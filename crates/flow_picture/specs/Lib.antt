@@ -3,3 +3,4 @@ pub mod Counted
 pub mod Rested
 pub mod Changes
 pub mod Acting
+pub mod Leaving
