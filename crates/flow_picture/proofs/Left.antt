@@ -22,7 +22,7 @@ use Rattle.flow_meaning.specs.Numbered.{Numbered, thing, put}
 use Rattle.flow_meaning.specs.Cells.{Ref, Waiter, Cell, Single, Stream, waiters, as_list, without, without_one, left_by}
 use Rattle.flow_meaning.specs.Asks.{Spot}
 use Rattle.flow_meaning.specs.Process.{Task, Throw, Entry, Core, Proc}
-use Rattle.flow_meaning.specs.Work.{drops, left_cells, running, leave, leave_for, marked, cancel_by}
+use Rattle.flow_meaning.specs.Work.{pushed, drops, left_cells, running, leave, leave_for, marked, cancel_by}
 use Rattle.flow_meaning.specs.Step.{kept_by, on_core, proc}
 use Rattle.flow_meaning.specs.Views.{spot_at}
 use Rattle.flow_meaning.specs.Frame.{Frame}
@@ -32,7 +32,8 @@ use Rattle.flow_picture.specs.Counted.{branches_of, branches_at, waiters_at}
 use Rattle.flow_picture.specs.Acting.{At, NoKeep}
 use Rattle.flow_picture.specs.Leaving as change
 use Rattle.flow_picture.specs.Leaving.{RightKinds, MayLeave, first_part, left_wait}
-use Rattle.flow_picture.proofs.Tasks.{tasks_aside}
+use Rattle.flow_picture.proofs.Tasks.{tasks_aside, tasks_same}
+use Rattle.flow_picture.proofs.Finds.{stored_put}
 use Rattle.flow_picture.proofs.Actors.{entry_put, note_put}
 use Rattle.flow_picture.proofs.Leaving.{less, less_one, less_as_list, all_left}
 use Rattle.flow_picture.proofs.Withdrawn.{less_maybe, cell_less, Left, leave_these, SameBeside}
@@ -179,3 +180,71 @@ module _ (r : RawTree) (h : HeapTree) (p : Proc Frame) where
         ports = λ k. rw l.beside.ports (s.ports k);
         requests = rw l.beside.requests s.requests;
       }
+
+  -- an actor is marked
+  abbrev with_mark : (actor : ℕ) → Entry → Proc Frame
+  with_mark i e = on_core (λ c. record c { entries = put c.entries i (marked e) }) p
+
+  kept_marked : (i : ℕ) (e : Entry) → thing p.core.entries i ≡ Some e → (j : ℕ) → (spots j ≡ spots j) × (kept_by (thing (put p.core.entries i (marked e)) j) ≡ kept_by (thing p.core.entries j))
+  kept_marked i e at =
+      each_number i (λ j. (spots j ≡ spots j) × (kept_by (thing (put p.core.entries i (marked e)) j) ≡ kept_by (thing p.core.entries j)))
+      (refl, ap kept_by (thing_put p.core.entries i e (marked e) at) ∙ sym (ap kept_by at))
+      (λ j n. (refl, ap kept_by (thing_put_other p.core.entries i j (marked e) n)))
+
+  mark_shown : (i : ℕ) (s : Shows r h p) (at : At r h p i) → Shows r (leaving.marked i h) (with_mark i at.entry)
+  mark_shown i s at =
+      subst (λ o. Shows r (record h { actors = marked_in i o h.actors }) (with_mark i at.entry)) (sym at.noted) (record {
+        cells = s.cells;
+        actors = note_put r h.actors.things h.frames.things p.core.entries p.actors s.actors i at (record at.note { marked = true }) (marked at.entry) (marks r at.note at.memory at.entry at.frame at.same);
+        tasks = tasks_same spots spots (λ j. kept_by (thing p.core.entries j)) (λ j. kept_by (thing (put p.core.entries i (marked at.entry)) j)) (kept_marked i at.entry at.entered) h.tasks p.core.tasks s.tasks;
+        made = s.made;
+        started = s.started;
+        main = s.main;
+        ports = s.ports;
+        requests = s.requests;
+      })
+
+  put_twice : (es : Numbered Entry) (i : ℕ) (a b : Entry) → put (put es i a) i b ≡ put es i b
+  put_twice [] i a b = refl
+  put_twice (x ∷ xs) i a b = by_test (nat_eq i x.0) refl (put_twice xs i a b)
+    where
+      by_test : (t : Bool) → nat_eq i x.0 ≡ t → put (put xs i a) i b ≡ put xs i b → put (if t then (x.0, a) ∷ xs else x ∷ put xs i a) i b ≡ (if t then (x.0, b) ∷ xs else x ∷ put xs i b)
+      by_test true e k = ap (λ t. if t then (x.0, b) ∷ xs else (x.0, a) ∷ put xs i b) e
+      by_test false e k = ap (λ t. if t then (x.0, b) ∷ put xs i a else x ∷ put (put xs i a) i b) e ∙ ap (λ ys. x ∷ ys) k
+
+module _ (r : RawTree) (h : HeapTree) (p : Proc Frame) where
+  abbrev thrown : (actor : ℕ) → stack.Task
+  thrown i = task.Throw (actor_id i) (record { 0 = operation_cancelled })
+
+  -- the actor after it was marked
+  abbrev marked_at : (i : ℕ) (at : At r h p i) → At r (memory.pushed (thrown i) (leaving.marked i h)) (on_core (pushed (Throw i operation_cancelled)) (with_mark r h p i at.entry)) i
+  marked_at i at = record {
+    note = record at.note { marked = true };
+    memory = at.memory;
+    entry = marked at.entry;
+    frame = at.frame;
+    noted = ap (λ o. stored.thing (marked_in i o h.actors).things i) at.noted ∙ stored_put h.actors.things i at.note (record at.note { marked = true }) at.noted;
+    framed = at.framed;
+    entered = thing_put p.core.entries i at.entry (marked at.entry) at.entered;
+    acting = at.acting;
+    same = marks r at.note at.memory at.entry at.frame at.same;
+  }
+
+  pub cancelled_shown : change.Cancelled r h p
+  cancelled_shown i s at may =
+      subst (λ b. Shows r (cancelled_by b i (leaving.marked i h)) (on_core (cancel_by at.entry.suspended i at.entry) p))
+      (sym (ap suspended_in at.framed ∙ suspended_as r at.note at.memory at.entry at.frame at.same)) (by_flag at.entry.suspended)
+    where
+      gone : Shows r (withdrawn i (memory.pushed (thrown i) (leaving.marked i h))) (on_core (left_wait i (marked at.entry)) (on_core (pushed (Throw i operation_cancelled)) (with_mark r h p i at.entry)))
+      gone =
+          withdrawn_shown r (memory.pushed (thrown i) (leaving.marked i h)) (on_core (pushed (Throw i operation_cancelled)) (with_mark r h p i at.entry)) i
+          (pushed_shown r (leaving.marked i h) (with_mark r h p i at.entry) (thrown i) (Throw i operation_cancelled) (mark_shown r h p i s at) refl)
+          (marked_at i at)
+          (record { keeps = may.keeps; kinds = may.kinds; many = may.many; waits = may.waits })
+
+      by_flag : (b : Bool) → Shows r (cancelled_by b i (leaving.marked i h)) (on_core (cancel_by b i at.entry) p)
+      by_flag false = mark_shown r h p i s at
+      by_flag true =
+          subst (λ es. Shows r (withdrawn i (memory.pushed (thrown i) (leaving.marked i h)))
+              (proc (record p.core { cells = left_cells i p.core.cells; entries = es; tasks = drops at.entry.operands (Throw i operation_cancelled ∷ p.core.tasks) }) p.actors))
+          (put_twice r h p p.core.entries i (marked at.entry) (running (marked at.entry))) gone

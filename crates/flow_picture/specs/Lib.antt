@@ -4,3 +4,4 @@ pub mod Rested
 pub mod Changes
 pub mod Acting
 pub mod Leaving
+pub mod Beside
