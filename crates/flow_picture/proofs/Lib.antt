@@ -8,3 +8,4 @@ pub mod Acted
 pub mod Leaving
 pub mod Withdrawn
 pub mod Left
+pub mod Beside

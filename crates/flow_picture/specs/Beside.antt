@@ -5,7 +5,7 @@ use Rattle.std.specs.declared.option.Option.{Option}
 use Rattle.std.specs.declared.option.Option.TheVariants.{None, Some}
 use Rattle.flow_base.specs.declared.ids.CellId.{CellId}
 use Rattle.flow_class.specs.Classes.{RawTree}
-use Rattle.flow_cancel.specs.Heap.{HeapTree, with_number, without_number, cleared}
+use Rattle.flow_cancel.specs.Heap.{HeapTree, has_number, with_number, without_number, cleared}
 use Rattle.flow_meaning.specs.Numbered.{thing, added, removed}
 use Rattle.flow_meaning.specs.Process.{Core, Proc}
 use Rattle.flow_meaning.specs.Dropping.{port_of}
@@ -13,7 +13,7 @@ use Rattle.flow_meaning.specs.Deliver.{closed_request, vanish}
 use Rattle.flow_meaning.specs.Step.{on_core}
 use Rattle.flow_meaning.specs.Frame.{Frame}
 use Rattle.flow_picture.specs.Shows.{Shows, cell_number}
-use Rattle.flow_picture.specs.Rested.{NumbersRise}
+use Rattle.flow_picture.specs.Rested.{NumbersRise, OneEach}
 
 module _ (r : RawTree) (h : HeapTree) (p : Proc Frame) where
   -- the hold on the result of `main`
@@ -25,7 +25,9 @@ module _ (r : RawTree) (h : HeapTree) (p : Proc Frame) where
   PortAdded = (port k : ℕ) → Shows r h p → Shows r (record h { ports = with_number h.ports k }) (on_core (λ c. record c { ports = added c.ports port k }) p)
 
   abbrev pub PortGone : Type 0
-  PortGone = (port k : ℕ) → Shows r h p → port_of k p.core.ports ≡ Some port → Shows r (record h { ports = without_number h.ports k }) (on_core (λ c. record c { ports = removed c.ports port }) p)
+  PortGone =
+      (port k : ℕ) → Shows r h p → port_of k p.core.ports ≡ Some port → OneEach p.core.ports → has_number (without_number h.ports k) k ≡ false
+      → Shows r (record h { ports = without_number h.ports k }) (on_core (λ c. record c { ports = removed c.ports port }) p)
 
   -- a request is opened on a new cell, and closed
   abbrev pub RequestAdded : Type 0
@@ -35,7 +37,7 @@ module _ (r : RawTree) (h : HeapTree) (p : Proc Frame) where
 
   abbrev pub RequestClosed : Type 0
   RequestClosed =
-      (k above most : ℕ) → Shows r h p → NumbersRise above most p.core.requests
+      (k : ℕ) → Shows r h p
       → Shows r (record h { requests = without_number h.requests k }) (on_core (λ c. record c { requests = closed_request k c.requests }) p)
 
   -- everything goes but the numbers given so far

@@ -4,7 +4,7 @@ use Rattle.std.specs.declared.option.Option.{Option}
 use Rattle.std.specs.declared.option.Option.TheVariants.{None, Some}
 use Rattle.flow_class.specs.Classes.{RawTree}
 use Rattle.flow_cancel.specs.Heap.{HeapTree}
-use Rattle.flow_meaning.specs.Numbered.{Numbered, thing}
+use Rattle.flow_meaning.specs.Numbered.{Numbered, thing, removed}
 use Rattle.flow_meaning.specs.Cells.{PromiseSide, FutureSide, Waiter, Cell, Single, Stream}
 use Rattle.flow_meaning.specs.Process.{Entry, Core, Proc}
 use Rattle.flow_meaning.specs.Orderly.{Orderly, Rising}
@@ -51,8 +51,13 @@ pub record Cared (p : Proc Frame) : Type 0 where
   pub awake : (i : ℕ) (e : Entry) → thing p.core.entries i ≡ Some e → e.marked ≡ true → e.suspended ≡ false
   pub wanted : (i k : ℕ) (e : Entry) → thing p.core.entries i ≡ Some e → e.marked ≡ false → e.result ≡ Some k → 0 < references FutureSide k p
 
--- the numbers of cells and open requests rise
+-- each port has a stream of its own
+abbrev pub OneEach : Numbered ℕ → Type 0
+OneEach xs = (q k : ℕ) → port_of k xs ≡ Some q → (thing xs q ≡ Some k) × (port_of k (removed xs q) ≡ None)
+
+-- the numbers of cells and open requests rise, and ports and their streams are one to one
 pub record InNumbers (c : Core) : Type 0 where
+  pub ports : OneEach c.ports
   pub cells : Rising 0 c.made c.cells
   pub requests : NumbersRise 0 c.made c.requests
 
