@@ -9,3 +9,5 @@ pub mod Leaving
 pub mod Withdrawn
 pub mod Left
 pub mod Beside
+pub mod Sums
+pub mod Referring

@@ -5,3 +5,4 @@ pub mod Changes
 pub mod Acting
 pub mod Leaving
 pub mod Beside
+pub mod References
