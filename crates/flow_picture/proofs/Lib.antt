@@ -11,3 +11,4 @@ pub mod Left
 pub mod Beside
 pub mod Sums
 pub mod Referring
+pub mod Keeping

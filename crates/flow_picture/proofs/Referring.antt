@@ -1,20 +1,24 @@
 -- The references of a process after each thing that it does.
 use Rattle.std.proofs.Common.{◌≡◌, ℕ, suc, ◌+◌, ◌<◌, ◌≤◌, nat_eq, Bool, true, false, List, [], ◌∷◌, ◌++◌, length, if◌then◌else◌, refl, sym, ap, ◌∙◌, subst, arith}
+use Rattle.std.specs.Prelude.{◌&&◌}
 use Rattle.std.proofs.lemmas.Bool.Decides.{nat_tests}
 use Rattle.std.specs.declared.option.Option.{Option}
 use Rattle.std.specs.declared.option.Option.TheVariants.{None, Some}
 use Rattle.flow_value.specs.Values.{ValueTree, OutcomeTree, GoodOutcome, BadOutcome, refs_of}
 use Rattle.flow_meaning.specs.Numbered.{Numbered, thing, added, put, removed}
-use Rattle.flow_meaning.specs.Cells.{Side, PromiseSide, FutureSide, Ref, Waiter, Cell, Single, Stream, waiters, held, is_complete, is_busy, taken, after_taking, filled, with_waiter}
+use Rattle.flow_meaning.specs.Cells.{Side, PromiseSide, FutureSide, side_of, Ref, Waiter, Cell, Single, Stream, waiters, held, as_list, without, without_one, left_by, is_complete, is_busy, taken, after_taking, filled, with_waiter}
 use Rattle.flow_meaning.specs.Process.{Task, Fire, Entry, Core, Proc}
-use Rattle.flow_meaning.specs.Occ.{refs_in, value_in, one, count, count_maybe, count_waiters, in_cells, in_entries, in_task, in_tasks, in_ports, in_requests, in_core}
-use Rattle.flow_meaning.specs.Work.{pushed, dropping, dropping_values, new_cell, fill, fill_cell}
+use Rattle.flow_meaning.specs.Occ.{same_side, refs_in, value_in, one, count, count_maybe, count_waiters, count_kept, in_cells, in_entries, in_task, in_tasks, in_ports, in_requests, in_core}
+use Rattle.flow_meaning.specs.Work.{pushed, dropping, dropping_values, new_cell, fill, fill_cell, left_cells, running}
+use Rattle.flow_meaning.specs.Orderly.{Rising}
 use Rattle.flow_meaning.specs.Step.{on_core, popped}
 use Rattle.flow_meaning.specs.Deliver.{closed_request}
 use Rattle.flow_meaning.specs.Frame.{Frame}
-use Rattle.flow_picture.specs.Counted.{frames_hold, references}
+use Rattle.flow_picture.specs.Counted.{frames_hold, references, branches_of, branches_at, waiters_at, waiting_by, waiting_of}
 use Rattle.flow_picture.specs.Rested.{has}
 use Rattle.flow_picture.specs.Changes.{put_cell}
+use Rattle.flow_meaning.proofs.Posture.{above_none}
+use Rattle.flow_picture.specs.Leaving.{wait_kind, RightKinds}
 use Rattle.flow_picture.specs.References as of
 use Rattle.flow_picture.specs.References.{cell_holds, entry_holds, frame_holds, given_away}
 use Rattle.flow_picture.proofs.Sums.{sum_by, sum_put, sum_added, sum_removed, cells_sum, entries_sum, frames_sum, ports_sum, refs_joined, drops_count, waiters_joined}
@@ -148,3 +152,101 @@ module _ (p : Proc Frame) (s : Side) (j : ℕ) where
 
   pub of_answered : of.OfAnswered p s j
   of_answered k e = let a = requests_less p.core.requests k e in omega (arith, a)
+
+-- the waiters of an actor, as references
+abbrev of_branches : Side → ℕ → (cell : ℕ) → List ℕ → ℕ
+of_branches s j k [] = 0
+of_branches s j k (b ∷ bs) = one s j FutureSide k + of_branches s j k bs
+
+abbrev mark : Bool → Bool → ℕ
+mark t u = if t && u then 1 else 0
+
+module _ (s : Side) (j i : ℕ) where
+  others_count : (k : ℕ) (ws : List Waiter) → count_waiters s j k ws ≡ of_branches s j k (branches_of i ws) + count_waiters s j k (without ws i)
+  others_count k [] = refl
+  others_count k (w ∷ ws) = by_test (nat_eq w.actor i) (others_count k ws)
+    where
+      by_test : (t : Bool) → count_waiters s j k ws ≡ of_branches s j k (branches_of i ws) + count_waiters s j k (without ws i)
+          → one s j FutureSide k + count_waiters s j k ws ≡ of_branches s j k (if t then w.branch ∷ branches_of i ws else branches_of i ws) + count_waiters s j k (if t then without ws i else w ∷ without ws i)
+      by_test true e = omega (arith, e)
+      by_test false e = omega (arith, e)
+
+  one_count : (k : ℕ) (w : Option Waiter) → count_waiters s j k (as_list w) ≡ of_branches s j k (branches_of i (as_list w)) + count_waiters s j k (as_list (without_one w i))
+  one_count k None = refl
+  one_count k (Some w) = by_test (nat_eq w.actor i)
+    where
+      by_test : (t : Bool) → one s j FutureSide k + 0 ≡ of_branches s j k (if t then w.branch ∷ [] else []) + count_waiters s j k (as_list (if t then None else Some w))
+      by_test true = omega arith
+      by_test false = omega arith
+
+  cell_count : (k : ℕ) (c : Cell) → cell_holds s j k c ≡ of_branches s j k (branches_of i (waiters c)) + cell_holds s j k (left_by i c)
+  cell_count k (Single x ws) = let a = others_count k ws in omega (arith, a)
+  cell_count k (Stream q x w) = let a = one_count k w in omega (arith, a)
+
+  abbrev waits_in : ℕ → Cell → ℕ
+  waits_in k c = of_branches s j k (branches_of i (waiters c))
+
+  all_count : (cs : Numbered Cell) → in_cells s j cs ≡ sum_by waits_in cs + in_cells s j (left_cells i cs)
+  all_count [] = refl
+  all_count (x ∷ xs) = let a = cell_count x.0 x.1 in let b = all_count xs in omega (arith, a, b)
+
+  no_side : (k : ℕ) → nat_eq j k ≡ false → (side : Side) → one s j side k ≡ 0
+  no_side k n side = by_side (same_side s side)
+    where
+      by_side : (t : Bool) → mark t (nat_eq j k) ≡ 0
+      by_side true = rw n refl
+      by_side false = refl
+
+  none_there : (k : ℕ) (bs : List ℕ) → nat_eq j k ≡ false → of_branches s j k bs ≡ 0
+  none_there k [] n = refl
+  none_there k (b ∷ bs) n = let a = no_side k n FutureSide in let c = none_there k bs n in omega (arith, a, c)
+
+  -- only those at the cell count
+  waits_at : (cs : Numbered Cell) (above most : ℕ) → Rising above most cs → sum_by waits_in cs ≡ of_branches s j j (branches_of i (waiters_at (thing cs j)))
+  waits_at [] above most h = refl
+  waits_at (x ∷ xs) above most h = by_test (nat_eq j x.0) refl (waits_at xs x.0 most h.2)
+    where
+      by_test : (t : Bool) → nat_eq j x.0 ≡ t → sum_by waits_in xs ≡ of_branches s j j (branches_of i (waiters_at (thing xs j)))
+          → waits_in x.0 x.1 + sum_by waits_in xs ≡ of_branches s j j (branches_of i (waiters_at (if t then Some x.1 else thing xs j)))
+      by_test true g rest =
+          let same : j ≡ x.0 = grind (arith, nat_tests) in
+          let gone : thing xs j ≡ None = above_none xs x.0 most j h.2 (omega (arith, same)) in
+          let a = rest ∙ ap (λ o. of_branches s j j (branches_of i (waiters_at o))) gone in
+          let b = ap (λ n. of_branches s j n (branches_of i (waiters x.1))) (sym same) in omega (arith, a, b)
+      by_test false g rest = let a = none_there x.0 (branches_of i (waiters x.1)) g in omega (arith, a, rest)
+
+  wait_side : (c : Option Cell) → side_of (wait_kind c) ≡ FutureSide
+  wait_side None = refl
+  wait_side (Some (Single x ws)) = refl
+  wait_side (Some (Stream q x w)) = refl
+
+  operands_count : (cs : Numbered Cell) (b : ℕ) (rs : List Ref) → RightKinds cs rs → of_branches s j j (branches_at j b rs) ≡ count s j rs
+  operands_count cs b [] h = refl
+  operands_count cs b (r ∷ rs) h = by_test (nat_eq r.1 j) refl (operands_count cs (suc b) rs h.1)
+    where
+      side_is : one s j (side_of r.0) r.1 ≡ one s j FutureSide r.1
+      side_is = ap (λ x. one s j x r.1) (ap side_of h.0 ∙ wait_side (thing cs r.1))
+
+      by_test : (t : Bool) → nat_eq r.1 j ≡ t → of_branches s j j (branches_at j (suc b) rs) ≡ count s j rs
+          → of_branches s j j (if t then b ∷ branches_at j (suc b) rs else branches_at j (suc b) rs) ≡ one s j (side_of r.0) r.1 + count s j rs
+      by_test true g rest =
+          let same : r.1 ≡ j = grind (arith, nat_tests) in
+          let a = ap (one s j FutureSide) same in omega (arith, a, side_is, rest)
+      by_test false g rest = let a = no_side r.1 (turned g) FutureSide in omega (arith, a, side_is, rest)
+        where
+          turned : nat_eq r.1 j ≡ false → nat_eq j r.1 ≡ false
+          turned f = grind (arith, nat_tests, f)
+
+module _ (p : Proc Frame) (s : Side) (j : ℕ) where
+  pub of_left : of.OfLeft p s j
+  of_left i e at agree kinds rising =
+      let a = all_count s j i p.core.cells in
+      let b = waits_at s j i p.core.cells 0 p.core.made rising in
+      let c = ap (of_branches s j j) (agree i j ∙ ap (λ o. branches_at j 0 (waiting_of o)) at) in
+      let d = of_entry p s j i e (running e) at in
+      let f = drops_count s j e.operands p.core.tasks in
+      let g = by_flag e.suspended in omega (arith, a, b, c, d, f, g)
+    where
+      by_flag : (t : Bool) → of_branches s j j (branches_at j 0 (waiting_by t e.operands)) + count_kept s j t e.operands ≡ count s j e.operands
+      by_flag true = let x = operands_count s j i p.core.cells 0 e.operands kinds in omega (arith, x)
+      by_flag false = omega arith

@@ -6,3 +6,4 @@ pub mod Acting
 pub mod Leaving
 pub mod Beside
 pub mod References
+pub mod Keeping
