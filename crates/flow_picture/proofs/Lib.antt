@@ -12,3 +12,4 @@ pub mod Beside
 pub mod Sums
 pub mod Referring
 pub mod Keeping
+pub mod Owners

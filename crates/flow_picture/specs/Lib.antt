@@ -7,3 +7,4 @@ pub mod Leaving
 pub mod Beside
 pub mod References
 pub mod Keeping
+pub mod Losing

@@ -3,7 +3,8 @@ use Rattle.std.specs.Prelude.{◌≡◌, ℕ, suc, ◌+◌, ◌<◌, nat_eq, Boo
 use Rattle.std.specs.declared.option.Option.{Option}
 use Rattle.std.specs.declared.option.Option.TheVariants.{None, Some}
 use Rattle.flow_class.specs.Classes.{RawTree}
-use Rattle.flow_cancel.specs.Heap.{HeapTree}
+use Rattle.flow_numbered.specs.Numbered as stored
+use Rattle.flow_cancel.specs.Heap.{HeapTree, has_number, without_number}
 use Rattle.flow_meaning.specs.Numbered.{Numbered, thing, removed}
 use Rattle.flow_meaning.specs.Cells.{PromiseSide, FutureSide, Waiter, Cell, Single, Stream}
 use Rattle.flow_meaning.specs.Process.{Entry, Core, Proc}
@@ -61,6 +62,14 @@ pub record InNumbers (c : Core) : Type 0 where
   pub cells : Rising 0 c.made c.cells
   pub requests : NumbersRise 0 c.made c.requests
 
+-- In memory too numbers rise: what a heap's own types keep.
+pub record Sorted (h : HeapTree) : Type 0 where
+  pub cells : stored.IsRising 0 h.cells.things h.cells.greatest
+  pub streams : stored.IsRising 0 h.streams.things h.streams.greatest
+  pub actors : stored.IsRising 0 h.actors.things h.actors.greatest
+  pub frames : stored.IsRising 0 h.frames.things h.frames.greatest
+  pub ports : (k : ℕ) → has_number (without_number h.ports k) k ≡ false
+
 -- What a heap and the process that it shows keep from step to step of an event that isn't stopped.
 pub record Running (r : RawTree) (h : HeapTree) (p : Proc Frame) : Type 0 where
   pub shows : Shows r h p
@@ -68,6 +77,7 @@ pub record Running (r : RawTree) (h : HeapTree) (p : Proc Frame) : Type 0 where
   pub agree : Agree p.core
   pub orderly : Orderly p.core
   pub numbers : InNumbers p.core
+  pub sorted : Sorted h
   pub owned : Owned p
   pub cared : Cared p
   pub referenced : Referenced p
