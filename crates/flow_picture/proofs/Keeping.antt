@@ -141,3 +141,11 @@ module _ (h : HeapTree) (s : Side) where
       each_number k (λ j. kept_count s j (record h { streams = without h.streams k }) ≡ kept_count s j h)
       (ap (λ o. count_at s o (stored.thing (stored.removed h.streams.things k) k)) f ∙ ap (count_at s None) (stored_gone h.streams.things h.streams.greatest k r) ∙ sym (stream_is k m f e ∙ ap (count_of (memory_side s)) c ∙ zero_of s))
       (λ j d. ap (count_at s (stored.thing h.cells.things j)) (stored_removed h.streams.things k j d)) j
+
+-- a reference to one cell is none to another
+pub no_one : (s : Side) (k j : ℕ) (side : Side) → (k ≡ j → ⊥) → one s j side k ≡ 0
+no_one s k j side n = by_side (same_side s side) (other_number k j n)
+  where
+    by_side : (t : Bool) → nat_eq j k ≡ false → mark t (nat_eq j k) ≡ 0
+    by_side true e = rw e refl
+    by_side false e = refl

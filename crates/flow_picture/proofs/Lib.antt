@@ -13,3 +13,4 @@ pub mod Sums
 pub mod Referring
 pub mod Keeping
 pub mod Owners
+pub mod Losing
