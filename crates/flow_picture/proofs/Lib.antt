@@ -14,3 +14,4 @@ pub mod Referring
 pub mod Keeping
 pub mod Owners
 pub mod Losing
+pub mod LosingStreams

@@ -54,7 +54,7 @@ unwaited k (w ∷ ws) e = let b : one FutureSide k FutureSide k ≡ 1 = ap (λ t
 pub counts_are : (c : Counts) (a b : ℕ) → c.promises ≡ a → c.futures ≡ b → c ≡ record { promises = a; futures = b }
 counts_are c a b e f = rw (sym e, sym f) refl
 
-one_is : (s : Side) (k : ℕ) → one s k s k ≡ 1
+pub one_is : (s : Side) (k : ℕ) → one s k s k ≡ 1
 one_is PromiseSide k = ap (λ t. if t then 1 else 0) (same_number k)
 one_is FutureSide k = ap (λ t. if t then 1 else 0) (same_number k)
 
