@@ -1,38 +1,34 @@
 -- An actor of a heap and of the process that it shows.
-use Rattle.std.proofs.Common.{◌≡◌, ℕ, suc, ◌+◌, ◌≤◌, nat_eq, Bool, true, false, List, [], ◌∷◌, ◌++◌, map, length, if◌then◌else◌, refl, sym, ap, ◌∙◌, subst, arith}
+use Rattle.std.proofs.Common.{◌≡◌, ℕ, suc, ◌+◌, nat_eq, Bool, true, false, List, [], ◌∷◌, ◌++◌, map, length, refl, sym, ap, ◌∙◌, subst, arith}
 use Rattle.std.specs.Prelude.{max, slice_get}
 use Rattle.std.specs.Option.{option_map}
 use Rattle.std.specs.declared.option.Option.{Option}
 use Rattle.std.specs.declared.option.Option.TheVariants.{None, Some}
-use Rattle.flow_base.specs.declared.ids.CellId.{CellId}
 use Rattle.flow_value.specs.declared.value.Value.{Value}
 use Rattle.flow_value.specs.declared.value.Outcome.{Outcome}
 use Rattle.flow_value.specs.Values.{ValueTree}
-use Rattle.flow_value.specs.View.{value_of, outcome_of}
+use Rattle.flow_value.specs.View.{value_of}
 use Rattle.flow_class.specs.Classes.{ClassTree, RawTree}
 use Rattle.flow_numbered.specs.Numbered as stored
 use Rattle.flow_numbered.proofs.Things.{put_same}
 use Rattle.flow_cell.specs.Cells.{CellTree}
 use Rattle.flow_frame.specs.Frames.{FrameTree, fresh, padded}
-use Rattle.flow_cancel.specs.declared.actors.Note.{Note}
-use Rattle.flow_cancel.specs.Heap.{HeapTree, cell_id, next_cell, next_actor, new_note, started, promised, promised_in, promised_at}
+use Rattle.flow_cancel.specs.Heap.{HeapTree, cell_id, next_cell, next_actor, new_note, started, promised, promised_at}
 use Rattle.flow_meaning.specs.Numbered.{Numbered, thing, added, put, removed}
 use Rattle.flow_meaning.specs.Asks.{Spot}
-use Rattle.flow_meaning.specs.Process.{Entry, Core, Proc}
-use Rattle.flow_meaning.specs.Orderly.{Rising}
+use Rattle.flow_meaning.specs.Process.{Entry, Proc}
 use Rattle.flow_meaning.specs.Step.{kept_by, entry_of}
 use Rattle.flow_meaning.specs.Views.{spot_at}
 use Rattle.flow_meaning.specs.Frame.{Frame, blanks}
-use Rattle.flow_meaning.proofs.Posture.{same_number, other_number, each_number, thing_put, thing_put_other, thing_added, thing_removed_other}
-use Rattle.flow_picture.specs.Shows.{Shows, OneActor, Stands, stands, here, TasksShow, wait_spot, spot_of_actor}
-use Rattle.flow_picture.specs.Changes.{cell_put}
+use Rattle.flow_meaning.proofs.Posture.{each_number, thing_put, thing_put_other, thing_added, thing_removed_other}
+use Rattle.flow_picture.specs.Shows.{Shows, OneActor, stands, here, wait_spot, spot_of_actor}
 use Rattle.flow_picture.specs.Acting as change
 use Rattle.flow_picture.specs.Acting.{Free, At, actor_put, put_actor, frame_put, put_frame, blank, with_actor, without_actor}
 use Rattle.flow_picture.proofs.Tasks.{tasks_aside, tasks_same}
 use Rattle.flow_picture.proofs.Waits.{cells_aside, cells_same}
 use Rattle.flow_picture.proofs.Cells.{CellsShow, single_kept}
 use Rattle.flow_picture.proofs.Actors.{ActorsShow, actor_put as put_all, actor_added, actor_gone}
-use Rattle.flow_picture.proofs.Finds.{none_above, thing_new, thing_removed}
+use Rattle.flow_picture.proofs.Finds.{none_above}
 
 -- what is put again where it stood changes nothing
 pub same_put : {A : Type 0} (xs : Numbered A) (n : ℕ) (a : A) → thing xs n ≡ Some a → put xs n a ≡ xs
@@ -69,9 +65,10 @@ module _ (r : RawTree) (h : HeapTree) (p : Proc Frame) where
   all_same : (i : ℕ) (e : Entry) (f : Frame) (at : At r h p i) → wait_spot f ≡ wait_spot at.frame → length e.operands ≡ length at.entry.operands
       → (j : ℕ) → (spot_of_actor (put p.actors i f) j ≡ spots j) × (kept_by (thing (put p.core.entries i e) j) ≡ kept j)
   all_same i e f at a b =
-      each_number i (λ j. (spot_of_actor (put p.actors i f) j ≡ spots j) × (kept_by (thing (put p.core.entries i e) j) ≡ kept j))
-      (ap (spot_at wait_spot) (thing_put p.actors i at.frame f at.acting) ∙ a ∙ sym (ap (spot_at wait_spot) at.acting),
-      ap kept_by (thing_put p.core.entries i at.entry e at.entered) ∙ b ∙ sym (ap kept_by at.entered))
+      each_number i (λ j. (spot_of_actor (put p.actors i f) j ≡ spots j) × (kept_by (thing (put p.core.entries i e) j) ≡ kept j)) (
+        ap (spot_at wait_spot) (thing_put p.actors i at.frame f at.acting) ∙ a ∙ sym (ap (spot_at wait_spot) at.acting),
+        ap kept_by (thing_put p.core.entries i at.entry e at.entered) ∙ b ∙ sym (ap kept_by at.entered),
+      )
       (others i e f)
 
   pub actor_kept : change.ActorKept r h p

@@ -1,6 +1,5 @@
 -- An actor changes in memory and in the process.
-use Rattle.std.proofs.Common.{◌≡◌, ℕ, suc, ◌+◌, nat_eq, Bool, true, false, List, [], ◌∷◌, ◌++◌, map, if◌then◌else◌, refl, sym, ap, ◌∙◌, subst, arith}
-use Rattle.std.specs.Option.{option_map}
+use Rattle.std.proofs.Common.{◌≡◌, ℕ}
 use Rattle.std.specs.declared.option.Option.{Option}
 use Rattle.std.specs.declared.option.Option.TheVariants.{None, Some}
 use Rattle.flow_value.specs.declared.value.Value.{Value}
@@ -12,7 +11,7 @@ use Rattle.flow_meaning.specs.Numbered.{Numbered, thing, added, put, removed}
 use Rattle.flow_meaning.specs.Process.{Entry}
 use Rattle.flow_meaning.specs.Orderly.{Rising}
 use Rattle.flow_meaning.specs.Frame.{Frame}
-use Rattle.flow_meaning.proofs.Posture.{same_number, other_number, each_number, thing_put, thing_put_other, thing_added, thing_removed_other, above_none}
+use Rattle.flow_meaning.proofs.Posture.{each_number, thing_put, thing_put_other, thing_added, thing_removed_other}
 use Rattle.flow_picture.specs.Shows.{OneActor, Somebody, ActorShows, nobody, somebody}
 use Rattle.flow_picture.proofs.Finds.{stored_other, stored_put, stored_added, stored_new, stored_removed, stored_gone, thing_new, thing_removed}
 

@@ -1,28 +1,23 @@
 -- The hold on `main`, ports and requests of a heap and of the process that it shows.
-use Rattle.std.proofs.Common.{◌≡◌, ℕ, suc, ◌+◌, ◌<◌, ◌≤◌, nat_eq, nat_lt, Bool, true, false, List, [], ◌∷◌, ◌++◌, if◌then◌else◌, refl, sym, ap, ◌∙◌, subst, arith}
-use Rattle.std.specs.Prelude.{◌||◌, cond, ◌==◌}
+use Rattle.std.proofs.Common.{◌≡◌, ℕ, ◌<◌, nat_eq, nat_lt, Bool, true, false, List, [], ◌∷◌, ◌++◌, if◌then◌else◌, refl, sym, ap, ◌∙◌, arith}
+use Rattle.std.specs.Prelude.{◌||◌, cond}
 use Rattle.std.proofs.lemmas.Bool.Decides.{nat_tests}
 use Rattle.std.specs.Ordering.{nat_cmp, match_ordering}
-use Rattle.std.specs.List.{list_any}
 use Rattle.std.specs.BTreeMap.{is_at}
 use Rattle.std.specs.BTreeSet.{insert_key}
 use Rattle.std.specs.Set.{remove_key}
-use Rattle.std.specs.Option.{option_map}
-use Rattle.std.specs.declared.option.Option.{Option}
 use Rattle.std.specs.declared.option.Option.TheVariants.{None, Some}
-use Rattle.flow_base.specs.declared.ids.CellId.{CellId}
 use Rattle.flow_class.specs.Classes.{RawTree}
-use Rattle.flow_cancel.specs.Heap.{HeapTree, has_number, with_number, without_number, cleared}
+use Rattle.flow_cancel.specs.Heap.{HeapTree, has_number, with_number, without_number}
 use Rattle.flow_meaning.specs.Numbered.{Numbered, thing, added, removed}
 use Rattle.flow_meaning.specs.Cells.{is_some}
-use Rattle.flow_meaning.specs.Process.{Core, Proc}
+use Rattle.flow_meaning.specs.Process.{Proc}
 use Rattle.flow_meaning.specs.Dropping.{port_of}
-use Rattle.flow_meaning.specs.Deliver.{closed_request, vanish}
-use Rattle.flow_meaning.specs.Step.{on_core}
+use Rattle.flow_meaning.specs.Deliver.{closed_request}
 use Rattle.flow_meaning.specs.Frame.{Frame}
 use Rattle.flow_meaning.proofs.Posture.{each_number, other_number}
-use Rattle.flow_picture.specs.Shows.{Shows, nobody}
-use Rattle.flow_picture.specs.Rested.{NumbersRise, OneEach}
+use Rattle.flow_picture.specs.Shows.{nobody}
+use Rattle.flow_picture.specs.Rested.{NumbersRise}
 use Rattle.flow_picture.specs.Beside as change
 
 -- a number is compared

@@ -1,10 +1,9 @@
 -- What is found by number after a change, in memory and in the process.
-use Rattle.std.proofs.Common.{◌≡◌, ℕ, ◌<◌, nat_eq, Bool, true, false, List, [], ◌∷◌, if◌then◌else◌, refl, sym, ap, ◌∙◌, subst, arith}
-use Rattle.std.specs.declared.option.Option.{Option}
+use Rattle.std.proofs.Common.{◌≡◌, ℕ, ◌<◌, nat_eq, Bool, true, false, [], ◌∷◌, if◌then◌else◌, refl, sym, ap, ◌∙◌, subst, arith}
 use Rattle.std.specs.declared.option.Option.TheVariants.{None, Some}
 use Rattle.flow_numbered.specs.Numbered as stored
 use Rattle.flow_numbered.proofs.Things as things
-use Rattle.flow_meaning.specs.Numbered.{Numbered, thing, added, put, removed}
+use Rattle.flow_meaning.specs.Numbered.{Numbered, thing, added, removed}
 use Rattle.flow_meaning.specs.Orderly.{Rising}
 use Rattle.flow_meaning.proofs.Posture.{same_number, other_number, above_none}
 
@@ -45,7 +44,6 @@ stored_removed (x ∷ xs) i j h = by_test (nat_eq i x.0) refl (stored_removed xs
 pub thing_new : {A : Type 0} (xs : Numbered A) (i : ℕ) (a : A) → thing xs i ≡ None → thing (added xs i a) i ≡ Some a
 thing_new [] i a h = ap (λ b. if b then Some a else None) (same_number i)
 thing_new (x ∷ xs) i a h = grind (arith, thing_new xs i a)
-
 
 -- numbers that rise are each there once
 pub thing_removed : {A : Type 0} (xs : Numbered A) (above most i : ℕ) → Rising above most xs → thing (removed xs i) i ≡ None

@@ -1,13 +1,11 @@
 -- Waiters of an actor leave a cell one by one, or all at once.
-use Rattle.std.proofs.Common.{◌≡◌, ℕ, zero, suc, ◌+◌, ◌<◌, ◌≤◌, nat_eq, Bool, true, false, List, [], ◌∷◌, ◌++◌, map, if◌then◌else◌, refl, sym, ap, ◌∙◌, subst, arith}
+use Rattle.std.proofs.Common.{◌≡◌, ℕ, zero, suc, ◌+◌, ◌<◌, nat_eq, Bool, true, false, List, [], ◌∷◌, ◌++◌, map, if◌then◌else◌, refl, sym, ap, ◌∙◌, subst, arith}
 use Rattle.std.specs.Prelude.{◌&&◌, ◌||◌}
 use Rattle.std.proofs.lemmas.Bool.Decides.{nat_tests}
-use Rattle.std.specs.Option.{option_map}
 use Rattle.std.specs.declared.option.Option.{Option}
 use Rattle.std.specs.declared.option.Option.TheVariants.{None, Some}
 use Rattle.flow_cell.specs.Waiting.{same_waiter, has_waiter, without_newest}
-use Rattle.flow_cancel.specs.Leaving.{is_waiter}
-use Rattle.flow_meaning.specs.Cells.{Ref, Waiter, Cell, Single, Stream, waiters, as_list, without, without_one, left_by}
+use Rattle.flow_meaning.specs.Cells.{Ref, Waiter, as_list, without}
 use Rattle.flow_meaning.specs.Asks.{Spot}
 use Rattle.flow_picture.specs.Shows.{waiter_in}
 use Rattle.flow_picture.specs.Counted.{branches_of, branches_at}

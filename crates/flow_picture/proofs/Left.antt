@@ -1,15 +1,12 @@
 -- An actor of a heap leaves its wait, or is cancelled, as that of the process that the heap shows.
-use Rattle.std.proofs.Common.{◌≡◌, ℕ, zero, suc, ◌+◌, ◌≤◌, nat_eq, Bool, true, false, List, [], ◌∷◌, ◌++◌, map, length, if◌then◌else◌, refl, sym, ap, ◌∙◌, subst, arith}
-use Rattle.std.specs.Prelude.{max}
+use Rattle.std.proofs.Common.{◌≡◌, ℕ, zero, suc, ◌+◌, nat_eq, Bool, true, false, List, [], ◌∷◌, if◌then◌else◌, refl, sym, ap, ◌∙◌, subst, arith}
 use Rattle.std.specs.Option.{option_map}
 use Rattle.std.specs.declared.option.Option.{Option}
 use Rattle.std.specs.declared.option.Option.TheVariants.{None, Some}
 use Rattle.flow_base.specs.ErrorNumbers.{operation_cancelled}
 use Rattle.flow_value.specs.declared.value.Value.{Value}
-use Rattle.flow_value.specs.Values.{ValueTree, OutcomeTree}
 use Rattle.flow_class.specs.Classes.{RawTree}
 use Rattle.flow_numbered.specs.Numbered as stored
-use Rattle.flow_frame.specs.declared.held.Held.{Held}
 use Rattle.flow_frame.specs.Frames.{FrameTree}
 use Rattle.flow_cancel.specs.declared.actors.Note.{Note}
 use Rattle.flow_cancel.specs.declared.task.Task as stack
@@ -19,24 +16,24 @@ use Rattle.flow_cancel.specs.Heap.{HeapTree, actor_id, next_cell, next_actor}
 use Rattle.flow_cancel.specs.Leaving as leaving
 use Rattle.flow_cancel.specs.Leaving.{leave_all, without_callbacks, withdrawn, withdrawn_from, waits, suspended_in, suspended, marked_in, cancelled_by, cancelled}
 use Rattle.flow_meaning.specs.Numbered.{Numbered, thing, put}
-use Rattle.flow_meaning.specs.Cells.{Ref, Waiter, Cell, Single, Stream, waiters, as_list, without, without_one, left_by}
+use Rattle.flow_meaning.specs.Cells.{Ref, Waiter, Cell, Single, Stream, as_list, without, without_one, left_by}
 use Rattle.flow_meaning.specs.Asks.{Spot}
-use Rattle.flow_meaning.specs.Process.{Task, Throw, Entry, Core, Proc}
-use Rattle.flow_meaning.specs.Work.{pushed, drops, left_cells, running, leave, leave_for, marked, cancel_by}
+use Rattle.flow_meaning.specs.Process.{Throw, Entry, Proc}
+use Rattle.flow_meaning.specs.Work.{pushed, drops, left_cells, running, marked, cancel_by}
 use Rattle.flow_meaning.specs.Step.{kept_by, on_core, proc}
 use Rattle.flow_meaning.specs.Views.{spot_at}
 use Rattle.flow_meaning.specs.Frame.{Frame}
 use Rattle.flow_meaning.proofs.Posture.{each_number, thing_put, thing_put_other}
-use Rattle.flow_picture.specs.Shows.{Shows, CellShows, TasksShow, held_from, OneActor, Stands, stands, Ended, ended, FrameShows, Position, here, at_wait, wait_spot, spot_of_actor}
+use Rattle.flow_picture.specs.Shows.{Shows, CellShows, held_from, OneActor, stands, ended, FrameShows, Position, here, at_wait, wait_spot, spot_of_actor}
 use Rattle.flow_picture.specs.Counted.{branches_of, branches_at, waiters_at}
-use Rattle.flow_picture.specs.Acting.{At, NoKeep}
+use Rattle.flow_picture.specs.Acting.{At}
 use Rattle.flow_picture.specs.Leaving as change
 use Rattle.flow_picture.specs.Leaving.{RightKinds, MayLeave, first_part, left_wait}
 use Rattle.flow_picture.proofs.Tasks.{tasks_aside, tasks_same}
 use Rattle.flow_picture.proofs.Finds.{stored_put}
 use Rattle.flow_picture.proofs.Actors.{entry_put, note_put}
 use Rattle.flow_picture.proofs.Leaving.{less, less_one, less_as_list, all_left}
-use Rattle.flow_picture.proofs.Withdrawn.{less_maybe, cell_less, Left, leave_these, SameBeside}
+use Rattle.flow_picture.proofs.Withdrawn.{less_maybe, cell_less, Left, leave_these}
 use Rattle.flow_picture.proofs.Shown.{pushed_shown}
 
 -- cells that an actor has left
@@ -246,5 +243,5 @@ module _ (r : RawTree) (h : HeapTree) (p : Proc Frame) where
       by_flag false = mark_shown r h p i s at
       by_flag true =
           subst (λ es. Shows r (withdrawn i (memory.pushed (thrown i) (leaving.marked i h)))
-              (proc (record p.core { cells = left_cells i p.core.cells; entries = es; tasks = drops at.entry.operands (Throw i operation_cancelled ∷ p.core.tasks) }) p.actors))
+          (proc (record p.core { cells = left_cells i p.core.cells; entries = es; tasks = drops at.entry.operands (Throw i operation_cancelled ∷ p.core.tasks) }) p.actors))
           (put_twice r h p p.core.entries i (marked at.entry) (running (marked at.entry))) gone

@@ -15,3 +15,4 @@ pub mod Keeping
 pub mod Owners
 pub mod Losing
 pub mod LosingStreams
+pub mod Loss

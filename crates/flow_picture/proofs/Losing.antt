@@ -1,20 +1,17 @@
 -- What the loss of a reference to a single result does to a heap and to the process that it shows.
-use Rattle.std.proofs.Common.{◌≡◌, ℕ, zero, suc, ◌+◌, ◌-◌, ◌<◌, ◌≤◌, nat_eq, nat_lt, Bool, true, false, List, [], ◌∷◌, map, if◌then◌else◌, refl, sym, ap, ◌∙◌, subst, arith}
+use Rattle.std.proofs.Common.{◌≡◌, ℕ, zero, suc, ◌+◌, ◌<◌, ◌≤◌, nat_lt, Bool, true, false, List, [], ◌∷◌, map, if◌then◌else◌, refl, sym, ap, ◌∙◌, subst, arith}
 use Rattle.std.specs.Prelude.{is_some as set_in, is_none, slice_get}
 use Rattle.std.proofs.lemmas.Bool.Decides.{nat_tests}
 use Rattle.std.specs.Option.{option_map}
 use Rattle.std.specs.declared.option.Option.{Option}
 use Rattle.std.specs.declared.option.Option.TheVariants.{None, Some}
 use Rattle.flow_value.specs.declared.value.Kind.{Kind}
-use Rattle.flow_value.specs.declared.value.Kind.TheVariants as kind
-use Rattle.flow_value.specs.declared.value.Value.{Value}
 use Rattle.flow_value.specs.declared.value.Outcome.{Outcome}
 use Rattle.flow_value.specs.declared.value.Outcome.TheVariants as outcome
-use Rattle.flow_value.specs.Values.{ValueTree, OutcomeTree}
+use Rattle.flow_value.specs.Values.{OutcomeTree}
 use Rattle.flow_value.specs.View.{value_of, outcome_of}
 use Rattle.flow_class.specs.Classes.{RawTree}
 use Rattle.flow_numbered.specs.Numbered as stored
-use Rattle.flow_cell.specs.declared.waiter.Waiter as waiter
 use Rattle.flow_cell.specs.declared.counts.Side.TheVariants.{Promise, Future}
 use Rattle.flow_cell.specs.Cells.{CellTree, Counts, no_counts, count_of, released}
 use Rattle.flow_cell.specs.Cells as counts
@@ -22,22 +19,21 @@ use Rattle.flow_cancel.specs.declared.actors.Note.{Note}
 use Rattle.flow_cancel.specs.declared.task.Dropped.TheVariants as memory
 use Rattle.flow_cancel.specs.Heap.{HeapTree, actor_id, without}
 use Rattle.flow_cancel.specs.Heap as heap
-use Rattle.flow_cancel.specs.Dropping.{Lost, dropping, content, broken_if_not, cancel_if_not, cancel_owner, cell_less, cell_lost, freed_cell, drop_cell, loss_of, cell_may_lose, may_drop_cell}
-use Rattle.flow_meaning.specs.Numbered.{thing, removed}
-use Rattle.flow_meaning.specs.Cells.{Side, PromiseSide, FutureSide, side_of, Waiter, Cell, Single, Stream, good, held, is_complete}
-use Rattle.flow_meaning.specs.Process.{Entry, Core, Proc}
-use Rattle.flow_meaning.specs.Occ.{refs_in, one, same_side, count, count_waiters, in_entries}
+use Rattle.flow_cancel.specs.Dropping.{dropping, content, broken_if_not, cancel_if_not, cancel_owner, cell_less, cell_lost, drop_cell, loss_of, cell_may_lose, may_drop_cell}
+use Rattle.flow_meaning.specs.Numbered.{thing}
+use Rattle.flow_meaning.specs.Cells.{Side, PromiseSide, FutureSide, side_of, Waiter, Single, good, held, is_complete}
+use Rattle.flow_meaning.specs.Process.{Entry, Proc}
+use Rattle.flow_meaning.specs.Occ.{refs_in, one, count, count_waiters, in_entries}
 use Rattle.flow_meaning.specs.Work.{dropping_values, free, free_cell, owner}
-use Rattle.flow_meaning.specs.Dropping.{Loss, promises_gone, futures_gone, loss, port_of}
+use Rattle.flow_meaning.specs.Dropping.{promises_gone, futures_gone, loss, port_of}
 use Rattle.flow_meaning.specs.Step.{on_core}
 use Rattle.flow_meaning.specs.Frame.{Frame}
-use Rattle.flow_meaning.proofs.Posture.{same_number, other_number, each_number}
-use Rattle.flow_picture.specs.Shows.{Shows, CellShows, Somebody, spot_of_actor, waiter_in, cell_number}
-use Rattle.flow_picture.specs.Counted.{memory_side, count_at, kept_count, references, nothing_in_hand, Counted}
+use Rattle.flow_meaning.proofs.Posture.{same_number, each_number}
+use Rattle.flow_picture.specs.Shows.{Somebody, spot_of_actor, waiter_in, cell_number}
+use Rattle.flow_picture.specs.Counted.{memory_side, count_at, kept_count, references}
 use Rattle.flow_picture.specs.Changes.{cell_put, without_cell}
-use Rattle.flow_picture.specs.Rested.{Owned, IsUnset, IsStream}
-use Rattle.flow_picture.specs.References.{cell_holds}
-use Rattle.flow_picture.specs.Losing.{RightCell, Losing, Same, Follows}
+use Rattle.flow_picture.specs.Rested.{IsStream}
+use Rattle.flow_picture.specs.Losing.{Losing, Same, Follows}
 use Rattle.flow_picture.proofs.Finds.{stored_gone, stored_removed}
 use Rattle.flow_picture.proofs.Cells.{single_at, AsSingle}
 use Rattle.flow_picture.proofs.Actors.{by_note, by_entry}

@@ -1,5 +1,5 @@
 -- What the loss of a reference to a stream does to a heap and to the process that it shows.
-use Rattle.std.proofs.Common.{◌≡◌, ℕ, zero, suc, ◌+◌, ◌-◌, ◌<◌, ◌≤◌, nat_eq, nat_lt, Bool, true, false, List, [], ◌∷◌, map, if◌then◌else◌, refl, sym, ap, ◌∙◌, subst, arith}
+use Rattle.std.proofs.Common.{◌≡◌, ℕ, zero, suc, ◌+◌, ◌<◌, nat_eq, nat_lt, Bool, true, false, List, [], map, if◌then◌else◌, refl, sym, ap, ◌∙◌, subst, arith}
 use Rattle.std.specs.Prelude.{is_some as set_in, is_none, ◌&&◌, ◌||◌, not}
 use Rattle.std.proofs.lemmas.Bool.Decides.{nat_tests}
 use Rattle.std.specs.Option.{option_map}
@@ -8,29 +8,27 @@ use Rattle.std.specs.declared.option.Option.TheVariants.{None, Some}
 use Rattle.flow_base.specs.declared.ids.ErrorCode.{ErrorCode}
 use Rattle.flow_value.specs.declared.value.Kind.{Kind}
 use Rattle.flow_value.specs.declared.value.Value.{Value}
-use Rattle.flow_value.specs.Values.{ValueTree, OutcomeTree}
+use Rattle.flow_value.specs.Values.{ValueTree}
 use Rattle.flow_value.specs.View.{value_of}
 use Rattle.flow_class.specs.Classes.{RawTree}
 use Rattle.flow_numbered.specs.Numbered as stored
-use Rattle.flow_cell.specs.declared.counts.Side.TheVariants.{Promise, Future}
 use Rattle.flow_cell.specs.Cells.{Counts, no_counts, count_of, released}
 use Rattle.flow_cell.specs.Cells as counts
 use Rattle.flow_stream.specs.Streams.{StreamTree}
-use Rattle.flow_cancel.specs.declared.task.Dropped.TheVariants as memory
-use Rattle.flow_cancel.specs.Heap.{HeapTree, without, has_number, without_number}
+use Rattle.flow_cancel.specs.Heap.{HeapTree, without, has_number}
 use Rattle.flow_cancel.specs.Dropping as lost
 use Rattle.flow_cancel.specs.Dropping.{dropping, broken_if_not, stream_less, stream_lost, without_port, drop_stream, loss_of, stream_may_lose, may_drop_stream}
-use Rattle.flow_meaning.specs.Numbered.{Numbered, thing, removed}
+use Rattle.flow_meaning.specs.Numbered.{thing, removed}
 use Rattle.flow_meaning.specs.Cells.{Side, PromiseSide, FutureSide, side_of, Waiter, Cell, Stream, as_list, is_complete, is_some}
-use Rattle.flow_meaning.specs.Process.{Entry, Core, Proc}
+use Rattle.flow_meaning.specs.Process.{Entry, Proc}
 use Rattle.flow_meaning.specs.Occ.{refs_in, one, count, count_waiters}
 use Rattle.flow_meaning.specs.Work.{dropping_values, free, free_cell, owner}
-use Rattle.flow_meaning.specs.Dropping.{Loss, promises_gone, futures_gone, loss, port_of}
+use Rattle.flow_meaning.specs.Dropping.{promises_gone, futures_gone, loss, port_of}
 use Rattle.flow_meaning.specs.Step.{on_core}
 use Rattle.flow_meaning.specs.Frame.{Frame}
 use Rattle.flow_meaning.proofs.Posture.{each_number}
-use Rattle.flow_picture.specs.Shows.{Shows, spot_of_actor, waiter_in, error_number}
-use Rattle.flow_picture.specs.Counted.{memory_side, count_at, kept_count, references, nothing_in_hand}
+use Rattle.flow_picture.specs.Shows.{spot_of_actor, waiter_in, error_number}
+use Rattle.flow_picture.specs.Counted.{memory_side, count_at, kept_count, references}
 use Rattle.flow_picture.specs.Changes.{stream_put, without_cell}
 use Rattle.flow_picture.specs.Rested.{IsUnset}
 use Rattle.flow_picture.specs.Losing.{Losing, Same, Follows, free_port}

@@ -1,5 +1,5 @@
 -- The actor of a result, in memory and in the process.
-use Rattle.std.proofs.Common.{◌≡◌, ℕ, suc, ◌+◌, ◌<◌, ◌≤◌, nat_eq, Bool, true, false, List, [], ◌∷◌, if◌then◌else◌, refl, sym, ap, ◌∙◌, subst, arith}
+use Rattle.std.proofs.Common.{◌≡◌, ℕ, ◌≤◌, nat_eq, Bool, true, false, [], ◌∷◌, if◌then◌else◌, refl, sym, ap, ◌∙◌, subst, arith}
 use Rattle.std.specs.Prelude.{◌&&◌, not}
 use Rattle.std.proofs.lemmas.Bool.Decides.{nat_tests}
 use Rattle.std.specs.Option.{option_map}
@@ -16,9 +16,9 @@ use Rattle.flow_meaning.specs.Process.{Entry}
 use Rattle.flow_meaning.specs.Occ.{one, count_maybe, in_entries}
 use Rattle.flow_meaning.specs.Orderly.{Rising}
 use Rattle.flow_meaning.specs.Work.{is_result, owner}
-use Rattle.flow_meaning.proofs.Posture.{same_number, other_number, thing_removed_other, above_none}
+use Rattle.flow_meaning.proofs.Posture.{same_number, thing_removed_other, above_none}
 use Rattle.flow_picture.specs.References.{entry_holds}
-use Rattle.flow_picture.proofs.Sums.{sum_by, sum_removed, entries_sum}
+use Rattle.flow_picture.proofs.Sums.{sum_removed, entries_sum}
 
 -- the result of a note and of an entry
 pub noted_result : (k : ℕ) (o : Option CellId) → memory.is_result k o ≡ true → option_map (λ (c : CellId). c.0) o ≡ Some k

@@ -1,22 +1,21 @@
 -- The references of a process after each thing that it does.
-use Rattle.std.proofs.Common.{◌≡◌, ℕ, suc, ◌+◌, ◌<◌, ◌≤◌, nat_eq, Bool, true, false, List, [], ◌∷◌, ◌++◌, length, if◌then◌else◌, refl, sym, ap, ◌∙◌, subst, arith}
+use Rattle.std.proofs.Common.{◌≡◌, ℕ, suc, ◌+◌, nat_eq, Bool, true, false, List, [], ◌∷◌, ◌++◌, if◌then◌else◌, refl, sym, ap, ◌∙◌, arith}
 use Rattle.std.specs.Prelude.{◌&&◌}
 use Rattle.std.proofs.lemmas.Bool.Decides.{nat_tests}
 use Rattle.std.specs.declared.option.Option.{Option}
 use Rattle.std.specs.declared.option.Option.TheVariants.{None, Some}
-use Rattle.flow_value.specs.Values.{ValueTree, OutcomeTree, GoodOutcome, BadOutcome, refs_of}
+use Rattle.flow_value.specs.Values.{OutcomeTree, GoodOutcome, BadOutcome}
 use Rattle.flow_meaning.specs.Numbered.{Numbered, thing, added, put, removed}
-use Rattle.flow_meaning.specs.Cells.{Side, PromiseSide, FutureSide, side_of, Ref, Waiter, Cell, Single, Stream, waiters, held, as_list, without, without_one, left_by, is_complete, is_busy, taken, after_taking, filled, with_waiter}
-use Rattle.flow_meaning.specs.Process.{Task, Fire, Entry, Core, Proc}
-use Rattle.flow_meaning.specs.Occ.{same_side, refs_in, value_in, one, count, count_maybe, count_waiters, count_kept, in_cells, in_entries, in_task, in_tasks, in_ports, in_requests, in_core}
-use Rattle.flow_meaning.specs.Work.{pushed, dropping, dropping_values, new_cell, fill, fill_cell, left_cells, running}
+use Rattle.flow_meaning.specs.Cells.{Side, PromiseSide, FutureSide, side_of, Ref, Waiter, Cell, Single, Stream, waiters, as_list, without, without_one, left_by, is_complete, is_busy, taken, after_taking, filled, with_waiter}
+use Rattle.flow_meaning.specs.Process.{Proc}
+use Rattle.flow_meaning.specs.Occ.{same_side, refs_in, value_in, one, count, count_waiters, count_kept, in_cells, in_tasks, in_requests}
+use Rattle.flow_meaning.specs.Work.{fill_cell, left_cells, running}
 use Rattle.flow_meaning.specs.Orderly.{Rising}
-use Rattle.flow_meaning.specs.Step.{on_core, popped}
+use Rattle.flow_meaning.specs.Step.{on_core}
 use Rattle.flow_meaning.specs.Deliver.{closed_request}
 use Rattle.flow_meaning.specs.Frame.{Frame}
-use Rattle.flow_picture.specs.Counted.{frames_hold, references, branches_of, branches_at, waiters_at, waiting_by, waiting_of}
+use Rattle.flow_picture.specs.Counted.{references, branches_of, branches_at, waiters_at, waiting_by, waiting_of}
 use Rattle.flow_picture.specs.Rested.{has}
-use Rattle.flow_picture.specs.Changes.{put_cell}
 use Rattle.flow_meaning.proofs.Posture.{above_none}
 use Rattle.flow_picture.specs.Leaving.{wait_kind, RightKinds}
 use Rattle.flow_picture.specs.References as of

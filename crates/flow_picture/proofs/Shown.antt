@@ -1,5 +1,5 @@
 -- Tasks and cells of a heap and of the process that it shows.
-use Rattle.std.proofs.Common.{◌≡◌, ℕ, suc, ◌+◌, ◌≤◌, nat_eq, Bool, true, false, List, [], ◌∷◌, ◌++◌, map, if◌then◌else◌, refl, sym, ap, ◌∙◌, subst, arith}
+use Rattle.std.proofs.Common.{◌≡◌, ℕ, suc, List, [], ◌∷◌, ◌++◌, map, refl, sym, ap, ◌∙◌, subst, arith}
 use Rattle.std.specs.Prelude.{max}
 use Rattle.std.specs.Option.{option_map}
 use Rattle.std.specs.declared.option.Option.{Option}
@@ -9,25 +9,24 @@ use Rattle.flow_value.specs.Values.{OutcomeTree, GoodOutcome, BadOutcome}
 use Rattle.flow_value.specs.View.{value_of, outcome_of}
 use Rattle.flow_class.specs.Classes.{RawTree}
 use Rattle.flow_numbered.specs.Numbered as stored
-use Rattle.flow_cell.specs.Cells.{CellTree, unset}
-use Rattle.flow_stream.specs.Streams.{StreamTree, empty}
+use Rattle.flow_cell.specs.Cells.{unset}
+use Rattle.flow_stream.specs.Streams.{empty}
 use Rattle.flow_cancel.specs.Heap.{HeapTree, cell_id, next_cell, with_result, with_stream}
 use Rattle.flow_cancel.specs.Heap as memory
 use Rattle.flow_cancel.specs.Dropping as memory_drops
 use Rattle.flow_meaning.specs.Numbered.{Numbered, thing, put, removed}
 use Rattle.flow_meaning.specs.Cells.{Waiter, Cell, Single, Stream, filled, after_taking, taken, with_waiter}
 use Rattle.flow_meaning.specs.Asks.{Spot}
-use Rattle.flow_meaning.specs.Process.{Task, Fire, Core, Proc}
-use Rattle.flow_meaning.specs.Orderly.{Rising}
+use Rattle.flow_meaning.specs.Process.{Proc}
 use Rattle.flow_meaning.specs.Occ.{refs_in}
-use Rattle.flow_meaning.specs.Work.{pushed, dropping, dropping_values, new_cell, fill, fill_cell}
-use Rattle.flow_meaning.specs.Step.{kept_by, on_core, popped}
+use Rattle.flow_meaning.specs.Work.{dropping_values, new_cell, fill, fill_cell}
+use Rattle.flow_meaning.specs.Step.{kept_by, on_core}
 use Rattle.flow_meaning.specs.Frame.{Frame}
-use Rattle.flow_picture.specs.Shows.{Shows, CellShows, TasksShow, spot_of_actor, waiter_in, error_number}
+use Rattle.flow_picture.specs.Shows.{Shows, TasksShow, spot_of_actor, waiter_in, error_number}
 use Rattle.flow_picture.specs.Changes as change
 use Rattle.flow_picture.specs.Changes.{SameTask, SameTop, cell_put, stream_put, put_cell, without_cell}
 use Rattle.flow_picture.proofs.Tasks.{first, no_tasks, drops_show, refs_same}
-use Rattle.flow_picture.proofs.Cells.{CellsShow, AsSingle, AsStream, single_at, stream_at, single_put, single_kept, single_added, single_gone, stream_put as put_stream, stream_kept, stream_added, stream_gone}
+use Rattle.flow_picture.proofs.Cells.{CellsShow, single_at, stream_at, single_put, single_kept, single_added, single_gone, stream_put as put_stream, stream_kept, stream_added, stream_gone}
 use Rattle.flow_picture.proofs.Finds.{none_above}
 
 module _ (r : RawTree) (h : HeapTree) (p : Proc Frame) where

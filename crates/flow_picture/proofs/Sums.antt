@@ -1,15 +1,14 @@
 -- Sums over things by number.
-use Rattle.std.proofs.Common.{◌≡◌, ℕ, suc, ◌+◌, ◌<◌, ◌≤◌, nat_eq, Bool, true, false, List, [], ◌∷◌, ◌++◌, if◌then◌else◌, refl, sym, ap, ◌∙◌, subst, arith}
+use Rattle.std.proofs.Common.{◌≡◌, ℕ, ◌+◌, nat_eq, Bool, true, false, List, [], ◌∷◌, ◌++◌, if◌then◌else◌, refl, sym, ap, ◌∙◌, arith}
 use Rattle.std.proofs.lemmas.Bool.Decides.{nat_tests}
-use Rattle.std.specs.declared.option.Option.{Option}
-use Rattle.std.specs.declared.option.Option.TheVariants.{None, Some}
-use Rattle.flow_value.specs.Values.{ValueTree, OutcomeTree, refs_of}
+use Rattle.std.specs.declared.option.Option.TheVariants.{Some}
+use Rattle.flow_value.specs.Values.{ValueTree, refs_of}
 use Rattle.flow_meaning.specs.Numbered.{Numbered, thing, added, put, removed}
-use Rattle.flow_meaning.specs.Cells.{Side, PromiseSide, FutureSide, Ref, Waiter, Cell, waiters, held}
+use Rattle.flow_meaning.specs.Cells.{Side, PromiseSide, FutureSide, Ref, Waiter, Cell}
 use Rattle.flow_meaning.specs.Process.{Task, Entry}
-use Rattle.flow_meaning.specs.Occ.{refs_in, one, count, count_waiters, in_cells, in_entries, in_tasks, in_ports, in_requests, scan_of}
+use Rattle.flow_meaning.specs.Occ.{refs_in, one, count, count_waiters, in_cells, in_entries, in_tasks, in_ports}
 use Rattle.flow_meaning.specs.Work.{drops}
-use Rattle.flow_meaning.specs.Frame.{Frame, occ_memory}
+use Rattle.flow_meaning.specs.Frame.{Frame}
 use Rattle.flow_picture.specs.Counted.{frames_hold}
 use Rattle.flow_picture.specs.References.{cell_holds, entry_holds, frame_holds}
 

@@ -1,7 +1,5 @@
 -- Tasks in memory and in the process.
-use Rattle.std.proofs.Common.{◌≡◌, ℕ, suc, ◌+◌, nat_eq, Bool, true, false, List, [], ◌∷◌, ◌++◌, map, if◌then◌else◌, refl, sym, ap, ◌∙◌, subst, arith}
-use Rattle.std.specs.declared.option.Option.{Option}
-use Rattle.std.specs.declared.option.Option.TheVariants.{None, Some}
+use Rattle.std.proofs.Common.{◌≡◌, ℕ, Bool, true, false, List, [], ◌∷◌, ◌++◌, map, if◌then◌else◌, refl, sym, ap, ◌∙◌, subst, arith}
 use Rattle.flow_value.specs.declared.value.Value.{Value}
 use Rattle.flow_value.specs.View.{value_of}
 use Rattle.flow_value.specs.Values.{refs_of}
@@ -14,7 +12,6 @@ use Rattle.flow_meaning.specs.Process.{Task, Run, Give, Throw, Catch, Store, Kee
 use Rattle.flow_meaning.specs.Occ.{refs_in}
 use Rattle.flow_meaning.specs.Work.{drops}
 use Rattle.flow_meaning.specs.Orderly.{is_of, tasks_of}
-use Rattle.flow_meaning.proofs.Posture.{same_number}
 use Rattle.flow_picture.specs.Shows.{TaskShows, TasksShow}
 use Rattle.flow_picture.specs.Acting.{NoKeep}
 

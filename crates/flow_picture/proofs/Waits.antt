@@ -1,6 +1,5 @@
 -- Waiters in memory and in the process.
-use Rattle.std.proofs.Common.{◌≡◌, ℕ, suc, ◌+◌, ◌<◌, ◌≤◌, nat_eq, Bool, true, false, List, [], ◌∷◌, ◌++◌, map, if◌then◌else◌, refl, sym, ap, ◌∙◌, subst, arith}
-use Rattle.std.proofs.lemmas.Bool.Decides.{nat_tests}
+use Rattle.std.proofs.Common.{◌≡◌, ℕ, nat_eq, Bool, true, false, List, [], ◌∷◌, map, if◌then◌else◌, refl, sym, ap, ◌∙◌, arith}
 use Rattle.std.specs.Option.{option_map}
 use Rattle.std.specs.declared.option.Option.{Option}
 use Rattle.std.specs.declared.option.Option.TheVariants.{None, Some}
@@ -10,7 +9,7 @@ use Rattle.flow_numbered.specs.Numbered as stored
 use Rattle.flow_cell.specs.Cells.{CellTree}
 use Rattle.flow_stream.specs.Streams.{StreamTree}
 use Rattle.flow_meaning.specs.Numbered.{Numbered, thing}
-use Rattle.flow_meaning.specs.Cells.{Waiter, Cell, Single, Stream, waiters, as_list}
+use Rattle.flow_meaning.specs.Cells.{Waiter, Cell, Single, Stream, as_list}
 use Rattle.flow_meaning.specs.Asks.{Spot}
 use Rattle.flow_picture.specs.Shows.{CellShows, waiter_in}
 use Rattle.flow_picture.specs.Counted.{branches_of, waiters_at}

@@ -1,35 +1,29 @@
 -- An actor leaves its wait in memory, and in the process.
-use Rattle.std.proofs.Common.{◌≡◌, ℕ, zero, suc, ◌+◌, ◌≤◌, nat_eq, Bool, true, false, List, [], ◌∷◌, ◌++◌, map, if◌then◌else◌, refl, sym, ap, ◌∙◌, subst, arith}
-use Rattle.std.specs.Prelude.{◌&&◌, ◌||◌}
-use Rattle.std.proofs.lemmas.Bool.Decides.{nat_tests}
-use Rattle.std.specs.Option.{option_map}
+use Rattle.std.proofs.Common.{◌≡◌, ℕ, suc, ◌+◌, Bool, true, false, List, [], ◌∷◌, map, if◌then◌else◌, refl, sym, ap, ◌∙◌, subst, arith}
+use Rattle.std.specs.Prelude.{◌||◌}
 use Rattle.std.specs.declared.option.Option.{Option}
 use Rattle.std.specs.declared.option.Option.TheVariants.{None, Some}
 use Rattle.flow_value.specs.declared.value.Value.{Value}
 use Rattle.flow_value.specs.declared.value.Outcome.{Outcome}
-use Rattle.flow_value.specs.declared.value.Kind.{Kind}
-use Rattle.flow_value.specs.View.{value_of, outcome_of}
 use Rattle.flow_numbered.specs.Numbered as stored
 use Rattle.flow_cell.specs.declared.waiter.Waiter as memory
 use Rattle.flow_cell.specs.Cells.{CellTree}
 use Rattle.flow_cell.specs.Waiting.{has_waiter, without_newest}
 use Rattle.flow_stream.specs.Streams.{StreamTree}
-use Rattle.flow_frame.specs.declared.held.Held.{Held}
 use Rattle.flow_cancel.specs.declared.task.Task as stack
 use Rattle.flow_cancel.specs.Heap.{HeapTree}
-use Rattle.flow_cancel.specs.Leaving as leaving
 use Rattle.flow_cancel.specs.Leaving.{leave_one, leave_all, leave_cell_at, leave_stream_at, left_cells, kind_at, is_waiter}
 use Rattle.flow_meaning.specs.Numbered.{Numbered, thing}
-use Rattle.flow_meaning.specs.Cells.{Ref, Waiter, Cell, Single, Stream, waiters, as_list, without, without_one, left_by}
+use Rattle.flow_meaning.specs.Cells.{Ref, Waiter, Cell, Single, Stream}
 use Rattle.flow_meaning.specs.Asks.{Spot}
 use Rattle.flow_meaning.specs.Process.{Task, Drop}
 use Rattle.flow_meaning.specs.Work.{drops}
 use Rattle.flow_meaning.proofs.Posture.{same_number, other_number, each_number}
-use Rattle.flow_picture.specs.Shows.{CellShows, TasksShow, waiter_in, held_from, error_number}
-use Rattle.flow_picture.specs.Counted.{branches_of, branches_at, waiters_at}
-use Rattle.flow_picture.specs.Leaving.{wait_kind, RightKinds, first_part}
+use Rattle.flow_picture.specs.Shows.{CellShows, TasksShow, waiter_in, held_from}
+use Rattle.flow_picture.specs.Counted.{branches_at}
+use Rattle.flow_picture.specs.Leaving.{wait_kind, RightKinds}
 use Rattle.flow_picture.proofs.Finds.{stored_other, stored_put}
-use Rattle.flow_picture.proofs.Leaving.{is_branch, has_branch, without_branch, less_one, less, all_left, has_as, without_as, unhad}
+use Rattle.flow_picture.proofs.Leaving.{is_branch, has_branch, without_branch, less_one, less, has_as, without_as, unhad}
 
 -- a cell which some branches of an actor have left, one by one
 abbrev pub less_maybe : (actor : ℕ) → List ℕ → Option Waiter → Option Waiter
@@ -239,7 +233,7 @@ module _ (spots : ℕ → Spot) (i : ℕ) where
             each_number r.1 (λ k. CellShows spots (stored.thing d.cells.things k) (stored.thing d.streams.things k) (cell_less i (branches_at k b (r ∷ rs)) (thing cs k)))
             (subst (λ z. CellShows spots (stored.thing d.cells.things r.1) (stored.thing d.streams.things r.1) z) here_less
             (subst (λ m. CellShows spots (stored.thing (leave_cell_at r.1 (record { actor = record { 0 = i }; callback = m }) o g).cells.things r.1)
-                (stored.thing (leave_cell_at r.1 (record { actor = record { 0 = i }; callback = m }) o g).streams.things r.1) (one_cell b (cell_less i (branches_at r.1 (suc b) rs) (thing cs r.1)))) (sym e)
+            (stored.thing (leave_cell_at r.1 (record { actor = record { 0 = i }; callback = m }) o g).streams.things r.1) (one_cell b (cell_less i (branches_at r.1 (suc b) rs) (thing cs r.1)))) (sym e)
             (there b r.1 g o (stored.thing g.streams.things r.1) (cell_less i (branches_at r.1 (suc b) rs) (thing cs r.1)) refl refl (l.cells r.1))))
             (λ j differ. let x = elsewhere r.1 j (record { actor = record { 0 = i }; callback = n }) g o differ in
             subst (λ z. CellShows spots (stored.thing d.cells.things j) (stored.thing d.streams.things j) z) (other_less j differ) (rw (x.0, x.1) (l.cells j)));

@@ -1,26 +1,18 @@
 -- Changes of an actor in a heap that are changes of it in the process that the heap shows.
-use Rattle.std.specs.Prelude.{◌≡◌, ℕ, suc, ◌+◌, Bool, true, false, List, [], ◌∷◌, ◌++◌, map, length, slice_get}
-use Rattle.std.specs.Option.{option_map}
-use Rattle.std.specs.declared.option.Option.{Option}
-use Rattle.std.specs.declared.option.Option.TheVariants.{None, Some}
-use Rattle.flow_base.specs.declared.ids.CellId.{CellId}
+use Rattle.std.specs.Prelude.{◌≡◌, ℕ, suc, ◌+◌, List, [], ◌∷◌, length, slice_get}
+use Rattle.std.specs.declared.option.Option.TheVariants.{Some}
 use Rattle.flow_value.specs.declared.value.Value.{Value}
-use Rattle.flow_value.specs.View.{value_of}
-use Rattle.flow_class.specs.declared.class.Slotted.{Slotted}
-use Rattle.flow_class.specs.declared.class.Slotted.TheVariants.{Slot, Local}
 use Rattle.flow_class.specs.Classes.{ClassTree, RawTree}
 use Rattle.flow_numbered.specs.Numbered as stored
-use Rattle.flow_frame.specs.Frames.{FrameTree, with_place, with_callback, in_state}
+use Rattle.flow_frame.specs.Frames.{FrameTree}
 use Rattle.flow_cancel.specs.declared.actors.Note.{Note}
 use Rattle.flow_cancel.specs.Heap.{HeapTree, cell_id, started, finished}
-use Rattle.flow_meaning.specs.Numbered.{Numbered, thing, added, put, removed}
-use Rattle.flow_meaning.specs.Cells.{Ref}
-use Rattle.flow_meaning.specs.Asks.{Spot}
-use Rattle.flow_meaning.specs.Process.{Task, Run, Give, Throw, Catch, Store, Keep, Close, Fire, Drop, Entry, Core, Proc}
-use Rattle.flow_meaning.specs.Step.{proc, entry_of, with_operand}
+use Rattle.flow_meaning.specs.Numbered.{thing, added, put, removed}
+use Rattle.flow_meaning.specs.Process.{Task, Keep, Entry, Core, Proc}
+use Rattle.flow_meaning.specs.Step.{proc, entry_of}
 use Rattle.flow_meaning.specs.Orderly.{Rising}
-use Rattle.flow_meaning.specs.Frame.{Memory, Frame, blanks, write}
-use Rattle.flow_picture.specs.Shows.{Shows, Somebody, OneActor, Stands, Ended, wait_spot}
+use Rattle.flow_meaning.specs.Frame.{Frame, blanks}
+use Rattle.flow_picture.specs.Shows.{Shows, Somebody, OneActor, wait_spot}
 use Rattle.flow_picture.specs.Counted.{branches_of, waiters_at}
 
 -- no operand of an actor is to be kept

@@ -1,13 +1,13 @@
 -- What a heap and the process that it shows hold beside cells and actors.
-use Rattle.std.specs.Prelude.{◌≡◌, ℕ, suc, ◌<◌, Bool, true, false, List, [], ◌∷◌, ◌++◌}
+use Rattle.std.specs.Prelude.{◌≡◌, ℕ, ◌<◌, false, [], ◌∷◌, ◌++◌}
 use Rattle.std.specs.Option.{option_map}
 use Rattle.std.specs.declared.option.Option.{Option}
-use Rattle.std.specs.declared.option.Option.TheVariants.{None, Some}
+use Rattle.std.specs.declared.option.Option.TheVariants.{Some}
 use Rattle.flow_base.specs.declared.ids.CellId.{CellId}
 use Rattle.flow_class.specs.Classes.{RawTree}
 use Rattle.flow_cancel.specs.Heap.{HeapTree, has_number, with_number, without_number, cleared}
-use Rattle.flow_meaning.specs.Numbered.{thing, added, removed}
-use Rattle.flow_meaning.specs.Process.{Core, Proc}
+use Rattle.flow_meaning.specs.Numbered.{added, removed}
+use Rattle.flow_meaning.specs.Process.{Proc}
 use Rattle.flow_meaning.specs.Dropping.{port_of}
 use Rattle.flow_meaning.specs.Deliver.{closed_request, vanish}
 use Rattle.flow_meaning.specs.Step.{on_core}

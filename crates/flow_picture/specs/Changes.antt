@@ -1,25 +1,22 @@
 -- Changes of a heap that are changes of the process that it shows.
-use Rattle.std.specs.Prelude.{◌≡◌, ℕ, suc, ◌+◌, Bool, true, false, List, [], ◌∷◌, ◌++◌, map}
-use Rattle.std.specs.Option.{option_map}
-use Rattle.std.specs.declared.option.Option.{Option}
+use Rattle.std.specs.Prelude.{◌≡◌, ℕ, List, [], ◌∷◌, ◌++◌, map}
 use Rattle.std.specs.declared.option.Option.TheVariants.{None, Some}
-use Rattle.flow_base.specs.declared.ids.CellId.{CellId}
 use Rattle.flow_base.specs.declared.ids.ErrorCode.{ErrorCode}
 use Rattle.flow_value.specs.declared.value.Value.{Value}
 use Rattle.flow_value.specs.declared.value.Outcome.{Outcome}
-use Rattle.flow_value.specs.Values.{OutcomeTree, GoodOutcome, BadOutcome}
+use Rattle.flow_value.specs.Values.{GoodOutcome, BadOutcome}
 use Rattle.flow_value.specs.View.{value_of, outcome_of}
 use Rattle.flow_class.specs.Classes.{RawTree}
 use Rattle.flow_numbered.specs.Numbered as stored
 use Rattle.flow_cell.specs.Cells.{CellTree, Counts}
-use Rattle.flow_stream.specs.Streams.{StreamTree, with_item, tail}
+use Rattle.flow_stream.specs.Streams.{StreamTree, with_item}
 use Rattle.flow_cancel.specs.declared.task.Task as stack
 use Rattle.flow_cancel.specs.declared.task.Task.TheVariants as task
 use Rattle.flow_cancel.specs.Heap as memory
 use Rattle.flow_cancel.specs.Heap.{HeapTree, cell_id, next_cell, with_result, with_stream}
 use Rattle.flow_cancel.specs.Dropping as memory_drops
-use Rattle.flow_meaning.specs.Numbered.{Numbered, thing, put, removed}
-use Rattle.flow_meaning.specs.Cells.{Ref, Waiter, Cell, Single, Stream, is_complete, is_ready, filled, taken, after_taking, with_waiter}
+use Rattle.flow_meaning.specs.Numbered.{thing, put, removed}
+use Rattle.flow_meaning.specs.Cells.{Ref, Waiter, Cell, Single, Stream, taken, after_taking, with_waiter}
 use Rattle.flow_meaning.specs.Process.{Task, Core, Proc}
 use Rattle.flow_meaning.specs.Work.{pushed, dropping, dropping_values, new_cell, fill}
 use Rattle.flow_meaning.specs.Step.{kept_by, on_core, popped}

@@ -1,8 +1,7 @@
 -- What the loss of a reference does to a heap, by its kept counts, is what it does to the process that the heap shows, by
 -- a scan for references.
-use Rattle.std.specs.Prelude.{◌≡◌, ℕ, Bool, true, false, List}
-use Rattle.std.specs.declared.option.Option.{Option}
-use Rattle.std.specs.declared.option.Option.TheVariants.{None, Some}
+use Rattle.std.specs.Prelude.{◌≡◌, ℕ, true}
+use Rattle.std.specs.declared.option.Option.TheVariants.{Some}
 use Rattle.flow_value.specs.declared.value.Kind.{Kind}
 use Rattle.flow_value.specs.declared.value.Kind.TheVariants as kind
 use Rattle.flow_class.specs.Classes.{RawTree}
@@ -11,7 +10,7 @@ use Rattle.flow_cancel.specs.Dropping.{Lost, dropped, may_drop}
 use Rattle.flow_cancel.specs.declared.task.Dropped.TheVariants as memory
 use Rattle.flow_meaning.specs.Numbered.{thing, removed}
 use Rattle.flow_meaning.specs.Cells.{PromiseSide, FutureSide, side_of, Cell, Single, Stream}
-use Rattle.flow_meaning.specs.Process.{Entry, Core, Proc}
+use Rattle.flow_meaning.specs.Process.{Core, Proc}
 use Rattle.flow_meaning.specs.Occ.{one}
 use Rattle.flow_meaning.specs.Work.{free, owner}
 use Rattle.flow_meaning.specs.Dropping.{Loss, Kept, Freed, Broken, Orphan, Unheard, loss, port_of}
