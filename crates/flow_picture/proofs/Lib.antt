@@ -16,3 +16,4 @@ pub mod Owners
 pub mod Losing
 pub mod LosingStreams
 pub mod Loss
+pub mod Standing

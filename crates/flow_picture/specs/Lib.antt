@@ -8,3 +8,4 @@ pub mod Beside
 pub mod References
 pub mod Keeping
 pub mod Losing
+pub mod Standing
