@@ -17,3 +17,4 @@ pub mod Losing
 pub mod LosingStreams
 pub mod Loss
 pub mod Standing
+pub mod Holding

@@ -9,3 +9,4 @@ pub mod References
 pub mod Keeping
 pub mod Losing
 pub mod Standing
+pub mod Holding
