@@ -1,5 +1,5 @@
 -- The hold on `main`, ports and requests of a heap and of the process that it shows.
-use Rattle.std.proofs.Common.{◌≡◌, ℕ, ◌<◌, nat_eq, nat_lt, Bool, true, false, List, [], ◌∷◌, ◌++◌, if◌then◌else◌, refl, sym, ap, ◌∙◌, arith}
+use Rattle.std.proofs.Common.{◌≡◌, ℕ, ◌<◌, nat_eq, nat_lt, Bool, true, false, List, [], ◌∷◌, ◌++◌, if◌then◌else◌, refl, sym, ap, ◌∙◌, arith, ◌≤◌, subst}
 use Rattle.std.specs.Prelude.{◌||◌, cond}
 use Rattle.std.proofs.lemmas.Bool.Decides.{nat_tests}
 use Rattle.std.specs.Ordering.{nat_cmp, match_ordering}
@@ -15,9 +15,9 @@ use Rattle.flow_meaning.specs.Process.{Proc}
 use Rattle.flow_meaning.specs.Dropping.{port_of}
 use Rattle.flow_meaning.specs.Deliver.{closed_request}
 use Rattle.flow_meaning.specs.Frame.{Frame}
-use Rattle.flow_meaning.proofs.Posture.{each_number, other_number}
+use Rattle.flow_meaning.proofs.Posture.{same_number, each_number, other_number}
 use Rattle.flow_picture.specs.Shows.{nobody}
-use Rattle.flow_picture.specs.Rested.{NumbersRise}
+use Rattle.flow_picture.specs.Rested.{NumbersRise, PortsRise, OneEach}
 use Rattle.flow_picture.specs.Beside as change
 
 -- a number is compared
@@ -112,6 +112,44 @@ port_removed j port k (x ∷ xs) e n = by_test (nat_eq port x.0) e (port_removed
         on : (u : Bool) → is_some (port_of j (removed xs port)) ≡ is_some (port_of j xs) → is_some (if u then Some x.0 else port_of j (removed xs port)) ≡ is_some (if u then Some x.0 else port_of j xs)
         on true i = refl
         on false i = i
+
+-- where ports differ and the numbers of their streams rise, each has a stream of its own
+above_ports : (k above n : ℕ) (xs : Numbered ℕ) → PortsRise above n xs → k ≤ above → port_of k xs ≡ None
+above_ports k above n [] h l = refl
+above_ports k above n (x ∷ xs) h l =
+    let f : nat_eq k x.1 ≡ false = other_number x.1 k (λ e. omega (arith, e, l, h.0)) in
+    ap (λ b. if b then Some x.0 else port_of k xs) f ∙ above_ports k x.1 n xs h.3 (omega (arith, l, h.0))
+
+found_port : (q k above n : ℕ) (xs : Numbered ℕ) → PortsRise above n xs → port_of k xs ≡ Some q → above < k
+found_port q k above n [] h e = absurd (cc)
+found_port q k above n (x ∷ xs) h e = by_test (nat_eq k x.1) refl e (λ f. found_port q k x.1 n xs h.3 f)
+  where
+    by_test : (t : Bool) → nat_eq k x.1 ≡ t → (if t then Some x.0 else port_of k xs) ≡ Some q → (port_of k xs ≡ Some q → x.1 < k) → above < k
+    by_test true g f rest = let same : k ≡ x.1 = grind (arith, nat_tests) in omega (arith, same, h.0)
+    by_test false g f rest = let a = rest f in omega (arith, a, h.0)
+
+pub one_each : (xs : Numbered ℕ) (above n : ℕ) → PortsRise above n xs → OneEach xs
+one_each [] above n h q k e = absurd (cc)
+one_each (x ∷ xs) above n h q k e = by_test (nat_eq k x.1) refl e (one_each xs x.1 n h.3 q k)
+  where
+    by_test : (t : Bool) → nat_eq k x.1 ≡ t → (if t then Some x.0 else port_of k xs) ≡ Some q → (port_of k xs ≡ Some q → (thing xs q ≡ Some k) × (port_of k (removed xs q) ≡ None))
+        → (thing (x ∷ xs) q ≡ Some k) × (port_of k (removed (x ∷ xs) q) ≡ None)
+    by_test true g f rest =
+        let same : k ≡ x.1 = grind (arith, nat_tests) in
+        let port : x.0 ≡ q = cc (f) in
+        let u : nat_eq q x.0 ≡ true = subst (λ m. nat_eq m x.0 ≡ true) port (same_number x.0) in (
+          ap (λ b. if b then Some x.1 else thing xs q) u ∙ ap Some (sym same),
+          ap (λ b. port_of k (if b then xs else x ∷ removed xs q)) u ∙ above_ports k x.1 n xs h.3 (omega (arith, same)),
+        )
+    by_test false g f rest =
+        let r = rest f in
+        let u : nat_eq q x.0 ≡ false = other_number x.0 q (λ i. not_there (sym (ap (thing xs) i) ∙ h.2) r.0) in (
+          ap (λ b. if b then Some x.1 else thing xs q) u ∙ r.0,
+          ap (λ b. port_of k (if b then xs else x ∷ removed xs q)) u ∙ ap (λ b. if b then Some x.0 else port_of k (removed xs q)) g ∙ r.1,
+        )
+      where
+        not_there : thing xs q ≡ None → thing xs q ≡ Some k → ⊥
+        not_there a b = cc
 
 module _ (r : RawTree) (h : HeapTree) (p : Proc Frame) where
   pub main_shown : change.MainHeld r h p

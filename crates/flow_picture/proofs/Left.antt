@@ -37,7 +37,7 @@ use Rattle.flow_picture.proofs.Withdrawn.{less_maybe, cell_less, Left, leave_the
 use Rattle.flow_picture.proofs.Shown.{pushed_shown}
 
 -- cells that an actor has left
-found_left : (i : ℕ) (cs : Numbered Cell) (k : ℕ) → thing (left_cells i cs) k ≡ option_map (left_by i) (thing cs k)
+pub found_left : (i : ℕ) (cs : Numbered Cell) (k : ℕ) → thing (left_cells i cs) k ≡ option_map (left_by i) (thing cs k)
 found_left i [] k = refl
 found_left i (x ∷ xs) k = by_test (nat_eq k x.0) (found_left i xs k)
   where

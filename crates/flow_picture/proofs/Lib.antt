@@ -18,3 +18,6 @@ pub mod LosingStreams
 pub mod Loss
 pub mod Standing
 pub mod Holding
+pub mod Tidy
+pub mod TidyWaits
+pub mod TidySteps

@@ -35,7 +35,7 @@ use Rattle.flow_picture.specs.Losing.{Losing, Same, Follows, free_port}
 use Rattle.flow_picture.proofs.Finds.{stored_gone, stored_removed}
 use Rattle.flow_picture.proofs.Cells.{stream_at, AsStream}
 use Rattle.flow_picture.proofs.Shown.{stream_counted, stream_is_gone, values_shown}
-use Rattle.flow_picture.proofs.Beside.{port_gone}
+use Rattle.flow_picture.proofs.Beside.{port_gone, one_each}
 use Rattle.flow_picture.proofs.Referring.{of_values, of_gone, of_port_gone}
 use Rattle.flow_picture.proofs.Keeping.{stream_released, no_one}
 use Rattle.flow_picture.proofs.Owners.{entry_found}
@@ -156,12 +156,12 @@ module _ (r : RawTree) (h : HeapTree) (p : Proc Frame) (kd : Kind) (k : ℕ) (q 
     unheard : Same r (gone_heap (without_port k h)) (on_core (free_port k port) p)
     unheard = subst (Same r (gone_heap (without_port k h))) (gone_is unported l.cell) (
       values_shown r (record (without_port k h) { streams = without h.streams k }) (on_core (without_cell k) unported) m.queue
-          (stream_is_gone r (without_port k h) unported k m (port_gone r h p port k l.shows mine l.numbers.ports (l.sorted.ports k)) at l.sorted.streams l.numbers.cells),
+          (stream_is_gone r (without_port k h) unported k m (port_gone r h p port k l.shows mine (one_each p.core.ports 0 p.core.made l.numbers.ports) (l.sorted.ports k)) at l.sorted.streams l.numbers.cells),
       λ s j. let a = by_number s j in let b = same_references unported l.cell fz s j in omega (arith, a, b),
     )
       where
         less : (s : Side) (j : ℕ) → references s j p ≡ one s j PromiseSide k + references s j unported
-        less s j = of_port_gone p s j port k (l.numbers.ports port k mine).0
+        less s j = of_port_gone p s j port k (one_each p.core.ports 0 p.core.made l.numbers.ports port k mine).0
 
         none_here : (s : Side) → references s k unported ≡ 0
         none_here PromiseSide =

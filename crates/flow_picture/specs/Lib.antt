@@ -10,3 +10,4 @@ pub mod Keeping
 pub mod Losing
 pub mod Standing
 pub mod Holding
+pub mod Keeps

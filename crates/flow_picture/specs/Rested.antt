@@ -56,9 +56,14 @@ pub record Cared (p : Proc Frame) : Type 0 where
 abbrev pub OneEach : Numbered ℕ → Type 0
 OneEach xs = (q k : ℕ) → port_of k xs ≡ Some q → (thing xs q ≡ Some k) × (port_of k (removed xs q) ≡ None)
 
--- the numbers of cells and open requests rise, and ports and their streams are one to one
+-- ports differ, and the numbers of their streams rise
+abbrev pub PortsRise : (above : ℕ) → ℕ → Numbered ℕ → Type 0
+PortsRise above n [] = Unit {0}
+PortsRise above n (x ∷ xs) = (above < x.1) × (x.1 < suc n) × (thing xs x.0 ≡ None) × PortsRise x.1 n xs
+
+-- the numbers of cells, of open requests and of ports' streams rise
 pub record InNumbers (c : Core) : Type 0 where
-  pub ports : OneEach c.ports
+  pub ports : PortsRise 0 c.made c.ports
   pub cells : Rising 0 c.made c.cells
   pub requests : NumbersRise 0 c.made c.requests
 
