@@ -1,20 +1,19 @@
 -- The references that a frame holds after its places change.
-use Rattle.std.proofs.Common.{◌≡◌, ℕ, zero, suc, ◌+◌, ◌<◌, ◌≤◌, List, [], ◌∷◌, ◌++◌, length, set, refl, sym, ap, ◌∙◌, subst, arith}
+use Rattle.std.proofs.Common.{◌≡◌, ℕ, zero, suc, ◌+◌, ◌<◌, List, [], ◌∷◌, ◌++◌, length, set, refl, sym, ap, ◌∙◌, arith}
 use Rattle.std.specs.Prelude.{slice_get}
 use Rattle.std.specs.declared.option.Option.{Option}
 use Rattle.std.specs.declared.option.Option.TheVariants.{None, Some}
 use Rattle.flow_tree.specs.declared.ty.Ident.{Ident}
 use Rattle.flow_tree.specs.Decls.{RecordTree}
 use Rattle.flow_value.specs.Values.{ValueTree, ValueTrees, NoValues, MoreValues, IntValue, BoolValue, TextValue, VoidValue, ErrorValue, RecordValue, RefValue, refs_of, refs_of_all}
-use Rattle.flow_class.specs.declared.class.Slotted.{Slotted}
 use Rattle.flow_class.specs.declared.class.Slotted.TheVariants.{Slot, Local}
-use Rattle.flow_eval.specs.Records.{value_at, value_put, at_place, field_place, field}
+use Rattle.flow_eval.specs.Records.{value_at, value_put, at_place, field_place}
 use Rattle.flow_eval.specs.Functions.{put_in, read_in, place_of}
 use Rattle.flow_eval.specs.Functions as eval
 use Rattle.flow_meaning.specs.Cells.{Side}
 use Rattle.flow_meaning.specs.Occ.{count, refs_in}
 use Rattle.flow_meaning.specs.Variables.{filled, flat}
-use Rattle.flow_meaning.specs.Frame.{Memory, Frame, read, write, held_in, emptied, reversed, blanks, all_emptied, everything, occ_memory, put_at, put_root}
+use Rattle.flow_meaning.specs.Frame.{Memory, read, write, held_in, reversed, blanks, all_emptied, occ_memory, put_root}
 use Rattle.flow_meaning.proofs.Shifts.{same_of}
 use Rattle.flow_picture.specs.Holding as of
 use Rattle.flow_picture.specs.Holding.{held, InMemory}

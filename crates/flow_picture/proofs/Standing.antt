@@ -1,27 +1,24 @@
 -- Places, positions and operands of a frame in memory and in the process.
-use Rattle.std.proofs.Common.{◌≡◌, ℕ, zero, suc, ◌+◌, ◌<◌, ◌≤◌, nat_lt, Bool, true, false, List, [], ◌∷◌, ◌++◌, map, length, get_or, set, if◌then◌else◌, refl, sym, ap, ◌∙◌, subst, arith}
+use Rattle.std.proofs.Common.{◌≡◌, ℕ, zero, suc, ◌+◌, ◌<◌, nat_lt, true, false, List, [], ◌∷◌, ◌++◌, map, length, get_or, set, refl, sym, ap, ◌∙◌, arith}
 use Rattle.std.specs.Prelude.{slice_get}
 use Rattle.std.proofs.lemmas.Bool.Decides.{nat_tests}
 use Rattle.std.specs.Option.{option_map}
 use Rattle.std.specs.declared.option.Option.{Option}
-use Rattle.std.specs.declared.option.Option.TheVariants.{None, Some}
+use Rattle.std.specs.declared.option.Option.TheVariants.{None}
 use Rattle.flow_value.specs.declared.value.Value.{Value}
 use Rattle.flow_value.specs.Values.{ValueTree}
 use Rattle.flow_value.specs.View.{value_of}
-use Rattle.flow_class.specs.declared.class.Slotted.{Slotted}
 use Rattle.flow_class.specs.declared.class.Slotted.TheVariants.{Slot, Local}
 use Rattle.flow_class.specs.Classes.{RawTree}
 use Rattle.flow_frame.specs.declared.held.Held.{Held}
-use Rattle.flow_frame.specs.Frames.{FrameTree, with_place, with_callback, in_state, all_empty}
-use Rattle.flow_cancel.specs.declared.actors.Note.{Note}
+use Rattle.flow_frame.specs.Frames.{FrameTree, with_callback}
 use Rattle.flow_cancel.specs.Heap.{cell_id}
 use Rattle.flow_cancel.specs.Leaving.{waits}
 use Rattle.flow_meaning.specs.Variables.{flat}
 use Rattle.flow_meaning.specs.Cells.{Ref}
-use Rattle.flow_meaning.specs.Asks.{Spot}
 use Rattle.flow_meaning.specs.Process.{Entry}
-use Rattle.flow_meaning.specs.Frame.{Memory, Frame, read, write, over}
-use Rattle.flow_picture.specs.Shows.{Stands, OneActor, FrameShows, stands, Ended, ended, Position, here, at_wait, held_from, wait_spot}
+use Rattle.flow_meaning.specs.Frame.{Memory, Frame, write}
+use Rattle.flow_picture.specs.Shows.{Stands, ended, Position, here, at_wait, held_from, wait_spot}
 use Rattle.flow_picture.specs.Standing as law
 use Rattle.flow_picture.specs.Standing.{number_in, HasPlace, next_callback}
 use Rattle.flow_picture.proofs.Left.{held_as}

@@ -1,5 +1,5 @@
 -- Waiters and operands agree, and numbers rise, after each thing that a process does to itself.
-use Rattle.std.proofs.Common.{◌≡◌, ℕ, zero, suc, ◌+◌, ◌<◌, ◌≤◌, nat_eq, Bool, true, false, List, [], ◌∷◌, ◌++◌, if◌then◌else◌, refl, sym, ap, ◌∙◌, subst, arith}
+use Rattle.std.proofs.Common.{◌≡◌, ℕ, suc, ◌≤◌, nat_eq, Bool, true, false, List, [], ◌∷◌, ◌++◌, if◌then◌else◌, refl, sym, ap, ◌∙◌, subst, arith}
 use Rattle.std.proofs.lemmas.Bool.Decides.{nat_tests}
 use Rattle.std.specs.Option.{option_map}
 use Rattle.std.specs.declared.option.Option.{Option}
@@ -7,18 +7,16 @@ use Rattle.std.specs.declared.option.Option.TheVariants.{None, Some}
 use Rattle.flow_base.specs.ErrorNumbers.{operation_cancelled}
 use Rattle.flow_value.specs.Values.{ValueTree, OutcomeTree}
 use Rattle.flow_meaning.specs.Numbered.{Numbered, thing, added, put, removed}
-use Rattle.flow_meaning.specs.Cells.{FutureSide, Ref, Waiter, Cell, Single, Stream, waiters, filled, taken, after_taking, as_list, without, without_one, left_by, with_waiter, is_busy, held}
-use Rattle.flow_meaning.specs.Asks.{Spot}
+use Rattle.flow_meaning.specs.Cells.{FutureSide, Waiter, Cell, Single, Stream, waiters, filled, taken, after_taking, as_list, without, left_by}
 use Rattle.flow_meaning.specs.Process.{Task, Give, Throw, Entry, Core}
-use Rattle.flow_meaning.specs.Occ.{Scan, Occ, one, count_waiters, in_cells}
-use Rattle.flow_meaning.specs.Lines.{take_line, cancel_line, wait_line}
-use Rattle.flow_meaning.specs.Work.{writes, new_cell, fill, fill_cell, free, free_cell, left_cells, running, leave_for, give, take_branch, Registration, Registered, Refused, Missing, register_at, register_one, register, marked, cancel_by, cancel, dropping_values}
-use Rattle.flow_meaning.specs.React.{suspend}
-use Rattle.flow_meaning.specs.Orderly.{is_suspended, Rising}
-use Rattle.flow_meaning.proofs.Posture.{same_number, other_number, each_number, thing_put, thing_put_other, thing_added, thing_removed_other, Unless, unless, after_turn, Awake}
+use Rattle.flow_meaning.specs.Occ.{Scan, Occ}
+use Rattle.flow_meaning.specs.Lines.{take_line, cancel_line}
+use Rattle.flow_meaning.specs.Work.{writes, new_cell, fill, fill_cell, free, free_cell, left_cells, running, leave_for, give, take_branch, marked, cancel_by, cancel}
+use Rattle.flow_meaning.specs.Orderly.{Rising}
+use Rattle.flow_meaning.proofs.Posture.{other_number, each_number, thing_put, thing_put_other, thing_added, thing_removed_other, Unless, unless, after_turn}
 use Rattle.flow_meaning.proofs.Order.{rising_put, rising_removed, rising_added, filled_waiters, taking_waiters}
 use Rattle.flow_picture.specs.Counted.{branches_of, branches_at, waiters_at, waiting_by, waiting_of, Agree}
-use Rattle.flow_picture.specs.Rested.{NumbersRise, PortsRise, InNumbers}
+use Rattle.flow_picture.specs.Rested.{NumbersRise, PortsRise}
 use Rattle.flow_picture.specs.References.{cell_holds}
 use Rattle.flow_picture.proofs.Finds.{none_above, thing_new, thing_removed}
 use Rattle.flow_picture.proofs.Left.{found_left}

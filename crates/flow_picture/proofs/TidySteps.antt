@@ -1,9 +1,9 @@
 -- Each step of a process keeps that waiters and operands agree, and that numbers rise.
-use Rattle.std.proofs.Common.{◌≡◌, ℕ, zero, suc, ◌+◌, ◌≤◌, nat_eq, Bool, true, false, List, [], ◌∷◌, ◌++◌, length, if◌then◌else◌, refl, sym, ap, ◌∙◌, subst, arith}
-use Rattle.std.specs.Prelude.{not, ℤ, pos, ◌-ℤ◌, ◌^◌, int_le, nat_le, nat_lt, ◌&&◌}
+use Rattle.std.proofs.Common.{◌≡◌, ℕ, zero, suc, ◌+◌, ◌≤◌, nat_eq, Bool, true, false, List, [], ◌∷◌, ◌++◌, length, if◌then◌else◌, refl, sym, ap, subst, arith}
+use Rattle.std.specs.Prelude.{ℤ, pos, ◌-ℤ◌, ◌^◌, int_le, nat_le, nat_lt, ◌&&◌}
 use Rattle.std.specs.declared.option.Option.{Option}
 use Rattle.std.specs.declared.option.Option.TheVariants.{None, Some}
-use Rattle.flow_base.specs.ErrorNumbers.{operation_cancelled, broken_promise, already_set, port_in_use, bad_argument, out_of_range}
+use Rattle.flow_base.specs.ErrorNumbers.{operation_cancelled, broken_promise, bad_argument, out_of_range}
 use Rattle.flow_value.specs.declared.value.Kind.{Kind}
 use Rattle.flow_value.specs.declared.value.Kind.TheVariants as kind
 use Rattle.flow_value.specs.Values.{ValueTree, IntValue, RefValue, OutcomeTree, GoodOutcome, BadOutcome}
@@ -14,22 +14,21 @@ use Rattle.flow_meaning.specs.Numbered.{Numbered, thing, added, put, removed}
 use Rattle.flow_meaning.specs.Cells.{Side, PromiseSide, FutureSide, side_of, Ref, Waiter, Cell, Single, Stream, is_complete, is_ready, waiters}
 use Rattle.flow_meaning.specs.Asks.{Spot, Act, Goes, Pass, Drops, Effects, Operand, Waits, Sends, Cancels, Prints, SendsTo, Returns, Throws, RunsOut, Stuck, DiskCall, Effect, Make, Start, Draw, Delay, Never, Listen, Disk, Goal, Stored, Kept, Ask, Supply}
 use Rattle.flow_meaning.specs.Process.{Task, Run, Give, Throw, Catch, Store, Keep, Close, Fire, Drop, Entry, Halt, Core, Proc, Raised, Engine}
-use Rattle.flow_meaning.specs.Lines.{broken_line, end_line, throw_line, catch_line, print_line}
-use Rattle.flow_meaning.specs.Occ.{Scan, Occ, scan_of, value_in}
-use Rattle.flow_meaning.specs.Work.{writes, pushed, drops, dropping_values, new_cell, fill, free, free_cell, leave_for, take_branch, first_ready, is_ready_at, Registered, register, owner, cancel, cancel_owner}
-use Rattle.flow_meaning.specs.Dropping.{Loss, Kept as KeptCell, Freed, Broken, Orphan, Unheard, promises_gone, futures_gone, loss, port_of, suffer, lose_cell, lose_ref, drop, fire_to, fire_at, fire_cell, fire, set_result, give_result, close}
-use Rattle.flow_meaning.specs.Effects.{Reaction, throws, result_task, push_result, gives, gives_new, gives_open, empty_cell, between, is_port, open_port, judged, ask_disk, effect, send_to}
-use Rattle.flow_meaning.specs.React.{send_by, send_in, print, at_spot, suspend, wait_by, wait, react}
+use Rattle.flow_meaning.specs.Lines.{broken_line, end_line, throw_line, print_line}
+use Rattle.flow_meaning.specs.Occ.{Scan, Occ, scan_of}
+use Rattle.flow_meaning.specs.Work.{writes, pushed, new_cell, fill, take_branch, first_ready, is_ready_at, owner, cancel, cancel_owner}
+use Rattle.flow_meaning.specs.Dropping.{promises_gone, loss, port_of, suffer, lose_cell, lose_ref, drop, fire_to, fire_at, fire_cell, set_result, give_result, close}
+use Rattle.flow_meaning.specs.Effects.{throws, result_task, push_result, gives_new, gives_open, empty_cell, between, is_port, open_port, judged, ask_disk, effect, send_to}
+use Rattle.flow_meaning.specs.React.{send_by, send_in, print, at_spot, wait_by, wait, react}
 use Rattle.flow_meaning.specs.Class.{classes}
-use Rattle.flow_meaning.specs.Step.{proc, Stepped, view, enrol, start_core, start, answer_effect, answer, run_next, run, give, store, fate, throw_core, throw, Verdict, GoesOn, Cancelled, Ready, verdict, with_operand, below, leave_kept, keep_by, keep, handle, close_actor, step_tasks, step_if, step}
-use Rattle.flow_meaning.specs.Deliver.{boot_core, deliver, arrive, stop_main, stop, closed_request}
-use Rattle.flow_meaning.specs.Orderly.{Rising, Orderly, UnlessStopped, NextStep}
+use Rattle.flow_meaning.specs.Step.{proc, Stepped, view, enrol, start_core, start, answer_effect, answer, run_next, run, give, store, fate, throw_core, throw, Verdict, GoesOn, Cancelled, Ready, verdict, with_operand, below, leave_kept, keep_by, keep, close_actor, step_tasks, step_if, step}
+use Rattle.flow_meaning.specs.Deliver.{boot_core, deliver, arrive, stop_main, closed_request}
+use Rattle.flow_meaning.specs.Orderly.{Rising, Orderly}
 use Rattle.flow_meaning.proofs.Posture.{Unless, unless, unless_map, after_turn, Awake}
-use Rattle.flow_meaning.proofs.Shifts.{either, run_of, give_of, throw_of, catch_of, store_of, keep_of, close_of}
+use Rattle.flow_meaning.proofs.Shifts.{either, run_of, keep_of, close_of}
 use Rattle.flow_meaning.proofs.Order.{Ordered, ordered, rising_added}
-use Rattle.flow_meaning.proofs.OrderTasks.{Taken, taken_at}
-use Rattle.flow_picture.specs.Counted.{Agree}
-use Rattle.flow_picture.specs.Rested.{NumbersRise, InNumbers}
+use Rattle.flow_meaning.proofs.OrderTasks.{taken_at}
+use Rattle.flow_picture.specs.Rested.{NumbersRise}
 use Rattle.flow_picture.specs.Keeps as law
 use Rattle.flow_picture.specs.Keeps.{Tied}
 use Rattle.flow_picture.proofs.Owners.{entry_found}

@@ -1,23 +1,20 @@
 -- An actor waits, starts, keeps an operand, ends: waiters and operands agree, and numbers rise.
-use Rattle.std.proofs.Common.{◌≡◌, ℕ, zero, suc, ◌+◌, ◌≤◌, nat_eq, Bool, true, false, List, [], ◌∷◌, ◌++◌, if◌then◌else◌, refl, sym, ap, ◌∙◌, subst, arith}
-use Rattle.std.proofs.lemmas.Bool.Decides.{nat_tests}
+use Rattle.std.proofs.Common.{◌≡◌, ℕ, suc, nat_eq, Bool, true, false, List, [], ◌∷◌, ◌++◌, if◌then◌else◌, refl, sym, ap, ◌∙◌, arith}
 use Rattle.std.specs.declared.option.Option.{Option}
 use Rattle.std.specs.declared.option.Option.TheVariants.{None, Some}
 use Rattle.flow_base.specs.ErrorNumbers.{second_waiter}
-use Rattle.flow_value.specs.Values.{ValueTree, OutcomeTree}
+use Rattle.flow_value.specs.Values.{ValueTree}
 use Rattle.flow_meaning.specs.Numbered.{Numbered, thing, added, put, removed}
-use Rattle.flow_meaning.specs.Cells.{Ref, Waiter, Cell, Single, Stream, waiters, as_list, with_waiter, or_waiter, is_busy}
+use Rattle.flow_meaning.specs.Cells.{Ref, Waiter, Cell, Single, Stream, waiters, with_waiter, is_busy}
 use Rattle.flow_meaning.specs.Asks.{Spot}
-use Rattle.flow_meaning.specs.Process.{Task, Run, Throw, Entry, Core}
-use Rattle.flow_meaning.specs.Lines.{wait_line}
-use Rattle.flow_meaning.specs.Work.{writes, new_cell, leave_for, Registration, Registered, Refused, Missing, register_at, register_one, register, dropping_values}
+use Rattle.flow_meaning.specs.Process.{Throw, Entry, Core}
+use Rattle.flow_meaning.specs.Work.{new_cell, Registration, Registered, Refused, Missing, register_at, register_one, register}
 use Rattle.flow_meaning.specs.Step.{entry_of, enrol, with_operand}
-use Rattle.flow_meaning.specs.React.{at_spot, suspend}
+use Rattle.flow_meaning.specs.React.{suspend}
 use Rattle.flow_meaning.specs.Orderly.{is_suspended, Rising}
 use Rattle.flow_meaning.proofs.Posture.{same_number, other_number, each_number, thing_put, thing_put_other, thing_added, thing_removed_other, Unless, unless, Awake}
-use Rattle.flow_meaning.proofs.Order.{rising_put, rising_added}
-use Rattle.flow_picture.specs.Counted.{branches_of, branches_at, waiters_at, waiting_by, waiting_of, Agree}
-use Rattle.flow_picture.specs.Rested.{NumbersRise, PortsRise}
+use Rattle.flow_meaning.proofs.Order.{rising_put}
+use Rattle.flow_picture.specs.Counted.{branches_of, branches_at, waiters_at, waiting_by, waiting_of}
 use Rattle.flow_picture.proofs.Finds.{none_above, thing_new, thing_removed}
 use Rattle.flow_picture.proofs.Tidy.{Tidy, agree_by, entry_tidy, leave_tidy, new_tidy}
 

@@ -7,11 +7,10 @@ use Rattle.flow_tree.specs.Decls.{RecordTree}
 use Rattle.flow_value.specs.Values.{ValueTree}
 use Rattle.flow_class.specs.declared.class.Slotted.{Slotted}
 use Rattle.flow_class.specs.declared.class.Slotted.TheVariants.{Slot, Local}
-use Rattle.flow_eval.specs.Functions.{put_in, read_in}
 use Rattle.flow_meaning.specs.Cells.{Side}
 use Rattle.flow_meaning.specs.Occ.{count, refs_in}
 use Rattle.flow_meaning.specs.Variables.{filled}
-use Rattle.flow_meaning.specs.Frame.{Memory, Frame, read, write, held_in, emptied, reversed, all_emptied, everything, occ_memory, put_at}
+use Rattle.flow_meaning.specs.Frame.{Memory, read, write, held_in, emptied, reversed, all_emptied, occ_memory, put_at}
 
 -- the references of what may stand at a place
 abbrev pub held : Side → ℕ → Option ValueTree → ℕ

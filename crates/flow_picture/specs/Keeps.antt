@@ -1,7 +1,6 @@
 -- What the steps of a process and what is brought to it keep.
 use Rattle.std.specs.Prelude.{◌≡◌, ℕ, List}
-use Rattle.std.specs.declared.option.Option.{Option}
-use Rattle.std.specs.declared.option.Option.TheVariants.{None, Some}
+use Rattle.std.specs.declared.option.Option.TheVariants.{Some}
 use Rattle.flow_value.specs.Values.{ValueTree, OutcomeTree}
 use Rattle.flow_class.specs.Classes.{RawTree}
 use Rattle.flow_meaning.specs.Asks.{Supply}
@@ -9,7 +8,7 @@ use Rattle.flow_meaning.specs.Process.{Core, Proc}
 use Rattle.flow_meaning.specs.Orderly.{Orderly, UnlessStopped}
 use Rattle.flow_meaning.specs.Step.{Stepped, step}
 use Rattle.flow_meaning.specs.Class.{classes}
-use Rattle.flow_meaning.specs.Deliver.{boot_core, deliver, arrive, stop, begin}
+use Rattle.flow_meaning.specs.Deliver.{boot_core, deliver, arrive, stop}
 use Rattle.flow_meaning.specs.Frame.{Frame}
 use Rattle.flow_picture.specs.Counted.{Agree}
 use Rattle.flow_picture.specs.Rested.{InNumbers}

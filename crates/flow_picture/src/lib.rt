@@ -5,5 +5,5 @@
 #![tactic(auto)]
 
 pub mod counting;
-pub mod keeping;
 pub mod showing;
+pub mod steps;

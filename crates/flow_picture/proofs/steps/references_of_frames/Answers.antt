@@ -1,5 +1,5 @@
 use Rattle.flow_picture.proofs.Holding.{of_written, of_emptied, of_locals, of_all_locals, of_path}
-use Rattle.flow_picture.proofs.keeping.references_of_frames.Goals as goal
+use Rattle.flow_picture.proofs.steps.references_of_frames.Goals as goal
 
 pub returns-clause-written : goal.returns-clause-written
 returns-clause-written c = λ m s j. of_written s j m

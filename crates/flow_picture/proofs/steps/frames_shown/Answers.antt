@@ -1,5 +1,5 @@
 use Rattle.flow_picture.proofs.Standing.{place_read, place_written, goes_on, operand_kept, suspends, is_over}
-use Rattle.flow_picture.proofs.keeping.frames_shown.Goals as goal
+use Rattle.flow_picture.proofs.steps.frames_shown.Goals as goal
 
 pub returns-clause-read : goal.returns-clause-read
 returns-clause-read c = place_read

@@ -1,5 +1,5 @@
 use Rattle.flow_picture.proofs.TidySteps.{steps_tied, deliveries_tied, arrivals_tied, boots_tied, stops_tied}
-use Rattle.flow_picture.proofs.keeping.waits_kept.Goals as goal
+use Rattle.flow_picture.proofs.steps.waits_kept.Goals as goal
 
 pub returns-clause-steps : goal.returns-clause-steps
 returns-clause-steps c = steps_tied
