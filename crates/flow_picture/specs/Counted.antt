@@ -68,4 +68,6 @@ waiting_of None = []
 waiting_of (Some e) = waiting_by e.suspended e.operands
 
 abbrev pub Agree : Core → Type 0
-Agree c = (i k : ℕ) → branches_of i (waiters_at (thing c.cells k)) ≡ branches_at k 0 (waiting_of (thing c.entries i))
+Agree c =
+    (i k : ℕ)
+    → branches_of i (waiters_at (thing c.cells k)) ≡ branches_at k 0 (waiting_of (thing c.entries i))

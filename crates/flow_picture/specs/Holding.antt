@@ -24,20 +24,26 @@ InMemory m (Local n) = n < length m.locals
 module _ (m : Memory) (s : Side) (j : ℕ) where
   -- a place is written; one that need not be there is emptied
   abbrev pub OfWritten : Type 0
-  OfWritten = (q : Slotted) (o : Option ValueTree) → InMemory m q → occ_memory s j (write m q o) + held s j (read m q) ≡ occ_memory s j m + held s j o
+  OfWritten =
+      (q : Slotted) (o : Option ValueTree) → InMemory m q
+      → occ_memory s j (write m q o) + held s j (read m q) ≡ occ_memory s j m + held s j o
 
   abbrev pub OfEmptied : Type 0
   OfEmptied = (q : Slotted) → occ_memory s j (write m q None) + held s j (read m q) ≡ occ_memory s j m
 
   -- locals are emptied one by one, and all of them
   abbrev pub OfLocals : Type 0
-  OfLocals = (ns : List ℕ) → occ_memory s j (emptied ns m) + count s j (refs_in (held_in m ns)) ≡ occ_memory s j m
+  OfLocals =
+      (ns : List ℕ)
+      → occ_memory s j (emptied ns m) + count s j (refs_in (held_in m ns)) ≡ occ_memory s j m
 
   abbrev pub OfAllLocals : Type 0
-  OfAllLocals = occ_memory s j (all_emptied m) + count s j (refs_in (filled (reversed m.locals))) ≡ occ_memory s j m
+  OfAllLocals =
+      occ_memory s j (all_emptied m) + count s j (refs_in (filled (reversed m.locals))) ≡ occ_memory s j m
 
   -- what a path leads to gets a value
   abbrev pub OfPath : Type 0
   OfPath =
-      (rs : List RecordTree) (q : Slotted) (path : List Ident) (v : ValueTree) (old : List ValueTree) (n : Memory) → InMemory m q → put_at rs m q path v ≡ Some (old, n)
+      (rs : List RecordTree) (q : Slotted) (path : List Ident) (v : ValueTree) (old : List ValueTree) (n : Memory)
+      → InMemory m q → put_at rs m q path v ≡ Some (old, n)
       → occ_memory s j n + count s j (refs_in old) ≡ occ_memory s j m + held s j (Some v)

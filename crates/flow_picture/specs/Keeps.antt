@@ -24,7 +24,8 @@ TiedUnlessStopped c = UnlessStopped c.halted (Tied c)
 
 abbrev pub StepsTied : Type 0
 StepsTied =
-    (r : RawTree) (s : Supply) (p : Proc Frame) (q : Stepped Frame) → Orderly p.core → Tied p.core → step (classes r) s p ≡ Some q
+    (r : RawTree) (s : Supply) (p : Proc Frame) (q : Stepped Frame) → Orderly p.core → Tied p.core
+    → step (classes r) s p ≡ Some q
     → TiedUnlessStopped q.0.core
 
 abbrev pub DeliveriesTied : Type 0
@@ -34,7 +35,9 @@ abbrev pub ArrivalsTied : Type 0
 ArrivalsTied = (k : ℕ) (v : ValueTree) (c : Core) → Tied c → TiedUnlessStopped (arrive k v c)
 
 abbrev pub BootsTied : Type 0
-BootsTied = (class : ℕ) (name : List ℕ) (c : Core) → Orderly c → Tied c → TiedUnlessStopped (boot_core class name c)
+BootsTied =
+    (class : ℕ) (name : List ℕ) (c : Core) → Orderly c → Tied c
+    → TiedUnlessStopped (boot_core class name c)
 
 abbrev pub StopsTied : Type 0
 StopsTied = (c : Core) → Tied c → Tied (stop c)

@@ -46,8 +46,12 @@ left_wait i e c = record (leave i e c) { tasks = drops e.operands c.tasks }
 
 module _ (r : RawTree) (h : HeapTree) (p : Proc Frame) where
   abbrev pub Withdrawn : Type 0
-  Withdrawn = (i : ℕ) → Shows r h p → (s : At r h p i) → MayLeave i s.entry.operands p.core → Shows r (withdrawn i h) (on_core (left_wait i s.entry) p)
+  Withdrawn =
+      (i : ℕ) → Shows r h p → (s : At r h p i) → MayLeave i s.entry.operands p.core
+      → Shows r (withdrawn i h) (on_core (left_wait i s.entry) p)
 
   -- an actor is marked as cancelled
   abbrev pub Cancelled : Type 0
-  Cancelled = (i : ℕ) → Shows r h p → (s : At r h p i) → MayLeave i s.entry.operands p.core → Shows r (cancelled i h) (on_core (cancel_by s.entry.suspended i s.entry) p)
+  Cancelled =
+      (i : ℕ) → Shows r h p → (s : At r h p i) → MayLeave i s.entry.operands p.core
+      → Shows r (cancelled i h) (on_core (cancel_by s.entry.suspended i s.entry) p)

@@ -53,7 +53,8 @@ abbrev pub Follows : RawTree → Proc Frame → ℕ → Lost → Loss → Type 0
 Follows r p k (h, memory.Nothing) Kept = Same r h p
 Follows r p k (h, memory.Freed) Freed = Same r h (on_core (free k) p)
 Follows r p k (h, memory.Broken) Broken = Same r h p
-Follows r p k (h, memory.Cancel a) (Orphan i e) = (a ≡ actor_id i) × (thing p.core.entries i ≡ Some e) × Same r h p
+Follows r p k (h, memory.Cancel a) (Orphan i e) =
+    (a ≡ actor_id i) × (thing p.core.entries i ≡ Some e) × Same r h p
 Follows r p k (h, memory.PortFreed) (Unheard q) = Same r h (on_core (free_port k q) p)
 Follows r p k _ _ = ⊥
 

@@ -38,16 +38,22 @@ module _ (p : Proc Frame) (s : Side) (j : ℕ) where
   OfPushed = (u : Task) → references s j (on_core (pushed u) p) ≡ in_task s j u + references s j p
 
   abbrev pub OfPopped : Type 0
-  OfPopped = (u : Task) (us : List Task) → p.core.tasks ≡ u ∷ us → references s j p ≡ in_task s j u + references s j (popped us p)
+  OfPopped =
+      (u : Task) (us : List Task) → p.core.tasks ≡ u ∷ us
+      → references s j p ≡ in_task s j u + references s j (popped us p)
 
   abbrev pub OfDropped : Type 0
   OfDropped = (rs : List Ref) → references s j (on_core (dropping rs) p) ≡ count s j rs + references s j p
 
   abbrev pub OfValues : Type 0
-  OfValues = (vs : List ValueTree) → references s j (on_core (dropping_values vs) p) ≡ count s j (refs_in vs) + references s j p
+  OfValues =
+      (vs : List ValueTree)
+      → references s j (on_core (dropping_values vs) p) ≡ count s j (refs_in vs) + references s j p
 
   abbrev pub OfNewCell : Type 0
-  OfNewCell = (c : Cell) → references s j (on_core (new_cell c) p) ≡ cell_holds s j (suc p.core.made) c + references s j p
+  OfNewCell =
+      (c : Cell)
+      → references s j (on_core (new_cell c) p) ≡ cell_holds s j (suc p.core.made) c + references s j p
 
   abbrev pub OfCell : Type 0
   OfCell =
@@ -55,7 +61,9 @@ module _ (p : Proc Frame) (s : Side) (j : ℕ) where
       → references s j (on_core (put_cell k d) p) + cell_holds s j k c ≡ references s j p + cell_holds s j k d
 
   abbrev pub OfGone : Type 0
-  OfGone = (k : ℕ) (c : Cell) → thing p.core.cells k ≡ Some c → references s j p ≡ cell_holds s j k c + references s j (on_core (without_cell k) p)
+  OfGone =
+      (k : ℕ) (c : Cell) → thing p.core.cells k ≡ Some c
+      → references s j p ≡ cell_holds s j k c + references s j (on_core (without_cell k) p)
 
   -- a cell to which something can be sent gets it, and fires
   abbrev pub OfFilled : Type 0
@@ -76,21 +84,30 @@ module _ (p : Proc Frame) (s : Side) (j : ℕ) where
   -- an actor leaves its wait: its operands become drops
   abbrev pub OfLeft : Type 0
   OfLeft =
-      (i : ℕ) (e : Entry) → thing p.core.entries i ≡ Some e → Agree p.core → RightKinds p.core.cells e.operands → Rising 0 p.core.made p.core.cells
+      (i : ℕ) (e : Entry) → thing p.core.entries i ≡ Some e → Agree p.core
+      → RightKinds p.core.cells e.operands → Rising 0 p.core.made p.core.cells
       → references s j (on_core (left_wait i e) p) ≡ references s j p
 
   abbrev pub OfEntry : Type 0
   OfEntry =
       (i : ℕ) (d e : Entry) → thing p.core.entries i ≡ Some d
-      → references s j (on_core (λ c. record c { entries = put c.entries i e }) p) + entry_holds s j d ≡ references s j p + entry_holds s j e
+      → references s j (on_core (λ c. record c {
+        entries =
+            put c.entries i e;
+      }) p) + entry_holds s j d ≡ references s j p + entry_holds s j e
 
   abbrev pub OfFrame : Type 0
-  OfFrame = (i : ℕ) (f g : Frame) → thing p.actors i ≡ Some f → references s j (put_frame i g p) + frame_holds s j f ≡ references s j p + frame_holds s j g
+  OfFrame =
+      (i : ℕ) (f g : Frame) → thing p.actors i ≡ Some f
+      → references s j (put_frame i g p) + frame_holds s j f ≡ references s j p + frame_holds s j g
 
   abbrev pub OfNewActor : Type 0
   OfNewActor =
       (i : ℕ) (e : Entry) (f : Frame)
-      → references s j (proc (record p.core { entries = added p.core.entries i e }) (added p.actors i f)) ≡ entry_holds s j e + frame_holds s j f + references s j p
+      → references s j (proc (record p.core {
+        entries =
+            added p.core.entries i e;
+      }) (added p.actors i f)) ≡ entry_holds s j e + frame_holds s j f + references s j p
 
   abbrev pub OfClosed : Type 0
   OfClosed =
@@ -99,16 +116,24 @@ module _ (p : Proc Frame) (s : Side) (j : ℕ) where
 
   -- the hold on the result of `main`, ports and requests
   abbrev pub OfMain : Type 0
-  OfMain = (o : Option ℕ) → references s j (on_core (λ c. record c { main = o }) p) + count_maybe s j FutureSide p.core.main ≡ references s j p + count_maybe s j FutureSide o
+  OfMain =
+      (o : Option ℕ)
+      → references s j (on_core (λ c. record c { main = o }) p) + count_maybe s j FutureSide p.core.main ≡ references s j p + count_maybe s j FutureSide o
 
   abbrev pub OfPort : Type 0
-  OfPort = (q k : ℕ) → references s j (on_core (λ c. record c { ports = added c.ports q k }) p) ≡ one s j PromiseSide k + references s j p
+  OfPort =
+      (q k : ℕ)
+      → references s j (on_core (λ c. record c { ports = added c.ports q k }) p) ≡ one s j PromiseSide k + references s j p
 
   abbrev pub OfPortGone : Type 0
-  OfPortGone = (q k : ℕ) → thing p.core.ports q ≡ Some k → references s j p ≡ one s j PromiseSide k + references s j (on_core (λ c. record c { ports = removed c.ports q }) p)
+  OfPortGone =
+      (q k : ℕ) → thing p.core.ports q ≡ Some k
+      → references s j p ≡ one s j PromiseSide k + references s j (on_core (λ c. record c { ports = removed c.ports q }) p)
 
   abbrev pub OfRequest : Type 0
-  OfRequest = (k : ℕ) → references s j (on_core (λ c. record c { requests = c.requests ++ k ∷ [] }) p) ≡ one s j PromiseSide k + references s j p
+  OfRequest =
+      (k : ℕ)
+      → references s j (on_core (λ c. record c { requests = c.requests ++ k ∷ [] }) p) ≡ one s j PromiseSide k + references s j p
 
   abbrev pub OfAnswered : Type 0
   OfAnswered =

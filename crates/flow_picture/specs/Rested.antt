@@ -39,18 +39,24 @@ IsStream _ = ⊥
 -- What a process made is its own: the result of an unfinished actor and the cell of an open request are unset single
 -- results, that of a port is a stream, and the actor, the request and the port alone refer to the promise side of theirs.
 pub record Owned (p : Proc Frame) : Type 0 where
-  pub result : (i k : ℕ) (e : Entry) → thing p.core.entries i ≡ Some e → e.result ≡ Some k → IsUnset (thing p.core.cells k) × (references PromiseSide k p ≡ 1)
-  pub request : (k : ℕ) → has k p.core.requests ≡ true → IsUnset (thing p.core.cells k) × (references PromiseSide k p ≡ 1)
-  pub port : (q k : ℕ) → port_of k p.core.ports ≡ Some q → IsStream (thing p.core.cells k) × (references PromiseSide k p ≡ 1)
+  pub result : (i k : ℕ) (e : Entry) → thing p.core.entries i ≡ Some e → e.result ≡ Some k
+      → IsUnset (thing p.core.cells k) × (references PromiseSide k p ≡ 1)
+  pub request : (k : ℕ) → has k p.core.requests ≡ true
+      → IsUnset (thing p.core.cells k) × (references PromiseSide k p ≡ 1)
+  pub port : (q k : ℕ) → port_of k p.core.ports ≡ Some q
+      → IsStream (thing p.core.cells k) × (references PromiseSide k p ≡ 1)
 
 -- each cell is referred to
 abbrev pub Referenced : Proc Frame → Type 0
-Referenced p = (k : ℕ) (c : Cell) → thing p.core.cells k ≡ Some c → 0 < references PromiseSide k p + references FutureSide k p
+Referenced p =
+    (k : ℕ) (c : Cell) → thing p.core.cells k ≡ Some c
+    → 0 < references PromiseSide k p + references FutureSide k p
 
 -- An actor that is marked as cancelled runs, and the result of any other unfinished actor has a future.
 pub record Cared (p : Proc Frame) : Type 0 where
   pub awake : (i : ℕ) (e : Entry) → thing p.core.entries i ≡ Some e → e.marked ≡ true → e.suspended ≡ false
-  pub wanted : (i k : ℕ) (e : Entry) → thing p.core.entries i ≡ Some e → e.marked ≡ false → e.result ≡ Some k → 0 < references FutureSide k p
+  pub wanted : (i k : ℕ) (e : Entry) → thing p.core.entries i ≡ Some e → e.marked ≡ false
+      → e.result ≡ Some k → 0 < references FutureSide k p
 
 -- each port has a stream of its own
 abbrev pub OneEach : Numbered ℕ → Type 0

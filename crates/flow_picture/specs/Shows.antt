@@ -60,12 +60,14 @@ held_from n (r ∷ rs) = record { callback = n; cell = cell_id r.1 } ∷ held_fr
 
 -- What stands at a number: in memory a single result or a stream, in the process a cell. How many references count is seen
 -- in memory alone.
-abbrev pub CellShows : (spots : ℕ → Spot) → Option (CellTree Outcome) → Option (StreamTree Value) → Option Cell → Type 0
+abbrev pub CellShows : (spots : ℕ → Spot) → Option (CellTree Outcome) → Option (StreamTree Value)
+    → Option Cell → Type 0
 CellShows spots None None None = Unit {0}
 CellShows spots (Some m) None (Some (Single content ws)) =
     (content ≡ option_map outcome_of m.content) × (m.waiters ≡ map (waiter_in spots) ws)
 CellShows spots None (Some m) (Some (Stream queue end w)) =
-    (queue ≡ map value_of m.queue) × (end ≡ option_map error_number m.end) × (m.waiter ≡ option_map (waiter_in spots) w)
+    (queue ≡ map value_of m.queue) × (end ≡ option_map error_number m.end)
+    × (m.waiter ≡ option_map (waiter_in spots) w)
 CellShows spots _ _ _ = ⊥
 
 -- Where a frame stands: in memory at a block and an instruction, or, with a state other than 0, at the wait of that group.
@@ -144,8 +146,10 @@ TasksShow spots kept (t ∷ ts) (u ∷ us) = TaskShows spots kept t u × TasksSh
 -- so far, the same hold on the result of `main`, the same streams of ports and open requests. The lines of the event, its
 -- turns, and which port a stream is that of, stand in the process alone.
 pub record Shows (r : RawTree) (h : HeapTree) (p : Proc Frame) : Type 0 where
-  pub cells : (k : ℕ) → CellShows (spot_of_actor p.actors) (stored.thing h.cells.things k) (stored.thing h.streams.things k) (thing p.core.cells k)
-  pub actors : (i : ℕ) → ActorShows r (stored.thing h.actors.things i) (stored.thing h.frames.things i) (thing p.core.entries i) (thing p.actors i)
+  pub cells : (k : ℕ)
+      → CellShows (spot_of_actor p.actors) (stored.thing h.cells.things k) (stored.thing h.streams.things k) (thing p.core.cells k)
+  pub actors : (i : ℕ)
+      → ActorShows r (stored.thing h.actors.things i) (stored.thing h.frames.things i) (thing p.core.entries i) (thing p.actors i)
   pub tasks : TasksShow (spot_of_actor p.actors) (λ i. kept_by (thing p.core.entries i)) h.tasks p.core.tasks
   pub made : next_cell h ≡ suc p.core.made
   pub started : next_actor h ≡ suc p.core.started

@@ -35,31 +35,49 @@ next_callback e f = (wait_spot f).first + length e.operands
 module _ (r : RawTree) (m : FrameTree Value) (e : Entry) (f : Frame) where
   -- a place is read, and written
   abbrev pub PlaceRead : Type 0
-  PlaceRead = (q : Slotted) → Stands r m e f → HasPlace f q → option_map value_of (held_at (number_in (length f.code.slots) q) m) ≡ read f.mem q
+  PlaceRead =
+      (q : Slotted) → Stands r m e f → HasPlace f q
+      → option_map value_of (held_at (number_in (length f.code.slots) q) m) ≡ read f.mem q
 
   abbrev pub PlaceWritten : Type 0
   PlaceWritten =
       (q : Slotted) (v : Option Value) → Stands r m e f → HasPlace f q
-      → Stands r (with_place m (number_in (length f.code.slots) q) v) e (record f { mem = write f.mem q (option_map value_of v) })
+      → Stands r (with_place m (number_in (length f.code.slots) q) v) e (record f {
+        mem =
+            write f.mem q (option_map value_of v);
+      })
 
   -- an actor without operands goes on elsewhere
   abbrev pub GoesOn : Type 0
   GoesOn =
       (b i : ℕ) → Stands r m e f → e.operands ≡ []
-      → Stands r (record m { state = 0; block = b; instruction = i }) e (record f { block = b; instr = i; state = 0 })
+      → Stands r (record m {
+        state =
+            0;
+        block = b;
+        instruction = i;
+      }) e (record f { block = b; instr = i; state = 0 })
 
   -- one operand more is kept, and with all of them the actor is suspended
   abbrev pub OperandKept : Type 0
   OperandKept =
       (x : Ref) (spot : Spot) → Stands r m e f → m.state ≡ 0 → e.suspended ≡ false
-      → Stands r (with_callback m (record { callback = next_callback e f; cell = cell_id x.1 })) (with_operand spot x e) f
+      → Stands r (with_callback m (record {
+        callback =
+            next_callback e f;
+        cell = cell_id x.1;
+      })) (with_operand spot x e) f
 
   abbrev pub Suspends : Type 0
   Suspends =
       (g : ℕ) (x : Ref) (xs : List Ref) → Stands r m e f → (wait_spot f).group ≡ suc g → e.operands ≡ x ∷ xs
-      → Stands r (in_state (suc g) m) (record (at_spot (wait_spot f) e) { suspended = true }) (record f { state = suc g })
+      → Stands r (in_state (suc g) m) (record (at_spot (wait_spot f) e) {
+        suspended =
+            true;
+      }) (record f { state = suc g })
 
   -- all has left an actor that is over
   abbrev pub IsOver : Type 0
   IsOver =
-      (n : Note) → OneActor r n m e f → m.state ≡ 0 → e.suspended ≡ false → e.operands ≡ [] → all_empty m.places ≡ true → OneActor r n m e over
+      (n : Note) → OneActor r n m e f → m.state ≡ 0 → e.suspended ≡ false → e.operands ≡ []
+      → all_empty m.places ≡ true → OneActor r n m e over
