@@ -21,3 +21,5 @@ pub mod Holding
 pub mod Tidy
 pub mod TidyWaits
 pub mod TidySteps
+pub mod Alive
+pub mod LossKeeps

@@ -75,7 +75,7 @@ module _ (r : RawTree) (h : HeapTree) (p : Proc Frame) (kd : Kind) (k : ℕ) (o 
   abbrev F : ℕ
   F = references FutureSide k p
 
-  single : AsSingle (spot_of_actor p.actors) m (stored.thing h.streams.things k) (thing p.core.cells k)
+  pub single : AsSingle (spot_of_actor p.actors) m (stored.thing h.streams.things k) (thing p.core.cells k)
   single = single_at (spot_of_actor p.actors) h.cells.things h.streams.things p.core.cells l.shows.cells k m at
 
   same_cell : (Single (option_map outcome_of m.content) single.waiters) ≡ Single o ws
@@ -87,10 +87,10 @@ module _ (r : RawTree) (h : HeapTree) (p : Proc Frame) (kd : Kind) (k : ℕ) (o 
   same_waiters : m.waiters ≡ map (waiter_in (spot_of_actor p.actors)) ws
   same_waiters = single.waiting ∙ ap (map (waiter_in (spot_of_actor p.actors))) (let a = same_cell in cc (a))
 
-  kept_is : (s : Side) → count_of (memory_side s) m.references ≡ references s k p + one s k sd k
+  pub kept_is : (s : Side) → count_of (memory_side s) m.references ≡ references s k p + one s k sd k
   kept_is s = sym (ap (λ x. count_at s x (stored.thing h.streams.things k)) at) ∙ l.counted s k
 
-  less_is : released (memory_side sd) m.references ≡ record { promises = P; futures = F }
+  pub less_is : released (memory_side sd) m.references ≡ record { promises = P; futures = F }
   less_is = left_counts sd k P F m.references (kept_is PromiseSide) (kept_is FutureSide)
 
   counts_there : 0 < count_of (memory_side sd) m.references

@@ -54,7 +54,7 @@ module _ (r : RawTree) (h : HeapTree) (p : Proc Frame) (kd : Kind) (k : ℕ) (q 
   abbrev cell : Cell
   cell = Stream q x w
 
-  stream : AsStream (spot_of_actor p.actors) m (stored.thing h.cells.things k) (thing p.core.cells k)
+  pub stream : AsStream (spot_of_actor p.actors) m (stored.thing h.cells.things k) (thing p.core.cells k)
   stream = stream_at (spot_of_actor p.actors) h.cells.things h.streams.things p.core.cells l.shows.cells k m at
 
   same_cell : (Stream (map value_of m.queue) (option_map error_number m.end) stream.waiter) ≡ Stream q x w
@@ -69,10 +69,10 @@ module _ (r : RawTree) (h : HeapTree) (p : Proc Frame) (kd : Kind) (k : ℕ) (q 
   same_waiter : m.waiter ≡ option_map (waiter_in (spot_of_actor p.actors)) w
   same_waiter = stream.waiting ∙ ap (option_map (waiter_in (spot_of_actor p.actors))) (let a = same_cell in cc (a))
 
-  kept_is : (s : Side) → count_of (memory_side s) m.references ≡ references s k p + one s k sd k
+  pub kept_is : (s : Side) → count_of (memory_side s) m.references ≡ references s k p + one s k sd k
   kept_is s = sym (ap (λ y. count_at s y (stored.thing h.streams.things k)) stream.no_single ∙ ap (count_at s None) at) ∙ l.counted s k
 
-  less_is : released (memory_side sd) m.references ≡ record { promises = P; futures = F }
+  pub less_is : released (memory_side sd) m.references ≡ record { promises = P; futures = F }
   less_is = left_counts sd k P F m.references (kept_is PromiseSide) (kept_is FutureSide)
 
   counts_there : 0 < count_of (memory_side sd) m.references

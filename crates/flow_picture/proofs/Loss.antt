@@ -36,12 +36,12 @@ memory_stream spots (Some m) None q e w h = absurd h
 memory_stream spots (Some m) (Some s) q e w h = absurd h
 
 module _ (r : RawTree) (h : HeapTree) (p : Proc Frame) where
-  single_at : (kd : Kind) (k : ℕ) (o : Option OutcomeTree) (ws : List Waiter) → Losing r h p kd k (Single o ws) → (x : CellTree Outcome) × (stored.thing h.cells.things k ≡ Some x)
+  pub single_at : (kd : Kind) (k : ℕ) (o : Option OutcomeTree) (ws : List Waiter) → Losing r h p kd k (Single o ws) → (x : CellTree Outcome) × (stored.thing h.cells.things k ≡ Some x)
   single_at kd k o ws l =
       memory_single (spot_of_actor p.actors) (stored.thing h.cells.things k) (stored.thing h.streams.things k) o ws
       (subst (CellShows (spot_of_actor p.actors) (stored.thing h.cells.things k) (stored.thing h.streams.things k)) l.cell (l.shows.cells k))
 
-  stream_at : (kd : Kind) (k : ℕ) (q : List ValueTree) (e : Option ℕ) (w : Option Waiter) → Losing r h p kd k (Stream q e w) → (x : StreamTree Value) × (stored.thing h.streams.things k ≡ Some x)
+  pub stream_at : (kd : Kind) (k : ℕ) (q : List ValueTree) (e : Option ℕ) (w : Option Waiter) → Losing r h p kd k (Stream q e w) → (x : StreamTree Value) × (stored.thing h.streams.things k ≡ Some x)
   stream_at kd k q e w l =
       memory_stream (spot_of_actor p.actors) (stored.thing h.cells.things k) (stored.thing h.streams.things k) q e w
       (subst (CellShows (spot_of_actor p.actors) (stored.thing h.cells.things k) (stored.thing h.streams.things k)) l.cell (l.shows.cells k))

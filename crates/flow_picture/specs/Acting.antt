@@ -48,7 +48,14 @@ put_frame i f p = proc p.core (put p.actors i f)
 -- the frame of an actor before its arguments fill the first slots
 abbrev pub blank : ClassTree → Frame
 blank c =
-    record { code = c; mem = record { slots = blanks c.slots; locals = blanks c.locals }; block = 0; instr = 0; state = 0 }
+    record {
+      code =
+          c;
+      mem = record { slots = blanks c.slots; locals = blanks c.locals };
+      block = 0;
+      instr = 0;
+      state = 0;
+    }
 
 -- a process with one actor more, and with one less
 abbrev pub with_actor : (class cell : ℕ) → Frame → Proc Frame → Proc Frame

@@ -26,7 +26,10 @@ module _ (r : RawTree) (h : HeapTree) (p : Proc Frame) where
   abbrev pub PortAdded : Type 0
   PortAdded =
       (port k : ℕ) → Shows r h p
-      → Shows r (record h { ports = with_number h.ports k }) (on_core (λ c. record c { ports = added c.ports port k }) p)
+      → Shows r (record h {
+        ports =
+            with_number h.ports k;
+      }) (on_core (λ c. record c { ports = added c.ports port k }) p)
 
   abbrev pub PortGone : Type 0
   PortGone =

@@ -11,3 +11,4 @@ pub mod Losing
 pub mod Standing
 pub mod Holding
 pub mod Keeps
+pub mod Alive

@@ -118,12 +118,18 @@ module _ (p : Proc Frame) (s : Side) (j : ℕ) where
   abbrev pub OfMain : Type 0
   OfMain =
       (o : Option ℕ)
-      → references s j (on_core (λ c. record c { main = o }) p) + count_maybe s j FutureSide p.core.main ≡ references s j p + count_maybe s j FutureSide o
+      → references s j (on_core (λ c. record c {
+        main =
+            o;
+      }) p) + count_maybe s j FutureSide p.core.main ≡ references s j p + count_maybe s j FutureSide o
 
   abbrev pub OfPort : Type 0
   OfPort =
       (q k : ℕ)
-      → references s j (on_core (λ c. record c { ports = added c.ports q k }) p) ≡ one s j PromiseSide k + references s j p
+      → references s j (on_core (λ c. record c {
+        ports =
+            added c.ports q k;
+      }) p) ≡ one s j PromiseSide k + references s j p
 
   abbrev pub OfPortGone : Type 0
   OfPortGone =
@@ -133,7 +139,10 @@ module _ (p : Proc Frame) (s : Side) (j : ℕ) where
   abbrev pub OfRequest : Type 0
   OfRequest =
       (k : ℕ)
-      → references s j (on_core (λ c. record c { requests = c.requests ++ k ∷ [] }) p) ≡ one s j PromiseSide k + references s j p
+      → references s j (on_core (λ c. record c {
+        requests =
+            c.requests ++ k ∷ [];
+      }) p) ≡ one s j PromiseSide k + references s j p
 
   abbrev pub OfAnswered : Type 0
   OfAnswered =

@@ -9,6 +9,7 @@ ghost use Rattle.flow_meaning.specs.Frame.{Frame};
 ghost use Rattle.flow_picture.specs.References as of;
 ghost use Rattle.flow_picture.specs.Keeping as kept;
 ghost use Rattle.flow_picture.specs.Losing as losing;
+ghost use Rattle.flow_picture.specs.Alive as alive;
 
 /// How many places of a process refer to a side of a cell, after each thing that a process does to its tasks and cells.
 pub fn references_of_cells()
@@ -58,4 +59,19 @@ pub fn counts_kept()
 pub fn losses_follow()
     ensures may { (r : RawTree) (h : HeapTree) (p : Proc Frame) → losing.MayDrop r h p }
     ensures follows { (r : RawTree) (h : HeapTree) (p : Proc Frame) → losing.LossFollows r h p }
+{}
+
+/// No loss of a reference leaves a cell without one, nor the result of an unmarked actor without a future, but that of the
+/// actor that is to be cancelled; a new cell has a reference as soon as one is held. And where a heap's counts are the references
+/// in its process, the process's cells and results have theirs too.
+pub fn references_stay()
+    ensures alive { (r : RawTree) (h : HeapTree) (p : Proc Frame) → alive.LossAlive r h p }
+    ensures wanted { (r : RawTree) (h : HeapTree) (p : Proc Frame) → alive.LossWanted r h p }
+    ensures made { (h : HeapTree) → alive.ResultAlive h }
+    ensures stream_made { (h : HeapTree) → alive.StreamAlive h }
+    ensures held { (h : HeapTree) → alive.HeldAlive h }
+    ensures stream_held { (h : HeapTree) → alive.StreamHeldAlive h }
+    ensures marked { (h : HeapTree) → alive.MarkWanted h }
+    ensures referenced { (r : RawTree) (h : HeapTree) (p : Proc Frame) → alive.AliveShown r h p }
+    ensures awaited { (r : RawTree) (h : HeapTree) (p : Proc Frame) → alive.WantedShown r h p }
 {}
