@@ -6,7 +6,10 @@ use Rattle.std.specs.Ordering.{nat_cmp, match_ordering}
 use Rattle.std.specs.BTreeMap.{is_at}
 use Rattle.std.specs.BTreeSet.{insert_key}
 use Rattle.std.specs.Set.{remove_key}
+use Rattle.std.specs.Option.{option_map}
+use Rattle.std.specs.declared.option.Option.{Option}
 use Rattle.std.specs.declared.option.Option.TheVariants.{None, Some}
+use Rattle.flow_base.specs.declared.ids.CellId.{CellId}
 use Rattle.flow_class.specs.Classes.{RawTree}
 use Rattle.flow_cancel.specs.Heap.{HeapTree, has_number, with_number, without_number}
 use Rattle.flow_meaning.specs.Numbered.{Numbered, thing, added, removed}
@@ -152,59 +155,36 @@ one_each (x ∷ xs) above n h q k e = by_test (nat_eq k x.1) refl e (one_each xs
         not_there a b = cc
 
 module _ (r : RawTree) (h : HeapTree) (p : Proc Frame) where
+  -- with another hold, other ports and other requests
+  with_others : (o : Option CellId) (ps rs : List ℕ) (m : Option ℕ) (xs : Numbered ℕ) (qs : List ℕ) → Shows r h p → m ≡ option_map cell_number o → ((k : ℕ) → has_number ps k ≡ is_some (port_of k xs)) → qs ≡ rs
+      → Shows r (record h { main = o; ports = ps; requests = rs }) (on_core (λ c. record c { main = m; ports = xs; requests = qs }) p)
+  with_others o ps rs m xs qs s a b c =
+      record { cells = s.cells; actors = s.actors; tasks = s.tasks; made = s.made; started = s.started; main = a; ports = b; requests = c }
+
   pub main_shown : change.MainHeld r h p
-  main_shown o s = record { cells = s.cells; actors = s.actors; tasks = s.tasks; made = s.made; started = s.started; main = refl; ports = s.ports; requests = s.requests }
+  main_shown o s = with_others o h.ports h.requests (option_map cell_number o) p.core.ports p.core.requests s refl s.ports s.requests
 
   pub port_shown : change.PortAdded r h p
-  port_shown port k s = record {
-    cells = s.cells;
-    actors = s.actors;
-    tasks = s.tasks;
-    made = s.made;
-    started = s.started;
-    main = s.main;
-    ports = λ j. has_with j k h.ports ∙ ap (λ t. nat_eq j k || t) (s.ports j) ∙ sym (port_added j port k p.core.ports);
-    requests = s.requests;
-  }
+  port_shown port k s =
+      with_others h.main (with_number h.ports k) h.requests p.core.main (added p.core.ports port k) p.core.requests s s.main
+      (λ j. has_with j k h.ports ∙ ap (λ t. nat_eq j k || t) (s.ports j) ∙ sym (port_added j port k p.core.ports)) s.requests
 
   pub port_gone : change.PortGone r h p
-  port_gone port k s e each gone = record {
-    cells = s.cells;
-    actors = s.actors;
-    tasks = s.tasks;
-    made = s.made;
-    started = s.started;
-    main = s.main;
-    ports =
-        each_number k (λ j. has_number (without_number h.ports k) j ≡ is_some (port_of j (removed p.core.ports port)))
-        (gone ∙ sym (ap is_some (each port k e).1))
-        (λ j n. has_without j k h.ports n ∙ s.ports j ∙ sym (port_removed j port k p.core.ports (each port k e).0 n));
-    requests = s.requests;
-  }
+  port_gone port k s e each gone =
+      with_others h.main (without_number h.ports k) h.requests p.core.main (removed p.core.ports port) p.core.requests s s.main
+      (each_number k (λ j. has_number (without_number h.ports k) j ≡ is_some (port_of j (removed p.core.ports port)))
+      (gone ∙ sym (ap is_some (each port k e).1))
+      (λ j n. has_without j k h.ports n ∙ s.ports j ∙ sym (port_removed j port k p.core.ports (each port k e).0 n))) s.requests
 
   pub request_shown : change.RequestAdded r h p
-  request_shown k above most s rise l = record {
-    cells = s.cells;
-    actors = s.actors;
-    tasks = s.tasks;
-    made = s.made;
-    started = s.started;
-    main = s.main;
-    ports = s.ports;
-    requests = sym (last_number k above most p.core.requests rise l) ∙ ap (λ ns. with_number ns k) s.requests;
-  }
+  request_shown k above most s rise l =
+      with_others h.main h.ports (with_number h.requests k) p.core.main p.core.ports (p.core.requests ++ k ∷ []) s s.main s.ports
+      (sym (last_number k above most p.core.requests rise l) ∙ ap (λ ns. with_number ns k) s.requests)
 
   pub request_closed : change.RequestClosed r h p
-  request_closed k s = record {
-    cells = s.cells;
-    actors = s.actors;
-    tasks = s.tasks;
-    made = s.made;
-    started = s.started;
-    main = s.main;
-    ports = s.ports;
-    requests = closed_same k p.core.requests ∙ ap (λ ns. without_number ns k) s.requests;
-  }
+  request_closed k s =
+      with_others h.main h.ports (without_number h.requests k) p.core.main p.core.ports (closed_request k p.core.requests) s s.main s.ports
+      (closed_same k p.core.requests ∙ ap (λ ns. without_number ns k) s.requests)
 
   pub vanished_shown : change.Vanished r h p
   vanished_shown s = record {

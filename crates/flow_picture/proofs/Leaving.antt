@@ -106,11 +106,11 @@ last_gone : (b : ℕ) (xs : List ℕ) → without_last (xs ++ b ∷ []) b ≡ xs
 last_gone b [] = let e : nat_eq b b ≡ true = grind (arith, nat_tests) in rw e refl
 last_gone b (x ∷ xs) = rw (has_added b xs) (ap (λ ys. x ∷ ys) (last_gone b xs))
 
-joined : (xs ys : List ℕ) (b : ℕ) → xs ++ b ∷ ys ≡ (xs ++ b ∷ []) ++ ys
+pub joined : (xs ys : List ℕ) (b : ℕ) → xs ++ b ∷ ys ≡ (xs ++ b ∷ []) ++ ys
 joined [] ys b = refl
 joined (x ∷ xs) ys b = ap (λ zs. x ∷ zs) (joined xs ys b)
 
-no_more : (xs : List ℕ) → xs ++ [] ≡ xs
+pub no_more : (xs : List ℕ) → xs ++ [] ≡ xs
 no_more [] = refl
 no_more (x ∷ xs) = ap (λ zs. x ∷ zs) (no_more xs)
 

@@ -12,14 +12,15 @@ use Rattle.flow_numbered.specs.Numbered as stored
 use Rattle.flow_cell.specs.Cells.{unset}
 use Rattle.flow_stream.specs.Streams.{empty}
 use Rattle.flow_cancel.specs.Heap.{HeapTree, cell_id, next_cell, with_result, with_stream}
+use Rattle.flow_cancel.specs.declared.task.Task as stack
 use Rattle.flow_cancel.specs.Heap as memory
 use Rattle.flow_cancel.specs.Dropping as memory_drops
 use Rattle.flow_meaning.specs.Numbered.{Numbered, thing, put, removed}
 use Rattle.flow_meaning.specs.Cells.{Waiter, Cell, Single, Stream, filled, after_taking, taken, with_waiter}
 use Rattle.flow_meaning.specs.Asks.{Spot}
-use Rattle.flow_meaning.specs.Process.{Proc}
+use Rattle.flow_meaning.specs.Process.{Task, Proc}
 use Rattle.flow_meaning.specs.Occ.{refs_in}
-use Rattle.flow_meaning.specs.Work.{dropping_values, new_cell, fill, fill_cell}
+use Rattle.flow_meaning.specs.Work.{drops, dropping_values, new_cell, fill, fill_cell}
 use Rattle.flow_meaning.specs.Step.{kept_by, on_core}
 use Rattle.flow_meaning.specs.Frame.{Frame}
 use Rattle.flow_picture.specs.Shows.{Shows, TasksShow, spot_of_actor, waiter_in, error_number}
@@ -37,51 +38,23 @@ module _ (r : RawTree) (h : HeapTree) (p : Proc Frame) where
   kept i = kept_by (thing p.core.entries i)
 
   -- tasks
+  with_tasks : (ts : List stack.Task) (us : List Task) → Shows r h p → TasksShow spots kept ts us → Shows r (record h { tasks = ts }) (on_core (λ c. record c { tasks = us }) p)
+  with_tasks ts us s t =
+      record { cells = s.cells; actors = s.actors; tasks = t; made = s.made; started = s.started; main = s.main; ports = s.ports; requests = s.requests }
+
   pub pushed_shown : change.Pushed r h p
-  pushed_shown t u s same = record {
-    cells = s.cells;
-    actors = s.actors;
-    tasks = (same, s.tasks);
-    made = s.made;
-    started = s.started;
-    main = s.main;
-    ports = s.ports;
-    requests = s.requests;
-  }
+  pushed_shown t u s same = with_tasks (t ∷ h.tasks) (u ∷ p.core.tasks) s (same, s.tasks)
 
   pub popped_shown : change.Popped r h p
   popped_shown t ts s top =
-      let f = first spots kept t ts p.core.tasks (subst (λ xs. TasksShow spots kept xs p.core.tasks) top s.tasks) in record {
-        top = f.top;
-        below = f.below;
-        tasks = f.tasks;
-        same = f.same;
-        rest = record {
-          cells = s.cells;
-          actors = s.actors;
-          tasks = f.rest;
-          made = s.made;
-          started = s.started;
-          main = s.main;
-          ports = s.ports;
-          requests = s.requests;
-        };
-      }
+      let f = first spots kept t ts p.core.tasks (subst (λ xs. TasksShow spots kept xs p.core.tasks) top s.tasks) in
+      record { top = f.top; below = f.below; tasks = f.tasks; same = f.same; rest = with_tasks ts f.below s f.rest }
 
   pub no_tasks_shown : change.NoTasks r h p
   no_tasks_shown s none = no_tasks spots kept p.core.tasks (subst (λ xs. TasksShow spots kept xs p.core.tasks) none s.tasks)
 
   pub dropped_shown : change.Dropped r h p
-  dropped_shown rs s = record {
-    cells = s.cells;
-    actors = s.actors;
-    tasks = drops_show spots kept rs h.tasks p.core.tasks s.tasks;
-    made = s.made;
-    started = s.started;
-    main = s.main;
-    ports = s.ports;
-    requests = s.requests;
-  }
+  dropped_shown rs s = with_tasks (memory_drops.drops rs h.tasks) (drops rs p.core.tasks) s (drops_show spots kept rs h.tasks p.core.tasks s.tasks)
 
   pub values_shown : change.ValuesDropped r h p
   values_shown vs s =

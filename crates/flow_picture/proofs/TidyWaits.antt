@@ -16,6 +16,7 @@ use Rattle.flow_meaning.proofs.Posture.{same_number, other_number, each_number, 
 use Rattle.flow_meaning.proofs.Order.{rising_put}
 use Rattle.flow_picture.specs.Counted.{branches_of, branches_at, waiters_at, waiting_by, waiting_of}
 use Rattle.flow_picture.proofs.Finds.{none_above, thing_new, thing_removed}
+use Rattle.flow_picture.proofs.Leaving.{joined, no_more}
 use Rattle.flow_picture.proofs.Tidy.{Tidy, agree_by, entry_tidy, leave_tidy, new_tidy}
 
 -- an actor that runs waits nowhere
@@ -47,14 +48,6 @@ own_branch i b = ap (λ t. if t then b ∷ [] else []) (same_number i)
 
 other_branch : (i j b : ℕ) → (i ≡ j → ⊥) → branches_of j (record { actor = i; branch = b } ∷ []) ≡ []
 other_branch i j b n = ap (λ t. if t then b ∷ [] else []) (other_number j i (λ e. n (sym e)))
-
-no_more : (xs : List ℕ) → xs ++ [] ≡ xs
-no_more [] = refl
-no_more (x ∷ xs) = ap (λ ys. x ∷ ys) (no_more xs)
-
-joined : (xs : List ℕ) (b : ℕ) (ys : List ℕ) → (xs ++ b ∷ []) ++ ys ≡ xs ++ b ∷ ys
-joined [] b ys = refl
-joined (x ∷ xs) b ys = ap (λ zs. x ∷ zs) (joined xs b ys)
 
 -- an actor is registered at its operands in order, and the others wait as before
 module _ (i above made : ℕ) (cs : Numbered Cell) where
@@ -112,7 +105,7 @@ module _ (i above made : ℕ) (cs : Numbered Cell) where
       (all_registered (λ k. own k ++ branches_at k b (r ∷ [])) (suc b) rs (register_one (record { actor = i; branch = b }) r.1 q) (one_registered own b r q h))
     where
       by_test : (k : ℕ) (t : Bool) → (own k ++ (if t then b ∷ [] else [])) ++ branches_at k (suc b) rs ≡ own k ++ (if t then b ∷ branches_at k (suc b) rs else branches_at k (suc b) rs)
-      by_test k true = joined (own k) b (branches_at k (suc b) rs)
+      by_test k true = sym (joined (own k) (branches_at k (suc b) rs) b)
       by_test k false = ap (λ bs. bs ++ branches_at k (suc b) rs) (no_more (own k))
 
 -- an actor in hand waits
