@@ -19,7 +19,8 @@ use Rattle.flow_meaning.specs.Dropping.{port_of}
 use Rattle.flow_meaning.specs.Deliver.{closed_request}
 use Rattle.flow_meaning.specs.Frame.{Frame}
 use Rattle.flow_meaning.proofs.Posture.{same_number, each_number, other_number}
-use Rattle.flow_picture.specs.Shows.{nobody}
+use Rattle.flow_meaning.specs.Step.{on_core}
+use Rattle.flow_picture.specs.Shows.{Shows, nobody, cell_number}
 use Rattle.flow_picture.specs.Rested.{NumbersRise, PortsRise, OneEach}
 use Rattle.flow_picture.specs.Beside as change
 
