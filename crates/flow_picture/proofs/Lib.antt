@@ -23,3 +23,4 @@ pub mod TidyWaits
 pub mod TidySteps
 pub mod Alive
 pub mod LossKeeps
+pub mod Starting

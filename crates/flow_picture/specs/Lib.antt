@@ -12,3 +12,4 @@ pub mod Standing
 pub mod Holding
 pub mod Keeps
 pub mod Alive
+pub mod Starting
