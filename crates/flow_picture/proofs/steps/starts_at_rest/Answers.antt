@@ -1,0 +1,8 @@
+use Rattle.flow_picture.proofs.Starting.{idle_rests, vanished_rests}
+use Rattle.flow_picture.proofs.steps.starts_at_rest.Goals as goal
+
+pub returns-clause-idle : goal.returns-clause-idle
+returns-clause-idle c = idle_rests
+
+pub returns-clause-vanished : goal.returns-clause-vanished
+returns-clause-vanished c = vanished_rests

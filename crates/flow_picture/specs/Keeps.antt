@@ -1,0 +1,43 @@
+-- What the steps of a process and what is brought to it keep.
+use Rattle.std.specs.Prelude.{◌≡◌, ℕ, List}
+use Rattle.std.specs.declared.option.Option.TheVariants.{Some}
+use Rattle.flow_value.specs.Values.{ValueTree, OutcomeTree}
+use Rattle.flow_class.specs.Classes.{RawTree}
+use Rattle.flow_meaning.specs.Asks.{Supply}
+use Rattle.flow_meaning.specs.Process.{Core, Proc}
+use Rattle.flow_meaning.specs.Orderly.{Orderly, UnlessStopped}
+use Rattle.flow_meaning.specs.Step.{Stepped, step}
+use Rattle.flow_meaning.specs.Class.{classes}
+use Rattle.flow_meaning.specs.Deliver.{boot_core, deliver, arrive, stop}
+use Rattle.flow_meaning.specs.Frame.{Frame}
+use Rattle.flow_picture.specs.Counted.{Agree}
+use Rattle.flow_picture.specs.Rested.{InNumbers}
+
+-- waiters and operands agree, and numbers rise
+pub record Tied (c : Core) : Type 0 where
+  pub agree : Agree c
+  pub numbers : InNumbers c
+
+-- where the event isn't stopped
+abbrev pub TiedUnlessStopped : Core → Type 0
+TiedUnlessStopped c = UnlessStopped c.halted (Tied c)
+
+abbrev pub StepsTied : Type 0
+StepsTied =
+    (r : RawTree) (s : Supply) (p : Proc Frame) (q : Stepped Frame) → Orderly p.core → Tied p.core
+    → step (classes r) s p ≡ Some q
+    → TiedUnlessStopped q.0.core
+
+abbrev pub DeliveriesTied : Type 0
+DeliveriesTied = (k : ℕ) (o : OutcomeTree) (c : Core) → Tied c → TiedUnlessStopped (deliver k o c)
+
+abbrev pub ArrivalsTied : Type 0
+ArrivalsTied = (k : ℕ) (v : ValueTree) (c : Core) → Tied c → TiedUnlessStopped (arrive k v c)
+
+abbrev pub BootsTied : Type 0
+BootsTied =
+    (class : ℕ) (name : List ℕ) (c : Core) → Orderly c → Tied c
+    → TiedUnlessStopped (boot_core class name c)
+
+abbrev pub StopsTied : Type 0
+StopsTied = (c : Core) → Tied c → Tied (stop c)

@@ -1,0 +1,15 @@
+pub mod Shows
+pub mod Counted
+pub mod Rested
+pub mod Changes
+pub mod Acting
+pub mod Leaving
+pub mod Beside
+pub mod References
+pub mod Keeping
+pub mod Losing
+pub mod Standing
+pub mod Holding
+pub mod Keeps
+pub mod Alive
+pub mod Starting

@@ -1,0 +1,51 @@
+// What the steps of a process keep.
+
+ghost use Rattle.flow_picture.specs.Keeps.{StepsTied, DeliveriesTied, ArrivalsTied, BootsTied, StopsTied};
+ghost use Rattle.std.specs.Prelude.{ℕ, List};
+ghost use Rattle.flow_class.specs.Classes.{RawTree};
+ghost use Rattle.flow_value.specs.declared.value.Value.{Value};
+ghost use Rattle.flow_meaning.specs.Cells.{Side};
+ghost use Rattle.flow_meaning.specs.Process.{Entry, Proc};
+ghost use Rattle.flow_meaning.specs.Frame.{Memory, Frame};
+ghost use Rattle.flow_frame.specs.Frames.{FrameTree};
+ghost use Rattle.flow_picture.specs.Holding as holding;
+ghost use Rattle.flow_picture.specs.Starting.{IdleRests, VanishedRests};
+ghost use Rattle.flow_picture.specs.Standing as standing;
+
+/// Each step of classes, and each thing that the world brings to a process, keeps that the branches of an actor that wait at
+/// a cell are those of its operands there, and that the numbers of cells, requests and ports' streams rise; unless it stops
+/// the event.
+pub fn waits_kept()
+    ensures steps { StepsTied }
+    ensures deliveries { DeliveriesTied }
+    ensures arrivals { ArrivalsTied }
+    ensures boots { BootsTied }
+    ensures stops { StopsTied }
+{}
+
+/// What a frame in memory becomes is what the frame of the process becomes: a place is read or written; the actor goes on
+/// elsewhere, keeps an operand, is suspended, is over.
+pub fn frames_shown()
+    ensures read { (r : RawTree) (m : FrameTree Value) (e : Entry) (f : Frame) → standing.PlaceRead r m e f }
+    ensures written { (r : RawTree) (m : FrameTree Value) (e : Entry) (f : Frame) → standing.PlaceWritten r m e f }
+    ensures goes { (r : RawTree) (m : FrameTree Value) (e : Entry) (f : Frame) → standing.GoesOn r m e f }
+    ensures kept { (r : RawTree) (m : FrameTree Value) (e : Entry) (f : Frame) → standing.OperandKept r m e f }
+    ensures suspends { (r : RawTree) (m : FrameTree Value) (e : Entry) (f : Frame) → standing.Suspends r m e f }
+    ensures over { (r : RawTree) (m : FrameTree Value) (e : Entry) (f : Frame) → standing.IsOver r m e f }
+{}
+
+/// How often a frame refers to a side of a cell, after a place was written or emptied, locals were emptied, or a value was
+/// put where a path leads.
+pub fn references_of_frames()
+    ensures written { (m : Memory) (s : Side) (j : ℕ) → holding.OfWritten m s j }
+    ensures emptied { (m : Memory) (s : Side) (j : ℕ) → holding.OfEmptied m s j }
+    ensures locals { (m : Memory) (s : Side) (j : ℕ) → holding.OfLocals m s j }
+    ensures all { (m : Memory) (s : Side) (j : ℕ) → holding.OfAllLocals m s j }
+    ensures path { (m : Memory) (s : Side) (j : ℕ) → holding.OfPath m s j }
+{}
+
+/// A process that never ran rests, and so does one after a loss of power: everything that holds at rest holds of it.
+pub fn starts_at_rest()
+    ensures idle { IdleRests }
+    ensures vanished { VanishedRests }
+{}
