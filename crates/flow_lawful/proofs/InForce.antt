@@ -113,7 +113,7 @@ local_found n (suc k) (s ∷ ts) t le lt e =
     plus_suc : n + suc k ≡ suc n + k
     plus_suc = omega arith
 
-named_append : {A : Type 0} (xs ys : List (List ℕ × A)) (x : List ℕ) → named (xs ++ ys) x ≡ or_else (named xs x) (named ys x)
+pub named_append : {A : Type 0} (xs ys : List (List ℕ × A)) (x : List ℕ) → named (xs ++ ys) x ≡ or_else (named xs x) (named ys x)
 named_append [] ys x = refl
 named_append (r ∷ xs) ys x = by_name (bytes_eq x r.0) (named_append xs ys x)
   where
@@ -188,17 +188,17 @@ module _ (base : Setting) (ns : Names) (c : ClassTree) (few_slots : length c.slo
       zero_plus = omega arith
 
   -- the scope with one more variable
-  record Grows (s later : Scope) (x : List ℕ) (to : Slotted) : Type 0 where
-    own : place_of c.slots later x ≡ Some to
-    others : (y : List ℕ) → bytes_eq y x ≡ false → place_of c.slots later y ≡ place_of c.slots s y
+  pub record Grows (s later : Scope) (x : List ℕ) (to : Slotted) : Type 0 where
+    pub own : place_of c.slots later x ≡ Some to
+    pub others : (y : List ℕ) → bytes_eq y x ≡ false → place_of c.slots later y ≡ place_of c.slots s y
 
-  grows_local : (s : Scope) (x : List ℕ) (l : ℕ) → Grows s (Var x l ∷ s) x (place.Local l)
+  pub grows_local : (s : Scope) (x : List ℕ) (l : ℕ) → Grows s (Var x l ∷ s) x (place.Local l)
   grows_local s x l = record {
     own = ap (λ b. place_by (if b then Some l else find s x) (position (λ (t : SlotTree). bytes_eq x t.name) c.slots)) (bytes_self x);
     others = λ y e. ap (λ b. place_by (if b then Some l else find s y) (position (λ (t : SlotTree). bytes_eq y t.name) c.slots)) e;
   }
 
-  grows_declared : (s later : Scope) (i : IntoTree) (to : Slotted) → DeclaredAs ns c s i to later → Grows s later i.name.name to
+  pub grows_declared : (s later : Scope) (i : IntoTree) (to : Slotted) → DeclaredAs ns c s i to later → Grows s later i.name.name to
   grows_declared s later i (place.Slot n) d = record { own = ap (λ z. place_of c.slots z i.name.name) d.2 ∙ d.1; others = λ y e. ap (λ z. place_of c.slots z y) d.2 }
   grows_declared s later i (place.Local n) d = subst (λ z. Grows s z i.name.name (place.Local n)) (sym d.2) (grows_local s i.name.name n)
 

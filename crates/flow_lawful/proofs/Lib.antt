@@ -15,3 +15,6 @@ pub mod Instructions
 pub mod Fitting
 pub mod Effects
 pub mod Tested
+pub mod Walks
+pub mod Waysides
+pub mod Lines
