@@ -18,3 +18,4 @@ pub mod Tested
 pub mod Walks
 pub mod Waysides
 pub mod Lines
+pub mod Entries
