@@ -19,3 +19,4 @@ pub mod Walks
 pub mod Waysides
 pub mod Lines
 pub mod Entries
+pub mod Surroundings
