@@ -20,3 +20,4 @@ pub mod Waysides
 pub mod Lines
 pub mod Entries
 pub mod Surroundings
+pub mod Reading
