@@ -228,6 +228,10 @@ module _ (c : ClassTree) where
         (k.first (catch_part ch.acts h ch.held) (among (filled gs st)) (covers_filled gs st) (guarded_part e h a st ch.acts ch.held v.held (λ t. v.acts t e at o)), k.more);
   }
 
+  pub later_entry : (h : Option Hand) (a : Aim) (gs : List Slotted) (st : ℕ) (outer : Entries → Type 0) (n m g i : ℕ) (ch : Chunk) (v : Live h a gs st outer (suc n) m g i ch) → (later_live h a gs st outer n m g i ch v).entry ≡ Some (filled gs st)
+  unfolding later_live
+  later_entry h a gs st outer n m g i ch v = refl
+
   nones : List BlockTree → List Entry
   nones [] = []
   nones (b ∷ bs) = None ∷ nones bs

@@ -21,3 +21,4 @@ pub mod Lines
 pub mod Entries
 pub mod Surroundings
 pub mod Reading
+pub mod Grounds
