@@ -22,3 +22,4 @@ pub mod Entries
 pub mod Surroundings
 pub mod Reading
 pub mod Grounds
+pub mod Alive
