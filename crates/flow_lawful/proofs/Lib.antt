@@ -23,3 +23,4 @@ pub mod Surroundings
 pub mod Reading
 pub mod Grounds
 pub mod Alive
+pub mod Jumping
