@@ -272,3 +272,83 @@ module _ (c : ClassTree) where
           more = all_append e v.entries (z.entry ∷ z.entries) x.more (blocks_of k y) l.more (z.kept e back.0 back.1 (f2 e q back.0) (located_back g i x.groups y.groups v.gsize gr));
         };
   }
+
+  -- two chunks behind, whose entries all may know
+  pub join_two : (h k k2 : Option Hand) (a : Aim) (gs : List Slotted) (st : ℕ) (outer near far far2 : Entries → Type 0) (n m o q g i j r : ℕ) (x y z : Chunk) → Live h a gs st near n m g i x → (y' : Later k far m o i j y) → (z' : Later k2 far2 o q j r z)
+      → ((e : Entries) → outer e → e m ≡ y'.entry → e o ≡ z'.entry → near e) → ((e : Entries) → outer e → e m ≡ y'.entry → e o ≡ z'.entry → far e) → ((e : Entries) → outer e → e m ≡ y'.entry → e o ≡ z'.entry → far2 e)
+      → Live h a gs st outer n q g r (joined k2 (joined k x y) z)
+  join_two h k k2 a gs st outer near far far2 n m o q g i j r x y z v y' z' f f1 f2 =
+      let ys = y'.entry ∷ y'.entries in
+      let zs = z'.entry ∷ z'.entries in
+      let size : n + length (v.entries ++ ys) ≡ o = omega (arith, v.size, y'.size, length-append v.entries ys) in
+      let gsize : g + length (x.groups ++ y.groups) ≡ j = omega (arith, v.gsize, y'.gsize, length-append x.groups y.groups) in
+      record {
+        entries = (v.entries ++ ys) ++ zs;
+        size = omega (arith, size, z'.size, length-append (v.entries ++ ys) zs);
+        gsize = omega (arith, gsize, z'.gsize, length-append (x.groups ++ y.groups) z.groups);
+        acts = λ t e at s.
+            let front = entries_front e n (v.entries ++ ys) zs at in
+            let two = entries_back e n o (v.entries ++ ys) zs size at in
+            let one = entries_back e n m v.entries ys v.size front in
+            v.acts t e (entries_front e n v.entries ys front) (f e s one.0 two.0);
+        held = v.held;
+        kept = λ e at s gr.
+            let front = entries_front e n (v.entries ++ ys) zs at in
+            let two = entries_back e n o (v.entries ++ ys) zs size at in
+            let one = entries_back e n m v.entries ys v.size front in
+            let grf = located_front g (x.groups ++ y.groups) z.groups gr in
+            let l = v.kept e (entries_front e n v.entries ys front) (f e s one.0 two.0) (located_front g x.groups y.groups grf) in
+            record {
+              first = l.first;
+              more = all_append e (v.entries ++ ys) zs (x.more ++ blocks_of k y) (blocks_of k2 z)
+                  (all_append e v.entries ys x.more (blocks_of k y) l.more (y'.kept e one.0 one.1 (f1 e s one.0 two.0) (located_back g i x.groups y.groups v.gsize grf)))
+                  (z'.kept e two.0 two.1 (f2 e s one.0 two.0) (located_back g j (x.groups ++ y.groups) z.groups gsize gr));
+            };
+      }
+
+  -- and a third one
+  pub join_three : (h k k2 k3 : Option Hand) (a : Aim) (gs : List Slotted) (st : ℕ) (outer near far far2 far3 : Entries → Type 0) (n m o q s g i j r d : ℕ) (x y z u : Chunk) → Live h a gs st near n m g i x → (y' : Later k far m o i j y) → (z' : Later k2 far2 o q j r z)
+      → (u' : Later k3 far3 q s r d u) → ((e : Entries) → outer e → e m ≡ y'.entry → e o ≡ z'.entry → e q ≡ u'.entry → near e) → ((e : Entries) → outer e → e m ≡ y'.entry → e o ≡ z'.entry → e q ≡ u'.entry → far e)
+      → ((e : Entries) → outer e → e m ≡ y'.entry → e o ≡ z'.entry → e q ≡ u'.entry → far2 e) → ((e : Entries) → outer e → e m ≡ y'.entry → e o ≡ z'.entry → e q ≡ u'.entry → far3 e)
+      → Live h a gs st outer n s g d (joined k3 (joined k2 (joined k x y) z) u)
+  join_three h k k2 k3 a gs st outer near far far2 far3 n m o q s g i j r d x y z u v y' z' u' f f1 f2 f3 =
+      let ys = y'.entry ∷ y'.entries in
+      let zs = z'.entry ∷ z'.entries in
+      let us = u'.entry ∷ u'.entries in
+      let two = (v.entries ++ ys) ++ zs in
+      let gs2 = x.groups ++ y.groups in
+      let gs3 = gs2 ++ z.groups in
+      let size1 : n + length (v.entries ++ ys) ≡ o = omega (arith, v.size, y'.size, length-append v.entries ys) in
+      let size2 : n + length two ≡ q = omega (arith, size1, z'.size, length-append (v.entries ++ ys) zs) in
+      let gsize1 : g + length gs2 ≡ j = omega (arith, v.gsize, y'.gsize, length-append x.groups y.groups) in
+      let gsize2 : g + length gs3 ≡ r = omega (arith, gsize1, z'.gsize, length-append gs2 z.groups) in
+      record {
+        entries = two ++ us;
+        size = omega (arith, size2, u'.size, length-append two us);
+        gsize = omega (arith, gsize2, u'.gsize, length-append gs3 u.groups);
+        acts = λ t e at w.
+            let f0 = entries_front e n two us at in
+            let b3 = entries_back e n q two us size2 at in
+            let f1' = entries_front e n (v.entries ++ ys) zs f0 in
+            let b2 = entries_back e n o (v.entries ++ ys) zs size1 f0 in
+            let b1 = entries_back e n m v.entries ys v.size f1' in
+            v.acts t e (entries_front e n v.entries ys f1') (f e w b1.0 b2.0 b3.0);
+        held = v.held;
+        kept = λ e at w gr.
+            let f0 = entries_front e n two us at in
+            let b3 = entries_back e n q two us size2 at in
+            let f1' = entries_front e n (v.entries ++ ys) zs f0 in
+            let b2 = entries_back e n o (v.entries ++ ys) zs size1 f0 in
+            let b1 = entries_back e n m v.entries ys v.size f1' in
+            let gr3 = located_front g gs3 u.groups gr in
+            let gr2 = located_front g gs2 z.groups gr3 in
+            let l = v.kept e (entries_front e n v.entries ys f1') (f e w b1.0 b2.0 b3.0) (located_front g x.groups y.groups gr2) in
+            record {
+              first = l.first;
+              more = all_append e two us ((x.more ++ blocks_of k y) ++ blocks_of k2 z) (blocks_of k3 u)
+                  (all_append e (v.entries ++ ys) zs (x.more ++ blocks_of k y) (blocks_of k2 z)
+                  (all_append e v.entries ys x.more (blocks_of k y) l.more (y'.kept e b1.0 b1.1 (f1 e w b1.0 b2.0 b3.0) (located_back g i x.groups y.groups v.gsize gr2)))
+                  (z'.kept e b2.0 b2.1 (f2 e w b1.0 b2.0 b3.0) (located_back g j gs2 z.groups gsize1 gr3)))
+                  (u'.kept e b3.0 b3.1 (f3 e w b1.0 b2.0 b3.0) (located_back g r gs3 u.groups gsize2 gr));
+            };
+      }

@@ -71,10 +71,10 @@ no_both : false ≡ true → ⊥
 no_both z = cc
 
 module _ (base : Setting) (ns : Names) (c : ClassTree) (few_slots : length c.slots < 2 ^ 64) (few_locals : length c.locals < 2 ^ 64) (agree : (f : List ℕ) → is_there (effectful ns f) ≡ calls_effect (called base f)) where
-  abbrev Alives : Body → Type 0
+  abbrev pub Alives : Body → Type 0
   Alives b = Lives base ns c few_slots few_locals agree b
 
-  abbrev Owed : Bool → Around → Aims → Point → Ways → Entries c → Type 0
+  abbrev pub Owed : Bool → Around → Aims → Point → Ways → Entries c → Type 0
   Owed l w a p v e = Outer base ns c few_slots few_locals agree l w a p v e
 
   -- a statement that nothing goes on from
@@ -189,18 +189,18 @@ module _ (base : Setting) (ns : Names) (c : ClassTree) (few_slots : length c.slo
       leave_lives x l rows vs gs s w n p a a.again w.looped.again (Owed l w a p (ways k (ContinueStmt at x))) g g.again (λ en o. o.1.again said.placed.0)
 
   -- a scope of its own owes what its surroundings owe
-  abbrev scoped : Around → ℕ → Around
+  abbrev pub scoped : Around → ℕ → Around
   scoped w t = inner w (Scoped (GotoLast t))
 
-  abbrev ended : Aims → List Slotted → ℕ → ℕ → Aims
+  abbrev pub ended : Aims → List Slotted → ℕ → ℕ → Aims
   ended a gs st m = record a { end = here_aim gs st m }
 
-  inner_owed : (en : Entries c) (l : Bool) (w : Around) (t m : ℕ) (a : Aims) (gs : List Slotted) (p : Point) (st : ℕ) (v : Ways) → (is_reached v.ends ≡ true → en t ≡ Some (filled gs st)) → Exits st (length gs) p.stale v.ends → Sides c en l w a p v
+  pub inner_owed : (en : Entries c) (l : Bool) (w : Around) (t m : ℕ) (a : Aims) (gs : List Slotted) (p : Point) (st : ℕ) (v : Ways) → (is_reached v.ends ≡ true → en t ≡ Some (filled gs st)) → Exits st (length gs) p.stale v.ends → Sides c en l w a p v
       → Owed l (scoped w t) (ended a gs st m) p v en
   inner_owed en l w t m a gs p st v is ex s = (record { reached = is; exits = ex }, record { out = s.out; again = s.again; hand = s.hand })
 
   -- the waits of a body, with nothing behind it
-  waits_alone : (k : ℕ) (b : Body) → k - length (body_groups b ++ []) ≡ k - length (body_groups b)
+  pub waits_alone : (k : ℕ) (b : Body) → k - length (body_groups b ++ []) ≡ k - length (body_groups b)
   waits_alone k b = ap (λ z. k - length z) (append-nil (body_groups b))
 
   pub block_lives : (at : Place) (b x : Body) → Alives b → Alives x → Alives (BlockStmt at b x)

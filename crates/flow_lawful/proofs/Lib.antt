@@ -24,3 +24,4 @@ pub mod Reading
 pub mod Grounds
 pub mod Alive
 pub mod Jumping
+pub mod Choosings
