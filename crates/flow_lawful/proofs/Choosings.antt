@@ -83,7 +83,7 @@ IsJump y (GotoLast t) = t ≡ y
 IsJump y (PassLast t) = t ≡ y
 IsJump y _ = ⊥
 
-monus_twice : (k a b x : ℕ) → x ≡ a + b → k - x ≡ k - a - b
+pub monus_twice : (k a b x : ℕ) → x ≡ a + b → k - x ≡ k - a - b
 monus_twice k a b x e = omega (arith, e)
 
 module _ (base : Setting) (ns : Names) (c : ClassTree) (few_slots : length c.slots < 2 ^ 64) (few_locals : length c.locals < 2 ^ 64) (agree : (f : List ℕ) → is_there (effectful ns f) ≡ calls_effect (called base f)) where

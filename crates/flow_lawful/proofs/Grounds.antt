@@ -43,11 +43,11 @@ from_scope : (b : Bool) (u : ℕ) (x : List ℕ) (l : ℕ) (s : Scope) → u ≤
 from_scope true u x l s le h = h
 from_scope false u x l s le h = (le, h)
 
-lies_past : (a : Aim) (gs : List Slotted) (ds : List ℕ) (l m : ℕ) → l ≤ m → Lies a gs ds l → Lies a gs ds m
+pub lies_past : (a : Aim) (gs : List Slotted) (ds : List ℕ) (l m : ℕ) → l ≤ m → Lies a gs ds l → Lies a gs ds m
 lies_past a gs ds l m le h = record { sub = h.sub; below = h.below; from = h.from; low = omega (arith, h.low) }
 
 -- with one more place
-lies_more : (a : Aim) (gs : List Slotted) (to : Slotted) (ds es : List ℕ) (l m : ℕ) → l ≤ m → (a.from ≤ l → AllFrom a.from ds → AllFrom a.from es) → Lies a gs ds l → Lies a (to ∷ gs) es m
+pub lies_more : (a : Aim) (gs : List Slotted) (to : Slotted) (ds es : List ℕ) (l m : ℕ) → l ≤ m → (a.from ≤ l → AllFrom a.from ds → AllFrom a.from es) → Lies a gs ds l → Lies a (to ∷ gs) es m
 lies_more a gs to ds es l m le f h = record { sub = λ j q k. inr (h.sub j q k); below = h.below; from = f h.low h.from; low = omega (arith, h.low) }
 
 abbrev pub no_aim : Aim

@@ -25,3 +25,4 @@ pub mod Grounds
 pub mod Alive
 pub mod Jumping
 pub mod Choosings
+pub mod Waitings
