@@ -26,3 +26,4 @@ pub mod Alive
 pub mod Jumping
 pub mod Choosings
 pub mod Waitings
+pub mod Handling
