@@ -235,7 +235,7 @@ module _ (base : Setting) (ns : Names) (c : ClassTree) (few_slots : length c.slo
       (λ z cover. act_in base ns c rows s st.sees vs gs n.local g.line p g.start z cover xs es judged one (named_path xs said.paths.0)) (λ z cover. covers_after i z gs p.stale (λ q. refl) cover)
 
   -- the value of a declaration
-  value_in : (rows : Rows) (vs : List Variable) (gs : List Slotted) (s : Scope) (m : ℕ) (p : Point) → Sees base c rows s → Lined base c vs gs rows s m → p.from ≡ 0 → (y : Places) → Covers y gs p.stale → (i : IntoTree) (q : Option ExprTree) (v : ExprTree)
+  pub value_in : (rows : Rows) (vs : List Variable) (gs : List Slotted) (s : Scope) (m : ℕ) (p : Point) → Sees base c rows s → Lined base c vs gs rows s m → p.from ≡ 0 → (y : Places) → Covers y gs p.stale → (i : IntoTree) (q : Option ExprTree) (v : ExprTree)
       → q ≡ Some v → value_fault (over_names base c rows) i.ty q ≡ None → AllFresh (maybe_uses vs p q) → AllIn (expr_places (over c.slots s v)) y
   value_in rows vs gs s m p sees line start y cover i q v is h fresh =
       let n = over_names base c rows in

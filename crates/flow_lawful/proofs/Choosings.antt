@@ -277,7 +277,7 @@ module _ (base : Setting) (ns : Names) (c : ClassTree) (few_slots : length c.slo
       (join c w.hand w.hand a.hand gs p.stale outer near1 outer n.block j.block (suc j.block + blocks_in w.looped.tried x) n.group j.group (j.group + groups_in x) (joined w.hand (joined w.hand c0 c1) c2) c3 three r2.later (λ en o is. (o, is)) (λ en o is. o))
 
   -- the body of a loop: its head, and what is lost behind it
-  head_meets : (vs : List Variable) (gs : List Slotted) (p : Point) (r : Ways) → length vs ≡ length gs → Meets p.stale (behind (length vs) p (head r)).stale (length gs)
+  pub head_meets : (vs : List Variable) (gs : List Slotted) (p : Point) (r : Ways) → length vs ≡ length gs → Meets p.stale (behind (length vs) p (head r)).stale (length gs)
   head_meets vs gs p r e = (exits_here base ns c few_slots few_locals vs gs p (head r) e).fresh refl
 
   pub round_exits : (vs : List Variable) (gs : List Slotted) (p : Point) (r : Ways) (q : Reached) → length vs ≡ length gs → (q.waited ≡ true → (round r).waited ≡ true) → Exits (behind (length vs) p (head r)).stale (length gs) (behind (length vs) p (head r)).stale q

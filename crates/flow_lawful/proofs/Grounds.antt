@@ -39,7 +39,7 @@ from_inner true u d x l s le h = h
 from_inner false u zero x l s le h = tt
 from_inner false u (suc d) x l s le h = (le, h)
 
-from_scope : (b : Bool) (u : ℕ) (x : List ℕ) (l : ℕ) (s : Scope) → u ≤ l → AllFrom u (scope s) → AllFrom u (scope (with_local b x l s))
+pub from_scope : (b : Bool) (u : ℕ) (x : List ℕ) (l : ℕ) (s : Scope) → u ≤ l → AllFrom u (scope s) → AllFrom u (scope (with_local b x l s))
 from_scope true u x l s le h = h
 from_scope false u x l s le h = (le, h)
 

@@ -27,3 +27,4 @@ pub mod Jumping
 pub mod Choosings
 pub mod Waitings
 pub mod Handling
+pub mod Parting
