@@ -28,3 +28,4 @@ pub mod Choosings
 pub mod Waitings
 pub mod Handling
 pub mod Parting
+pub mod Rounds

@@ -165,6 +165,7 @@ module _ (base : Setting) (ns : Names) (c : ClassTree) (few_slots : length c.slo
     pub ground : Ground base ns c few_slots few_locals w (later i n.local s) (n.local + locals_in i) rows (declaring vs i) places p a
     pub thrown : Thrown base ns c few_slots few_locals agree rows places (later i n.local s) cu w.caught (started e i).caught
     pub sub : Sub gs places
+    pub same : IsStep i → places ≡ gs
     pub low : AllFrom n.local (scope s) → AllFrom n.local (scope (later i n.local s))
     pub live : (y st : ℕ) (last : LastTree) → w.exit ≡ Part last → IsJump y last → Meets p.stale st (length places)
         → Live c w.hand a.hand gs p.stale (Into w.hand a.hand p places y st (ways k i)) n.block n.block n.group n.group (lowered ns c.slots s w n i)
@@ -212,6 +213,7 @@ module _ (base : Setting) (ns : Names) (c : ClassTree) (few_slots : length c.slo
         ground = ground_past base ns c few_slots few_locals w s2 m (n.local + (local_count i + 0)) rows2 (declared i ∷ vs) hs p p a (omega arith) g.start g2;
         thrown = thrown_into base ns c few_slots few_locals agree rows gs s n.local i pl cu w.caught e.caught new th;
         sub = λ j q k. inr k;
+        same = λ z. absurd z;
         low = λ z. from_scope i.state n.local i.name.name n.local s (omega arith) z;
         live = λ y stl last ex jump meets.
             subst (λ is. Live c w.hand a.hand gs p.stale (Into w.hand a.hand p hs y stl u) n.block n.block n.group n.group (acting is (finished w s2 w.exit))) (sym d.is)
@@ -228,6 +230,7 @@ module _ (base : Setting) (ns : Names) (c : ClassTree) (few_slots : length c.slo
     ground = ground_past base ns c few_slots few_locals w s n.local (n.local + 0) rows vs gs p p a (omega arith) g.start g;
     thrown = th;
     sub = λ j q k. k;
+    same = λ z. refl;
     low = λ z. z;
     live = λ y stl last ex jump meets. part_leaf gs s w n.local p a (ways k End) n.block n.group y stl last g.hand ex jump meets;
   }
@@ -244,6 +247,7 @@ module _ (base : Setting) (ns : Names) (c : ClassTree) (few_slots : length c.slo
         ground = ground_past base ns c few_slots few_locals w s n.local (n.local + 0) rows vs gs p p a (omega arith) g.start g;
         thrown = th;
         sub = λ j q k. k;
+        same = λ z. refl;
         low = λ z. z;
         live = λ y stl last ex jump meets.
             part_acts gs gs s s w n.local p a (ways k (AssignStmt at xs q End)) n.block n.group y stl last i g.hand g.hand refl
@@ -265,6 +269,7 @@ module _ (base : Setting) (ns : Names) (c : ClassTree) (few_slots : length c.slo
         ground = ground_past base ns c few_slots few_locals w s n.local (n.local + 0) rows vs gs p p a (omega arith) g.start g;
         thrown = th;
         sub = λ j q k. k;
+        same = λ z. refl;
         low = λ z. z;
         live = λ y stl last ex jump meets.
             part_acts gs gs s s w n.local p a (ways k (ModifyStmt at (x ∷ xs) d End)) n.block n.group y stl last i g.hand g.hand refl
