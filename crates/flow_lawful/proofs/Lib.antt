@@ -29,3 +29,4 @@ pub mod Waitings
 pub mod Handling
 pub mod Parting
 pub mod Rounds
+pub mod Unlost
