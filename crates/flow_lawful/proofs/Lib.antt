@@ -30,3 +30,5 @@ pub mod Handling
 pub mod Parting
 pub mod Rounds
 pub mod Unlost
+pub mod Living
+pub mod Filled
