@@ -1,20 +1,17 @@
 -- The entries of blocks, and chunks that keep them.
-use Rattle.std.proofs.Common.{◌≡◌, ◌⊎◌, inl, inr, ℕ, zero, suc, ◌+◌, ◌<◌, ◌≤◌, Bool, true, false, not, ◌&&◌, ◌||◌, nat_eq, nat_lt, List, [], ◌∷◌, ◌++◌, length, map, slice_get, refl, ap, ap₂, sym, subst, ◌∙◌, arith, length-append}
+use Rattle.std.proofs.Common.{◌≡◌, ◌⊎◌, inl, inr, ℕ, suc, ◌+◌, ◌<◌, ◌≤◌, Bool, true, false, not, ◌&&◌, ◌||◌, nat_eq, List, [], ◌∷◌, ◌++◌, length, refl, ap, sym, subst, ◌∙◌, arith, length-append}
 use Rattle.std.specs.List.{list_any}
 use Rattle.std.specs.declared.option.Option.{Option}
 use Rattle.std.specs.declared.option.Option.TheVariants.{None, Some}
 use Rattle.flow_class.specs.declared.class.Slotted.{Slotted}
 use Rattle.flow_class.specs.declared.class.Slotted.TheVariants as place
-use Rattle.flow_class.specs.Classes.{CatcherTree, InstrTree, DropInstr, LastTree, GotoLast, PassLast, TestLast, ChooseLast, ReturnLast, ThrowLast, BlockTree, CallbackTree, ClassTree}
+use Rattle.flow_class.specs.Classes.{CatcherTree, DropInstr, BlockTree, CallbackTree, ClassTree}
 use Rattle.flow_class.specs.Code.{group_at}
-use Rattle.flow_staterule.specs.declared.scope.Point.{Point}
-use Rattle.flow_staterule.specs.declared.ways.Reached.{Reached}
-use Rattle.flow_staterule.specs.Ways.{is_reached}
 use Rattle.flow_split.specs.Around.{Hand}
-use Rattle.flow_split.specs.Lowered.{Chunk, catch_part, block_with, blocks_of, joined, drop_of}
-use Rattle.flow_valid.specs.Filling.{among, is_local, dropped, same_place}
-use Rattle.flow_lawful.proofs.Walks.{Places, AllIn, is_caught, after, waited, handled, Enters, Catches, Leads, Kept}
-use Rattle.flow_lawful.proofs.Waysides.{Meets, Exits}
+use Rattle.flow_split.specs.Lowered.{Chunk, catch_part, blocks_of, joined}
+use Rattle.flow_valid.specs.Filling.{among, is_local, dropped}
+use Rattle.flow_lawful.proofs.Walks.{Places, is_caught, after, waited, handled, Enters, Catches, Kept}
+use Rattle.flow_lawful.proofs.Waysides.{Meets}
 use Rattle.flow_lawful.proofs.Lines.{Has, has_below, Sub, Holds, filled, filled_holds, Covers, covers_filled, same_self}
 
 abbrev pub Entry : Type 0

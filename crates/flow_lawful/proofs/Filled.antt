@@ -1,57 +1,49 @@
 -- The class of an actor that the front accepts reads only what is filled.
 use Rattle.std.proofs.Common.{◌≡◌, ◌⊎◌, inl, inr, ℕ, zero, suc, ◌+◌, ◌^◌, ◌<◌, ◌≤◌, Bool, true, false, nat_lt, nat_eq, List, [], ◌∷◌, ◌++◌, length, map, reverse, slice_get, refl, ap, sym, subst, ◌∙◌, arith, length-append, append_assoc, if◌then◌else◌}
 use Rattle.std.specs.Str.{bytes_eq}
-use Rattle.std.proofs.lemmas.List.{map-append, reverse-append, length-map}
-use Rattle.std.specs.declared.option.Option.{Option}
+use Rattle.std.proofs.lemmas.List.{reverse-append}
 use Rattle.std.specs.declared.option.Option.TheVariants.{None, Some}
 use Rattle.flow_base.specs.declared.place.Place.{Place}
 use Rattle.flow_tree.specs.declared.decl.Program.{Program}
-use Rattle.flow_tree.specs.Tree.{TypeTree}
 use Rattle.flow_tree.specs.Decls.{ParamTree, SlotTree, RoutineTree, DeclTree, StructDecl, FunctionDecl, ActorDecl, ProgramTree}
 use Rattle.flow_tree.specs.DeclView.{program_of}
-use Rattle.flow_ast.specs.Slots.{param_slot, body_slots, slots_of, body_groups}
-use Rattle.flow_ast.specs.TypingNames.{named}
-use Rattle.flow_ast.specs.Typing.{is_there}
+use Rattle.flow_ast.specs.Slots.{param_slot, body_slots}
 use Rattle.flow_class.specs.declared.class.Slotted.{Slotted}
 use Rattle.flow_class.specs.declared.class.Slotted.TheVariants as place
 use Rattle.flow_class.specs.Classes.{BlockTree, CallbackTree, ClassTree}
-use Rattle.flow_class.specs.Code.{group_at}
-use Rattle.flow_class.specs.Scopes.{Scope}
 use Rattle.flow_rules.specs.Known.{field_row}
 use Rattle.flow_rules.specs.Judged.{Setting}
 use Rattle.flow_rules.specs.Items.{written}
 use Rattle.flow_rules.specs.Rules.{setting_of, name_fault, params_fault, body_env}
 use Rattle.flow_staterule.specs.declared.scope.Point.{Point}
-use Rattle.flow_staterule.specs.declared.scope.Use.{Use}
 use Rattle.flow_staterule.specs.Uses.{Variable, mention, use_of, parameter, begins}
 use Rattle.flow_staterule.specs.Ways.{ways}
-use Rattle.flow_staterule.specs.StateRule.{wait_places, routine_uses, first_lost}
+use Rattle.flow_staterule.specs.StateRule.{wait_places}
 use Rattle.flow_meaning.specs.Evaluating.{Names}
 use Rattle.flow_meaning.specs.Source.{names_of}
 use Rattle.flow_split.specs.Around.{whole}
 use Rattle.flow_split.specs.Counts.{Next, blocks_in, groups_in}
-use Rattle.flow_split.specs.Lowered.{Chunk, blocks_of, lowered}
+use Rattle.flow_split.specs.Lowered.{lowered}
 use Rattle.flow_compile.specs.Compiled.{class_in, compiled}
 use Rattle.flow_compile.specs.Verdict.{IsSound}
-use Rattle.flow_valid.specs.Filling.{among, is_parameter, is_local, ReadsFilled}
-use Rattle.flow_valid.specs.Validity.{IsSoundClass, IsValid}
+use Rattle.flow_valid.specs.Filling.{among, is_parameter, ReadsFilled}
+use Rattle.flow_valid.specs.Validity.{IsValid}
 use Rattle.flow_walks.proofs.SimpleParts.{program_parts}
 use Rattle.flow_fits.specs.Paths.{HasPaths, AllHavePaths}
 use Rattle.flow_fits.proofs.PathsDerived.{program_paths}
-use Rattle.flow_fits.proofs.Names.{none_some, some_same, no_second}
+use Rattle.flow_fits.proofs.Names.{none_some, no_second}
 use Rattle.flow_faithful.proofs.Whole.{EachActor}
-use Rattle.flow_lawful.proofs.OverPlaces.{over_class, Sees}
-use Rattle.flow_lawful.proofs.InForce.{sees_params, ParamAt, param_at}
+use Rattle.flow_lawful.proofs.InForce.{sees_params, param_at}
 use Rattle.flow_lawful.proofs.Numbered.{all_types}
 use Rattle.flow_lawful.proofs.Declaring.{Accepted, is_accepted}
 use Rattle.flow_lawful.proofs.Effects.{effects_agree}
 use Rattle.flow_lawful.proofs.Tested.{IsWell, actors_well, class_of, keeps_rules}
-use Rattle.flow_lawful.proofs.Walks.{Kept, IsKept, reads_filled}
-use Rattle.flow_lawful.proofs.Lines.{Has, Holds, filled, filled_holds, Found, Lined}
-use Rattle.flow_lawful.proofs.Entries.{Entry, Entries, EntriesAt, EntryKept, AllKept, Located, Live, Later, later_live, later_entry}
+use Rattle.flow_lawful.proofs.Walks.{Kept, reads_filled}
+use Rattle.flow_lawful.proofs.Lines.{Has, Holds, filled, filled_holds, Lined}
+use Rattle.flow_lawful.proofs.Entries.{Entry, Entries, EntriesAt, EntryKept, AllKept, Located, later_live, later_entry}
 use Rattle.flow_lawful.proofs.Surroundings.{Aims}
-use Rattle.flow_lawful.proofs.Grounds.{no_aim, lies_nowhere, Ground}
-use Rattle.flow_lawful.proofs.Alive.{Said, Thrown, Outer}
+use Rattle.flow_lawful.proofs.Grounds.{no_aim, lies_nowhere}
+use Rattle.flow_lawful.proofs.Alive.{Outer}
 use Rattle.flow_lawful.proofs.Living.{all_live}
 use Rattle.flow_lawful.proofs.Unlost.{waits_in, IsUnlost, actors_unlost}
 

@@ -1,38 +1,34 @@
 -- What is known where a body begins, and chunks that are kept from there.
-use Rattle.std.proofs.Common.{◌≡◌, ◌⊎◌, inl, inr, ℕ, zero, suc, ◌+◌, ◌-◌, ◌^◌, ◌<◌, ◌≤◌, Bool, true, false, not, ◌&&◌, ◌||◌, List, [], ◌∷◌, ◌++◌, length, map, if◌then◌else◌, refl, ap, ap₂, sym, subst, ◌∙◌, arith, length-append}
+use Rattle.std.proofs.Common.{◌≡◌, inr, ℕ, zero, suc, ◌+◌, ◌^◌, ◌<◌, ◌≤◌, Bool, true, false, List, [], ◌∷◌, ◌++◌, length, if◌then◌else◌, refl, ap, sym, subst, ◌∙◌, arith}
 use Rattle.std.specs.declared.option.Option.{Option}
 use Rattle.std.specs.declared.option.Option.TheVariants.{None, Some}
-use Rattle.flow_tree.specs.Tree.{TypeTree, ErrorType}
-use Rattle.flow_tree.specs.Body.{IntoTree, Body}
-use Rattle.flow_ast.specs.TypingNames.{named}
+use Rattle.flow_tree.specs.Tree.{TypeTree}
+use Rattle.flow_tree.specs.Body.{IntoTree}
 use Rattle.flow_ast.specs.Typing.{is_there}
 use Rattle.flow_class.specs.declared.class.Slotted.{Slotted}
 use Rattle.flow_class.specs.declared.class.Slotted.TheVariants as place
-use Rattle.flow_class.specs.Classes.{CatcherTree, InstrTree, LastTree, GotoLast, PassLast, BlockTree, CallbackTree, ClassTree}
-use Rattle.flow_class.specs.Code.{Last}
-use Rattle.flow_class.specs.Places.{place_name, place_named}
-use Rattle.flow_class.specs.Scopes.{Scope, Mark, Var, scope, outside, place_of}
+use Rattle.flow_class.specs.Classes.{CatcherTree, InstrTree, LastTree, ClassTree}
+use Rattle.flow_class.specs.Scopes.{Scope, Mark, Var, scope}
 use Rattle.flow_catch.specs.Inner.{inner_locals}
 use Rattle.flow_staterule.specs.declared.scope.Point.{Point}
 use Rattle.flow_staterule.specs.declared.ways.Reached.{Reached}
 use Rattle.flow_staterule.specs.declared.ways.Ways.{Ways}
-use Rattle.flow_staterule.specs.declared.uses.Caught.{Caught}
-use Rattle.flow_staterule.specs.Ways.{is_reached, onward, sequence}
+use Rattle.flow_staterule.specs.Ways.{is_reached}
 use Rattle.flow_staterule.specs.Uses.{Variable, behind, declared}
 use Rattle.flow_rules.specs.Judged.{Setting}
 use Rattle.flow_meaning.specs.Evaluating.{Names}
 use Rattle.flow_meaning.specs.Carry.{DeclaredAs}
-use Rattle.flow_split.specs.Around.{Exit, Text, Scoped, Part, Hand, Around, inner, pass, guarded, handling}
-use Rattle.flow_split.specs.Counts.{Next, local_count, into_count}
-use Rattle.flow_split.specs.Lowered.{Chunk, block_with, blocks_of, joined, ends, acting, with_local, with_into}
+use Rattle.flow_split.specs.Around.{Exit, Hand, Around, inner, pass, guarded}
+use Rattle.flow_split.specs.Counts.{local_count}
+use Rattle.flow_split.specs.Lowered.{Chunk, ends, acting, with_local, with_into}
 use Rattle.flow_valid.specs.Filling.{is_local, reads, instr_reads}
 use Rattle.flow_lowered.proofs.Places.{Placing}
-use Rattle.flow_lawful.proofs.InForce.{New, Grows, grows_declared}
-use Rattle.flow_lawful.proofs.Walks.{Places, AllIn, after, Catches, Leads, Kept}
-use Rattle.flow_lawful.proofs.Waysides.{Meets, Exits, exits_self, behind_is}
+use Rattle.flow_lawful.proofs.InForce.{New, grows_declared}
+use Rattle.flow_lawful.proofs.Walks.{Places, AllIn, after, Kept}
+use Rattle.flow_lawful.proofs.Waysides.{Exits, exits_self}
 use Rattle.flow_lawful.proofs.Lines.{Has, Sub, filled, Covers, covers_sub, Lined, lined_marked, lined_past, lined_more}
-use Rattle.flow_lawful.proofs.Entries.{Entry, AllFrom, Aim, IsBelow, Lies, Entries, HandFact, Guard, catches, EntriesAt, Located, IsLive, Live, Later, later_live, later_entry, later_dead}
-use Rattle.flow_lawful.proofs.Surroundings.{Aims, Way, LastWay, EndWay, HandWay, Sides, hand_fact}
+use Rattle.flow_lawful.proofs.Entries.{AllFrom, Aim, IsBelow, Lies, Entries, HandFact, Guard, catches, Live, Later, later_live, later_entry, later_dead}
+use Rattle.flow_lawful.proofs.Surroundings.{Aims}
 
 from_inner : (b : Bool) (u d : ℕ) (x : List ℕ) (l : ℕ) (s : Scope) → u ≤ l → AllFrom u (inner_locals d s) → AllFrom u (inner_locals d (with_local b x l s))
 from_inner true u d x l s le h = h

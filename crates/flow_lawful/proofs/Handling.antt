@@ -1,107 +1,61 @@
 -- Where a body is reached, its blocks are kept: a try and its handler.
-use Rattle.std.proofs.Common.{◌≡◌, ◌⊎◌, inl, inr, ℕ, zero, suc, ◌+◌, ◌-◌, ◌^◌, ◌<◌, ◌≤◌, Bool, true, false, not, ◌&&◌, ◌||◌, nat_lt, List, [], ◌∷◌, ◌++◌, length, map, slice_get, if◌then◌else◌, refl, ap, ap₂, sym, subst, ◌∙◌, arith, length-append, append-nil}
-use Rattle.std.specs.Str.{bytes_eq}
-use Rattle.std.specs.Option.{option_and_then}
+use Rattle.std.proofs.Common.{◌≡◌, inl, inr, ℕ, suc, ◌+◌, ◌-◌, ◌^◌, ◌<◌, ◌≤◌, Bool, true, false, List, [], ◌∷◌, ◌++◌, length, refl, ap, ◌∙◌, arith, length-append, append-nil}
 use Rattle.std.proofs.lemmas.Option.{slice_get_within}
 use Rattle.std.specs.declared.option.Option.{Option}
-use Rattle.std.specs.declared.option.Option.TheVariants.{None, Some}
+use Rattle.std.specs.declared.option.Option.TheVariants.{Some}
 use Rattle.flow_base.specs.declared.place.Place.{Place}
 use Rattle.flow_tree.specs.declared.ty.Ident.{Ident}
-use Rattle.flow_tree.specs.Tree.{TypeTree, BoolType, ErrorType, ExprTree, ExprTrees, VarExpr}
-use Rattle.flow_tree.specs.Body.{IntoTree, WaitTree, ChangeTree, Body, End, BlockStmt, IfStmt, IfElseStmt, WhileStmt, ForStmt, LoopStmt, BreakStmt, ContinueStmt, ReturnStmt, ThrowStmt, TryStmt, ChooseStmt, DeclareStmt, AssignStmt, ModifyStmt, CallStmt, WaitStmt, Branches, NoBranches, MoreBranches}
-use Rattle.flow_ast.specs.Slots.{body_groups, body_slots, branch_slots}
-use Rattle.flow_ast.specs.Leaving.{has_statement}
-use Rattle.flow_ast.specs.TypingNames.{named}
+use Rattle.flow_tree.specs.Tree.{TypeTree, ErrorType}
+use Rattle.flow_tree.specs.Body.{Body, End, TryStmt}
+use Rattle.flow_ast.specs.Slots.{body_groups}
 use Rattle.flow_ast.specs.Typing.{is_there}
 use Rattle.flow_class.specs.declared.class.Slotted.{Slotted}
 use Rattle.flow_class.specs.declared.class.Slotted.TheVariants as place
-use Rattle.flow_class.specs.Classes.{CatcherTree, InstrTree, DropInstr, ActInstr, LastTree, GotoLast, PassLast, TestLast, ChooseLast, ReturnLast, ThrowLast, BlockTree, CallbackTree, ClassTree}
-use Rattle.flow_class.specs.Code.{Last}
-use Rattle.flow_class.specs.Places.{place_name, place_named}
-use Rattle.flow_class.specs.Scopes.{Scope, Mark, Var, scope, place_of, var_over, over, over_all, path_over, act_over, Above}
-use Rattle.flow_catch.specs.Inner.{inner_locals, left_lists}
-use Rattle.flow_layout.specs.Locals.{body_locals, declared_locals}
-use Rattle.flow_rules.specs.Least.{lesser, unless}
-use Rattle.flow_rules.specs.Judged.{Setting, called, fault, form, wants, wanted}
-use Rattle.flow_rules.specs.Items.{Env, item, with_states, behind as rule_behind, declared as rule_declared, into_fault, value_fault, declare_fault, assign_fault, modify_fault, call_fault, test_fault, throw_fault, slot_names, body_refusal}
+use Rattle.flow_class.specs.Classes.{GotoLast, ClassTree}
+use Rattle.flow_class.specs.Scopes.{Scope, Mark, Var}
+use Rattle.flow_catch.specs.Inner.{inner_locals}
+use Rattle.flow_layout.specs.Locals.{body_locals}
+use Rattle.flow_rules.specs.Judged.{Setting, called}
+use Rattle.flow_rules.specs.Items.{item, behind as rule_behind, body_refusal}
 use Rattle.flow_staterule.specs.declared.scope.Point.{Point}
-use Rattle.flow_staterule.specs.declared.ways.Reached.{Reached}
 use Rattle.flow_staterule.specs.declared.ways.Ways.{Ways}
 use Rattle.flow_staterule.specs.declared.uses.Caught.{Caught}
-use Rattle.flow_staterule.specs.Ways.{never, at_once, either, is_reached, onward, both, node, plain, follow, sequence, empty, ways}
-use Rattle.flow_staterule.specs.Uses.{Variable, behind, use_of, mention, named as named_use, expr_uses, exprs_uses, maybe_uses, target_uses, base_uses, change_uses, declared, left, beyond, thrown_uses, uses}
+use Rattle.flow_staterule.specs.Ways.{at_once, onward, plain, sequence, ways}
+use Rattle.flow_staterule.specs.Uses.{Variable, behind, left, beyond, uses}
 use Rattle.flow_meaning.specs.Evaluating.{Names, effectful}
-use Rattle.flow_meaning.specs.Items.{path_from, modified, change}
-use Rattle.flow_split.specs.Around.{Exit, Text, Scoped, Part, Hand, Around, inner}
-use Rattle.flow_split.specs.Counts.{Next, begun, taken, past, behind as count_behind, exit_blocks, blocks_in, local_count, into_count, locals_in, groups_in}
-use Rattle.flow_split.specs.Lowered.{Chunk, block_with, joined, ends, acting, drop_of, before_rest, finished, exits, exited, with_into, assigned, changed, place_in, declares, thrown, cancelled, lowered}
+use Rattle.flow_split.specs.Around.{Exit, Scoped, Hand, Around}
+use Rattle.flow_split.specs.Counts.{begun, past, blocks_in, locals_in, groups_in}
+use Rattle.flow_split.specs.Lowered.{joined, ends, lowered}
 use Rattle.flow_split.proofs.Lengths.{lowered_more, lowered_groups}
 use Rattle.flow_valid.specs.Validity.{calls_effect}
-use Rattle.flow_valid.specs.Named.{listed, expr_places}
-use Rattle.flow_valid.specs.Filling.{same_place, among, reads, instr_reads}
-use Rattle.flow_lowered.specs.Parts.{HasParts}
-use Rattle.flow_lowered.specs.InPlace.{naming, InPlace}
-use Rattle.flow_lowered.proofs.Standing.{LocalsAt, locals_front, locals_back}
+use Rattle.flow_lowered.proofs.Standing.{locals_front, locals_back}
 use Rattle.flow_lowered.proofs.Around.{above_more}
-use Rattle.flow_lowered.proofs.Places.{names, names_with, Placing, placing}
-use Rattle.flow_lowered.proofs.Further.{locals_count, into_locals_count, locals_after, exited_local, exited_group}
-use Rattle.flow_fits.specs.Paths.{IsPath, HasPaths}
-use Rattle.flow_fits.proofs.Names.{bytes_same, none_some, some_same, no_first, no_second, holds}
-use Rattle.flow_fits.proofs.Agreement.{neither_first, neither_second, no_item}
-use Rattle.flow_lawful.proofs.OverPlaces.{over_names, over_class, Sees}
-use Rattle.flow_lawful.proofs.InForce.{New, new_into, grows_declared}
-use Rattle.flow_lawful.proofs.Fitting.{Stands, at_item, new_here, stands_behind, stands_marked, stands_into, above_taken}
-use Rattle.flow_lawful.proofs.Walks.{Places, AllIn, after, Enters, Catches, Leads, Kept}
-use Rattle.flow_lawful.proofs.Waysides.{Meets, Exits, behind_is, exits_left, exits_right}
-use Rattle.flow_lawful.proofs.Lines.{Has, Sub, filled, Covers, covers_filled, covers_sub, AllFresh, fresh_left, fresh_right, in_both, in_one, in_none, not_lost, Lined}
-use Rattle.flow_lawful.proofs.Entries.{Entry, AllFrom, Aim, IsBelow, Lies, Entries, enters, HandFact, Guard, catches, EntriesAt, EntryKept, Located, IsLive, Live, Later, later_live, later_dead, join}
-use Rattle.flow_lawful.proofs.Surroundings.{Aims, behind_once, lists_from, Way, LastWay, EndWay, HandWay, end_onward, Sides, sides_left, sides_right, sides_first, sides_second, hand_fact, leads_last, lists_kept, drop_kept}
-use Rattle.flow_lawful.proofs.Reading.{IsNamed, Keeps, covers_after, covers_new, keeps_assigned, whole_in, assign_in, change_in, act_in, Declared, declared_by}
-use Rattle.flow_lawful.proofs.Grounds.{here_aim, lies_here, Ground, ground_past, ground_into, ground_inner, live_to, later_map, leaf, acting_live, Rest, rest_of, exits_here}
-use Rattle.flow_rules.specs.Items.{with_var, in_catch, in_loop, fresh as rule_fresh}
+use Rattle.flow_lowered.proofs.Further.{locals_count, locals_after}
+use Rattle.flow_fits.proofs.Agreement.{neither_first, neither_second}
+use Rattle.flow_lawful.proofs.OverPlaces.{over_names}
+use Rattle.flow_lawful.proofs.InForce.{New}
+use Rattle.flow_lawful.proofs.Fitting.{Stands, at_item, stands_behind, stands_marked}
+use Rattle.flow_lawful.proofs.Waysides.{behind_is, exits_left, exits_right}
+use Rattle.flow_lawful.proofs.Lines.{filled, fresh_left, fresh_right}
+use Rattle.flow_lawful.proofs.Entries.{Entries, later_live, join}
+use Rattle.flow_lawful.proofs.Surroundings.{Aims, behind_once, sides_first}
+use Rattle.flow_lawful.proofs.Grounds.{here_aim, Ground, live_to, rest_of, exits_here}
+use Rattle.flow_rules.specs.Items.{with_var, in_catch, fresh as rule_fresh}
 use Rattle.flow_staterule.specs.Ways.{handled}
 use Rattle.flow_staterule.specs.Uses.{caught_as}
 use Rattle.flow_split.specs.Around.{guarded, handling}
-use Rattle.flow_lawful.proofs.Choosing.{none_behind}
 use Rattle.flow_lawful.proofs.Waysides.{reached_left, reached_right, reached_onward, exits_onward}
-use Rattle.flow_lawful.proofs.Surroundings.{way_left, way_right, way_onward, HandSide, hand_left, hand_right, hand_onward, last_left, last_right, last_onward}
-use Rattle.flow_lawful.proofs.Grounds.{no_aim, lies_nowhere, ground_guarded}
-use Rattle.flow_lawful.proofs.Alive.{Rows, Said, ThrownAt, Thrown, thrown_marked, Outer, Lives, rest_lives}
-use Rattle.flow_staterule.specs.Ways.{head, round, looped, past as past_of}
-use Rattle.flow_split.specs.Around.{pass}
-use Rattle.flow_lawful.proofs.Waysides.{at_once_meets}
+use Rattle.flow_lawful.proofs.Surroundings.{way_left, way_right, way_onward, hand_right, hand_onward, last_left, last_right, last_onward}
+use Rattle.flow_lawful.proofs.Grounds.{ground_guarded}
+use Rattle.flow_lawful.proofs.Alive.{Thrown, thrown_marked, Outer, Lives, rest_lives}
 use Rattle.flow_lawful.proofs.Entries.{later_entry, join_two}
-use Rattle.flow_lawful.proofs.Surroundings.{onward_once}
-use Rattle.flow_lawful.proofs.Fitting.{stands_loop}
-use Rattle.flow_lawful.proofs.Grounds.{ground_pass}
-use Rattle.flow_lawful.proofs.Jumping.{waits_alone, inner_owed}
-use Rattle.flow_ast.specs.Slots.{branch_groups, waited_slots}
-use Rattle.flow_class.specs.Code.{group_at, callback_at}
-use Rattle.flow_layout.specs.Locals.{branch_locals, into_locals}
-use Rattle.flow_rules.specs.Items.{waited, maybe_into, wait_fault, wait_type, branch_refusal}
-use Rattle.flow_rules.specs.declared.rule.TheConstants.{WAIT_OUTSIDE}
-use Rattle.flow_staterule.specs.Ways.{waited_at, branch_ways}
-use Rattle.flow_staterule.specs.Uses.{with_into as with_variable, branch_uses}
-use Rattle.flow_split.specs.Counts.{grouped, past_branches, branch_blocks, branch_local_count, branch_group_count}
-use Rattle.flow_split.specs.Lowered.{place_by as place_at}
-use Rattle.flow_split.specs.Lowered.{with_taken, taken_in, callback, callbacks, branches}
-use Rattle.flow_split.proofs.Lengths.{branches_more, branches_groups}
-use Rattle.flow_valid.specs.Filling.{operands as operand_places, group_reads, is_local}
-use Rattle.flow_lowered.specs.Parts.{HaveParts}
-use Rattle.flow_lowered.specs.InPlace.{naming_any, MayTake, AllInPlace}
 use Rattle.flow_lowered.proofs.Places.{local_named}
-use Rattle.flow_lowered.proofs.Further.{branch_locals_count, names_taken}
-use Rattle.flow_fits.specs.Paths.{HavePaths}
 use Rattle.flow_lawful.proofs.InForce.{is_new, grows_local}
-use Rattle.flow_lawful.proofs.Fitting.{stands_states, stands_taken, into_of_wait, waited_vars, sees_marked, with_row, last_found}
+use Rattle.flow_lawful.proofs.Fitting.{sees_marked, with_row, last_found}
 use Rattle.flow_lawful.proofs.InForce.{sees_error}
-use Rattle.flow_lawful.proofs.Walks.{waited as waited_set, taken as taken_set}
-use Rattle.flow_lawful.proofs.Lines.{same_self, lined_more, lined_marked}
-use Rattle.flow_lawful.proofs.Entries.{Guards, covers_waited}
-use Rattle.flow_lawful.proofs.Surroundings.{sides_onward}
+use Rattle.flow_lawful.proofs.Lines.{lined_more, lined_marked}
 use Rattle.flow_lawful.proofs.Grounds.{lies_more}
-use Rattle.flow_lawful.proofs.Alive.{thrown_into}
-use Rattle.flow_lawful.proofs.Choosings.{jump_leaf, IsJump, monus_twice}
+use Rattle.flow_lawful.proofs.Choosings.{jump_leaf, monus_twice}
 
 abbrev number_in : Slotted → ℕ
 number_in (place.Slot n) = n

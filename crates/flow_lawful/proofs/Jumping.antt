@@ -1,71 +1,52 @@
 -- Where a body is reached, its blocks are kept: jumps, scopes and choices.
-use Rattle.std.proofs.Common.{◌≡◌, ◌⊎◌, inl, inr, ℕ, zero, suc, ◌+◌, ◌-◌, ◌^◌, ◌<◌, ◌≤◌, Bool, true, false, not, ◌&&◌, ◌||◌, List, [], ◌∷◌, ◌++◌, length, map, if◌then◌else◌, refl, ap, ap₂, sym, subst, ◌∙◌, arith, length-append, append-nil}
-use Rattle.std.specs.Str.{bytes_eq}
+use Rattle.std.proofs.Common.{◌≡◌, inr, ℕ, suc, ◌+◌, ◌-◌, ◌^◌, ◌<◌, Bool, true, false, List, [], ◌∷◌, ◌++◌, length, map, if◌then◌else◌, refl, ap, sym, subst, ◌∙◌, arith, length-append, append-nil}
 use Rattle.std.specs.Option.{option_and_then}
 use Rattle.std.specs.declared.option.Option.{Option}
 use Rattle.std.specs.declared.option.Option.TheVariants.{None, Some}
 use Rattle.flow_base.specs.declared.place.Place.{Place}
-use Rattle.flow_tree.specs.declared.ty.Ident.{Ident}
-use Rattle.flow_tree.specs.Tree.{TypeTree, BoolType, ErrorType, ExprTree, ExprTrees, VarExpr}
-use Rattle.flow_tree.specs.Body.{IntoTree, WaitTree, ChangeTree, Body, End, BlockStmt, IfStmt, IfElseStmt, WhileStmt, ForStmt, LoopStmt, BreakStmt, ContinueStmt, ReturnStmt, ThrowStmt, TryStmt, ChooseStmt, DeclareStmt, AssignStmt, ModifyStmt, CallStmt, WaitStmt, Branches, NoBranches, MoreBranches}
-use Rattle.flow_ast.specs.Slots.{body_groups, body_slots}
+use Rattle.flow_tree.specs.Tree.{ErrorType, ExprTree}
+use Rattle.flow_tree.specs.Body.{Body, End, BlockStmt, BreakStmt, ContinueStmt, ReturnStmt, ThrowStmt}
+use Rattle.flow_ast.specs.Slots.{body_groups}
 use Rattle.flow_ast.specs.Leaving.{has_statement}
-use Rattle.flow_ast.specs.TypingNames.{named}
 use Rattle.flow_ast.specs.Typing.{is_there}
 use Rattle.flow_class.specs.declared.class.Slotted.{Slotted}
-use Rattle.flow_class.specs.declared.class.Slotted.TheVariants as place
-use Rattle.flow_class.specs.Classes.{CatcherTree, InstrTree, DropInstr, ActInstr, LastTree, GotoLast, PassLast, TestLast, ChooseLast, ReturnLast, ThrowLast, BlockTree, CallbackTree, ClassTree}
-use Rattle.flow_class.specs.Code.{Last}
-use Rattle.flow_class.specs.Places.{place_name, place_named}
-use Rattle.flow_class.specs.Scopes.{Scope, Mark, Var, scope, place_of, var_over, over, over_all, path_over, act_over, Above}
+use Rattle.flow_class.specs.Classes.{DropInstr, LastTree, GotoLast, ReturnLast, ThrowLast, ClassTree}
+use Rattle.flow_class.specs.Places.{place_named}
+use Rattle.flow_class.specs.Scopes.{Scope, Mark, place_of, var_over, over}
 use Rattle.flow_catch.specs.Inner.{inner_locals, left_lists}
-use Rattle.flow_layout.specs.Locals.{body_locals, declared_locals}
-use Rattle.flow_rules.specs.Least.{lesser, unless}
+use Rattle.flow_layout.specs.Locals.{body_locals}
 use Rattle.flow_rules.specs.Judged.{Setting, called, fault, form, wants, wanted}
-use Rattle.flow_rules.specs.Items.{Env, item, with_states, behind as rule_behind, declared as rule_declared, into_fault, value_fault, declare_fault, assign_fault, modify_fault, call_fault, test_fault, throw_fault, slot_names, body_refusal}
+use Rattle.flow_rules.specs.Items.{item, behind as rule_behind, throw_fault, body_refusal}
 use Rattle.flow_staterule.specs.declared.scope.Point.{Point}
-use Rattle.flow_staterule.specs.declared.ways.Reached.{Reached}
 use Rattle.flow_staterule.specs.declared.ways.Ways.{Ways}
 use Rattle.flow_staterule.specs.declared.uses.Caught.{Caught}
-use Rattle.flow_staterule.specs.Ways.{never, at_once, either, is_reached, onward, both, node, plain, follow, sequence, empty, ways}
-use Rattle.flow_staterule.specs.Uses.{Variable, behind, use_of, mention, named as named_use, expr_uses, exprs_uses, maybe_uses, target_uses, base_uses, change_uses, declared, left, beyond, thrown_uses, uses}
+use Rattle.flow_staterule.specs.Ways.{at_once, is_reached, both, node, sequence, ways}
+use Rattle.flow_staterule.specs.Uses.{Variable, behind, expr_uses, left, beyond, thrown_uses, uses}
 use Rattle.flow_meaning.specs.Evaluating.{Names, effectful}
-use Rattle.flow_meaning.specs.Items.{path_from, modified, change}
-use Rattle.flow_split.specs.Around.{Exit, Text, Scoped, Part, Hand, Around, inner}
-use Rattle.flow_split.specs.Counts.{Next, begun, taken, past, behind as count_behind, exit_blocks, blocks_in, local_count, into_count, locals_in, groups_in}
-use Rattle.flow_split.specs.Lowered.{Chunk, block_with, joined, ends, acting, drop_of, before_rest, finished, exits, exited, with_into, assigned, changed, place_in, declares, thrown, cancelled, lowered}
+use Rattle.flow_split.specs.Around.{Scoped, Hand, Around, inner}
+use Rattle.flow_split.specs.Counts.{Next, begun, past, behind as count_behind, exit_blocks, blocks_in, groups_in}
+use Rattle.flow_split.specs.Lowered.{Chunk, joined, ends, before_rest, exits, exited, thrown, lowered}
 use Rattle.flow_split.proofs.Lengths.{lowered_more, lowered_groups}
 use Rattle.flow_valid.specs.Validity.{calls_effect}
 use Rattle.flow_valid.specs.Named.{listed, expr_places}
-use Rattle.flow_valid.specs.Filling.{among, reads, instr_reads}
-use Rattle.flow_lowered.specs.Parts.{HasParts}
-use Rattle.flow_lowered.specs.InPlace.{naming, InPlace}
-use Rattle.flow_lowered.proofs.Standing.{LocalsAt, locals_front, locals_back}
+use Rattle.flow_valid.specs.Filling.{among}
+use Rattle.flow_lowered.proofs.Standing.{locals_front}
 use Rattle.flow_lowered.proofs.Around.{above_more}
-use Rattle.flow_lowered.proofs.Places.{names, names_with, Placing, placing}
-use Rattle.flow_lowered.proofs.Further.{locals_count, into_locals_count, locals_after, exited_local, exited_group}
-use Rattle.flow_fits.specs.Paths.{IsPath, HasPaths}
-use Rattle.flow_fits.proofs.Names.{bytes_same, none_some, no_first, no_second, holds}
-use Rattle.flow_fits.proofs.Agreement.{neither_first, neither_second, no_item}
-use Rattle.flow_lawful.proofs.OverPlaces.{over_names, over_class, Sees}
-use Rattle.flow_lawful.proofs.InForce.{New, new_into, grows_declared}
-use Rattle.flow_lawful.proofs.Fitting.{Stands, at_item, new_here, stands_behind, stands_marked, stands_into, above_taken}
-use Rattle.flow_lawful.proofs.Walks.{Places, AllIn, after, Enters, Catches, Leads, Kept}
-use Rattle.flow_lawful.proofs.Waysides.{Meets, Exits, behind_is, exits_left, exits_right}
-use Rattle.flow_lawful.proofs.Lines.{Has, Sub, filled, Covers, covers_filled, covers_sub, AllFresh, fresh_left, fresh_right, in_both, in_one, in_none, not_lost, Lined}
-use Rattle.flow_lawful.proofs.Entries.{Entry, AllFrom, Aim, IsBelow, Lies, Entries, enters, HandFact, Guard, catches, EntriesAt, EntryKept, Located, IsLive, Live, Later, later_live, later_dead, join}
-use Rattle.flow_lawful.proofs.Surroundings.{Aims, behind_once, lists_from, Way, LastWay, EndWay, HandWay, end_onward, Sides, sides_left, sides_right, sides_first, sides_second, hand_fact, leads_last, lists_kept, drop_kept}
-use Rattle.flow_lawful.proofs.Reading.{IsNamed, Keeps, covers_after, covers_new, keeps_assigned, whole_in, assign_in, change_in, act_in, Declared, declared_by}
-use Rattle.flow_lawful.proofs.Grounds.{here_aim, lies_here, Ground, ground_past, ground_into, ground_inner, live_to, later_map, leaf, acting_live, Rest, rest_of, exits_here}
-use Rattle.flow_rules.specs.Items.{with_var, in_catch, in_loop, fresh as rule_fresh}
-use Rattle.flow_staterule.specs.Ways.{handled}
-use Rattle.flow_staterule.specs.Uses.{caught_as}
-use Rattle.flow_split.specs.Around.{guarded, handling}
+use Rattle.flow_lowered.proofs.Further.{locals_after}
+use Rattle.flow_fits.proofs.Names.{no_first, holds}
+use Rattle.flow_fits.proofs.Agreement.{neither_first, neither_second}
+use Rattle.flow_lawful.proofs.OverPlaces.{over_names, Sees}
+use Rattle.flow_lawful.proofs.Fitting.{at_item, stands_behind, stands_marked}
+use Rattle.flow_lawful.proofs.Walks.{Places, AllIn}
+use Rattle.flow_lawful.proofs.Waysides.{Exits}
+use Rattle.flow_lawful.proofs.Lines.{filled, Covers, covers_filled, covers_sub, AllFresh, fresh_left, fresh_right, in_one, in_none, not_lost, Lined}
+use Rattle.flow_lawful.proofs.Entries.{Aim, Lies, Entries, enters, catches, Live, later_dead, join}
+use Rattle.flow_lawful.proofs.Surroundings.{Aims, behind_once, lists_from, LastWay, Sides, sides_right, sides_first, hand_fact, lists_kept}
+use Rattle.flow_lawful.proofs.Reading.{whole_in}
+use Rattle.flow_lawful.proofs.Grounds.{here_aim, Ground, ground_inner, live_to, leaf, exits_here}
 use Rattle.flow_lawful.proofs.Choosing.{none_behind}
-use Rattle.flow_lawful.proofs.Waysides.{reached_left, reached_right, reached_onward, exits_onward}
-use Rattle.flow_lawful.proofs.Surroundings.{way_left, way_right, way_onward, HandSide, hand_left, hand_right, hand_onward, last_left, last_right, last_onward}
-use Rattle.flow_lawful.proofs.Grounds.{no_aim, lies_nowhere, ground_guarded}
-use Rattle.flow_lawful.proofs.Alive.{Rows, Said, ThrownAt, Thrown, thrown_marked, Outer, Lives, rest_lives}
+use Rattle.flow_lawful.proofs.Grounds.{no_aim, lies_nowhere}
+use Rattle.flow_lawful.proofs.Alive.{Rows, Thrown, thrown_marked, Outer, Lives, rest_lives}
 
 no_both : false ≡ true → ⊥
 no_both z = cc

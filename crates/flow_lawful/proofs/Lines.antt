@@ -1,7 +1,7 @@
 -- The variables in force in the words of the rule on state, with their places; what is read is filled.
-use Rattle.std.proofs.Common.{◌≡◌, ◌⊎◌, inl, inr, ℕ, zero, suc, ◌+◌, ◌^◌, ◌<◌, ◌≤◌, Bool, true, false, not, ◌&&◌, ◌||◌, nat_eq, nat_lt, nat_le, List, [], ◌∷◌, ◌++◌, length, slice_get, if◌then◌else◌, refl, ap, ap₂, sym, subst, ◌∙◌, arith}
+use Rattle.std.proofs.Common.{◌≡◌, ◌⊎◌, inl, inr, ℕ, suc, ◌^◌, ◌<◌, ◌≤◌, Bool, true, false, not, ◌&&◌, ◌||◌, nat_eq, nat_lt, nat_le, List, [], ◌∷◌, ◌++◌, length, slice_get, if◌then◌else◌, refl, ap, ap₂, sym, subst, ◌∙◌, arith}
 use Rattle.std.specs.Str.{bytes_eq}
-use Rattle.std.specs.List.{list_all, list_any}
+use Rattle.std.specs.List.{list_all}
 use Rattle.std.proofs.lemmas.List.Folds.{list_all-append, list_any-append}
 use Rattle.std.specs.declared.option.Option.{Option}
 use Rattle.std.specs.declared.option.Option.TheVariants.{None, Some}
@@ -14,17 +14,17 @@ use Rattle.flow_class.specs.declared.class.Slotted.{Slotted}
 use Rattle.flow_class.specs.declared.class.Slotted.TheVariants as place
 use Rattle.flow_class.specs.Places.{place_name, place_named}
 use Rattle.flow_class.specs.Classes.{ClassTree}
-use Rattle.flow_class.specs.Scopes.{Scope, Mark, Var, place_of, var_over, name_over, over, over_all}
+use Rattle.flow_class.specs.Scopes.{Scope, Mark, place_of, var_over, name_over, over, over_all}
 use Rattle.flow_rules.specs.declared.rule.TheConstants.{UNKNOWN_NAME}
-use Rattle.flow_rules.specs.Least.{lesser, unless}
+use Rattle.flow_rules.specs.Least.{lesser}
 use Rattle.flow_rules.specs.Judged.{Setting, Need, called, called_on, needs_of, calls, calls_on, placed, form, fault, faults, fits, wants, operands, of_field, variable_as}
 use Rattle.flow_staterule.specs.declared.scope.Point.{Point}
 use Rattle.flow_staterule.specs.declared.scope.Use.{Use}
-use Rattle.flow_staterule.specs.Uses.{Variable, is_stale, use_of, mention, named as named_use, expr_uses, exprs_uses}
+use Rattle.flow_staterule.specs.Uses.{Variable, use_of, mention, expr_uses, exprs_uses}
 use Rattle.flow_meaning.specs.Evaluating.{Names}
 use Rattle.flow_valid.specs.Named.{listed, expr_places, exprs_places}
 use Rattle.flow_valid.specs.Filling.{same_place, among, is_local}
-use Rattle.flow_fits.proofs.Names.{bytes_same, bytes_self, bytes_sym, some_none, none_some, some_same, no_first, no_second, holds, there}
+use Rattle.flow_fits.proofs.Names.{bytes_same, bytes_self, bytes_sym, none_some, no_first, no_second, holds, there}
 use Rattle.flow_lawful.proofs.Naming.{constant_no_place}
 use Rattle.flow_lawful.proofs.OverPlaces.{over_names}
 use Rattle.flow_lawful.proofs.InForce.{New, named_append, Grows}

@@ -1,35 +1,33 @@
 -- What the instructions of a lowered statement read is filled, and what they fill is filled behind them.
-use Rattle.std.proofs.Common.{◌≡◌, ◌⊎◌, inl, inr, ℕ, zero, suc, ◌+◌, ◌^◌, ◌<◌, ◌≤◌, pos, Bool, true, false, not, ◌&&◌, ◌||◌, List, [], ◌∷◌, ◌++◌, length, refl, ap, ap₂, sym, subst, ◌∙◌, arith}
-use Rattle.std.specs.Option.{option_and_then}
+use Rattle.std.proofs.Common.{◌≡◌, ◌⊎◌, inl, inr, ℕ, pos, Bool, true, false, not, ◌&&◌, ◌||◌, List, [], ◌∷◌, ◌++◌, length, refl, ap, ap₂, subst, ◌∙◌}
 use Rattle.std.specs.declared.option.Option.{Option}
 use Rattle.std.specs.declared.option.Option.TheVariants.{None, Some}
-use Rattle.flow_base.specs.declared.place.Place.{Place}
 use Rattle.flow_tree.specs.declared.ty.Ident.{Ident}
 use Rattle.flow_tree.specs.declared.expr.Op.TheVariants.{Add, Sub}
-use Rattle.flow_tree.specs.Tree.{TypeTree, IntType, BoolType, StringType, ErrorType, ExprTree, ExprTrees, IntExpr, TextExpr, BoolExpr, VarExpr, FieldExpr}
+use Rattle.flow_tree.specs.Tree.{TypeTree, IntType, BoolType, StringType, ExprTree, ExprTrees, IntExpr, TextExpr, BoolExpr, VarExpr, FieldExpr}
 use Rattle.flow_tree.specs.Body.{IntoTree, ChangeTree, PlusChange, MinusChange, UpChange, DownChange}
-use Rattle.flow_ast.specs.TypingNames.{named, constant_names}
+use Rattle.flow_ast.specs.TypingNames.{named}
 use Rattle.flow_ast.specs.Typing.{is_there}
 use Rattle.flow_class.specs.declared.class.Slotted.{Slotted}
 use Rattle.flow_class.specs.Places.{place_name, place_named}
-use Rattle.flow_class.specs.Classes.{InstrTree, SetInstr, EffectInstr, NewInstr, ActInstr, DropInstr, ClassTree}
+use Rattle.flow_class.specs.Classes.{InstrTree, SetInstr, NewInstr, ActInstr, ClassTree}
 use Rattle.flow_class.specs.Scopes.{Scope, place_of, var_over, over, over_all, path_over, act_over}
 use Rattle.flow_rules.specs.declared.rule.TheConstants.{UNKNOWN_NAME}
 use Rattle.flow_rules.specs.Least.{lesser, unless}
-use Rattle.flow_rules.specs.Judged.{Setting, Need, called, called_on, needs_of, calls, said, variable_as, variable_form, form, fault, faults, operands, wanted, wants}
-use Rattle.flow_rules.specs.Items.{target_form, target_fault, path_fault, assigned as fits_target, assign_fault, change_fault, modify_fault, ends_of, base_form, base_fault, call_fault, value_fault}
+use Rattle.flow_rules.specs.Judged.{Setting, Need, called, called_on, needs_of, calls, said, variable_as, variable_form, form, fault, faults, operands}
+use Rattle.flow_rules.specs.Items.{target_form, target_fault, path_fault, assigned as fits_target, assign_fault, change_fault, modify_fault, ends_of, base_form, base_fault, call_fault}
 use Rattle.flow_choose.specs.Places.{ident_at}
 use Rattle.flow_staterule.specs.declared.scope.Point.{Point}
-use Rattle.flow_staterule.specs.Uses.{Variable, mention, named as named_use, expr_uses, exprs_uses, maybe_uses, target_uses, base_uses, change_uses}
+use Rattle.flow_staterule.specs.Uses.{Variable, named as named_use, expr_uses, exprs_uses, target_uses, base_uses, change_uses}
 use Rattle.flow_meaning.specs.Evaluating.{Names, effect_in}
-use Rattle.flow_meaning.specs.Items.{path_from, modified, change}
-use Rattle.flow_split.specs.Lowered.{first_value, new_at, first_at, assign_by, assigned, changed, place_in, declares}
-use Rattle.flow_valid.specs.Named.{listed, expr_places, exprs_places, path_place, base_place}
+use Rattle.flow_meaning.specs.Items.{path_from, modified}
+use Rattle.flow_split.specs.Lowered.{first_value, new_at, first_at, assign_by, assigned, place_in, declares}
+use Rattle.flow_valid.specs.Named.{listed, expr_places, exprs_places, base_place}
 use Rattle.flow_valid.specs.Filling.{among, filled_path, instr_reads, instr_fills, instr_empties}
 use Rattle.flow_fits.proofs.Names.{no_first, no_second, holds, there}
 use Rattle.flow_lawful.proofs.OverPlaces.{over_names, Sees, base_known}
 use Rattle.flow_lawful.proofs.Walks.{Places, AllIn, after}
-use Rattle.flow_lawful.proofs.Lines.{Has, Holds, Covers, AllFresh, fresh_left, fresh_right, in_both, in_one, in_none, Lined, found_in, expr_in, exprs_in, same_self}
+use Rattle.flow_lawful.proofs.Lines.{Has, Covers, AllFresh, fresh_left, fresh_right, in_both, in_none, Lined, found_in, expr_in, exprs_in, same_self}
 
 or_right : (a b : Bool) → b ≡ true → a || b ≡ true
 or_right true b e = refl

@@ -1,123 +1,62 @@
 -- Where a body is reached, its blocks are kept: a `for`.
-use Rattle.std.proofs.Common.{◌≡◌, ◌⊎◌, inl, inr, ℕ, zero, suc, ◌+◌, ◌-◌, ◌^◌, ◌<◌, ◌≤◌, Bool, true, false, not, ◌&&◌, ◌||◌, nat_lt, List, [], ◌∷◌, ◌++◌, length, map, slice_get, if◌then◌else◌, refl, ap, ap₂, sym, subst, ◌∙◌, arith, length-append, append-nil}
-use Rattle.std.specs.Str.{bytes_eq}
-use Rattle.std.specs.Option.{option_and_then}
-use Rattle.std.proofs.lemmas.Option.{slice_get_within}
+use Rattle.std.proofs.Common.{◌≡◌, ℕ, suc, ◌+◌, ◌-◌, ◌^◌, ◌<◌, Bool, true, false, List, ◌∷◌, ◌++◌, length, refl, ap, sym, subst, ◌∙◌, arith, length-append, append-nil}
 use Rattle.std.specs.declared.option.Option.{Option}
 use Rattle.std.specs.declared.option.Option.TheVariants.{None, Some}
 use Rattle.flow_base.specs.declared.place.Place.{Place}
-use Rattle.flow_tree.specs.declared.ty.Ident.{Ident}
-use Rattle.flow_tree.specs.Tree.{TypeTree, BoolType, ErrorType, ExprTree, ExprTrees, VarExpr}
-use Rattle.flow_tree.specs.Body.{IntoTree, WaitTree, ChangeTree, Body, End, BlockStmt, IfStmt, IfElseStmt, WhileStmt, ForStmt, LoopStmt, BreakStmt, ContinueStmt, ReturnStmt, ThrowStmt, TryStmt, ChooseStmt, DeclareStmt, AssignStmt, ModifyStmt, CallStmt, WaitStmt, Branches, NoBranches, MoreBranches}
-use Rattle.flow_ast.specs.Slots.{body_groups, body_slots, branch_slots}
-use Rattle.flow_ast.specs.Leaving.{has_statement}
-use Rattle.flow_ast.specs.TypingNames.{named}
+use Rattle.flow_tree.specs.Tree.{TypeTree, BoolType, ExprTree}
+use Rattle.flow_tree.specs.Body.{Body, End, ForStmt}
+use Rattle.flow_ast.specs.Slots.{body_groups}
 use Rattle.flow_ast.specs.Typing.{is_there}
 use Rattle.flow_class.specs.declared.class.Slotted.{Slotted}
-use Rattle.flow_class.specs.declared.class.Slotted.TheVariants as place
-use Rattle.flow_class.specs.Classes.{CatcherTree, InstrTree, DropInstr, ActInstr, LastTree, GotoLast, PassLast, TestLast, ChooseLast, ReturnLast, ThrowLast, BlockTree, CallbackTree, ClassTree}
-use Rattle.flow_class.specs.Code.{Last}
-use Rattle.flow_class.specs.Places.{place_name, place_named}
-use Rattle.flow_class.specs.Scopes.{Scope, Mark, Var, scope, place_of, var_over, over, over_all, path_over, act_over, Above}
-use Rattle.flow_catch.specs.Inner.{inner_locals, left_lists}
-use Rattle.flow_layout.specs.Locals.{body_locals, declared_locals}
-use Rattle.flow_rules.specs.Least.{lesser, unless}
-use Rattle.flow_rules.specs.Judged.{Setting, called, fault, form, wants, wanted}
-use Rattle.flow_rules.specs.Items.{Env, item, with_states, behind as rule_behind, declared as rule_declared, into_fault, value_fault, declare_fault, assign_fault, modify_fault, call_fault, test_fault, throw_fault, slot_names, body_refusal}
+use Rattle.flow_class.specs.Classes.{GotoLast, PassLast, ClassTree}
+use Rattle.flow_class.specs.Scopes.{Mark, scope, Above}
+use Rattle.flow_layout.specs.Locals.{body_locals}
+use Rattle.flow_rules.specs.Judged.{Setting, called, fault, form, wants}
+use Rattle.flow_rules.specs.Items.{item, behind as rule_behind, body_refusal}
 use Rattle.flow_staterule.specs.declared.scope.Point.{Point}
-use Rattle.flow_staterule.specs.declared.ways.Reached.{Reached}
 use Rattle.flow_staterule.specs.declared.ways.Ways.{Ways}
 use Rattle.flow_staterule.specs.declared.scope.Use.{Use}
-use Rattle.flow_staterule.specs.declared.uses.Caught.{Caught}
-use Rattle.flow_staterule.specs.Ways.{never, at_once, either, is_reached, onward, both, node, plain, follow, sequence, empty, ways}
-use Rattle.flow_staterule.specs.Uses.{Variable, behind, use_of, mention, named as named_use, expr_uses, exprs_uses, maybe_uses, target_uses, base_uses, change_uses, declared, left, beyond, thrown_uses, uses}
+use Rattle.flow_staterule.specs.Ways.{at_once, either, is_reached, onward, plain, sequence, ways}
+use Rattle.flow_staterule.specs.Uses.{Variable, behind, maybe_uses, left, beyond, uses}
 use Rattle.flow_meaning.specs.Evaluating.{Names, effectful}
-use Rattle.flow_meaning.specs.Items.{path_from, modified, change}
-use Rattle.flow_split.specs.Around.{Exit, Text, Scoped, Part, Hand, Around, inner}
-use Rattle.flow_split.specs.Counts.{Next, begun, taken, past, behind as count_behind, exit_blocks, blocks_in, local_count, into_count, locals_in, groups_in}
-use Rattle.flow_split.specs.Lowered.{Chunk, block_with, joined, ends, acting, drop_of, before_rest, finished, exits, exited, with_into, assigned, changed, place_in, declares, thrown, cancelled, lowered}
+use Rattle.flow_split.specs.Around.{Part, Around, inner}
+use Rattle.flow_split.specs.Counts.{begun, past, blocks_in, locals_in, groups_in}
+use Rattle.flow_split.specs.Lowered.{joined, lowered}
 use Rattle.flow_split.proofs.Lengths.{lowered_more, lowered_groups}
 use Rattle.flow_valid.specs.Validity.{calls_effect}
-use Rattle.flow_valid.specs.Named.{listed, expr_places}
-use Rattle.flow_valid.specs.Filling.{same_place, among, reads, instr_reads}
-use Rattle.flow_lowered.specs.Parts.{HasParts}
-use Rattle.flow_lowered.specs.InPlace.{naming, InPlace}
+use Rattle.flow_lowered.specs.InPlace.{InPlace}
 use Rattle.flow_lowered.proofs.Standing.{LocalsAt, locals_front, locals_back}
 use Rattle.flow_lowered.proofs.Around.{above_more}
-use Rattle.flow_lowered.proofs.Places.{names, names_with, Placing, placing}
-use Rattle.flow_lowered.proofs.Further.{locals_count, into_locals_count, locals_after, exited_local, exited_group}
-use Rattle.flow_fits.specs.Paths.{IsPath, HasPaths}
-use Rattle.flow_fits.proofs.Names.{bytes_same, none_some, some_same, no_first, no_second, holds}
-use Rattle.flow_fits.proofs.Agreement.{neither_first, neither_second, no_item}
-use Rattle.flow_lawful.proofs.OverPlaces.{over_names, over_class, Sees}
-use Rattle.flow_lawful.proofs.InForce.{New, new_into, grows_declared}
-use Rattle.flow_lawful.proofs.Fitting.{Stands, at_item, new_here, stands_behind, stands_marked, stands_into, above_taken}
-use Rattle.flow_lawful.proofs.Walks.{Places, AllIn, after, Enters, Catches, Leads, Kept}
+use Rattle.flow_lowered.proofs.Further.{locals_count}
+use Rattle.flow_fits.proofs.Names.{no_first}
+use Rattle.flow_fits.proofs.Agreement.{neither_first, neither_second}
+use Rattle.flow_lawful.proofs.OverPlaces.{over_names}
+use Rattle.flow_lawful.proofs.Fitting.{at_item, stands_behind, stands_marked}
 use Rattle.flow_lawful.proofs.Waysides.{Meets, Exits, behind_is, exits_left, exits_right}
-use Rattle.flow_lawful.proofs.Lines.{Has, Sub, filled, Covers, covers_filled, covers_sub, AllFresh, fresh_left, fresh_right, in_both, in_one, in_none, not_lost, Lined}
-use Rattle.flow_lawful.proofs.Entries.{Entry, AllFrom, Aim, IsBelow, Lies, Entries, enters, HandFact, Guard, catches, EntriesAt, EntryKept, Located, IsLive, Live, Later, later_live, later_dead, join}
-use Rattle.flow_lawful.proofs.Surroundings.{Aims, behind_once, lists_from, Way, LastWay, EndWay, HandWay, end_onward, Sides, sides_left, sides_right, sides_first, sides_second, hand_fact, leads_last, lists_kept, drop_kept}
-use Rattle.flow_lawful.proofs.Reading.{IsNamed, Keeps, covers_after, covers_new, keeps_assigned, whole_in, assign_in, change_in, act_in, Declared, declared_by}
-use Rattle.flow_lawful.proofs.Grounds.{here_aim, lies_here, Ground, ground_past, ground_into, ground_inner, live_to, later_map, leaf, acting_live, Rest, rest_of, exits_here}
-use Rattle.flow_rules.specs.Items.{with_var, in_catch, in_loop, fresh as rule_fresh}
-use Rattle.flow_staterule.specs.Ways.{handled}
-use Rattle.flow_staterule.specs.Uses.{caught_as}
-use Rattle.flow_split.specs.Around.{guarded, handling}
-use Rattle.flow_lawful.proofs.Choosing.{none_behind}
+use Rattle.flow_lawful.proofs.Lines.{filled, AllFresh, fresh_left, fresh_right}
+use Rattle.flow_lawful.proofs.Entries.{Entry, AllFrom, Entries, Live, join}
+use Rattle.flow_lawful.proofs.Surroundings.{Aims, behind_once, HandWay, end_onward, sides_first, sides_second, hand_fact}
+use Rattle.flow_lawful.proofs.Grounds.{here_aim, ground_past, ground_inner, live_to, rest_of, exits_here}
+use Rattle.flow_rules.specs.Items.{in_loop}
 use Rattle.flow_lawful.proofs.Waysides.{reached_left, reached_right, reached_onward, exits_onward}
-use Rattle.flow_lawful.proofs.Surroundings.{way_left, way_right, way_onward, HandSide, hand_left, hand_right, hand_onward, last_left, last_right, last_onward}
-use Rattle.flow_lawful.proofs.Grounds.{no_aim, lies_nowhere, ground_guarded}
-use Rattle.flow_lawful.proofs.Alive.{Rows, Said, ThrownAt, Thrown, thrown_marked, Outer, Lives, rest_lives}
+use Rattle.flow_lawful.proofs.Surroundings.{hand_left, hand_right, hand_onward}
+use Rattle.flow_lawful.proofs.Alive.{thrown_marked, Outer, Lives}
 use Rattle.flow_staterule.specs.Ways.{head, round, looped, past as past_of}
 use Rattle.flow_split.specs.Around.{pass}
 use Rattle.flow_lawful.proofs.Waysides.{at_once_meets}
-use Rattle.flow_lawful.proofs.Entries.{later_entry, join_two}
 use Rattle.flow_lawful.proofs.Surroundings.{onward_once}
 use Rattle.flow_lawful.proofs.Fitting.{stands_loop}
 use Rattle.flow_lawful.proofs.Grounds.{ground_pass}
-use Rattle.flow_lawful.proofs.Jumping.{waits_alone, inner_owed}
-use Rattle.flow_ast.specs.Slots.{branch_groups, waited_slots}
-use Rattle.flow_class.specs.Code.{group_at, callback_at}
-use Rattle.flow_layout.specs.Locals.{branch_locals, into_locals}
-use Rattle.flow_rules.specs.Items.{waited, maybe_into, wait_fault, wait_type, branch_refusal}
-use Rattle.flow_rules.specs.declared.rule.TheConstants.{WAIT_OUTSIDE}
-use Rattle.flow_staterule.specs.Ways.{waited_at, branch_ways}
-use Rattle.flow_staterule.specs.Uses.{with_into as with_variable, branch_uses}
-use Rattle.flow_split.specs.Counts.{grouped, past_branches, branch_blocks, branch_local_count, branch_group_count}
-use Rattle.flow_split.specs.Lowered.{place_by as place_at}
-use Rattle.flow_split.specs.Lowered.{with_taken, taken_in, callback, callbacks, branches}
-use Rattle.flow_split.proofs.Lengths.{branches_more, branches_groups}
-use Rattle.flow_valid.specs.Filling.{operands as operand_places, group_reads, is_local}
-use Rattle.flow_lowered.specs.Parts.{HaveParts}
-use Rattle.flow_lowered.specs.InPlace.{naming_any, MayTake, AllInPlace}
-use Rattle.flow_lowered.proofs.Places.{local_named}
-use Rattle.flow_lowered.proofs.Further.{branch_locals_count, names_taken}
-use Rattle.flow_fits.specs.Paths.{HavePaths}
-use Rattle.flow_lawful.proofs.InForce.{is_new, grows_local}
-use Rattle.flow_lawful.proofs.Fitting.{stands_states, stands_taken, into_of_wait, waited_vars, sees_marked, with_row, last_found}
-use Rattle.flow_lawful.proofs.InForce.{sees_error}
-use Rattle.flow_lawful.proofs.Walks.{waited as waited_set, taken as taken_set}
-use Rattle.flow_lawful.proofs.Lines.{same_self, lined_more, lined_marked}
-use Rattle.flow_lawful.proofs.Entries.{Guards, covers_waited}
-use Rattle.flow_lawful.proofs.Surroundings.{sides_onward}
-use Rattle.flow_lawful.proofs.Grounds.{lies_more, lies_past, from_scope}
-use Rattle.flow_lawful.proofs.Alive.{thrown_into}
-use Rattle.flow_lawful.proofs.Choosings.{jump_leaf, IsJump, monus_twice}
 use Rattle.flow_split.specs.Lowered.{tested, test_before, dropping, later}
-use Rattle.flow_lowered.specs.Parts.{IsStep, IsInit}
-use Rattle.flow_lowered.specs.InPlace.{started as place_started}
 use Rattle.flow_lowered.proofs.Fors.{step_is_init, step_later, step_locals, test_block, test_local, test_group}
 use Rattle.flow_rules.specs.Items.{started, maybe_test}
 use Rattle.flow_staterule.specs.Uses.{declaring}
 use Rattle.flow_staterule.specs.Ways.{with_step}
-use Rattle.flow_lawful.proofs.Fitting.{stands_into, sees_marked}
-use Rattle.flow_lawful.proofs.Walks.{waited as lost_set}
-use Rattle.flow_lawful.proofs.Entries.{join_three, covers_dropped}
-use Rattle.flow_lawful.proofs.Choosings.{round_exits, head_hand, body_hand, head_meets}
-use Rattle.flow_lawful.proofs.Alive.{value_in}
+use Rattle.flow_lawful.proofs.Choosings.{head_hand, body_hand, head_meets}
 use Rattle.flow_split.specs.Counts.{test_blocks}
 use Rattle.flow_lowered.proofs.Fors.{step_later}
-use Rattle.flow_lawful.proofs.Parting.{part_ends, part_blocks, part_groups, same_point, Into, Opened, opens, step_meets, dropping_live, for_leaf, ring}
+use Rattle.flow_lawful.proofs.Parting.{part_ends, part_blocks, part_groups, same_point, Into, opens, step_meets, dropping_live, for_leaf, ring}
+
 module _ (base : Setting) (ns : Names) (c : ClassTree) (few_slots : length c.slots < 2 ^ 64) (few_locals : length c.locals < 2 ^ 64) (agree : (f : List ℕ) → is_there (effectful ns f) ≡ calls_effect (called base f)) where
   abbrev Alives : Body → Type 0
   Alives b = Lives base ns c few_slots few_locals agree b
@@ -143,8 +82,7 @@ module _ (base : Setting) (ns : Names) (c : ClassTree) (few_slots : length c.slo
       → Owed true (pass w 2 (GotoLast m) out) (for_aims a gs hs (behind (length vs) hp (round r)).stale st low n) hp r en
   body_owed w a gs st out m low n vs hs hp r step next en size is k =
       let sp = (behind (length vs) hp (round r)).stale in
-      let ex = exits_here base ns c few_slots few_locals vs hs hp (round r) size in
-      (
+      let ex = exits_here base ns c few_slots few_locals vs hs hp (round r) size in (
         record { reached = λ h. k.next_is ∙ is (reached_left r.ends r.continues h); exits = exits_left sp (length hs) hp.stale r.ends r.continues ex },
         record {
           out = λ z. record { reached = k.out_is; exits = k.out_exits };
@@ -297,13 +235,13 @@ module _ (base : Setting) (ns : Names) (c : ClassTree) (few_slots : length c.slo
       (ap (λ z. suc j.block + z) (lowered_more ns c.slots sc v (begun j) d)) (ap (λ z. j.group + z) (lowered_groups ns c.slots sc v (begun j) d))
       (λ h en z. (z.0, hand_onward c en w.hand a.hand (length vs2) hp (round r) step.throws h z.1))
       (λ h.
-          let os = opens base ns c few_slots few_locals agree d l t e' rows2 vs2 hs sc v (begun j) sp av cu kl step_init op.stands (above_more ns c gg.local j.local sc (omega arith) a2) r3 said.paths.1
-          (subst (λ xs. InPlace c.slots l t xs d) (sym op.called_so) said.placed.1) (neither_first (body_refusal e' d) _ m2)
-          (ground_past base ns c few_slots few_locals v sc hd.local j.local rows2 vs2 hs p sp av (omega (arith, tl)) ((behind_is (length vs2) hp (round r) h).from ∙ reach_hp) op.ground) op.thrown (fresh_right (us0 ++ us1) us2 fresh012) in
-          let ps = os.same is_step in
-          let raw = os.live hd.block hp.stale (PassLast hd.block) refl refl (subst (λ z. Meets sp.stale hp.stale (length z)) (sym ps) (step_meets base ns c few_slots few_locals agree vs2 hs p r step size2 (part_ends kl d step_init) h)) in
-          live_to base ns c few_slots few_locals w.hand a.hand hs sp.stale nearS (suc j.block) (suc j.block) o.block j.group j.group o.group c3 (omega (arith, part_blocks tr d step_init)) (omega (arith, part_groups d step_init))
-          (subst (λ z. Live c w.hand a.hand hs sp.stale (Into base ns c few_slots few_locals agree w.hand a.hand sp z hd.block hp.stale step) (suc j.block) (suc j.block) j.group j.group c3) ps raw)) in
+      let os = opens base ns c few_slots few_locals agree d l t e' rows2 vs2 hs sc v (begun j) sp av cu kl step_init op.stands (above_more ns c gg.local j.local sc (omega arith) a2) r3 said.paths.1
+      (subst (λ xs. InPlace c.slots l t xs d) (sym op.called_so) said.placed.1) (neither_first (body_refusal e' d) _ m2)
+      (ground_past base ns c few_slots few_locals v sc hd.local j.local rows2 vs2 hs p sp av (omega (arith, tl)) ((behind_is (length vs2) hp (round r) h).from ∙ reach_hp) op.ground) op.thrown (fresh_right (us0 ++ us1) us2 fresh012) in
+      let ps = os.same is_step in
+      let raw = os.live hd.block hp.stale (PassLast hd.block) refl refl (subst (λ z. Meets sp.stale hp.stale (length z)) (sym ps) (step_meets base ns c few_slots few_locals agree vs2 hs p r step size2 (part_ends kl d step_init) h)) in
+      live_to base ns c few_slots few_locals w.hand a.hand hs sp.stale nearS (suc j.block) (suc j.block) o.block j.group j.group o.group c3 (omega (arith, part_blocks tr d step_init)) (omega (arith, part_groups d step_init))
+      (subst (λ z. Live c w.hand a.hand hs sp.stale (Into base ns c few_slots few_locals agree w.hand a.hand sp z hd.block hp.stale step) (suc j.block) (suc j.block) j.group j.group c3) ps raw)) in
       let near1 : Entries c → Type 0 = λ en. outer en × (en o.block ≡ rx.later.entry) in
       let near0 = Into base ns c few_slots few_locals agree w.hand a.hand p hs hd.block hp.stale first in
       let near2 = Owed true (pass w 2 (GotoLast j.block) o.block) sp_aims hp r in

@@ -1,26 +1,24 @@
 -- The ways out of a body, and what is filled where they lead.
-use Rattle.std.proofs.Common.{◌≡◌, ◌⊎◌, inl, inr, ℕ, zero, suc, ◌+◌, ◌-◌, ◌<◌, ◌≤◌, Bool, true, false, not, ◌&&◌, ◌||◌, nat_eq, nat_lt, List, [], ◌∷◌, ◌++◌, length, map, refl, ap, ap₂, sym, subst, ◌∙◌, arith, length-append}
-use Rattle.std.proofs.lemmas.List.{append-nil}
+use Rattle.std.proofs.Common.{◌≡◌, inl, ℕ, zero, suc, ◌≤◌, Bool, true, false, ◌&&◌, ◌||◌, List, [], ◌∷◌, ◌++◌, length, map, refl, ap}
 use Rattle.std.specs.declared.option.Option.{Option}
 use Rattle.std.specs.declared.option.Option.TheVariants.{None, Some}
-use Rattle.flow_class.specs.declared.class.Slotted.{Slotted}
 use Rattle.flow_class.specs.declared.class.Slotted.TheVariants as place
-use Rattle.flow_class.specs.Classes.{CatcherTree, InstrTree, DropInstr, LastTree, GotoLast, PassLast, TestLast, ChooseLast, ReturnLast, ThrowLast, ClassTree}
+use Rattle.flow_class.specs.Classes.{CatcherTree, DropInstr, LastTree, GotoLast, PassLast, ClassTree}
 use Rattle.flow_class.specs.Code.{Last}
-use Rattle.flow_class.specs.Scopes.{Scope, Mark, Var, scope, outside}
+use Rattle.flow_class.specs.Scopes.{Scope, scope, outside}
 use Rattle.flow_catch.specs.Inner.{inner_locals, listed as with_list, left_lists}
 use Rattle.flow_staterule.specs.declared.scope.Point.{Point}
 use Rattle.flow_staterule.specs.declared.ways.Reached.{Reached}
 use Rattle.flow_staterule.specs.declared.ways.Ways.{Ways}
-use Rattle.flow_staterule.specs.Ways.{never, at_once, either, is_reached, onward, both, follow, sequence, empty, waited_at}
+use Rattle.flow_staterule.specs.Ways.{at_once, either, is_reached, onward, both, follow, sequence, empty}
 use Rattle.flow_staterule.specs.Uses.{behind}
 use Rattle.flow_split.specs.Around.{Exit, Text, Scoped, Part, Hand, Around}
 use Rattle.flow_split.specs.Lowered.{drop_of}
 use Rattle.flow_valid.specs.Filling.{reads}
-use Rattle.flow_lawful.proofs.Walks.{Places, AllIn, after, Enters, Catches, Leads, Kept}
+use Rattle.flow_lawful.proofs.Walks.{Places, AllIn, after, Leads, Kept}
 use Rattle.flow_lawful.proofs.Waysides.{Meets, Exits, exits_left, exits_right, exits_onward, reached_left, reached_right, reached_onward}
-use Rattle.flow_lawful.proofs.Lines.{Has, Sub, filled, Covers, covers_sub, in_none}
-use Rattle.flow_lawful.proofs.Entries.{AllFrom, from_both, Aim, IsBelow, Lies, covers_dropped, Entries, enters, HandFact, Guard, catches}
+use Rattle.flow_lawful.proofs.Lines.{filled, Covers, in_none}
+use Rattle.flow_lawful.proofs.Entries.{AllFrom, Aim, IsBelow, covers_dropped, Entries, enters, HandFact, Guard, catches}
 
 -- walks that go on at once are as they were
 pub onward_once : (r : Reached) → onward r at_once ≡ r

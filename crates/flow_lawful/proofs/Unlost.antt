@@ -1,6 +1,6 @@
 -- Where the rule on state tells nothing, no use in an actor is stale.
-use Rattle.std.proofs.Common.{◌≡◌, ℕ, zero, suc, ◌<◌, Bool, true, false, ◌&&◌, not, List, [], ◌∷◌, length, map, get_or, refl, sym, ap, subst, ◌∙◌, arith}
-use Rattle.std.specs.Prelude.{Contains, slice_get, is_some}
+use Rattle.std.proofs.Common.{◌≡◌, ℕ, zero, suc, Bool, true, false, ◌&&◌, not, List, [], ◌∷◌, length, refl, sym, ap, subst, ◌∙◌, arith}
+use Rattle.std.specs.Prelude.{Contains, slice_get}
 use Rattle.std.specs.List.{list_all}
 use Rattle.std.proofs.lemmas.List.{length-map}
 use Rattle.std.specs.declared.option.Option.{Option}
@@ -10,7 +10,7 @@ use Rattle.flow_tree.specs.Decls.{ParamTree, RoutineTree, DeclTree, StructDecl, 
 use Rattle.flow_ast.specs.Slots.{body_groups}
 use Rattle.flow_staterule.specs.declared.rule.Lost.{Lost}
 use Rattle.flow_staterule.specs.declared.scope.Use.{Use}
-use Rattle.flow_staterule.specs.StateRule.{wait_places, routine_uses, is_stale_use, is_lost_with, lost_in, lost_in_decl, first_of, first_lost}
+use Rattle.flow_staterule.specs.StateRule.{wait_places, routine_uses, is_stale_use, lost_in, lost_in_decl, first_of, first_lost}
 use Rattle.flow_walks.specs.Mentions.{waits}
 use Rattle.flow_walks.specs.Laws.{HasSimpleParts, AllHaveSimpleParts, LostIn}
 use Rattle.flow_walks.proofs.Counting.{place_of, places_of_waits, waits_many}
@@ -43,9 +43,9 @@ none_stale (u ∷ us) f = by_stale u.stale refl (none_stale us (λ i e. f (suc i
 pub uses_fresh : (ps : List ParamTree) (b : Body) → HasSimpleParts b → lost_in ps b ≡ None → AllFresh (routine_uses ps b (length (wait_places b)))
 uses_fresh ps b s e =
     none_stale (routine_uses ps b (length (wait_places b))) (λ i h.
-        let x = lost_bad ps b s (length (wait_places b)) i h in
-        let none : LostIn ps b None = subst (LostIn ps b) e (lost_by_walk ps b s) in
-        none x.mention (get_contains _ i x.mention x.is_mention) (x.wait, get_contains (waits b 1) x.number x.wait x.is_wait, x.bad))
+    let x = lost_bad ps b s (length (wait_places b)) i h in
+    let none : LostIn ps b None = subst (LostIn ps b) e (lost_by_walk ps b s) in
+    none x.mention (get_contains _ i x.mention x.is_mention) (x.wait, get_contains (waits b 1) x.number x.wait x.is_wait, x.bad))
 
 first_none : (o p : Option Lost) → first_of o p ≡ None → o ≡ None
 first_none None p e = refl

@@ -1,13 +1,12 @@
 -- A class is read where it is filled, if each block is entered with places that all ways into it fill.
-use Rattle.std.proofs.Common.{◌≡◌, ◌⊎◌, inl, inr, ℕ, zero, suc, ◌+◌, ◌<◌, Bool, true, false, not, ◌&&◌, ◌||◌, nat_eq, nat_lt, List, [], ◌∷◌, ◌++◌, length, slice_get, Contains, refl, ap, ap₂, sym, subst, ◌∙◌, arith}
-use Rattle.std.specs.List.{list_any, slice_index_or}
-use Rattle.std.specs.Option.{option_and_then}
+use Rattle.std.proofs.Common.{◌≡◌, ℕ, zero, suc, ◌+◌, ◌<◌, Bool, true, false, not, ◌&&◌, ◌||◌, List, [], ◌∷◌, slice_get, Contains, refl, ap, sym, subst, ◌∙◌, arith}
+use Rattle.std.specs.List.{slice_index_or}
 use Rattle.std.specs.declared.option.Option.{Option}
 use Rattle.std.specs.declared.option.Option.TheVariants.{None, Some}
 use Rattle.flow_class.specs.declared.class.Slotted.{Slotted}
 use Rattle.flow_class.specs.declared.class.Slotted.TheVariants as place
 use Rattle.flow_class.specs.Classes.{CatcherTree, InstrTree, LastTree, GotoLast, PassLast, TestLast, ChooseLast, ReturnLast, ThrowLast, BlockTree, CallbackTree, ClassTree}
-use Rattle.flow_class.specs.Code.{Fetched, Body, Last, Nothing, fetch_in, fetch_at, fetch, catcher_in, catcher_at, callback_at}
+use Rattle.flow_class.specs.Code.{Body, Last, fetch_in, fetch_at, fetch, catcher_in, catcher_at, callback_at}
 use Rattle.flow_valid.specs.Named.{listed, targets}
 use Rattle.flow_valid.specs.Filling.{among, is_local, instr_reads, instr_fills, instr_empties, dropped, reads, is_parameter, is_error, Comes, begins, goes_on, jumps, is_taken, fails, wait_fails, ReadsFilled}
 use Rattle.flow_valid.specs.Filling as filling

@@ -1,10 +1,8 @@
 -- What is lost where a body is left: the points to which its ways lead.
-use Rattle.std.proofs.Common.{◌≡◌, ◌⊎◌, inl, inr, ℕ, zero, suc, ◌+◌, ◌-◌, ◌<◌, ◌≤◌, Bool, true, false, not, ◌&&◌, ◌||◌, nat_eq, nat_lt, nat_le, List, [], ◌∷◌, ◌++◌, length, if◌then◌else◌, refl, ap, ap₂, sym, subst, ◌∙◌, arith}
-use Rattle.std.specs.declared.option.Option.{Option}
-use Rattle.std.specs.declared.option.Option.TheVariants.{None, Some}
+use Rattle.std.proofs.Common.{◌≡◌, ◌⊎◌, inl, inr, ℕ, ◌≤◌, Bool, true, false, ◌&&◌, ◌||◌, if◌then◌else◌, refl, ap, sym, subst, ◌∙◌, arith}
 use Rattle.flow_staterule.specs.declared.scope.Point.{Point}
 use Rattle.flow_staterule.specs.declared.ways.Reached.{Reached}
-use Rattle.flow_staterule.specs.Ways.{never, at_once, either, is_reached, onward, waited_at}
+use Rattle.flow_staterule.specs.Ways.{at_once, either, is_reached, onward}
 use Rattle.flow_staterule.specs.Uses.{behind}
 
 -- with so many locals there, those that are wanted from number `wanted` on are not lost
