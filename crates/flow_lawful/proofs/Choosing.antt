@@ -126,7 +126,7 @@ quiet_inner : (w : Around) (x : Exit) → QuietExit x → IsQuiet w → IsQuiet 
 quiet_inner w x q h = record { exit = q; again = h.again }
 
 -- where there is no statement, there are no groups
-none_behind : (k : Body) → has_statement k ≡ false → groups_in k ≡ 0
+pub none_behind : (k : Body) → has_statement k ≡ false → groups_in k ≡ 0
 none_behind End e = refl
 none_behind (BlockStmt at b k) e = cc
 none_behind (IfStmt at t b k) e = cc

@@ -42,7 +42,7 @@ use Rattle.flow_lawful.proofs.InForce.{New, is_new, new_into, class_var, sees_in
 use Rattle.flow_lawful.proofs.Instructions.{IsAt, at_place, assign_fits, change_fits, act_fits, declare_fits, type_fits, Caught, throw_fits, IsTaken, callback_suits}
 
 -- a setting with one more variable
-abbrev with_row : List ℕ → TypeTree → Setting → Setting
+abbrev pub with_row : List ℕ → TypeTree → Setting → Setting
 with_row x t s = record s { vars = s.vars ++ (x, t) ∷ [] }
 
 module _ (base : Setting) (ns : Names) (c : ClassTree) (few_slots : length c.slots < 2 ^ 64) (few_locals : length c.locals < 2 ^ 64) (agree : (f : List ℕ) → is_there (effectful ns f) ≡ calls_effect (called base f)) where
@@ -118,22 +118,22 @@ module _ (base : Setting) (ns : Names) (c : ClassTree) (few_slots : length c.slo
     pub caught : Caught base ns c agree vs s sees e.caught o
 
   -- a judgement in what is in force
-  at_item : (e : Env) (vs : List (List ℕ × TypeTree)) (at : Place) (f : Setting → Option ℕ) → e.setting ≡ over_names base c vs → item at (f e.setting) ≡ None → f (over_names base c vs) ≡ None
+  pub at_item : (e : Env) (vs : List (List ℕ × TypeTree)) (at : Place) (f : Setting → Option ℕ) → e.setting ≡ over_names base c vs → item at (f e.setting) ≡ None → f (over_names base c vs) ≡ None
   at_item e vs at f k h = ap f (sym k) ∙ no_item at (f e.setting) h
 
-  stands_states : (e : Env) (xs : List (List ℕ)) (vs : List (List ℕ × TypeTree)) (s : Scope) (o : Option (List ℕ)) → Stands e vs s o → Stands (with_states e xs) vs s o
+  pub stands_states : (e : Env) (xs : List (List ℕ)) (vs : List (List ℕ × TypeTree)) (s : Scope) (o : Option (List ℕ)) → Stands e vs s o → Stands (with_states e xs) vs s o
   stands_states e xs vs s o k = record { setting = k.setting; returns = k.returns; sees = k.sees; caught = k.caught }
 
-  stands_behind : (e : Env) (b : Body) (vs : List (List ℕ × TypeTree)) (s : Scope) (o : Option (List ℕ)) → Stands e vs s o → Stands (behind e b) vs s o
+  pub stands_behind : (e : Env) (b : Body) (vs : List (List ℕ × TypeTree)) (s : Scope) (o : Option (List ℕ)) → Stands e vs s o → Stands (behind e b) vs s o
   stands_behind e b vs s o k = stands_states e (slot_names (body_slots b)) vs s o k
 
-  stands_loop : (e : Env) (vs : List (List ℕ × TypeTree)) (s : Scope) (o : Option (List ℕ)) → Stands e vs s o → Stands (in_loop e) vs s o
+  pub stands_loop : (e : Env) (vs : List (List ℕ × TypeTree)) (s : Scope) (o : Option (List ℕ)) → Stands e vs s o → Stands (in_loop e) vs s o
   stands_loop e vs s o k = record { setting = k.setting; returns = k.returns; sees = k.sees; caught = k.caught }
 
-  sees_marked : (vs : List (List ℕ × TypeTree)) (s : Scope) → Sees base c vs s → Sees base c vs (Mark ∷ s)
+  pub sees_marked : (vs : List (List ℕ × TypeTree)) (s : Scope) → Sees base c vs s → Sees base c vs (Mark ∷ s)
   sees_marked vs s k x t e = let p = k x t e in record { to = p.to; is = p.is; typed = p.typed; plain = p.plain; variable = p.variable }
 
-  stands_marked : (e : Env) (vs : List (List ℕ × TypeTree)) (s : Scope) (o : Option (List ℕ)) → Stands e vs s o → Stands e vs (Mark ∷ s) o
+  pub stands_marked : (e : Env) (vs : List (List ℕ × TypeTree)) (s : Scope) (o : Option (List ℕ)) → Stands e vs s o → Stands e vs (Mark ∷ s) o
   stands_marked e vs s o k = record { setting = k.setting; returns = k.returns; sees = sees_marked vs s k.sees; caught = record { known = k.caught.known } }
 
   found_more : (vs : List (List ℕ × TypeTree)) (r : List ℕ × TypeTree) (x : List ℕ) (t : TypeTree) → named vs x ≡ Some t → named (vs ++ r ∷ []) x ≡ Some t
@@ -144,7 +144,7 @@ module _ (base : Setting) (ns : Names) (c : ClassTree) (few_slots : length c.slo
       by_name true h f = h
       by_name false h f = f h
 
-  last_found : (vs : List (List ℕ × TypeTree)) (x : List ℕ) → named vs x ≡ None → named (vs ++ (x, ErrorType) ∷ []) x ≡ Some ErrorType
+  pub last_found : (vs : List (List ℕ × TypeTree)) (x : List ℕ) → named vs x ≡ None → named (vs ++ (x, ErrorType) ∷ []) x ≡ Some ErrorType
   last_found [] x e = ap (λ b. if b then Some ErrorType else None) (bytes_self x)
   last_found (v ∷ vs) x e = by_name (bytes_eq x v.0) e (last_found vs x)
     where
@@ -153,10 +153,10 @@ module _ (base : Setting) (ns : Names) (c : ClassTree) (few_slots : length c.slo
       by_name false h f = f h
 
   -- a declared variable
-  new_here : (e : Env) (vs : List (List ℕ × TypeTree)) (i : IntoTree) → e.setting ≡ over_names base c vs → into_fault e.setting e.states i ≡ None → New vs i.name.name
+  pub new_here : (e : Env) (vs : List (List ℕ × TypeTree)) (i : IntoTree) → e.setting ≡ over_names base c vs → into_fault e.setting e.states i ≡ None → New vs i.name.name
   new_here e vs i k h = new_into (over_names base c vs) e.states i (ap (λ z. into_fault z e.states i) (sym k) ∙ h)
 
-  stands_into : (e : Env) (vs : List (List ℕ × TypeTree)) (s : Scope) (o : Option (List ℕ)) (l : ℕ) (i : IntoTree) → Stands e vs s o → into_fault e.setting e.states i ≡ None → Placing ns c few_slots few_locals s l i
+  pub stands_into : (e : Env) (vs : List (List ℕ × TypeTree)) (s : Scope) (o : Option (List ℕ)) (l : ℕ) (i : IntoTree) → Stands e vs s o → into_fault e.setting e.states i ≡ None → Placing ns c few_slots few_locals s l i
       → Stands (declared e i) (vs ++ (i.name.name, i.ty) ∷ []) (with_into i l s) o
   stands_into e vs s o l i k h p =
       let sees = sees_into base ns c few_slots few_locals vs s l i k.sees (new_here e vs i k.setting h) p in
@@ -171,11 +171,11 @@ module _ (base : Setting) (ns : Names) (c : ClassTree) (few_slots : length c.slo
   own_place s l i vs sees p = at_place base ns c agree vs s sees (place_in ns c.slots i l s) p.to i.ty p.is p.type (class_var base ns c few_slots few_locals p.to i.ty p.type)
 
   -- the variables in force behind a wait
-  abbrev waited_vars : List (List ℕ × TypeTree) → Option IntoTree → List (List ℕ × TypeTree)
+  abbrev pub waited_vars : List (List ℕ × TypeTree) → Option IntoTree → List (List ℕ × TypeTree)
   waited_vars vs None = vs
   waited_vars vs (Some i) = vs ++ (i.name.name, i.ty) ∷ []
 
-  stands_taken : (e : Env) (vs : List (List ℕ × TypeTree)) (s : Scope) (o : Option (List ℕ)) (l : ℕ) (into : Option IntoTree) → Stands e vs s o → maybe_into e.setting e.states into ≡ None → Above l s → LocalsAt ns c l (into_locals into)
+  pub stands_taken : (e : Env) (vs : List (List ℕ × TypeTree)) (s : Scope) (o : Option (List ℕ)) (l : ℕ) (into : Option IntoTree) → Stands e vs s o → maybe_into e.setting e.states into ≡ None → Above l s → LocalsAt ns c l (into_locals into)
       → MayTake c.slots (names s) into → Stands (waited e into) (waited_vars vs into) (with_taken into l s) o
   stands_taken e vs s o l None k h a r m = k
   stands_taken e vs s o l (Some i) k h a r m = stands_into e vs s o l i k h (placing ns c few_slots few_locals s l i a r m)
@@ -192,14 +192,14 @@ module _ (base : Setting) (ns : Names) (c : ClassTree) (few_slots : length c.slo
       let q = wanted (over_names base c vs) true w.operand (wait_type w.next w.into) in
       callback_suits base ns c agree vs s k.sees w l b (is_taken vs s k.sees l w.into a r m) (no_first q _ (no_second (maybe_into (over_names base c vs) e.states w.into) _ f))
 
-  into_of_wait : (e : Env) (at : Place) (w : WaitTree) → item at (wait_fault e.setting e.states w) ≡ None → maybe_into e.setting e.states w.into ≡ None
+  pub into_of_wait : (e : Env) (at : Place) (w : WaitTree) → item at (wait_fault e.setting e.states w) ≡ None → maybe_into e.setting e.states w.into ≡ None
   into_of_wait e at w h = no_first (maybe_into e.setting e.states w.into) _ (no_item at (wait_fault e.setting e.states w) h)
 
   above_local : (b : Bool) (x : List ℕ) (l : ℕ) (s : Scope) → Above l s → Above ((if b then 0 else 1) + l) (with_local b x l s)
   above_local true x l s a = above_more ns c l (0 + l) s (omega arith) a
   above_local false x l s a = (omega arith, above_more ns c l (1 + l) s (omega arith) a)
 
-  above_taken : (o : Option IntoTree) (l : ℕ) (s : Scope) → Above l s → Above (into_count o + l) (with_taken o l s)
+  pub above_taken : (o : Option IntoTree) (l : ℕ) (s : Scope) → Above l s → Above (into_count o + l) (with_taken o l s)
   above_taken None l s a = above_more ns c l (0 + l) s (omega arith) a
   above_taken (Some i) l s a = above_local i.state i.name.name l s a
 
@@ -212,13 +212,13 @@ module _ (base : Setting) (ns : Names) (c : ClassTree) (few_slots : length c.slo
   for_test e vs s o at (Some q) w m out a k h f = joined_fit w.hand a (ends w s true [] (TestLast (over c.slots s q) m out)) f (test_fit e vs s o at q w m out k h)
 
   -- the variables in force behind the init of a `for`
-  record Begins (e : Env) (i : Body) (s : Scope) (l : ℕ) (o : Option (List ℕ)) : Type 0 where
-    vars : List (List ℕ × TypeTree)
-    stands : Stands (started e i) vars (later i l s) o
-    above : Above (l + locals_in i) (later i l s)
-    named : names (later i l s) ≡ place_of_names.started i (names s)
+  pub record Begins (e : Env) (i : Body) (s : Scope) (l : ℕ) (o : Option (List ℕ)) : Type 0 where
+    pub vars : List (List ℕ × TypeTree)
+    pub stands : Stands (started e i) vars (later i l s) o
+    pub above : Above (l + locals_in i) (later i l s)
+    pub named : names (later i l s) ≡ place_of_names.started i (names s)
 
-  begins : (i : Body) (e : Env) (vs : List (List ℕ × TypeTree)) (s : Scope) (o : Option (List ℕ)) (l : ℕ) (d t : Bool) → IsInit i → Stands e vs s o → body_refusal e i ≡ None → Above l s → LocalsAt ns c l (body_locals i) → InPlace c.slots d t (names s) i
+  pub begins : (i : Body) (e : Env) (vs : List (List ℕ × TypeTree)) (s : Scope) (o : Option (List ℕ)) (l : ℕ) (d t : Bool) → IsInit i → Stands e vs s o → body_refusal e i ≡ None → Above l s → LocalsAt ns c l (body_locals i) → InPlace c.slots d t (names s) i
       → Begins e i s l o
   begins (DeclareStmt at i v End) e vs s o l d t is k h a r ok =
       let f = item at (declare_fault e.setting e.states i v) in

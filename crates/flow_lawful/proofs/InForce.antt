@@ -113,7 +113,7 @@ local_found n (suc k) (s ∷ ts) t le lt e =
     plus_suc : n + suc k ≡ suc n + k
     plus_suc = omega arith
 
-named_append : {A : Type 0} (xs ys : List (List ℕ × A)) (x : List ℕ) → named (xs ++ ys) x ≡ or_else (named xs x) (named ys x)
+pub named_append : {A : Type 0} (xs ys : List (List ℕ × A)) (x : List ℕ) → named (xs ++ ys) x ≡ or_else (named xs x) (named ys x)
 named_append [] ys x = refl
 named_append (r ∷ xs) ys x = by_name (bytes_eq x r.0) (named_append xs ys x)
   where
@@ -188,17 +188,17 @@ module _ (base : Setting) (ns : Names) (c : ClassTree) (few_slots : length c.slo
       zero_plus = omega arith
 
   -- the scope with one more variable
-  record Grows (s later : Scope) (x : List ℕ) (to : Slotted) : Type 0 where
-    own : place_of c.slots later x ≡ Some to
-    others : (y : List ℕ) → bytes_eq y x ≡ false → place_of c.slots later y ≡ place_of c.slots s y
+  pub record Grows (s later : Scope) (x : List ℕ) (to : Slotted) : Type 0 where
+    pub own : place_of c.slots later x ≡ Some to
+    pub others : (y : List ℕ) → bytes_eq y x ≡ false → place_of c.slots later y ≡ place_of c.slots s y
 
-  grows_local : (s : Scope) (x : List ℕ) (l : ℕ) → Grows s (Var x l ∷ s) x (place.Local l)
+  pub grows_local : (s : Scope) (x : List ℕ) (l : ℕ) → Grows s (Var x l ∷ s) x (place.Local l)
   grows_local s x l = record {
     own = ap (λ b. place_by (if b then Some l else find s x) (position (λ (t : SlotTree). bytes_eq x t.name) c.slots)) (bytes_self x);
     others = λ y e. ap (λ b. place_by (if b then Some l else find s y) (position (λ (t : SlotTree). bytes_eq y t.name) c.slots)) e;
   }
 
-  grows_declared : (s later : Scope) (i : IntoTree) (to : Slotted) → DeclaredAs ns c s i to later → Grows s later i.name.name to
+  pub grows_declared : (s later : Scope) (i : IntoTree) (to : Slotted) → DeclaredAs ns c s i to later → Grows s later i.name.name to
   grows_declared s later i (place.Slot n) d = record { own = ap (λ z. place_of c.slots z i.name.name) d.2 ∙ d.1; others = λ y e. ap (λ z. place_of c.slots z y) d.2 }
   grows_declared s later i (place.Local n) d = subst (λ z. Grows s z i.name.name (place.Local n)) (sym d.2) (grows_local s i.name.name n)
 
@@ -241,12 +241,13 @@ module _ (base : Setting) (ns : Names) (c : ClassTree) (few_slots : length c.slo
       sees_grown vs s (Var x l ∷ s) x ErrorType (place.Local l) sees new (grows_local s x l) type (local_named l (omega (arith, lt, few_locals)))
 
   -- parameters
-  record FirstSlot (x : List ℕ) (t : TypeTree) (k : ℕ) (ss : List SlotTree) : Type 0 where
+  record FirstSlot (x : List ℕ) (t : TypeTree) (k many : ℕ) (ss : List SlotTree) : Type 0 where
     at : ℕ
+    low : at < many
     is : position_from (λ (s : SlotTree). bytes_eq x s.name) k ss ≡ Some (k + at)
     typed : option_map (λ (s : SlotTree). s.ty) (slice_get ss at) ≡ Some t
 
-  first_slot : (x : List ℕ) (t : TypeTree) (k : ℕ) (ps : List ParamTree) (ss : List SlotTree) → named (map field_row ps) x ≡ Some t → FirstSlot x t k (map param_slot ps ++ ss)
+  first_slot : (x : List ℕ) (t : TypeTree) (k : ℕ) (ps : List ParamTree) (ss : List SlotTree) → named (map field_row ps) x ≡ Some t → FirstSlot x t k (length ps) (map param_slot ps ++ ss)
   first_slot x t k [] ss e = absurd (none_some e)
   first_slot x t k (p ∷ ps) ss e = by_name (bytes_eq x p.name.name) refl e (first_slot x t (k + 1) ps ss)
     where
@@ -256,12 +257,12 @@ module _ (base : Setting) (ns : Names) (c : ClassTree) (few_slots : length c.slo
       plus_suc : (n : ℕ) → k + 1 + n ≡ k + suc n
       plus_suc n = omega arith
 
-      by_name : (b : Bool) → bytes_eq x p.name.name ≡ b → (if b then Some p.ty else named (map field_row ps) x) ≡ Some t → (named (map field_row ps) x ≡ Some t → FirstSlot x t (k + 1) (map param_slot ps ++ ss))
-          → FirstSlot x t k (param_slot p ∷ (map param_slot ps ++ ss))
-      by_name true h q f = record { at = 0; is = ap (λ b. cond b (Some k) (position_from (λ (s : SlotTree). bytes_eq x s.name) (k + 1) (map param_slot ps ++ ss))) h ∙ ap Some plus_zero; typed = q }
+      by_name : (b : Bool) → bytes_eq x p.name.name ≡ b → (if b then Some p.ty else named (map field_row ps) x) ≡ Some t → (named (map field_row ps) x ≡ Some t → FirstSlot x t (k + 1) (length ps) (map param_slot ps ++ ss))
+          → FirstSlot x t k (suc (length ps)) (param_slot p ∷ (map param_slot ps ++ ss))
+      by_name true h q f = record { at = 0; low = omega arith; is = ap (λ b. cond b (Some k) (position_from (λ (s : SlotTree). bytes_eq x s.name) (k + 1) (map param_slot ps ++ ss))) h ∙ ap Some plus_zero; typed = q }
       by_name false h q f =
           let r = f q in
-          record { at = suc r.at; is = ap (λ b. cond b (Some k) (position_from (λ (s : SlotTree). bytes_eq x s.name) (k + 1) (map param_slot ps ++ ss))) h ∙ r.is ∙ ap Some (plus_suc r.at); typed = r.typed }
+          record { at = suc r.at; low = (let l = r.low in omega (arith, l)); is = ap (λ b. cond b (Some k) (position_from (λ (s : SlotTree). bytes_eq x s.name) (k + 1) (map param_slot ps ++ ss))) h ∙ r.is ∙ ap Some (plus_suc r.at); typed = r.typed }
 
   params_plain : (s : Setting) (taken : List ℕ → Bool) (ps : List ParamTree) (x : List ℕ) (t : TypeTree) → params_fault s taken ps ≡ None → named (map field_row ps) x ≡ Some t → named constant_names x ≡ None
   params_plain s taken [] x t h e = absurd (none_some e)
@@ -292,3 +293,20 @@ module _ (base : Setting) (ns : Names) (c : ClassTree) (few_slots : length c.slo
         plain = params_plain s (λ y. false) ps x t h e;
         variable = no_constant to (slot_named f.at (omega (arith, within, few_slots)));
       }
+
+  -- where a parameter stands
+  pub record ParamAt (many : ℕ) (x : List ℕ) : Type 0 where
+    pub at : ℕ
+    pub low : at < many
+    pub is : place_of c.slots [] x ≡ Some (place.Slot at)
+    pub read : place_named (place_name (place.Slot at)) ≡ Some (place.Slot at)
+
+  pub param_at : (ps : List ParamTree) (ss : List SlotTree) → c.slots ≡ map param_slot ps ++ ss → (x : List ℕ) (t : TypeTree) → named (map field_row ps) x ≡ Some t → ParamAt (length ps) x
+  param_at ps ss same x t e =
+      let f = first_slot x t 0 ps ss e in
+      let zero_plus : 0 + f.at ≡ f.at = omega arith in
+      let to = place.Slot f.at in
+      let typed : type_at c to ≡ Some t = ap (λ l. option_map (λ (u : SlotTree). u.ty) (slice_get l f.at)) same ∙ f.typed in
+      let within = there_within c.slots f.at (typed_there (λ (u : SlotTree). u.ty) (slice_get c.slots f.at) t typed) in
+      let at : position (λ (u : SlotTree). bytes_eq x u.name) c.slots ≡ Some f.at = ap (position (λ (u : SlotTree). bytes_eq x u.name)) same ∙ position_from-zero (λ (u : SlotTree). bytes_eq x u.name) (map param_slot ps ++ ss) ∙ f.is ∙ ap Some zero_plus in
+      record { at = f.at; low = f.low; is = ap slot_place at; read = slot_named f.at (omega (arith, within, few_slots)) }

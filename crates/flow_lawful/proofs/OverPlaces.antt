@@ -263,6 +263,17 @@ module _ (base : Setting) (c : ClassTree) where
         no_lesser (faults over_class 0 (needs_of o) (over_all c.slots s es)) _ (all_same 0 (needs_of o) es (no_first l k h)) (calls_same es o (said (over_names vs)) (said over_class) (said_same vs) (no_second l k h))
     call_same (x ∷ (y ∷ ys)) es h = by_base (ends_of y ys).0 x (ends_of y ys).1.name es (named constant_names x.name) refl h
 
+    -- a statement call is on a variable in force
+    pub base_known : (x y : Ident) (ys : List Ident) (es : ExprTrees) → call_fault (over_names vs) (x ∷ (y ∷ ys)) es ≡ None → is_there (named vs x.name) ≡ true
+    base_known x y ys es h = by_kind (named constant_names x.name) refl
+      where
+        by_kind : (o : Option ℕ) → named constant_names x.name ≡ o → is_there (named vs x.name) ≡ true
+        by_kind (Some n) e = absurd (no_base (ends_of y ys).0 es (ends_of y ys).1.name (subst (λ q. judged (over_names vs) (ends_of y ys).0 (ends_of y ys).1.name (variable_as (over_names vs) x.name q) es ≡ None) e h))
+        by_kind None e =
+            let k = subst (λ q. judged (over_names vs) (ends_of y ys).0 (ends_of y ys).1.name (variable_as (over_names vs) x.name q) es ≡ None) e h in
+            let known = unless (is_there (named vs x.name)) UNKNOWN_NAME in
+            holds (is_there (named vs x.name)) UNKNOWN_NAME (no_first known (path_fault (over_names vs) (named vs x.name) (ends_of y ys).0) (no_first (lesser known (path_fault (over_names vs) (named vs x.name) (ends_of y ys).0)) _ k))
+
     -- what is no effect may stand where none may
     quiet_kind : (k : Kind) → is_effect_kind k ≡ false → placed (over_names vs) true k ≡ None → placed (over_names vs) false k ≡ None
     quiet_kind Value e h = refl

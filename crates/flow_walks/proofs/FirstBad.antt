@@ -145,7 +145,7 @@ pub record BadBy (ps : List ParamTree) (b : Body) (n i : ℕ) : Type 0 where
   pub within : number < n
   pub bad : IsBad b mention wait
 
-lost_bad : (ps : List ParamTree) (b : Body) → HasSimpleParts b → (n i : ℕ) → is_lost_with ps b i n ≡ true → BadBy ps b n i
+pub lost_bad : (ps : List ParamTree) (b : Body) → HasSimpleParts b → (n i : ℕ) → is_lost_with ps b i n ≡ true → BadBy ps b n i
 lost_bad ps b s n i e =
     let p = stale_pair (tells n ps b) (control b) (each n ps b s) i e in
     let stale : p.found.stale ≡ true = ap is_stale_use (sym p.is_use) ∙ e in

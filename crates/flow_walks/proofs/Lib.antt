@@ -8,11 +8,11 @@ mod WaysWalked
 mod SameEnds
 mod WholeBody
 mod Ending
-mod Counting
+pub mod Counting
 mod StaleWalks
 mod Backing
 mod Examples
 mod Matching
 mod UsesBacked
-mod FirstBad
-mod SimpleParts
+pub mod FirstBad
+pub mod SimpleParts
