@@ -13,3 +13,6 @@ pub mod Ending
 pub mod Valid
 pub mod Beginnings
 pub mod Existing
+pub mod Evaluates
+pub mod Turning
+pub mod Memories

@@ -2,3 +2,5 @@ pub mod Phases
 pub mod Going
 pub mod Ending
 pub mod Existing
+pub mod Places
+pub mod Standing
