@@ -16,3 +16,4 @@ pub mod Existing
 pub mod Evaluates
 pub mod Turning
 pub mod Memories
+pub mod Stood

@@ -4,3 +4,4 @@ pub mod Ending
 pub mod Existing
 pub mod Places
 pub mod Standing
+pub mod Rules
