@@ -17,3 +17,4 @@ pub mod Evaluates
 pub mod Turning
 pub mod Memories
 pub mod Stood
+pub mod Assigned

@@ -5,3 +5,4 @@ pub mod Existing
 pub mod Places
 pub mod Standing
 pub mod Rules
+pub mod Asking

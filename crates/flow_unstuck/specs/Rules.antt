@@ -18,7 +18,7 @@ use Rattle.flow_class.specs.declared.class.Slotted.TheVariants.{Slot, Local}
 use Rattle.flow_class.specs.Classes.{CatcherTree, InstrTree, SetInstr, EffectInstr, NewInstr, ActInstr, DropInstr, LastTree, GotoLast, PassLast, TestLast, ChooseLast, ReturnLast, ThrowLast, CallbackTree, ClassTree, RawTree}
 use Rattle.flow_class.specs.Code.{Body, Last, Nothing, fetch, catcher_at, callback_at, type_at}
 use Rattle.flow_valid.specs.Validity.{operand_type}
-use Rattle.flow_valid.specs.Filling.{ReadsFilled}
+use Rattle.flow_valid.specs.Filling.{among, reads, ReadsFilled}
 use Rattle.flow_meaning.specs.Evaluating.{Effectful, World, Actor, effect_in, before_last, last_of}
 use Rattle.flow_meaning.specs.Class.{class_names}
 use Rattle.flow_unstuck.specs.Places.{AreNamed}
@@ -116,4 +116,5 @@ module _ (r : RawTree) (actors : List RoutineTree) (c : ClassTree) (vars : List 
     pub lasts : (b n : ℕ) (l : LastTree) → fetch c b n ≡ Last l → LastFits l
     pub catchers : (b : ℕ) (k : CatcherTree) → catcher_at c b ≡ Some k
         → IsBlock k.block × ((n : ℕ) → k.error ≡ Some n → type_at c (Local n) ≡ Some ErrorType)
+    pub known : (b n : ℕ) (q : Slotted) → among (reads c (fetch c b n)) q ≡ true → (t : TypeTree) × (type_at c q ≡ Some t)
     pub filled : ReadsFilled c
