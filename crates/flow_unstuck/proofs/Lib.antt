@@ -18,3 +18,4 @@ pub mod Turning
 pub mod Memories
 pub mod Stood
 pub mod Assigned
+pub mod Given

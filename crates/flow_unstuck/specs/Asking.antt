@@ -58,7 +58,7 @@ module _ (rs : List RecordTree) (typed : ℕ → TypeTree → Type 0) where
 abbrev pub CanPrint : ValueTree → Type 0
 CanPrint v = (i : ℕ) → (l : Line) × (print_line i v ≡ Some l)
 
-module _ (r : RawTree) (vars : List ParamTree) (typed : ℕ → TypeTree → Type 0) where
+module _ (r : RawTree) (typed : ℕ → TypeTree → Type 0) where
   -- an effect gives a value of this type
   abbrev pub Gives : Effect → TypeTree → Type 0
   Gives (Make k) t = (u : TypeTree) × (t ≡ reference_type k u)
@@ -71,7 +71,8 @@ module _ (r : RawTree) (vars : List ParamTree) (typed : ℕ → TypeTree → Typ
   Gives (Listen port) t = t ≡ FutureStreamType (NamedType (codes "Packet"))
   Gives (Disk call) t = t ≡ FutureType (reply_type call)
 
-  -- and it is wanted where it goes
+module _ (r : RawTree) (vars : List ParamTree) (typed : ℕ → TypeTree → Type 0) where
+  -- it is wanted where it goes
   abbrev pub Wanted : Goal → Frame → (kept : ℕ) → TypeTree → Type 0
   Wanted Stored f kept t = Stores r f.code vars (fetch f.code f.block f.instr) t
   Wanted (Kept spot) f kept t = NextOperand f kept t
@@ -84,7 +85,7 @@ module _ (r : RawTree) (vars : List ParamTree) (typed : ℕ → TypeTree → Typ
   ActFits c kept Goes g = Standing g
   ActFits c kept Pass g = Standing g
   ActFits c kept (Drops vs) g = Standing g × HaveSome r.records typed vs
-  ActFits c kept (Effects goal eff) g = Standing g × ((t : TypeTree) × Wanted goal g kept t × Gives eff t)
+  ActFits c kept (Effects goal eff) g = Standing g × ((t : TypeTree) × Wanted goal g kept t × Gives r typed eff t)
   ActFits c kept (Operand spot q) g = Standing g × ((t : TypeTree) × NextOperand g kept t × HasType r.records typed (RefValue q.0 q.1) t)
   ActFits c kept (Waits spot vs) g =
       StandsWaiting r.records typed g × HaveSome r.records typed vs

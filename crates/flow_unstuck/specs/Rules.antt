@@ -34,6 +34,18 @@ abbrev pub takes_type : ClassTree → Option Slotted → Option TypeTree
 takes_type c None = Some VoidType
 takes_type c (Some p) = type_at c p
 
+-- what a method sends, or prints, by the types of its arguments
+abbrev pub MessageFits : Method → TypeTree → List TypeTree → Type 0
+MessageFits method.Send (PromiseType t) ts = ts ≡ t ∷ []
+MessageFits method.Send (PromiseStreamType t) ts = ts ≡ t ∷ []
+MessageFits method.SendError (PromiseType t) ts = ts ≡ ErrorType ∷ []
+MessageFits method.SendError (PromiseStreamType t) ts = ts ≡ ErrorType ∷ []
+MessageFits method.Cancel (FutureType t) ts = ts ≡ []
+MessageFits _ _ ts = ⊥
+
+abbrev pub Printable : List TypeTree → Type 0
+Printable ts = (t : TypeTree) × (ts ≡ t ∷ []) × (is_there (equality_type t) ≡ true)
+
 module _ (r : RawTree) (actors : List RoutineTree) (c : ClassTree) (vars : List ParamTree) where
   abbrev pub Typed : ExprTree → TypeTree → Type 0
   Typed e t = Yields r.records r.functions actors vars e t
@@ -56,18 +68,7 @@ module _ (r : RawTree) (actors : List RoutineTree) (c : ClassTree) (vars : List 
     pub typed : AllTyped args types
     pub gives : EffectGives effect types t
 
-  -- what a call statement calls
-  abbrev pub MessageFits : Method → TypeTree → List TypeTree → Type 0
-  MessageFits method.Send (PromiseType t) ts = ts ≡ t ∷ []
-  MessageFits method.Send (PromiseStreamType t) ts = ts ≡ t ∷ []
-  MessageFits method.SendError (PromiseType t) ts = ts ≡ ErrorType ∷ []
-  MessageFits method.SendError (PromiseStreamType t) ts = ts ≡ ErrorType ∷ []
-  MessageFits method.Cancel (FutureType t) ts = ts ≡ []
-  MessageFits _ _ ts = ⊥
-
-  abbrev pub Printable : List TypeTree → Type 0
-  Printable ts = (t : TypeTree) × (ts ≡ t ∷ []) × (is_there (equality_type t) ≡ true)
-
+  -- a call by a name
   abbrev pub SayFits : Option Predefined → Ident → List TypeTree → Type 0
   SayFits (Some code.Trace) f ts = Printable ts
   SayFits (Some code.SendTo) f ts = ts ≡ IntType ∷ IntType ∷ StringType ∷ []
