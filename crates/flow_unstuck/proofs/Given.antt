@@ -41,10 +41,10 @@ module _ (rs : List RecordTree) (typed : ℕ → TypeTree → Type 0) where
       subst (Is v) same h.3
   arg_typed (v ∷ vs) ts (suc k) t h e = arg_typed vs h.1 k t h.4 (sym (ap (λ l. slice_get l (suc k)) h.2) ∙ e)
 
-  int_arg : (vs : List ValueTree) (ts : List TypeTree) (k : ℕ) → HaveTypes rs typed (values_of_list vs) ts → slice_get ts k ≡ Some IntType → (n : ℤ) × (int_of (arg vs k) ≡ Some n)
+  pub int_arg : (vs : List ValueTree) (ts : List TypeTree) (k : ℕ) → HaveTypes rs typed (values_of_list vs) ts → slice_get ts k ≡ Some IntType → (n : ℤ) × (int_of (arg vs k) ≡ Some n)
   int_arg vs ts k h e = let n = is_int_value rs typed (arg vs k) (arg_typed vs ts k IntType h e) in (n.0, ap int_of n.1)
 
-  text_arg : (vs : List ValueTree) (ts : List TypeTree) (k : ℕ) → HaveTypes rs typed (values_of_list vs) ts → slice_get ts k ≡ Some StringType → (n : List ℕ) × (text_of (arg vs k) ≡ Some n)
+  pub text_arg : (vs : List ValueTree) (ts : List TypeTree) (k : ℕ) → HaveTypes rs typed (values_of_list vs) ts → slice_get ts k ≡ Some StringType → (n : List ℕ) × (text_of (arg vs k) ≡ Some n)
   text_arg vs ts k h e = let n = is_text_value rs typed (arg vs k) (arg_typed vs ts k StringType h e) in (n.0, ap text_of n.1)
 
   error_arg : (vs : List ValueTree) (ts : List TypeTree) (k : ℕ) → HaveTypes rs typed (values_of_list vs) ts → slice_get ts k ≡ Some ErrorType → (n : ℕ) × (error_of (arg vs k) ≡ Some n)

@@ -19,3 +19,4 @@ pub mod Memories
 pub mod Stood
 pub mod Assigned
 pub mod Given
+pub mod Asks
