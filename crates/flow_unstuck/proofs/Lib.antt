@@ -20,3 +20,4 @@ pub mod Stood
 pub mod Assigned
 pub mod Given
 pub mod Asks
+pub mod Handed

@@ -1,5 +1,5 @@
 -- What the instructions of a class have to do with types and with each other: the rules on classes, instruction by instruction.
-use Rattle.std.specs.Prelude.{◌≡◌, ◌⊎◌, ℕ, zero, suc, true, List, [], ◌∷◌, slice_get}
+use Rattle.std.specs.Prelude.{◌≡◌, ◌≤◌, ◌⊎◌, ℕ, zero, suc, length, true, List, [], ◌∷◌, slice_get}
 use Rattle.std.specs.declared.option.Option.{Option}
 use Rattle.std.specs.Option.{option_map}
 use Rattle.std.specs.declared.option.Option.TheVariants.{None, Some}
@@ -112,6 +112,7 @@ module _ (r : RawTree) (actors : List RoutineTree) (c : ClassTree) (vars : List 
   -- A class keeps the rules.
   pub record KeepsRules : Type 0 where
     pub places : AreNamed c vars
+    pub params : c.params ≤ length c.slots
     pub begins : fetch c 0 0 ≡ Nothing → ⊥
     pub instructions : (b n : ℕ) (i : InstrTree) → fetch c b n ≡ Body i → InstrFits i
     pub lasts : (b n : ℕ) (l : LastTree) → fetch c b n ≡ Last l → LastFits l
