@@ -6,3 +6,4 @@ pub mod Places
 pub mod Standing
 pub mod Rules
 pub mod Asking
+pub mod Fitting
