@@ -21,3 +21,6 @@ pub mod Assigned
 pub mod Given
 pub mod Asks
 pub mod Handed
+pub mod Retyped
+pub mod States
+pub mod CellStates
