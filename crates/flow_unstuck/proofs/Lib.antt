@@ -24,3 +24,5 @@ pub mod Handed
 pub mod Retyped
 pub mod States
 pub mod CellStates
+pub mod NewCells
+pub mod KeptNone
