@@ -26,3 +26,4 @@ pub mod States
 pub mod CellStates
 pub mod NewCells
 pub mod KeptNone
+pub mod HandFits
