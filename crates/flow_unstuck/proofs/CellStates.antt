@@ -34,14 +34,14 @@ module _ (r : RawTree) (types : CellTypes) where
   type_there k cell (Some t) h = (t, refl, h)
 
   -- another cell of its type at the number of a cell
-  put_cells : (c : Core) (k : ℕ) (t : TypeTree) (cell new : Cell) → thing c.cells k ≡ Some cell → types k ≡ Some t → CellFits r types new t → ((j : ℕ) → CellAt r types (types j) (thing c.cells j))
+  pub put_cells : (c : Core) (k : ℕ) (t : TypeTree) (cell new : Cell) → thing c.cells k ≡ Some cell → types k ≡ Some t → CellFits r types new t → ((j : ℕ) → CellAt r types (types j) (thing c.cells j))
       → (j : ℕ) → CellAt r types (types j) (thing (put c.cells k new) j)
   put_cells c k t cell new at e f h =
       each_number k (λ j. CellAt r types (types j) (thing (put c.cells k new) j))
       (subst (λ o. CellAt r types (types k) o) (sym (thing_put c.cells k cell new at)) (subst (λ x. CellAt r types x (Some new)) (sym e) f))
       (λ j n. subst (CellAt r types (types j)) (sym (thing_put_other c.cells k j new n)) (h j))
 
-  put_waiters : (c : Core) (xs : Numbered Frame) (k : ℕ) (cell new : Cell) → thing c.cells k ≡ Some cell → (WaitersAt r types xs (types k) (Some cell) → WaitersAt r types xs (types k) (Some new))
+  pub put_waiters : (c : Core) (xs : Numbered Frame) (k : ℕ) (cell new : Cell) → thing c.cells k ≡ Some cell → (WaitersAt r types xs (types k) (Some cell) → WaitersAt r types xs (types k) (Some new))
       → ((j : ℕ) → WaitersAt r types xs (types j) (thing c.cells j)) → (j : ℕ) → WaitersAt r types xs (types j) (thing (put c.cells k new) j)
   put_waiters c xs k cell new at f h =
       each_number k (λ j. WaitersAt r types xs (types j) (thing (put c.cells k new) j))

@@ -27,3 +27,4 @@ pub mod CellStates
 pub mod NewCells
 pub mod KeptNone
 pub mod HandFits
+pub mod ReactFits
