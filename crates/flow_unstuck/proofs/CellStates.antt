@@ -83,7 +83,7 @@ module _ (r : RawTree) (types : CellTypes) where
     ports = p.ports;
     main = p.main;
     requests = p.requests;
-    numbered = rising_put c.cells 0 c.made k (filled cell o) p.numbered;
+    numbered = rising_put c.cells 0 c.made k (filled cell o) p.numbered; framed = p.framed;
   }
 
   pub fill_fits : (k : ℕ) (o : OutcomeTree) (c : Core) (xs : Numbered Frame) (t u : TypeTree) → c.halted ≡ None → types k ≡ Some t → IsOfType t u → OutcomeFits r.records (typed_by types) o u → ProcessFits r types c xs
@@ -115,7 +115,7 @@ module _ (r : RawTree) (types : CellTypes) where
     ports = p.ports;
     main = p.main;
     requests = p.requests;
-    numbered = rising_put c.cells 0 c.made k (after_taking cell) p.numbered;
+    numbered = rising_put c.cells 0 c.made k (after_taking cell) p.numbered; framed = p.framed;
   }
 
   -- an actor leaves all cells
@@ -181,7 +181,7 @@ module _ (r : RawTree) (types : CellTypes) where
         ports = p.ports;
         main = p.main;
         requests = p.requests;
-        numbered = left_rising i c.cells 0 c.made p.numbered;
+        numbered = left_rising i c.cells 0 c.made p.numbered; framed = p.framed;
       }) (subst (λ o. ActorAt r types o (thing xs i) (tasks_of i d.tasks)) (sym (thing_put c.entries i e0 (running e) at))
          (subst (λ o. ActorAt r types (Some (running e)) o (tasks_of i d.tasks)) (sym fr)
          (subst (ActorFits r types (running e) f) (sym (tasks i ∙ own_task i t c.tasks own)) (fits (tasks_of i c.tasks)))))

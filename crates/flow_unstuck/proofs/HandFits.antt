@@ -75,7 +75,7 @@ module _ (r : RawTree) (types : CellTypes) where
         ports = h.rest.ports;
         main = h.rest.main;
         requests = h.rest.requests;
-        numbered = h.rest.numbered;
+        numbered = h.rest.numbered; framed = h.rest.framed;
       }) own (actor_at r types e g (thing k.entries i) (thing xs i) (t ∷ tasks_of i m.tasks) h.entry h.frame (doing_actor e g c (t ∷ tasks_of i m.tasks) h.owner h.awake (d (tasks_of i m.tasks))))
 
   -- operands
@@ -133,7 +133,7 @@ module _ (r : RawTree) (types : CellTypes) where
         ports = h.ports;
         main = h.main;
         requests = h.requests;
-        numbered = h.numbered;
+        numbered = h.numbered; framed = h.framed;
       }) (actor_at r types (marked e) f (thing (put c.entries i (marked e)) i) (thing xs i) (tasks_of i c.tasks) (thing_put c.entries i e (marked e) at) fr
       (record { class = a.class; is = a.is; result = a.result; owns = a.owns; gives = a.gives; posture = marked_posture e.suspended a.class (tasks_of i c.tasks) a.posture }))
     where
@@ -156,7 +156,7 @@ module _ (r : RawTree) (types : CellTypes) where
   pub cancel_state : (i : ℕ) (e : Entry) (c : Core) (xs : Numbered Frame) → thing c.entries i ≡ Some e → ProcessFits r types c xs → ProcessFits r types (cancel i e c) xs
   cancel_state i e c xs at p =
       cancelled_state e.suspended i e (writes (cancel_line i) c) xs (thing xs i) at refl refl
-      (record { cells = p.cells; waiting = p.waiting; actors = p.actors; work = p.work; ports = p.ports; main = p.main; requests = p.requests; numbered = p.numbered })
+      (record { cells = p.cells; waiting = p.waiting; actors = p.actors; work = p.work; ports = p.ports; main = p.main; requests = p.requests; numbered = p.numbered; framed = p.framed })
 
   -- a branch is taken from a cell that is ready
   pub branch_fits : (i b n : ℕ) (en e0 : Entry) (vs : List ValueTree) (c : Core) (xs : Numbered Frame) (f : Frame) (cls : ClassTree) (t : TypeTree) (cell : Cell) → thing c.cells n ≡ Some cell → is_ready cell ≡ true → c.halted ≡ None
@@ -196,7 +196,7 @@ module _ (r : RawTree) (types : CellTypes) where
       by_turns m =
           let d = record (writes (take_line i en.spot.group b) (record c { left = m })) { cells = put c.cells n (after_taking cell) } in
           let p = taking_state r types n cell t i c xs at has cell_fits rest in
-          let q : FitsBut r types i d xs = record { cells = p.cells; waiting = p.waiting; actors = p.actors; work = p.work; ports = p.ports; main = p.main; requests = p.requests; numbered = p.numbered } in
+          let q : FitsBut r types i d xs = record { cells = p.cells; waiting = p.waiting; actors = p.actors; work = p.work; ports = p.ports; main = p.main; requests = p.requests; numbered = p.numbered; framed = p.framed } in
           subst (λ o. Fine r (give i b en vs o d).halted (give i b en vs o d) xs) (sym got.1)
           (fine_of r c.halted (leave_for i en vs (Give i b got.0) d) xs go
           (types, leave_state r types i en e0 vs (Give i b got.0) d xs f q entry fr (give_of i b got.0) (operands_exist r types f 0 en.operands ops) some

@@ -28,3 +28,4 @@ pub mod NewCells
 pub mod KeptNone
 pub mod HandFits
 pub mod ReactFits
+pub mod WaitFits

@@ -98,7 +98,7 @@ module _ (r : RawTree) (types : CellTypes) (t : TypeTree) (c : Core) (xs : Numbe
     ports = λ q k e. kept_types k _ tt (p.ports q k e);
     main = λ k e. let x = p.main k e in (x.0, kept_types k x.0 tt x.1);
     requests = all_exist_retyped r types more Any kept_types c.requests (seen_any Any any c.requests) p.requests;
-    numbered = rising_added c.cells 0 c.made cell (omega arith) p.numbered;
+    numbered = rising_added c.cells 0 c.made cell (omega arith) p.numbered; framed = p.framed;
   }
     where
       new_waiters : (o : Option TypeTree) → WaitersAt r more xs o (Some cell)

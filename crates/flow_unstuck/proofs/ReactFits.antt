@@ -52,20 +52,20 @@ added_either (x ∷ ps) port new p n e = by_test (nat_eq p x.0) e (added_either 
     by_test false e k = k e
 
 module _ (r : RawTree) (i : ℕ) (xs : Numbered Frame) (e : Entry) (g : Frame) (c : ClassTree) (code : g.code ≡ c) where
-  abbrev Ok : Core → Type 0
+  abbrev pub Ok : Core → Type 0
   Ok d = Fine r d.halted d xs
 
-  abbrev Hand : CellTypes → Core → Type 0
+  abbrev pub Hand : CellTypes → Core → Type 0
   Hand types k = HandFits r types i k xs e g c
 
-  runs : (types : CellTypes) (k : Core) → Hand types k → Standing r types g → OperandsFit r types g 0 e.operands → ProcessFits r types (pushed (Run i) k) xs
+  pub runs : (types : CellTypes) (k : Core) → Hand types k → Standing r types g → OperandsFit r types g 0 e.operands → ProcessFits r types (pushed (Run i) k) xs
   runs types k h s o = goes_by r types i (Run i) k xs e g c h (run_of i) (λ ts. (code, s, o))
 
-  throws_fit : (types : CellTypes) (err : ℕ) (k : Core) → k.halted ≡ None → Hand types k → Standing r types g → OperandsFit r types g 0 e.operands → Ok (throws i err k).0
+  pub throws_fit : (types : CellTypes) (err : ℕ) (k : Core) → k.halted ≡ None → Hand types k → Standing r types g → OperandsFit r types g 0 e.operands → Ok (throws i err k).0
   throws_fit types err k go h s o = fine_of r k.halted (pushed (Throw i err) k) xs go (types, goes_by r types i (Throw i err) k xs e g c h (throw_of i err) (λ ts. (code, inl s, o)))
 
   -- the same actor in hand, in a core with the same entries and tasks
-  rehand : (types : CellTypes) (k d : Core) → thing d.entries i ≡ Some e → FitsBut r types i d xs → Hand types k → Hand types d
+  pub rehand : (types : CellTypes) (k d : Core) → thing d.entries i ≡ Some e → FitsBut r types i d xs → Hand types k → Hand types d
   rehand types k d at p h = record { entry = at; awake = h.awake; frame = h.frame; owner = h.owner; rest = p }
 
   -- with a new cell
@@ -135,7 +135,7 @@ module _ (r : RawTree) (i : ℕ) (xs : Numbered Frame) (e : Entry) (g : Frame) (
           ports = m.rest.ports;
           main = m.rest.main;
           requests = exist_more ts k.requests (suc k.made) m.rest.requests (FutureType u, new_type types (suc k.made) (FutureType u));
-          numbered = m.rest.numbered;
+          numbered = m.rest.numbered; framed = m.rest.framed;
         };
       })
 
@@ -166,7 +166,7 @@ module _ (r : RawTree) (i : ℕ) (xs : Numbered Frame) (e : Entry) (g : Frame) (
           ports = λ p n z. by_port ts n (added_either k.ports port (suc k.made) p n z) (m.rest.ports p n) (new_type types (suc k.made) (FutureStreamType Packets));
           main = m.rest.main;
           requests = m.rest.requests;
-          numbered = m.rest.numbered;
+          numbered = m.rest.numbered; framed = m.rest.framed;
         };
       })
 
@@ -175,7 +175,7 @@ module _ (r : RawTree) (i : ℕ) (xs : Numbered Frame) (e : Entry) (g : Frame) (
   disk_fits types k goal None u t go h s o none w q = throws_fit types bad_argument k go h s o
   disk_fits types k goal (Some call) u t go h s o none w q = open_fits types k goal u t go h s o none w q
 
-  either_fits : (b : Bool) (p q : Reaction) → Ok p.0 → Ok q.0 → Ok (if b then p else q).0
+  pub either_fits : (b : Bool) (p q : Reaction) → Ok p.0 → Ok q.0 → Ok (if b then p else q).0
   either_fits true p q h k = h
   either_fits false p q h k = k
 
@@ -207,10 +207,10 @@ module _ (r : RawTree) (i : ℕ) (xs : Numbered Frame) (e : Entry) (g : Frame) (
       fine_turn r (λ d. fill n v (pushed (Run i) d)) k xs
       (λ m. let d = record k { left = m } in
       let p = h.rest in
-      let rest : FitsBut r types i d xs = record { cells = p.cells; waiting = p.waiting; actors = p.actors; work = p.work; ports = p.ports; main = p.main; requests = p.requests; numbered = p.numbered } in
+      let rest : FitsBut r types i d xs = record { cells = p.cells; waiting = p.waiting; actors = p.actors; work = p.work; ports = p.ports; main = p.main; requests = p.requests; numbered = p.numbered; framed = p.framed } in
       fill_fits r types n v (pushed (Run i) d) xs t u go at is f (runs types d (rehand types k d h.entry rest h) s o))
 
-  send_in_fits : (types : CellTypes) (n : ℕ) (v : OutcomeTree) (k : Core) → k.halted ≡ None → Hand types k → Standing r types g → OperandsFit r types g 0 e.operands → SentFits r.records (typed_by types) n v → Ok (send_in (thing k.cells n) i n v k)
+  pub send_in_fits : (types : CellTypes) (n : ℕ) (v : OutcomeTree) (k : Core) → k.halted ≡ None → Hand types k → Standing r types g → OperandsFit r types g 0 e.operands → SentFits r.records (typed_by types) n v → Ok (send_in (thing k.cells n) i n v k)
   send_in_fits types n v k go h s o f = by_type f.1
     where
       sent : (t : TypeTree) → types n ≡ Some t → IsOfType r types t f.0 → Ok (send_in (thing k.cells n) i n v k)
@@ -222,7 +222,7 @@ module _ (r : RawTree) (i : ℕ) (xs : Numbered Frame) (e : Entry) (g : Frame) (
       by_type (inl at) = sent (FutureType f.0) at (inl refl)
       by_type (inr at) = sent (FutureStreamType f.0) at (inr refl)
 
-  owner_fits : (types : CellTypes) (o : Option (ℕ × Entry)) (d : Core) → d.halted ≡ None → Owned d o → ProcessFits r types d xs → Ok (cancel_owner o d)
+  pub owner_fits : (types : CellTypes) (o : Option (ℕ × Entry)) (d : Core) → d.halted ≡ None → Owned d o → ProcessFits r types d xs → Ok (cancel_owner o d)
   owner_fits types None d go h p = fine_of r d.halted d xs go (types, p)
   owner_fits types (Some o) d go h p = fine_of r (cancel_owner (Some o) d).halted (cancel_owner (Some o) d) xs (cancel_goes o.0 o.1 d go) (types, cancel_state r types o.0 o.1 d xs h p)
     where
@@ -233,9 +233,9 @@ module _ (r : RawTree) (i : ℕ) (xs : Numbered Frame) (e : Entry) (g : Frame) (
       cancel_goes : (j : ℕ) (x : Entry) (d : Core) → d.halted ≡ None → (cancel j x d).halted ≡ None
       cancel_goes j x d go = by_suspended x.suspended j x (writes (cancel_line j) d) go
 
-  print_fits : (types : CellTypes) (l : Option Line) (k : Core) → ((x : Line) × (l ≡ Some x)) → k.halted ≡ None → Hand types k → Standing r types g → OperandsFit r types g 0 e.operands → Ok (print i l k)
+  pub print_fits : (types : CellTypes) (l : Option Line) (k : Core) → ((x : Line) × (l ≡ Some x)) → k.halted ≡ None → Hand types k → Standing r types g → OperandsFit r types g 0 e.operands → Ok (print i l k)
   print_fits types l k x go h s o =
       let d = writes x.0 k in
       let p = h.rest in
-      let rest : FitsBut r types i d xs = record { cells = p.cells; waiting = p.waiting; actors = p.actors; work = p.work; ports = p.ports; main = p.main; requests = p.requests; numbered = p.numbered } in
+      let rest : FitsBut r types i d xs = record { cells = p.cells; waiting = p.waiting; actors = p.actors; work = p.work; ports = p.ports; main = p.main; requests = p.requests; numbered = p.numbered; framed = p.framed } in
       subst (λ z. Ok (print i z k)) (sym x.1) (fine_of r k.halted (pushed (Run i) d) xs go (types, runs types d (rehand types k d h.entry rest h) s o))

@@ -17,6 +17,7 @@ use Rattle.flow_meaning.specs.Orderly.{is_of, tasks_of, is_suspended, AllWait, C
 use Rattle.flow_meaning.specs.Frame.{Frame}
 use Rattle.flow_meaning.proofs.Posture.{each_number, thing_put_other, thing_put, thing_added, thing_removed_other, removed_none, drops_tasks, Unmoved, IsOf, own_task, other_task, Awake}
 use Rattle.flow_meaning.proofs.Shifts.{cell_waits}
+use Rattle.flow_meaning.proofs.Order.{rising_put}
 use Rattle.flow_unstuck.specs.Asking.{HaveSome, OutcomeFits}
 use Rattle.flow_unstuck.specs.Fitting.{CellTypes, typed_by, Fits, Exists, CellFits, CellAt, WaitsFor, AllWaitFor, WaitersAt, OperandsFit, DoingFits, ActorFits, ActorAt, TasksFit, AllExist, ProcessFits}
 
@@ -52,6 +53,7 @@ module _ (r : RawTree) (types : CellTypes) where
     pub main : (k : ℕ) → c.main ≡ Some k → Exists r types k
     pub requests : AllExist r types c.requests
     pub numbered : Rising 0 c.made c.cells
+    pub framed : Rising 0 c.started xs
 
   -- the actor is there with its task
   pub put_back : (i : ℕ) (c : Core) (xs : Numbered Frame) → FitsBut i c xs → ActorAt r types (thing c.entries i) (thing xs i) (tasks_of i c.tasks) → ProcessFits r types c xs
@@ -63,11 +65,11 @@ module _ (r : RawTree) (types : CellTypes) where
     ports = h.ports;
     main = h.main;
     requests = h.requests;
-    numbered = h.numbered;
+    numbered = h.numbered; framed = h.framed;
   }
 
   pub all_but : (i : ℕ) (c : Core) (xs : Numbered Frame) → ProcessFits r types c xs → FitsBut i c xs
-  all_but i c xs h = record { cells = h.cells; waiting = h.waiting; actors = λ j k. h.actors j; work = h.work; ports = h.ports; main = h.main; requests = h.requests; numbered = h.numbered }
+  all_but i c xs h = record { cells = h.cells; waiting = h.waiting; actors = λ j k. h.actors j; work = h.work; ports = h.ports; main = h.main; requests = h.requests; numbered = h.numbered; framed = h.framed }
 
   -- what is left of the tasks
   rest_fits : (t : Task) (ts : List Task) → TasksFit r types (t ∷ ts) → TasksFit r types ts
@@ -102,7 +104,7 @@ module _ (r : RawTree) (types : CellTypes) where
     ports = h.ports;
     main = h.main;
     requests = h.requests;
-    numbered = h.numbered;
+    numbered = h.numbered; framed = h.framed;
   }
 
   -- whoever waits isn't in hand
@@ -131,7 +133,7 @@ module _ (r : RawTree) (types : CellTypes) where
     ports = h.ports;
     main = h.main;
     requests = h.requests;
-    numbered = h.numbered;
+    numbered = h.numbered; framed = rising_put xs 0 c.started i g h.framed;
   }
 
   -- references of values that have types exist
@@ -178,7 +180,7 @@ module _ (r : RawTree) (types : CellTypes) where
     ports = p.ports;
     main = p.main;
     requests = p.requests;
-    numbered = p.numbered;
+    numbered = p.numbered; framed = p.framed;
   }
 
   -- an actor in hand goes on by a task
@@ -192,7 +194,7 @@ module _ (r : RawTree) (types : CellTypes) where
         ports = h.ports;
         main = h.main;
         requests = h.requests;
-        numbered = h.numbered;
+        numbered = h.numbered; framed = h.framed;
       }) (subst (ActorAt r types (thing c.entries i) (thing xs i)) (sym (own_task i t c.tasks own)) a)
 
   pub actor_at : (e : Entry) (f : Frame) (o : Option Entry) (p : Option Frame) (ts : List Task) → o ≡ Some e → p ≡ Some f → ActorFits r types e f ts → ActorAt r types o p ts

@@ -137,3 +137,4 @@ module _ (r : RawTree) (types : CellTypes) where
     pub main : (k : ℕ) → c.main ≡ Some k → Exists k
     pub requests : AllExist c.requests
     pub numbered : Rising 0 c.made c.cells
+    pub framed : Rising 0 c.started xs
