@@ -29,3 +29,4 @@ pub mod KeptNone
 pub mod HandFits
 pub mod ReactFits
 pub mod WaitFits
+pub mod StepFits

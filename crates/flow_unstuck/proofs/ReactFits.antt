@@ -76,16 +76,16 @@ module _ (r : RawTree) (i : ℕ) (xs : Numbered Frame) (e : Entry) (g : Frame) (
     keeps : (n : ℕ) (u : TypeTree) → Any n → types n ≡ Some u → grown n ≡ Some u
     keeps = kept_types r types t k xs i h.rest
 
-    stands_more : Standing r grown g
+    pub stands_more : Standing r grown g
     stands_more = standing_retyped r types grown Any keeps g (λ q v e. sees_any Any (λ n. tt) v) s
 
-    keeps_more : OperandsFit r grown g 0 e.operands
+    pub keeps_more : OperandsFit r grown g 0 e.operands
     keeps_more = operands_retyped r types grown Any keeps g 0 e.operands (operands_any Any (λ n. tt) e.operands) o
 
     owner_more : Owner r grown e c
     owner_more = record { is = h.owner.is; result = h.owner.result; owns = h.owner.owns; gives = keeps h.owner.result (FutureType c.returns) tt h.owner.gives }
 
-    hand_more : (cell : Cell) → CellFits r grown cell t → waiters cell ≡ [] → Hand grown (new_cell cell k)
+    pub hand_more : (cell : Cell) → CellFits r grown cell t → waiters cell ≡ [] → Hand grown (new_cell cell k)
     hand_more cell f w = record { entry = h.entry; awake = h.awake; frame = h.frame; owner = owner_more; rest = new_but r types t k xs i h.rest cell f w }
 
   abbrev Wants : CellTypes → Goal → TypeTree → Type 0
@@ -95,7 +95,7 @@ module _ (r : RawTree) (i : ℕ) (xs : Numbered Frame) (e : Entry) (g : Frame) (
   NoneStored goal = goal ≡ Stored → e.operands ≡ []
 
   -- what is wanted doesn't depend on the types of cells
-  wants_more : (types others : CellTypes) (goal : Goal) (t : TypeTree) → Wants types goal t → Wants others goal t
+  pub wants_more : (types others : CellTypes) (goal : Goal) (t : TypeTree) → Wants types goal t → Wants others goal t
   wants_more types others Stored t w = w
   wants_more types others (Kept spot) t w = w
 
