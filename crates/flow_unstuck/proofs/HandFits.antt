@@ -11,7 +11,7 @@ use Rattle.flow_value.specs.Values.{ValueTree, RefValue, OutcomeTree, GoodOutcom
 use Rattle.flow_eval.specs.Typed.{reference_type, future_side, HasType}
 use Rattle.flow_class.specs.Classes.{ChooseLast, CallbackTree, ClassTree, RawTree}
 use Rattle.flow_class.specs.Code.{Last, callback_at, fetch}
-use Rattle.flow_meaning.specs.Effects.{gives}
+use Rattle.flow_meaning.specs.Effects.{result_task, push_result, gives}
 use Rattle.flow_valid.specs.Validity.{operand_type}
 use Rattle.flow_meaning.specs.Numbered.{Numbered, thing, added, put, removed}
 use Rattle.flow_meaning.specs.Cells.{Ref, Waiter, Cell, Single, Stream, is_ready, waiters, taken, after_taking}
@@ -101,18 +101,23 @@ module _ (r : RawTree) (types : CellTypes) where
   operand_is true u = inr refl
 
   -- the result of an effect goes where it is wanted
-  pub gives_task : (i : ℕ) (goal : Goal) (v : ValueTree) (t : TypeTree) (k : Core) (xs : Numbered Frame) (e : Entry) (g : Frame) (c : ClassTree) → HandFits r types i k xs e g c → k.halted ≡ None → g.code ≡ c → Standing r types g
-      → OperandsFit r types g 0 e.operands → ((q : goal ≡ Stored) → e.operands ≡ []) → Wanted r (class_vars g.code) (typed_by types) goal g (length e.operands) t → Fits r types v t
-      → Fine r (gives i goal v k).halted (gives i goal v k) xs
-  gives_task i Stored v t k xs e g c h go code s ops none w f =
-      fine_of r k.halted (pushed (Store i v) (pushed (Run i) k)) xs go (types, goes_by_two i (Store i v) k xs e g c h (store_of i v) (λ ts. (code, s, (t, w, f), none refl)))
-  gives_task i (Kept spot) v t k xs e g c h go code s ops none w f =
+  pub gives_state : (i : ℕ) (goal : Goal) (v : ValueTree) (t : TypeTree) (k : Core) (xs : Numbered Frame) (e : Entry) (g : Frame) (c : ClassTree) → HandFits r types i k xs e g c → g.code ≡ c → Standing r types g
+      → OperandsFit r types g 0 e.operands → (goal ≡ Stored → e.operands ≡ []) → Wanted r (class_vars g.code) (typed_by types) goal g (length e.operands) t → Fits r types v t
+      → (x : Task) × (result_task i goal v ≡ Some x) × ProcessFits r types (pushed x (pushed (Run i) k)) xs
+  gives_state i Stored v t k xs e g c h code s ops none w f = (Store i v, refl, goes_by_two i (Store i v) k xs e g c h (store_of i v) (λ ts. (code, s, (t, w, f), none refl)))
+  gives_state i (Kept spot) v t k xs e g c h code s ops none w f =
       let q = operand_ref r.records (typed_by types) w.callback.next v w.takes (subst (Fits r types v) w.type f) in
       let f2 = subst (λ z. Fits r types z t) q.1 f in
       let zero_plus : 0 + length e.operands ≡ length e.operands = omega arith in
-      subst (λ z. Fine r (gives i (Kept spot) z k).halted (gives i (Kept spot) z k) xs) (sym q.1)
-      (fine_of r k.halted (pushed (Keep i spot q.0) (pushed (Run i) k)) xs go
-      (types, goes_by_two i (Keep i spot q.0) k xs e g c h (keep_of i spot q.0) (λ ts. (code, s, operands_more g 0 e.operands q.0 t ops (subst (λ m. NextOperand g m t) (sym zero_plus) w) f2))))
+      (Keep i spot q.0, ap (result_task i (Kept spot)) q.1,
+        goes_by_two i (Keep i spot q.0) k xs e g c h (keep_of i spot q.0) (λ ts. (code, s, operands_more g 0 e.operands q.0 t ops (subst (λ m. NextOperand g m t) (sym zero_plus) w) f2)))
+
+  pub gives_task : (i : ℕ) (goal : Goal) (v : ValueTree) (t : TypeTree) (k : Core) (xs : Numbered Frame) (e : Entry) (g : Frame) (c : ClassTree) → HandFits r types i k xs e g c → k.halted ≡ None → g.code ≡ c → Standing r types g
+      → OperandsFit r types g 0 e.operands → (goal ≡ Stored → e.operands ≡ []) → Wanted r (class_vars g.code) (typed_by types) goal g (length e.operands) t → Fits r types v t
+      → Fine r (gives i goal v k).halted (gives i goal v k) xs
+  gives_task i goal v t k xs e g c h go code s ops none w f =
+      let x = gives_state i goal v t k xs e g c h code s ops none w f in
+      subst (λ z. Fine r (push_result i z k).halted (push_result i z k) xs) (sym x.1) (fine_of r k.halted (pushed x.0 (pushed (Run i) k)) xs go (types, x.2))
 
   -- an actor is cancelled
   cancelled_state : (b : Bool) (i : ℕ) (e : Entry) (c : Core) (xs : Numbered Frame) (o : Option Frame) → thing c.entries i ≡ Some e → thing xs i ≡ o → e.suspended ≡ b → ProcessFits r types c xs → ProcessFits r types (cancel_by b i e c) xs

@@ -30,3 +30,4 @@ pub mod HandFits
 pub mod ReactFits
 pub mod WaitFits
 pub mod StepFits
+pub mod RunFits

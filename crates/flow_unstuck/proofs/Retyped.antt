@@ -198,7 +198,7 @@ module _ (P : ℕ → Type 0) (any : (k : ℕ) → P k) where
     sees_any (RecordValue r vs) = all_sees_any vs
     sees_any (RefValue kd k) = any k
 
-    all_sees_any : (vs : ValueTrees) → SeesAll P vs
+    pub all_sees_any : (vs : ValueTrees) → SeesAll P vs
     all_sees_any NoValues = tt
     all_sees_any (MoreValues v vs) = (sees_any v, all_sees_any vs)
 

@@ -36,7 +36,7 @@ use Rattle.flow_unstuck.proofs.Retyped.{standing_retyped, operands_retyped, sees
 use Rattle.flow_unstuck.proofs.States.{FitsSome, Fine, fine_of, fine_turn, FitsBut, put_back, all_but, popped_but, frame_but, actor_at, actor_of, dropping_fits}
 use Rattle.flow_unstuck.proofs.CellStates.{cell_there}
 use Rattle.flow_unstuck.proofs.NewCells.{with_type, Any, new_type, kept_types}
-use Rattle.flow_unstuck.proofs.KeptNone.{OfWait, AsksOfWait, none_kept}
+use Rattle.flow_unstuck.proofs.KeptNone.{OfWait, AsksOfWaitAt, none_kept, still_kept}
 use Rattle.flow_unstuck.proofs.HandFits.{Owner, HandFits, doing_actor, goes_by, gives_task}
 use Rattle.flow_unstuck.proofs.ReactFits.{hand_more, stands_more, keeps_more, wants_more}
 use Rattle.flow_unstuck.proofs.WaitFits.{react_fits}
@@ -106,7 +106,7 @@ module _ (r : RawTree) (actors : List RoutineTree) (rules : ClassRules r actors)
   frame_rules types e c f o q = subst (λ d. KeepsRules r actors d (class_vars d)) (sym q) (rules.classes e.class c o.is)
 
   -- a new actor
-  add_actor : (types : CellTypes) (k : Core) (xs : Numbered Frame) (class cell : ℕ) (d : ClassTree) (a : Frame) → Rising 0 k.started k.entries → ProcessFits r types k xs → slice_get r.classes class ≡ Some d → types cell ≡ Some (FutureType d.returns)
+  pub add_actor : (types : CellTypes) (k : Core) (xs : Numbered Frame) (class cell : ℕ) (d : ClassTree) (a : Frame) → Rising 0 k.started k.entries → ProcessFits r types k xs → slice_get r.classes class ≡ Some d → types cell ≡ Some (FutureType d.returns)
       → a.code ≡ d → Standing r types a
       → ProcessFits r types (record k { entries = added k.entries (suc k.started) (entry_of class cell); started = suc k.started; tasks = Run (suc k.started) ∷ k.tasks }) (added xs (suc k.started) a)
   add_actor types k xs class cell d a up p is has code st =
