@@ -1,5 +1,5 @@
 -- A frame that fits asks for what fits, and never comes to what has no meaning.
-use Rattle.std.proofs.Common.{◌≡◌, ℕ, zero, suc, ◌<◌, Bool, true, false, not, ◌&&◌, ◌||◌, List, [], ◌∷◌, ◌++◌, length, ◌⊎◌, inl, inr, refl, sym, ap, ◌∙◌, subst, arith}
+use Rattle.std.proofs.Common.{◌≡◌, ℕ, zero, suc, Bool, true, false, ◌||◌, List, [], ◌∷◌, ◌++◌, length, ◌⊎◌, inl, inr, refl, sym, ap, ◌∙◌, subst, arith}
 use Rattle.std.specs.Prelude.{slice_get, Contains}
 use Rattle.std.specs.Str.{bytes_eq}
 use Rattle.std.specs.Option.{option_map, option_and_then}
@@ -7,8 +7,7 @@ use Rattle.std.specs.declared.option.Option.{Option}
 use Rattle.std.specs.declared.option.Option.TheVariants.{None, Some}
 use Rattle.flow_ast.specs.declared.predefined.Predefined.{Predefined}
 use Rattle.flow_ast.specs.declared.predefined.Predefined.TheVariants as code
-use Rattle.flow_ast.specs.declared.predefined.Method.{Method}
-use Rattle.flow_ast.specs.Typing.{param_named, routine_named, param_types}
+use Rattle.flow_ast.specs.Typing.{param_named}
 use Rattle.flow_ast.specs.TypingNames.{named, call_names, method_names}
 use Rattle.flow_ast.specs.Fits.{fields_type, path_type, FunctionsFit}
 use Rattle.flow_tree.specs.declared.ty.Ident.{Ident}
@@ -17,9 +16,9 @@ use Rattle.flow_tree.specs.Decls.{ParamTree, SlotTree, RecordTree, RoutineTree}
 use Rattle.flow_value.specs.declared.value.Kind.{Kind}
 use Rattle.flow_value.specs.declared.value.Kind.TheVariants as kind
 use Rattle.flow_value.specs.Values.{ValueTree, RefValue, values_of_list}
-use Rattle.flow_eval.specs.Eval.{Res, Done, Fails, Spent, Meaningless, Setting, then}
+use Rattle.flow_eval.specs.Eval.{Res, Done, Fails, Spent, Meaningless, Setting}
 use Rattle.flow_eval.specs.Answers.{int_of, text_of, bool_of, error_of, arg}
-use Rattle.flow_eval.specs.Functions.{Call, read_in, run_function, deepest}
+use Rattle.flow_eval.specs.Functions.{Call, read_in, deepest}
 use Rattle.flow_eval.specs.Typed.{reference_type, HasType, HaveTypes, CellsFit}
 use Rattle.flow_eval.specs.WellTyped.{Safe}
 use Rattle.flow_eval.proofs.TypedValues.{some_same, none_some, first_there, is_bool_value, is_error_value}
@@ -31,18 +30,18 @@ use Rattle.flow_class.specs.Classes.{InstrTree, SetInstr, EffectInstr, NewInstr,
 use Rattle.flow_class.specs.Places.{place_named}
 use Rattle.flow_class.specs.Code.{type_at, Fetched, Body, Last, Nothing, fetch, group_at, callback_at}
 use Rattle.flow_valid.specs.Named.{listed, expr_places, exprs_places, base_place, targets}
-use Rattle.flow_valid.specs.Filling.{among, filled_path, instr_reads, instr_fills, instr_empties, operands, group_reads, reads, dropped}
+use Rattle.flow_valid.specs.Filling.{among, instr_reads, instr_fills, operands, group_reads, reads}
 use Rattle.flow_valid.specs.Validity.{operand_type}
 use Rattle.flow_meaning.specs.Variables.{flat, filled}
-use Rattle.flow_meaning.specs.Asks.{Ask, Act, Goes, Pass, Drops, Effects, Operand, Waits, Sends, Cancels, Prints, SendsTo, Returns, Throws, RunsOut, Stuck, Spot, Make, Goal, Stored, Kept}
+use Rattle.flow_meaning.specs.Asks.{Act, Goes, Pass, Drops, Effects, Operand, Waits, Sends, Cancels, Prints, SendsTo, Returns, Throws, RunsOut, Stuck, Spot, Make, Goal, Stored, Kept}
 use Rattle.flow_meaning.specs.Process.{View}
-use Rattle.flow_meaning.specs.Evaluating.{Names, effectful, setting, bind, StepOf, asks, given, evaluated, Effectful, World, effect_in, effect_of, method_act, done, before_last, last_of, value, values, function_act, plain_act, based_act, call_act}
-use Rattle.flow_meaning.specs.Frame.{Memory, Frame, read, write, look, held_in, emptied, reversed, everything, all_emptied, assign, spot_of, go, next_instr, over, lose}
-use Rattle.flow_meaning.specs.Class.{promise_kind, placed, effects, instruction, test, operand_ref as asks_operand, operand_by, waits, choose, throw_value, last, fetched, next_step, class_names}
-use Rattle.flow_unstuck.specs.Places.{AreNamed, Filled, HoldsTypes}
+use Rattle.flow_meaning.specs.Evaluating.{Names, effectful, setting, bind, StepOf, asks, given, evaluated, Effectful, effect_in, effect_of, done, before_last, last_of, value, values, function_act, plain_act, based_act, call_act}
+use Rattle.flow_meaning.specs.Frame.{Memory, Frame, read, write, look, held_in, emptied, reversed, everything, assign, spot_of, go, next_instr, over, lose}
+use Rattle.flow_meaning.specs.Class.{promise_kind, placed, effects, instruction, test, operand_ref as asks_operand, operand_by, choose, throw_value, last, fetched, next_step, class_names}
+use Rattle.flow_unstuck.specs.Places.{Filled, HoldsTypes}
 use Rattle.flow_unstuck.specs.Standing.{Stands, StandsWaiting}
-use Rattle.flow_unstuck.specs.Rules.{takes_type, EffectFits, InstrFits, SayFits, CallFits, BranchFits, LastFits, KeepsRules, MessageFits, Typed, AllTyped}
-use Rattle.flow_unstuck.specs.Asking.{Stores, NextOperand, HaveSome, CanPrint, Gives, Wanted, ActFits, StaysIn, AsksFit}
+use Rattle.flow_unstuck.specs.Rules.{EffectFits, InstrFits, SayFits, CallFits, BranchFits, LastFits, KeepsRules, Typed, AllTyped}
+use Rattle.flow_unstuck.specs.Asking.{Stores, NextOperand, HaveSome, Wanted, ActFits, StaysIn, AsksFit}
 use Rattle.flow_unstuck.proofs.Evaluates.{AllFilled, readable_by, all_readable_by, among_left, among_right, same_self, value_safe, values_safe}
 use Rattle.flow_unstuck.proofs.Memories.{blank_at, emptied_holds, emptied_other, lost_holds}
 use Rattle.flow_unstuck.proofs.Stood.{read_filled, next_there, reached_next, full_next, reached_jump, full_jump}
@@ -206,7 +205,7 @@ module _ (r : RawTree) (actors : List RoutineTree) (vars : List ParamTree) (type
       let q = int_arg r.records typed us ps 1 args refl in
       let t = text_arg r.records typed us ps 2 args refl in
       let there = ap (λ o. bind o (λ p. bind (int_of (arg us 1)) (λ q. bind (text_of (arg us 2)) (λ t. Some (SendsTo p q t))))) p.1
-          ∙ ap (λ o. bind o (λ q. bind (text_of (arg us 2)) (λ t. Some (SendsTo p.0 q t)))) q.1 ∙ ap (λ o. bind o (λ t. Some (SendsTo p.0 q.0 t))) t.1 in
+      ∙ ap (λ o. bind o (λ q. bind (text_of (arg us 2)) (λ t. Some (SendsTo p.0 q t)))) q.1 ∙ ap (λ o. bind o (λ t. Some (SendsTo p.0 q.0 t))) t.1 in
       subst (λ o. Safe CallFit (done o left)) (sym there) (n, refl)
   plain_fits None x ts us left n h a =
       let args = subst (HaveTypes r.records typed (values_of_list us)) (sym h.2) a in

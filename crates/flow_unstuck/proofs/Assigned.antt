@@ -1,11 +1,11 @@
 -- An assignment to a path of its type, and where the frame stands behind its instruction.
-use Rattle.std.proofs.Common.{◌≡◌, ℕ, suc, Bool, true, false, not, ◌&&◌, ◌||◌, List, [], ◌∷◌, ◌++◌, refl, sym, ap, ◌∙◌, subst}
+use Rattle.std.proofs.Common.{◌≡◌, ℕ, Bool, true, false, ◌||◌, List, [], ◌∷◌, refl, sym, ap, ◌∙◌, subst}
 use Rattle.std.specs.Option.{option_map}
 use Rattle.std.specs.declared.option.Option.{Option}
 use Rattle.std.specs.declared.option.Option.TheVariants.{None, Some}
 use Rattle.flow_tree.specs.declared.ty.Ident.{Ident}
-use Rattle.flow_tree.specs.Tree.{TypeTree, ExprTree}
-use Rattle.flow_tree.specs.Decls.{ParamTree, RecordTree, RoutineTree}
+use Rattle.flow_tree.specs.Tree.{TypeTree}
+use Rattle.flow_tree.specs.Decls.{ParamTree, RecordTree}
 use Rattle.flow_ast.specs.Typing.{param_named, field_type}
 use Rattle.flow_ast.specs.Fits.{fields_type, path_type}
 use Rattle.flow_value.specs.Values.{ValueTree}
@@ -20,7 +20,7 @@ use Rattle.flow_class.specs.Classes.{InstrTree, ClassTree}
 use Rattle.flow_class.specs.Code.{Body, fetch, type_at}
 use Rattle.flow_class.specs.Places.{place_named}
 use Rattle.flow_valid.specs.Named.{listed, base_place}
-use Rattle.flow_valid.specs.Filling.{same_place, among, filled_path, instr_fills, instr_empties}
+use Rattle.flow_valid.specs.Filling.{same_place, among, filled_path, instr_fills}
 use Rattle.flow_meaning.specs.Variables.{filled}
 use Rattle.flow_meaning.specs.Evaluating.{bind}
 use Rattle.flow_meaning.specs.Frame.{Memory, Frame, read, write, put_root, put_at, assign, next_instr}

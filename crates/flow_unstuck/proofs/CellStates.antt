@@ -1,23 +1,23 @@
 -- Cells of a process that fits: filled, taken from, and left by an actor.
-use Rattle.std.proofs.Common.{◌≡◌, ℕ, zero, suc, ◌<◌, nat_eq, Bool, true, false, List, [], ◌∷◌, ◌++◌, length, ◌⊎◌, inl, inr, if◌then◌else◌, refl, sym, ap, ◌∙◌, subst, arith}
+use Rattle.std.proofs.Common.{◌≡◌, ℕ, nat_eq, Bool, true, false, List, [], ◌∷◌, ◌++◌, ◌⊎◌, inl, inr, if◌then◌else◌, refl, sym, ◌∙◌, subst}
 use Rattle.std.specs.Option.{option_map}
 use Rattle.std.specs.declared.option.Option.{Option}
 use Rattle.std.specs.declared.option.Option.TheVariants.{None, Some}
 use Rattle.flow_tree.specs.Tree.{TypeTree, FutureType, FutureStreamType}
 use Rattle.flow_value.specs.Values.{ValueTree, OutcomeTree, GoodOutcome, BadOutcome}
-use Rattle.flow_class.specs.Classes.{ClassTree, RawTree}
-use Rattle.flow_meaning.specs.Numbered.{Numbered, thing, added, put, removed}
-use Rattle.flow_meaning.specs.Cells.{Ref, Waiter, Cell, Single, Stream, is_ready, waiters, filled, taken, after_taking, bad, without, left_by, is_some}
-use Rattle.flow_meaning.specs.Process.{Task, Run, Give, Throw, Catch, Store, Keep, Close, Fire, Drop, Entry, Halt, Core}
+use Rattle.flow_class.specs.Classes.{RawTree}
+use Rattle.flow_meaning.specs.Numbered.{Numbered, thing, put}
+use Rattle.flow_meaning.specs.Cells.{Waiter, Cell, Single, Stream, is_ready, waiters, filled, taken, after_taking, without, left_by}
+use Rattle.flow_meaning.specs.Process.{Task, Entry, Core}
 use Rattle.flow_meaning.specs.Occ.{refs_in}
-use Rattle.flow_meaning.specs.Work.{pushed, running, drops, dropping_values, fill_cell, fill, leave_for, left_cells, leave}
-use Rattle.flow_meaning.specs.Orderly.{is_of, tasks_of, is_suspended, Rising, Orderly}
+use Rattle.flow_meaning.specs.Work.{running, drops, fill_cell, fill, leave_for, left_cells}
+use Rattle.flow_meaning.specs.Orderly.{tasks_of, Rising}
 use Rattle.flow_meaning.specs.Frame.{Frame}
-use Rattle.flow_meaning.proofs.Posture.{same_number, other_number, each_number, thing_put_other, thing_put, thing_added, drops_tasks, IsOf, own_task, other_task}
+use Rattle.flow_meaning.proofs.Posture.{each_number, thing_put_other, thing_put, drops_tasks, IsOf, own_task, other_task}
 use Rattle.flow_meaning.proofs.Order.{rising_put, filled_waiters, taking_waiters}
 use Rattle.flow_unstuck.specs.Asking.{HaveSome, OutcomeFits}
-use Rattle.flow_unstuck.specs.Fitting.{CellTypes, typed_by, Fits, Exists, ContentFits, QueueFits, CellFits, CellAt, WaitsFor, AllWaitFor, WaitersAt, OperandsFit, ActorFits, ActorAt, TasksFit, AllExist, ProcessFits}
-use Rattle.flow_unstuck.proofs.States.{FitsSome, Fine, fine_of, FitsBut, put_back, own_fits, RefsExist, some_refs, drops_fit}
+use Rattle.flow_unstuck.specs.Fitting.{CellTypes, typed_by, Fits, QueueFits, CellFits, CellAt, AllWaitFor, WaitersAt, ActorFits, ActorAt, ProcessFits}
+use Rattle.flow_unstuck.proofs.States.{Fine, fine_of, FitsBut, put_back, own_fits, RefsExist, some_refs, drops_fit}
 
 module _ (r : RawTree) (types : CellTypes) where
   -- a cell that has a type is there
@@ -83,7 +83,8 @@ module _ (r : RawTree) (types : CellTypes) where
     ports = p.ports;
     main = p.main;
     requests = p.requests;
-    numbered = rising_put c.cells 0 c.made k (filled cell o) p.numbered; framed = p.framed;
+    numbered = rising_put c.cells 0 c.made k (filled cell o) p.numbered;
+    framed = p.framed;
   }
 
   pub fill_fits : (k : ℕ) (o : OutcomeTree) (c : Core) (xs : Numbered Frame) (t u : TypeTree) → c.halted ≡ None → types k ≡ Some t → IsOfType t u → OutcomeFits r.records (typed_by types) o u → ProcessFits r types c xs
@@ -115,7 +116,8 @@ module _ (r : RawTree) (types : CellTypes) where
     ports = p.ports;
     main = p.main;
     requests = p.requests;
-    numbered = rising_put c.cells 0 c.made k (after_taking cell) p.numbered; framed = p.framed;
+    numbered = rising_put c.cells 0 c.made k (after_taking cell) p.numbered;
+    framed = p.framed;
   }
 
   -- an actor leaves all cells
@@ -181,7 +183,8 @@ module _ (r : RawTree) (types : CellTypes) where
         ports = p.ports;
         main = p.main;
         requests = p.requests;
-        numbered = left_rising i c.cells 0 c.made p.numbered; framed = p.framed;
+        numbered = left_rising i c.cells 0 c.made p.numbered;
+        framed = p.framed;
       }) (subst (λ o. ActorAt r types o (thing xs i) (tasks_of i d.tasks)) (sym (thing_put c.entries i e0 (running e) at))
-         (subst (λ o. ActorAt r types (Some (running e)) o (tasks_of i d.tasks)) (sym fr)
-         (subst (ActorFits r types (running e) f) (sym (tasks i ∙ own_task i t c.tasks own)) (fits (tasks_of i c.tasks)))))
+      (subst (λ o. ActorAt r types (Some (running e)) o (tasks_of i d.tasks)) (sym fr)
+      (subst (ActorFits r types (running e) f) (sym (tasks i ∙ own_task i t c.tasks own)) (fits (tasks_of i c.tasks)))))

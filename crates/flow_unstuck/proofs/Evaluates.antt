@@ -1,15 +1,13 @@
 -- What is well typed over the places of a class has a meaning where the places that it reads are filled.
 use Rattle.std.proofs.Common.{◌≡◌, ℕ, nat_eq, Bool, true, false, not, ◌&&◌, ◌||◌, List, [], ◌∷◌, ◌++◌, if◌then◌else◌, refl, sym, ap, ◌∙◌, subst, arith}
-use Rattle.std.specs.Prelude.{find, cond}
-use Rattle.std.specs.List.{list_any}
+use Rattle.std.specs.Prelude.{cond}
 use Rattle.std.specs.Option.{option_map}
 use Rattle.std.specs.Str.{bytes_eq}
 use Rattle.std.specs.declared.option.Option.{Option}
 use Rattle.std.specs.declared.option.Option.TheVariants.{None, Some}
-use Rattle.flow_tree.specs.declared.ty.Ident.{Ident}
 use Rattle.flow_tree.specs.Tree.{TypeTree, ExprTree, ExprTrees, IntExpr, TextExpr, BoolExpr, VoidExpr, VarExpr, CallExpr, FieldExpr, MethodExpr, NotExpr, NegExpr, BinaryExpr, ParenExpr, NoExprs, MoreExprs}
 use Rattle.flow_tree.specs.Decls.{ParamTree, RecordTree, RoutineTree}
-use Rattle.flow_ast.specs.TypingNames.{named, call_names, method_names, constant_names}
+use Rattle.flow_ast.specs.TypingNames.{named, method_names, constant_names}
 use Rattle.flow_ast.specs.Typing.{param_named, variable_in, is_there, type_in, types_in, without_effects, all_without_effects, with_type, more_types, applied, call_signature, field_type, method_in, bool_only, int_only, binary_type, effect_call}
 use Rattle.flow_ast.specs.Fits.{scope_over, Yields, FunctionsFit}
 use Rattle.flow_value.specs.Values.{ValueTree, values_of_list}
@@ -17,7 +15,7 @@ use Rattle.flow_eval.specs.Eval.{Setting, eval_all}
 use Rattle.flow_eval.specs.Functions.{Eval, run_function, deepest}
 use Rattle.flow_eval.specs.Typed.{HasType, HaveTypes, CellsFit, VariablesFit}
 use Rattle.flow_eval.specs.WellTyped.{Safe}
-use Rattle.flow_eval.proofs.TypedValues.{some_same, none_some, bytes_same, bytes_self}
+use Rattle.flow_eval.proofs.TypedValues.{none_some, bytes_same}
 use Rattle.flow_eval.proofs.TypedExprs.{eval_good, all_good}
 use Rattle.flow_eval.proofs.TypedStatements.{runner_good}
 use Rattle.flow_class.specs.declared.class.Slotted.{Slotted}

@@ -1,33 +1,31 @@
 -- What effects, messages and prints make of arguments of their types.
-use Rattle.std.proofs.Common.{◌≡◌, ℕ, zero, suc, ℤ, Bool, true, false, List, [], ◌∷◌, ◌++◌, ◌⊎◌, inl, inr, refl, sym, ap, ◌∙◌, subst}
+use Rattle.std.proofs.Common.{◌≡◌, ℕ, zero, suc, ℤ, Bool, true, false, List, [], ◌∷◌, ◌⊎◌, inl, inr, refl, sym, ap, ◌∙◌, subst}
 use Rattle.std.specs.Prelude.{slice_get, codes, position}
 use Rattle.std.specs.Option.{option_map}
 use Rattle.std.specs.Str.{bytes_eq}
 use Rattle.std.specs.declared.option.Option.{Option}
 use Rattle.std.specs.declared.option.Option.TheVariants.{None, Some}
 use Rattle.flow_tree.specs.Tree.{TypeTree, IntType, BoolType, StringType, VoidType, ErrorType, NamedType, FutureType, FutureStreamType, PromiseType, PromiseStreamType, ExprTree, ExprTrees, CallExpr}
-use Rattle.flow_tree.specs.Decls.{ParamTree, SlotTree, RecordTree, RoutineTree}
+use Rattle.flow_tree.specs.Decls.{ParamTree, RecordTree, RoutineTree}
 use Rattle.flow_ast.specs.declared.predefined.Predefined.{Predefined}
 use Rattle.flow_ast.specs.declared.predefined.Predefined.TheVariants as code
 use Rattle.flow_ast.specs.declared.predefined.Method.{Method}
 use Rattle.flow_ast.specs.declared.predefined.Method.TheVariants as method
 use Rattle.flow_ast.specs.Typing.{Signature, signature, is_effect, equality_type, is_there}
 use Rattle.flow_ast.specs.TypingNames.{named, call_names}
-use Rattle.flow_trace.specs.declared.line.Line.{Line}
 use Rattle.flow_value.specs.declared.value.Kind.{Kind}
 use Rattle.flow_value.specs.declared.value.Kind.TheVariants as kind
-use Rattle.flow_value.specs.Values.{ValueTree, IntValue, BoolValue, TextValue, VoidValue, ErrorValue, RecordValue, RefValue, OutcomeTree, GoodOutcome, BadOutcome, values_of_list}
-use Rattle.flow_eval.specs.Answers.{int_of, text_of, bool_of, error_of, arg}
-use Rattle.flow_eval.specs.Typed.{reference_type, future_side, HasType, HaveTypes}
+use Rattle.flow_value.specs.Values.{ValueTree, IntValue, BoolValue, TextValue, VoidValue, ErrorValue, RecordValue, RefValue, GoodOutcome, BadOutcome, values_of_list}
+use Rattle.flow_eval.specs.Answers.{int_of, text_of, error_of, arg}
+use Rattle.flow_eval.specs.Typed.{HasType, HaveTypes}
 use Rattle.flow_eval.proofs.TypedValues.{some_same, none_some, is_int_value, is_bool_value, is_text_value, is_error_value}
 use Rattle.flow_class.specs.Classes.{ClassTree, RawTree}
 use Rattle.flow_valid.specs.Validity.{operand_type}
 use Rattle.flow_meaning.specs.Lines.{print_line}
-use Rattle.flow_meaning.specs.Asks.{ReadCall, WriteCall, SyncCall, SizeCall, Effect, Make, Start, Draw, Delay, Never, Listen, Disk, Act, Sends, Cancels}
+use Rattle.flow_meaning.specs.Asks.{ReadCall, WriteCall, SyncCall, SizeCall, Effect, Start, Draw, Delay, Never, Listen, Disk, Act, Sends, Cancels}
 use Rattle.flow_meaning.specs.Evaluating.{Names, bind, Effectful, World, Actor, world_if, effectful_of, effectful, effect_in, world_effect, effect_of, sent, method_act}
-use Rattle.flow_meaning.specs.Class.{class_names}
-use Rattle.flow_unstuck.specs.Rules.{EffectGives, MessageFits, Printable}
-use Rattle.flow_unstuck.specs.Asking.{OutcomeFits, HaveSome, SentFits, CanPrint, Gives}
+use Rattle.flow_unstuck.specs.Rules.{EffectGives, MessageFits}
+use Rattle.flow_unstuck.specs.Asking.{SentFits, CanPrint, Gives}
 
 module _ (rs : List RecordTree) (typed : ℕ → TypeTree → Type 0) where
   abbrev Is : ValueTree → TypeTree → Type 0
@@ -196,15 +194,21 @@ module _ (r : RawTree) (typed : ℕ → TypeTree → Type 0) (vs : List ValueTre
   world_made code.ReadFile s w e h =
       let ts = StringType ∷ IntType ∷ IntType ∷ [] in
       signed_as ts (FutureType StringType) s (world_effect code.ReadFile vs) e h
-      (λ a. let x = text_arg r.records typed vs ts 0 a refl in let y = int_arg r.records typed vs ts 1 a refl in let z = int_arg r.records typed vs ts 2 a refl in
-      (Disk (ReadCall x.0 y.0 z.0), ap (λ o. bind o (λ file. bind (int_of (arg vs 1)) (λ offset. bind (int_of (arg vs 2)) (λ count. Some (Disk (ReadCall file offset count)))))) x.1
-      ∙ ap (λ o. bind o (λ offset. bind (int_of (arg vs 2)) (λ count. Some (Disk (ReadCall x.0 offset count))))) y.1 ∙ ap (λ o. bind o (λ count. Some (Disk (ReadCall x.0 y.0 count)))) z.1, refl))
+      (λ a. let x = text_arg r.records typed vs ts 0 a refl in let y = int_arg r.records typed vs ts 1 a refl in let z = int_arg r.records typed vs ts 2 a refl in (
+        Disk (ReadCall x.0 y.0 z.0),
+        ap (λ o. bind o (λ file. bind (int_of (arg vs 1)) (λ offset. bind (int_of (arg vs 2)) (λ count. Some (Disk (ReadCall file offset count)))))) x.1
+            ∙ ap (λ o. bind o (λ offset. bind (int_of (arg vs 2)) (λ count. Some (Disk (ReadCall x.0 offset count))))) y.1 ∙ ap (λ o. bind o (λ count. Some (Disk (ReadCall x.0 y.0 count)))) z.1,
+        refl,
+      ))
   world_made code.WriteFile s w e h =
       let ts = StringType ∷ IntType ∷ StringType ∷ [] in
       signed_as ts (FutureType VoidType) s (world_effect code.WriteFile vs) e h
-      (λ a. let x = text_arg r.records typed vs ts 0 a refl in let y = int_arg r.records typed vs ts 1 a refl in let z = text_arg r.records typed vs ts 2 a refl in
-      (Disk (WriteCall x.0 y.0 z.0), ap (λ o. bind o (λ file. bind (int_of (arg vs 1)) (λ offset. bind (text_of (arg vs 2)) (λ text. Some (Disk (WriteCall file offset text)))))) x.1
-      ∙ ap (λ o. bind o (λ offset. bind (text_of (arg vs 2)) (λ text. Some (Disk (WriteCall x.0 offset text))))) y.1 ∙ ap (λ o. bind o (λ text. Some (Disk (WriteCall x.0 y.0 text)))) z.1, refl))
+      (λ a. let x = text_arg r.records typed vs ts 0 a refl in let y = int_arg r.records typed vs ts 1 a refl in let z = text_arg r.records typed vs ts 2 a refl in (
+        Disk (WriteCall x.0 y.0 z.0),
+        ap (λ o. bind o (λ file. bind (int_of (arg vs 1)) (λ offset. bind (text_of (arg vs 2)) (λ text. Some (Disk (WriteCall file offset text)))))) x.1
+            ∙ ap (λ o. bind o (λ offset. bind (text_of (arg vs 2)) (λ text. Some (Disk (WriteCall x.0 offset text))))) y.1 ∙ ap (λ o. bind o (λ text. Some (Disk (WriteCall x.0 y.0 text)))) z.1,
+        refl,
+      ))
   world_made code.SyncFile s w e h =
       signed_as (StringType ∷ []) (FutureType VoidType) s (world_effect code.SyncFile vs) e h
       (λ a. let x = text_arg r.records typed vs (StringType ∷ []) 0 a refl in (Disk (SyncCall x.0), ap (λ o. bind o (λ file. Some (Disk (SyncCall file)))) x.1, refl))

@@ -1,35 +1,33 @@
 -- An actor in hand, in a process that fits but for it, goes on.
-use Rattle.std.proofs.Common.{◌≡◌, ℕ, zero, suc, ◌+◌, ◌<◌, nat_eq, Bool, true, false, List, [], ◌∷◌, ◌++◌, length, ◌⊎◌, inl, inr, if◌then◌else◌, refl, sym, ap, ◌∙◌, subst, arith}
-use Rattle.std.specs.Prelude.{codes, slice_get}
+use Rattle.std.proofs.Common.{◌≡◌, ℕ, suc, ◌+◌, Bool, true, false, List, [], ◌∷◌, ◌++◌, length, inl, inr, refl, sym, ap, ◌∙◌, subst, arith}
+use Rattle.std.specs.Prelude.{slice_get}
 use Rattle.std.specs.declared.option.Option.{Option}
 use Rattle.std.specs.declared.option.Option.TheVariants.{None, Some}
 use Rattle.flow_base.specs.ErrorNumbers.{operation_cancelled}
-use Rattle.flow_tree.specs.Tree.{TypeTree, FutureType, FutureStreamType, PromiseType, PromiseStreamType}
+use Rattle.flow_tree.specs.Tree.{TypeTree, FutureType, FutureStreamType}
 use Rattle.flow_value.specs.declared.value.Kind.{Kind}
 use Rattle.flow_value.specs.declared.value.Kind.TheVariants as kind
-use Rattle.flow_value.specs.Values.{ValueTree, RefValue, OutcomeTree, GoodOutcome, BadOutcome}
-use Rattle.flow_eval.specs.Typed.{reference_type, future_side, HasType}
-use Rattle.flow_class.specs.Classes.{ChooseLast, CallbackTree, ClassTree, RawTree}
-use Rattle.flow_class.specs.Code.{Last, callback_at, fetch}
+use Rattle.flow_value.specs.Values.{ValueTree, RefValue, OutcomeTree}
+use Rattle.flow_class.specs.Classes.{ChooseLast, ClassTree, RawTree}
+use Rattle.flow_class.specs.Code.{Last, callback_at}
 use Rattle.flow_meaning.specs.Effects.{result_task, push_result, gives}
 use Rattle.flow_valid.specs.Validity.{operand_type}
-use Rattle.flow_meaning.specs.Numbered.{Numbered, thing, added, put, removed}
-use Rattle.flow_meaning.specs.Cells.{Ref, Waiter, Cell, Single, Stream, is_ready, waiters, taken, after_taking}
-use Rattle.flow_meaning.specs.Asks.{Spot, Goal, Stored, Kept}
-use Rattle.flow_meaning.specs.Process.{Task, Run, Give, Throw, Catch, Store, Keep, Close, Fire, Drop, Entry, Halt, Core}
+use Rattle.flow_meaning.specs.Numbered.{Numbered, thing, put}
+use Rattle.flow_meaning.specs.Cells.{Ref, Cell, is_ready, taken, after_taking}
+use Rattle.flow_meaning.specs.Asks.{Goal, Stored, Kept}
+use Rattle.flow_meaning.specs.Process.{Task, Run, Give, Throw, Catch, Store, Keep, Close, Fire, Drop, Entry, Core}
 use Rattle.flow_meaning.specs.Lines.{take_line, cancel_line}
-use Rattle.flow_meaning.specs.Work.{turn, writes, pushed, running, dropping_values, leave_for, give, take_branch, is_ready_at, first_ready, marked, cancel_by, cancel}
-use Rattle.flow_meaning.specs.Orderly.{is_of, tasks_of, is_suspended, CellsWait, Rising, Orderly}
+use Rattle.flow_meaning.specs.Work.{writes, pushed, running, leave_for, give, take_branch, marked, cancel_by, cancel}
+use Rattle.flow_meaning.specs.Orderly.{tasks_of}
 use Rattle.flow_meaning.specs.Frame.{Frame}
-use Rattle.flow_meaning.proofs.Posture.{thing_put_other, thing_put, IsOf, own_task, other_task, Awake}
-use Rattle.flow_meaning.proofs.Shifts.{run_of, give_of, throw_of, store_of, keep_of, close_of}
+use Rattle.flow_meaning.proofs.Posture.{thing_put_other, thing_put, IsOf, other_task}
+use Rattle.flow_meaning.proofs.Shifts.{run_of, give_of, throw_of, store_of, keep_of}
 use Rattle.flow_unstuck.specs.Places.{class_vars}
-use Rattle.flow_unstuck.specs.Rules.{takes_type}
-use Rattle.flow_unstuck.specs.Asking.{Stores, NextOperand, HaveSome, OutcomeFits, Wanted}
-use Rattle.flow_unstuck.specs.Fitting.{CellTypes, typed_by, Fits, Exists, CellFits, CellAt, OperandsFit, Standing, Waiting, ResultFits, GivenFits, DoingFits, PostureFits, ActorFits, ActorAt, TasksFit, ProcessFits}
+use Rattle.flow_unstuck.specs.Asking.{NextOperand, HaveSome, OutcomeFits, Wanted}
+use Rattle.flow_unstuck.specs.Fitting.{CellTypes, typed_by, Fits, CellFits, CellAt, OperandsFit, Standing, Waiting, GivenFits, DoingFits, PostureFits, ActorFits, ActorAt, ProcessFits}
 use Rattle.flow_unstuck.proofs.Given.{operand_ref}
-use Rattle.flow_unstuck.proofs.States.{FitsSome, Fine, fine_of, fine_turn, FitsBut, put_back, all_but, own_fits, push_fits, actor_at, actor_of, operands_exist, dropping_fits}
-use Rattle.flow_unstuck.proofs.CellStates.{cell_there, type_there, IsOfType, taken_fits, taking_state, leave_state}
+use Rattle.flow_unstuck.proofs.States.{Fine, fine_of, fine_turn, FitsBut, put_back, all_but, push_fits, actor_at, actor_of, operands_exist}
+use Rattle.flow_unstuck.proofs.CellStates.{type_there, IsOfType, taken_fits, taking_state, leave_state}
 
 -- an unfinished actor, but for what is to be done for it
 pub record Owner (r : RawTree) (types : CellTypes) (e : Entry) (c : ClassTree) : Type 0 where
@@ -75,7 +73,8 @@ module _ (r : RawTree) (types : CellTypes) where
         ports = h.rest.ports;
         main = h.rest.main;
         requests = h.rest.requests;
-        numbered = h.rest.numbered; framed = h.rest.framed;
+        numbered = h.rest.numbered;
+        framed = h.rest.framed;
       }) own (actor_at r types e g (thing k.entries i) (thing xs i) (t ∷ tasks_of i m.tasks) h.entry h.frame (doing_actor e g c (t ∷ tasks_of i m.tasks) h.owner h.awake (d (tasks_of i m.tasks))))
 
   -- operands
@@ -108,9 +107,11 @@ module _ (r : RawTree) (types : CellTypes) where
   gives_state i (Kept spot) v t k xs e g c h code s ops none w f =
       let q = operand_ref r.records (typed_by types) w.callback.next v w.takes (subst (Fits r types v) w.type f) in
       let f2 = subst (λ z. Fits r types z t) q.1 f in
-      let zero_plus : 0 + length e.operands ≡ length e.operands = omega arith in
-      (Keep i spot q.0, ap (result_task i (Kept spot)) q.1,
-        goes_by_two i (Keep i spot q.0) k xs e g c h (keep_of i spot q.0) (λ ts. (code, s, operands_more g 0 e.operands q.0 t ops (subst (λ m. NextOperand g m t) (sym zero_plus) w) f2)))
+      let zero_plus : 0 + length e.operands ≡ length e.operands = omega arith in (
+        Keep i spot q.0,
+        ap (result_task i (Kept spot)) q.1,
+        goes_by_two i (Keep i spot q.0) k xs e g c h (keep_of i spot q.0) (λ ts. (code, s, operands_more g 0 e.operands q.0 t ops (subst (λ m. NextOperand g m t) (sym zero_plus) w) f2)),
+      )
 
   pub gives_task : (i : ℕ) (goal : Goal) (v : ValueTree) (t : TypeTree) (k : Core) (xs : Numbered Frame) (e : Entry) (g : Frame) (c : ClassTree) → HandFits r types i k xs e g c → k.halted ≡ None → g.code ≡ c → Standing r types g
       → OperandsFit r types g 0 e.operands → (goal ≡ Stored → e.operands ≡ []) → Wanted r (class_vars g.code) (typed_by types) goal g (length e.operands) t → Fits r types v t
@@ -138,7 +139,8 @@ module _ (r : RawTree) (types : CellTypes) where
         ports = h.ports;
         main = h.main;
         requests = h.requests;
-        numbered = h.numbered; framed = h.framed;
+        numbered = h.numbered;
+        framed = h.framed;
       }) (actor_at r types (marked e) f (thing (put c.entries i (marked e)) i) (thing xs i) (tasks_of i c.tasks) (thing_put c.entries i e (marked e) at) fr
       (record { class = a.class; is = a.is; result = a.result; owns = a.owns; gives = a.gives; posture = marked_posture e.suspended a.class (tasks_of i c.tasks) a.posture }))
     where
@@ -203,6 +205,8 @@ module _ (r : RawTree) (types : CellTypes) where
           let p = taking_state r types n cell t i c xs at has cell_fits rest in
           let q : FitsBut r types i d xs = record { cells = p.cells; waiting = p.waiting; actors = p.actors; work = p.work; ports = p.ports; main = p.main; requests = p.requests; numbered = p.numbered; framed = p.framed } in
           subst (λ o. Fine r (give i b en vs o d).halted (give i b en vs o d) xs) (sym got.1)
-          (fine_of r c.halted (leave_for i en vs (Give i b got.0) d) xs go
-          (types, leave_state r types i en e0 vs (Give i b got.0) d xs f q entry fr (give_of i b got.0) (operands_exist r types f 0 en.operands ops) some
-          (λ ts. doing_actor (running en) f cls (Give i b got.0 ∷ ts) owner refl (code, given, refl))))
+          (fine_of r c.halted (leave_for i en vs (Give i b got.0) d) xs go (
+            types,
+            leave_state r types i en e0 vs (Give i b got.0) d xs f q entry fr (give_of i b got.0) (operands_exist r types f 0 en.operands ops) some
+                (λ ts. doing_actor (running en) f cls (Give i b got.0 ∷ ts) owner refl (code, given, refl)),
+          ))

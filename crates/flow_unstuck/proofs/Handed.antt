@@ -1,33 +1,32 @@
 -- A frame that is handed what it asked for stands where it goes on.
-use Rattle.std.proofs.Common.{◌≡◌, ℕ, zero, suc, ◌<◌, ◌≤◌, nat_eq, nat_lt, Bool, true, false, not, ◌&&◌, ◌||◌, List, [], ◌∷◌, ◌++◌, length, map, drop, ◌⊎◌, inl, inr, if◌then◌else◌, refl, sym, ap, ◌∙◌, subst, arith}
+use Rattle.std.proofs.Common.{◌≡◌, ℕ, zero, suc, ◌<◌, ◌≤◌, nat_eq, nat_lt, Bool, true, false, ◌||◌, List, [], ◌∷◌, ◌++◌, length, map, drop, refl, sym, ap, ◌∙◌, subst, arith}
 use Rattle.std.specs.Prelude.{slice_get}
 use Rattle.std.specs.Option.{option_map}
 use Rattle.std.specs.declared.option.Option.{Option}
 use Rattle.std.specs.declared.option.Option.TheVariants.{None, Some}
-use Rattle.flow_tree.specs.declared.ty.Ident.{Ident}
-use Rattle.flow_tree.specs.Tree.{TypeTree, VoidType, ErrorType}
-use Rattle.flow_tree.specs.Decls.{ParamTree, SlotTree, RecordTree, RoutineTree}
+use Rattle.flow_tree.specs.Tree.{TypeTree, ErrorType}
+use Rattle.flow_tree.specs.Decls.{ParamTree, SlotTree, RoutineTree}
 use Rattle.flow_value.specs.Values.{ValueTree, ErrorValue, values_of_list}
 use Rattle.flow_eval.specs.Typed.{HasType, HaveTypes}
 use Rattle.flow_eval.proofs.TypedValues.{some_same, none_some}
 use Rattle.flow_class.specs.declared.class.Slotted.{Slotted}
 use Rattle.flow_class.specs.declared.class.Slotted.TheVariants.{Slot, Local}
-use Rattle.flow_class.specs.Classes.{CatcherTree, InstrTree, SetInstr, EffectInstr, NewInstr, ActInstr, DropInstr, LastTree, ChooseLast, CallbackTree, ClassTree, RawTree}
+use Rattle.flow_class.specs.Classes.{CatcherTree, SetInstr, EffectInstr, NewInstr, ActInstr, DropInstr, ChooseLast, CallbackTree, ClassTree, RawTree}
 use Rattle.flow_class.specs.Code.{type_at, Fetched, Body, Last, Nothing, fetch, catcher_at, callback_at}
 use Rattle.flow_valid.specs.Named.{listed, base_place, expr_places}
-use Rattle.flow_valid.specs.Filling.{same_place, among, is_local, reads, instr_fills, dropped, is_error, is_parameter, Comes, begins, is_taken, ReadsFilled}
-use Rattle.flow_meaning.specs.Variables.{flat, filled}
-use Rattle.flow_meaning.specs.Frame.{Memory, Frame, read, write, held_in, emptied, blanks, everything, put_at, assign, go, next_instr, over, lose, with_error, raised, raise, all_emptied}
+use Rattle.flow_valid.specs.Filling.{same_place, among, reads, dropped, is_error, is_parameter, Comes, begins}
+use Rattle.flow_meaning.specs.Variables.{flat}
+use Rattle.flow_meaning.specs.Frame.{Memory, Frame, read, write, held_in, emptied, blanks, go, lose, with_error}
 use Rattle.flow_meaning.specs.Class.{stored, store_at, bound, onward, take_callback, take_at, begun, class_names}
-use Rattle.flow_unstuck.specs.Places.{AreNamed, Filled, HoldsTypes}
+use Rattle.flow_unstuck.specs.Places.{Filled, HoldsTypes}
 use Rattle.flow_unstuck.specs.Standing.{Reached, FullAt, Stands, StandsWaiting}
 use Rattle.flow_unstuck.specs.Rules.{first_types, takes_type, BranchFits, KeepsRules}
 use Rattle.flow_unstuck.specs.Asking.{Stores, HaveSome}
-use Rattle.flow_unstuck.proofs.Evaluates.{among_left, same_self}
+use Rattle.flow_unstuck.proofs.Evaluates.{among_left}
 use Rattle.flow_unstuck.proofs.Memories.{place_eq, blank_at, write_other, write_same, within_of, write_holds, emptied_holds, emptied_other, lost_holds}
 use Rattle.flow_unstuck.proofs.Stood.{read_filled, reached_taken, full_taken, reached_failed, full_failed, full_wait_failed}
-use Rattle.flow_unstuck.proofs.Assigned.{Assigned, assigns, written_next, read_some}
-use Rattle.flow_unstuck.proofs.Asks.{dropped_some, everything_some, locals_some}
+use Rattle.flow_unstuck.proofs.Assigned.{assigns, written_next, read_some}
+use Rattle.flow_unstuck.proofs.Asks.{dropped_some, locals_some}
 
 module _ (r : RawTree) (actors : List RoutineTree) (vars : List ParamTree) (typed : ℕ → TypeTree → Type 0) where
   -- what was handed out has types, and the frame stands
@@ -46,9 +45,9 @@ module _ (r : RawTree) (actors : List RoutineTree) (vars : List ParamTree) (type
     pub store_fits : (u : ValueTree) (t : TypeTree) (o : Fetched) → Stands r.records typed f → fetch f.code f.block f.instr ≡ o → Stores r f.code vars o t → HasType r.records typed u t → Onward f.code (store_at (class_names r) u f o)
     store_fits u t (Body (EffectInstr path e)) s here at k =
         let full = λ (q : Slotted) (h : among (base_place path) q ≡ true).
-            let h2 : among (reads f.code (fetch f.code f.block f.instr)) q ≡ true = subst (λ o. among (reads f.code o) q ≡ true) (sym here) (among_left (base_place path) (expr_places e) q h) in
-            let z = rules.known f.block f.instr q h2 in
-            read_filled f.code f.mem f.block f.instr rules.filled s.full q z.0 z.1 h2 in
+        let h2 : among (reads f.code (fetch f.code f.block f.instr)) q ≡ true = subst (λ o. among (reads f.code o) q ≡ true) (sym here) (among_left (base_place path) (expr_places e) q h) in
+        let z = rules.known f.block f.instr q h2 in
+        read_filled f.code f.mem f.block f.instr rules.filled s.full q z.0 z.1 h2 in
         let a = assigns r.records typed f.code vars rules.places f.mem s.holds path t u at k full in
         subst (λ o. Onward f.code (stored f o)) (sym a.is)
         (written_next r.records typed f (EffectInstr path e) a.place a.type a.value s here a.at a.fits a.fills, a.dropped, refl)

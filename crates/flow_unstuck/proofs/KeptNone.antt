@@ -8,11 +8,11 @@ use Rattle.flow_eval.specs.Eval.{Res, Done, Fails, Spent, Meaningless}
 use Rattle.flow_class.specs.Classes.{ChooseLast, CallbackTree, RawTree}
 use Rattle.flow_class.specs.Code.{Last, fetch, callback_at}
 use Rattle.flow_meaning.specs.Cells.{Ref}
-use Rattle.flow_meaning.specs.Asks.{Ask, Act, Effects, Operand, Waits, Throws, RunsOut, Stuck, Spot, Goal, Stored, Kept}
+use Rattle.flow_meaning.specs.Asks.{Ask, Act, Effects, Operand, Waits, Throws, RunsOut, Stuck, Spot, Kept}
 use Rattle.flow_meaning.specs.Process.{View}
 use Rattle.flow_meaning.specs.Evaluating.{Names, StepOf, asks, given, evaluated, Effectful, effect_in, effect_of, value, values}
 use Rattle.flow_meaning.specs.Frame.{Frame, look, spot_of}
-use Rattle.flow_meaning.specs.Class.{effects, operand_ref, operand_by, choose, fetched, next_step}
+use Rattle.flow_meaning.specs.Class.{operand_ref, operand_by, choose, fetched, next_step}
 use Rattle.flow_tree.specs.Tree.{TypeTree}
 use Rattle.flow_unstuck.specs.Rules.{takes_type}
 use Rattle.flow_unstuck.specs.Asking.{NextOperand}

@@ -1,5 +1,5 @@
 -- Memories after writes, by place.
-use Rattle.std.proofs.Common.{◌≡◌, ℕ, zero, suc, ◌<◌, nat_eq, Bool, true, false, not, ◌&&◌, ◌||◌, List, [], ◌∷◌, length, refl, sym, ap, ◌∙◌, subst, arith}
+use Rattle.std.proofs.Common.{◌≡◌, ℕ, zero, suc, ◌<◌, nat_eq, Bool, true, false, ◌||◌, List, [], ◌∷◌, length, refl, sym, ap, ◌∙◌, subst, arith}
 use Rattle.std.specs.Prelude.{slice_get, slice_set}
 use Rattle.std.specs.List.{list_any}
 use Rattle.std.specs.Option.{option_map}
@@ -17,7 +17,7 @@ use Rattle.flow_class.specs.Code.{type_at}
 use Rattle.flow_valid.specs.Filling.{same_place, dropped}
 use Rattle.flow_meaning.specs.Variables.{flat}
 use Rattle.flow_meaning.specs.Frame.{Memory, read, write, emptied, blanks, all_emptied}
-use Rattle.flow_unstuck.specs.Places.{Filled, HoldsTypes}
+use Rattle.flow_unstuck.specs.Places.{HoldsTypes}
 
 -- lists by number
 set_same : (os : List (Option ValueTree)) (n : ℕ) (o : Option ValueTree) → n < length os → flat (slice_get (slice_set os n o) n) ≡ o

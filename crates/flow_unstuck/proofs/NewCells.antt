@@ -1,20 +1,19 @@
 -- A process that fits gets a new cell.
-use Rattle.std.proofs.Common.{◌≡◌, ℕ, zero, suc, ◌<◌, nat_eq, Bool, true, false, List, [], ◌∷◌, ◌++◌, if◌then◌else◌, refl, sym, ap, ◌∙◌, subst, arith}
+use Rattle.std.proofs.Common.{◌≡◌, ℕ, suc, nat_eq, List, [], ◌∷◌, if◌then◌else◌, refl, sym, ap, ◌∙◌, subst, arith}
 use Rattle.std.specs.declared.option.Option.{Option}
 use Rattle.std.specs.declared.option.Option.TheVariants.{None, Some}
 use Rattle.flow_tree.specs.Tree.{TypeTree}
-use Rattle.flow_value.specs.Values.{ValueTree}
 use Rattle.flow_class.specs.Classes.{RawTree}
 use Rattle.flow_meaning.specs.Numbered.{Numbered, thing, added}
 use Rattle.flow_meaning.specs.Cells.{Waiter, Cell, waiters}
 use Rattle.flow_meaning.specs.Process.{Task, Entry, Core}
 use Rattle.flow_meaning.specs.Work.{new_cell}
-use Rattle.flow_meaning.specs.Orderly.{tasks_of, Rising}
+use Rattle.flow_meaning.specs.Orderly.{tasks_of}
 use Rattle.flow_meaning.specs.Frame.{Frame}
 use Rattle.flow_meaning.proofs.Posture.{same_number, other_number, each_number, thing_added}
 use Rattle.flow_meaning.proofs.Order.{rising_added}
 use Rattle.flow_meaning.proofs.TaskShifts.{beyond_none, thing_new}
-use Rattle.flow_unstuck.specs.Fitting.{CellTypes, typed_by, Exists, CellFits, CellAt, WaitsFor, AllWaitFor, WaitersAt, ActorFits, ActorAt, TasksFit, AllExist, ProcessFits}
+use Rattle.flow_unstuck.specs.Fitting.{CellTypes, CellFits, CellAt, AllWaitFor, WaitersAt, ActorAt}
 use Rattle.flow_unstuck.proofs.Retyped.{cell_retyped, actor_retyped, tasks_retyped, all_exist_retyped, sees_any, cell_any, operands_any, task_any, tasks_any, seen_any, FirstSees}
 use Rattle.flow_unstuck.proofs.States.{FitsBut}
 
@@ -98,7 +97,8 @@ module _ (r : RawTree) (types : CellTypes) (t : TypeTree) (c : Core) (xs : Numbe
     ports = λ q k e. kept_types k _ tt (p.ports q k e);
     main = λ k e. let x = p.main k e in (x.0, kept_types k x.0 tt x.1);
     requests = all_exist_retyped r types more Any kept_types c.requests (seen_any Any any c.requests) p.requests;
-    numbered = rising_added c.cells 0 c.made cell (omega arith) p.numbered; framed = p.framed;
+    numbered = rising_added c.cells 0 c.made cell (omega arith) p.numbered;
+    framed = p.framed;
   }
     where
       new_waiters : (o : Option TypeTree) → WaitersAt r more xs o (Some cell)

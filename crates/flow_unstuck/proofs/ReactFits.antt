@@ -1,41 +1,36 @@
 -- What a process does for an ask that fits keeps it fitting, and has a meaning.
-use Rattle.std.proofs.Common.{◌≡◌, ℕ, zero, suc, ◌+◌, ◌<◌, nat_eq, Bool, true, false, List, [], ◌∷◌, ◌++◌, length, ◌⊎◌, inl, inr, if◌then◌else◌, refl, sym, ap, ◌∙◌, subst, arith}
-use Rattle.std.specs.Prelude.{codes, slice_get, ℤ, pos, ◌-ℤ◌, ◌^◌, int_le, nat_le, nat_lt, ◌&&◌}
+use Rattle.std.proofs.Common.{◌≡◌, ℕ, suc, ◌+◌, nat_eq, Bool, true, false, List, [], ◌∷◌, ◌++◌, length, ◌⊎◌, inl, inr, if◌then◌else◌, refl, sym, subst}
+use Rattle.std.specs.Prelude.{codes, ◌-ℤ◌, ◌^◌, nat_le}
 use Rattle.std.specs.declared.option.Option.{Option}
 use Rattle.std.specs.declared.option.Option.TheVariants.{None, Some}
-use Rattle.flow_base.specs.ErrorNumbers.{second_waiter, already_set, port_in_use, bad_argument, out_of_range}
-use Rattle.flow_tree.specs.Tree.{TypeTree, IntType, VoidType, NamedType, FutureType, FutureStreamType}
+use Rattle.flow_base.specs.ErrorNumbers.{already_set, port_in_use, bad_argument, out_of_range}
+use Rattle.flow_tree.specs.Tree.{TypeTree, VoidType, NamedType, FutureType, FutureStreamType}
 use Rattle.flow_value.specs.declared.value.Kind.{Kind}
 use Rattle.flow_value.specs.declared.value.Kind.TheVariants as kind
-use Rattle.flow_value.specs.Values.{ValueTree, IntValue, RefValue, OutcomeTree, GoodOutcome}
+use Rattle.flow_value.specs.Values.{ValueTree, IntValue, RefValue, OutcomeTree}
 use Rattle.flow_draw.specs.Words.{scaled}
 use Rattle.flow_eval.specs.Predefined.{natural}
 use Rattle.flow_eval.specs.Typed.{reference_type, future_side}
 use Rattle.flow_trace.specs.declared.line.Line.{Line}
-use Rattle.flow_class.specs.Classes.{ChooseLast, ClassTree, RawTree}
-use Rattle.flow_class.specs.Code.{Last, callback_at, fetch}
-use Rattle.flow_valid.specs.Validity.{operand_type}
-use Rattle.flow_meaning.specs.Numbered.{Numbered, thing, added, put}
-use Rattle.flow_meaning.specs.Cells.{Ref, Waiter, Cell, Single, Stream, is_complete, is_ready, is_busy, waiters, with_waiter}
-use Rattle.flow_meaning.specs.Asks.{Spot, Act, Goes, Pass, Drops, Effects, Operand, Waits, Sends, Cancels, Prints, SendsTo, Returns, Throws, RunsOut, Stuck, DiskCall, Effect, Make, Start, Draw, Delay, Never, Listen, Disk, Goal, Stored, Kept, Supply}
-use Rattle.flow_meaning.specs.Process.{Task, Run, Throw, Close, Entry, Core}
-use Rattle.flow_meaning.specs.Lines.{wait_line, print_line, cancel_line}
-use Rattle.flow_meaning.specs.Work.{turn, writes, pushed, running, dropping_values, new_cell, fill, leave_for, take_branch, is_ready_at, first_ready, Registration, Registered, Refused, Missing, register_at, register_one, register, owner, cancel_by, cancel, cancel_owner}
-use Rattle.flow_meaning.specs.Effects.{Reaction, throws, gives, gives_new, gives_open, empty_cell, between, is_port, open_port, judged, ask_disk, effect, send_to}
-use Rattle.flow_meaning.specs.React.{send_by, send_in, print, at_spot, suspend, wait_by, wait, react}
-use Rattle.flow_meaning.specs.Orderly.{tasks_of, is_suspended, Rising}
+use Rattle.flow_class.specs.Classes.{ClassTree, RawTree}
+use Rattle.flow_meaning.specs.Numbered.{Numbered, thing, added}
+use Rattle.flow_meaning.specs.Cells.{Cell, Single, Stream, is_complete, waiters}
+use Rattle.flow_meaning.specs.Asks.{DiskCall, Effect, Make, Start, Draw, Delay, Never, Listen, Disk, Goal, Stored, Kept, Supply}
+use Rattle.flow_meaning.specs.Process.{Run, Throw, Entry, Core}
+use Rattle.flow_meaning.specs.Lines.{cancel_line}
+use Rattle.flow_meaning.specs.Work.{writes, pushed, new_cell, fill, cancel_by, cancel, cancel_owner}
+use Rattle.flow_meaning.specs.Effects.{Reaction, throws, gives, gives_new, gives_open, empty_cell, between, is_port, open_port, judged, ask_disk, effect}
+use Rattle.flow_meaning.specs.React.{send_by, send_in, print}
 use Rattle.flow_meaning.specs.Frame.{Frame}
-use Rattle.flow_meaning.proofs.Posture.{thing_put_other, thing_put}
-use Rattle.flow_meaning.proofs.Order.{rising_put}
-use Rattle.flow_meaning.proofs.Shifts.{run_of, throw_of, keep_of, close_of, Owned}
+use Rattle.flow_meaning.proofs.Shifts.{run_of, throw_of, Owned}
 use Rattle.flow_unstuck.specs.Places.{class_vars}
-use Rattle.flow_unstuck.specs.Asking.{NextOperand, HaveSome, OutcomeFits, SentFits, CanPrint, Wanted, Gives, reply_type}
-use Rattle.flow_unstuck.specs.Fitting.{CellTypes, typed_by, Fits, Exists, CellFits, CellAt, AllWaitFor, WaitersAt, OperandsFit, Standing, Waiting, DoingFits, PostureFits, ActorFits, ActorAt, AllExist, ProcessFits}
+use Rattle.flow_unstuck.specs.Asking.{OutcomeFits, SentFits, Wanted, Gives, reply_type}
+use Rattle.flow_unstuck.specs.Fitting.{CellTypes, typed_by, Exists, CellFits, OperandsFit, Standing, AllExist, ProcessFits}
 use Rattle.flow_unstuck.proofs.Retyped.{standing_retyped, operands_retyped, sees_any, operands_any}
-use Rattle.flow_unstuck.proofs.States.{FitsSome, Fine, fine_of, fine_turn, FitsBut, put_back, actor_at, operands_exist, dropping_fits}
-use Rattle.flow_unstuck.proofs.CellStates.{cell_there, type_there, IsOfType, put_cells, put_waiters, fill_fits, leave_state}
-use Rattle.flow_unstuck.proofs.NewCells.{with_type, Any, new_type, more, kept_types, new_but}
-use Rattle.flow_unstuck.proofs.HandFits.{Owner, HandFits, doing_actor, goes_by, goes_by_two, gives_task, operands_more, operand_cell, cancel_state, branch_fits}
+use Rattle.flow_unstuck.proofs.States.{Fine, fine_of, fine_turn, FitsBut}
+use Rattle.flow_unstuck.proofs.CellStates.{cell_there, IsOfType, fill_fits}
+use Rattle.flow_unstuck.proofs.NewCells.{with_type, Any, new_type, kept_types, new_but}
+use Rattle.flow_unstuck.proofs.HandFits.{Owner, HandFits, goes_by, gives_task, cancel_state}
 
 -- what is found after one thing more was there, or is new
 added_either : {A : Type 0} (ps : Numbered A) (port : ℕ) (new : A) (p : ℕ) (n : A) → thing (added ps port new) p ≡ Some n → (thing ps p ≡ Some n) ⊎ (n ≡ new)
@@ -135,7 +130,8 @@ module _ (r : RawTree) (i : ℕ) (xs : Numbered Frame) (e : Entry) (g : Frame) (
           ports = m.rest.ports;
           main = m.rest.main;
           requests = exist_more ts k.requests (suc k.made) m.rest.requests (FutureType u, new_type types (suc k.made) (FutureType u));
-          numbered = m.rest.numbered; framed = m.rest.framed;
+          numbered = m.rest.numbered;
+          framed = m.rest.framed;
         };
       })
 
@@ -166,7 +162,8 @@ module _ (r : RawTree) (i : ℕ) (xs : Numbered Frame) (e : Entry) (g : Frame) (
           ports = λ p n z. by_port ts n (added_either k.ports port (suc k.made) p n z) (m.rest.ports p n) (new_type types (suc k.made) (FutureStreamType Packets));
           main = m.rest.main;
           requests = m.rest.requests;
-          numbered = m.rest.numbered; framed = m.rest.framed;
+          numbered = m.rest.numbered;
+          framed = m.rest.framed;
         };
       })
 

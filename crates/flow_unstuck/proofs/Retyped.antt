@@ -1,19 +1,18 @@
 -- What fits fits with other types of cells, where those that it refers to keep theirs.
-use Rattle.std.proofs.Common.{◌≡◌, ℕ, suc, Bool, true, false, List, [], ◌∷◌, ◌++◌, ◌⊎◌, inl, inr, refl, subst}
+use Rattle.std.proofs.Common.{◌≡◌, ℕ, suc, Bool, true, false, List, [], ◌∷◌, ◌++◌, ◌⊎◌, inl, inr}
 use Rattle.std.specs.declared.option.Option.{Option}
 use Rattle.std.specs.declared.option.Option.TheVariants.{None, Some}
-use Rattle.flow_tree.specs.Tree.{TypeTree, FutureType, FutureStreamType}
+use Rattle.flow_tree.specs.Tree.{TypeTree, FutureType}
 use Rattle.flow_value.specs.Values.{ValueTree, ValueTrees, NoValues, MoreValues, IntValue, BoolValue, TextValue, VoidValue, ErrorValue, RecordValue, RefValue, OutcomeTree, GoodOutcome, BadOutcome}
-use Rattle.flow_eval.specs.Typed.{future_side, HasType, HaveTypes}
+use Rattle.flow_eval.specs.Typed.{future_side, HaveTypes}
 use Rattle.flow_class.specs.declared.class.Slotted.{Slotted}
 use Rattle.flow_class.specs.Classes.{ClassTree, RawTree}
 use Rattle.flow_meaning.specs.Cells.{Ref, Cell, Single, Stream}
 use Rattle.flow_meaning.specs.Process.{Task, Run, Give, Throw, Catch, Store, Keep, Close, Fire, Drop, Entry}
 use Rattle.flow_meaning.specs.Frame.{Memory, Frame, read}
 use Rattle.flow_unstuck.specs.Places.{HoldsTypes}
-use Rattle.flow_unstuck.specs.Standing.{Stands, StandsWaiting}
 use Rattle.flow_unstuck.specs.Asking.{OutcomeFits}
-use Rattle.flow_unstuck.specs.Fitting.{CellTypes, typed_by, Fits, Exists, ContentFits, QueueFits, CellFits, OperandsFit, Standing, Waiting, ResultFits, GivenFits, DoingFits, PostureFits, ActorFits, TasksFit, AllExist}
+use Rattle.flow_unstuck.specs.Fitting.{CellTypes, typed_by, Fits, Exists, ContentFits, QueueFits, CellFits, OperandsFit, Standing, Waiting, GivenFits, DoingFits, PostureFits, ActorFits, TasksFit, AllExist}
 
 -- the cells to which things refer
 module _ (P : ℕ → Type 0) where

@@ -1,42 +1,41 @@
 -- An actor's step keeps a process fitting, and has a meaning.
-use Rattle.std.proofs.Common.{◌≡◌, ℕ, zero, suc, ◌+◌, ◌<◌, ◌≤◌, nat_eq, Bool, true, false, List, [], ◌∷◌, ◌++◌, length, ◌⊎◌, inl, inr, if◌then◌else◌, refl, sym, ap, ◌∙◌, subst, arith}
+use Rattle.std.proofs.Common.{◌≡◌, ℕ, suc, nat_eq, true, List, [], ◌∷◌, length, if◌then◌else◌, refl, sym, ap, ◌∙◌, subst, arith}
 use Rattle.std.specs.Prelude.{slice_get}
 use Rattle.std.specs.declared.option.Option.{Option}
 use Rattle.std.specs.declared.option.Option.TheVariants.{None, Some}
 use Rattle.flow_tree.specs.Tree.{TypeTree, FutureType}
 use Rattle.flow_tree.specs.Decls.{RoutineTree}
 use Rattle.flow_value.specs.declared.value.Kind.TheVariants as kind
-use Rattle.flow_value.specs.Values.{ValueTree, RefValue, OutcomeTree, GoodOutcome, values_of_list}
+use Rattle.flow_value.specs.Values.{ValueTree, RefValue, GoodOutcome, values_of_list}
 use Rattle.flow_eval.specs.Typed.{HaveTypes}
 use Rattle.flow_class.specs.Classes.{ClassTree, RawTree}
 use Rattle.flow_meaning.specs.Numbered.{Numbered, thing, added, put}
 use Rattle.flow_meaning.specs.Cells.{Single}
-use Rattle.flow_meaning.specs.Asks.{Act, Goes, Pass, Drops, Effects, Operand, Waits, Sends, Cancels, Prints, SendsTo, Returns, Throws, RunsOut, Stuck, Effect, Start, Goal, Stored, Kept, Ask, Supply}
+use Rattle.flow_meaning.specs.Asks.{Act, Effects, Returns, Effect, Start, Goal, Stored, Kept, Ask, Supply}
 use Rattle.flow_meaning.specs.Process.{Task, Run, Close, Entry, Core}
 use Rattle.flow_meaning.specs.Lines.{start_line}
-use Rattle.flow_meaning.specs.Work.{turn, writes, pushed, dropping_values, new_cell}
+use Rattle.flow_meaning.specs.Work.{writes, pushed, dropping_values, new_cell}
 use Rattle.flow_meaning.specs.Effects.{result_task, push_result}
-use Rattle.flow_meaning.specs.React.{react}
-use Rattle.flow_meaning.specs.Step.{Stepped, proc, kept_by, view, entry_of, enrol, start, start_core, answer_effect, answer, run_next, run}
+use Rattle.flow_meaning.specs.Step.{proc, kept_by, view, enrol, start, answer_effect, answer, run_next, run}
 use Rattle.flow_meaning.specs.Orderly.{tasks_of, Rising, Orderly}
 use Rattle.flow_meaning.specs.Frame.{Frame}
 use Rattle.flow_meaning.specs.Class.{begun, fresh_from, next_step, classes, class_names}
 use Rattle.flow_meaning.proofs.Posture.{thing_put, own_task}
 use Rattle.flow_meaning.proofs.Shifts.{run_of, close_of}
 use Rattle.flow_unstuck.specs.Places.{class_vars}
-use Rattle.flow_unstuck.specs.Rules.{first_types}
+use Rattle.flow_unstuck.specs.Rules.{first_types, ClassRules}
 use Rattle.flow_unstuck.specs.Asking.{HaveSome, OutcomeFits, Gives, Wanted, ActFits, StaysIn, AsksFit}
-use Rattle.flow_unstuck.specs.Fitting.{CellTypes, typed_by, OperandsFit, Standing, DoingFits, ActorFits, ActorAt, ProcessFits}
+use Rattle.flow_unstuck.specs.Fitting.{CellTypes, typed_by, OperandsFit, Standing, ActorFits, ProcessFits}
 use Rattle.flow_unstuck.proofs.Asks.{next_fits}
 use Rattle.flow_unstuck.proofs.Handed.{args_many, begun_fits}
 use Rattle.flow_unstuck.proofs.Retyped.{all_retyped, all_sees_any}
 use Rattle.flow_unstuck.proofs.States.{Fine, fine_of, fine_turn, FitsBut, put_back, all_but, frame_but, actor_at, dropping_fits}
 use Rattle.flow_unstuck.proofs.NewCells.{with_type, Any, new_type, kept_types}
 use Rattle.flow_unstuck.proofs.KeptNone.{OfWait, AsksOfWaitAt, none_kept, still_kept}
-use Rattle.flow_unstuck.proofs.HandFits.{Owner, HandFits, doing_actor, goes_by, gives_state}
+use Rattle.flow_unstuck.proofs.HandFits.{HandFits, doing_actor, goes_by, gives_state}
 use Rattle.flow_unstuck.proofs.ReactFits.{hand_more, stands_more, keeps_more, wants_more}
 use Rattle.flow_unstuck.proofs.WaitFits.{react_fits}
-use Rattle.flow_unstuck.proofs.StepFits.{ClassRules, Actor, actor_here, cells_seen, After, frame_rules, add_actor}
+use Rattle.flow_unstuck.proofs.StepFits.{Actor, actor_here, cells_seen, After, frame_rules, add_actor}
 
 module _ (r : RawTree) (actors : List RoutineTree) (rules : ClassRules r actors) (s : Supply) where
   -- the call of an actor
@@ -64,7 +63,7 @@ module _ (r : RawTree) (actors : List RoutineTree) (rules : ClassRules r actors)
         let k3 = new_cell (Single None []) k2 in
         let h3 = hand_more r i xs e g c code types k2 h2 st o future (Single None []) (d.returns, refl, tt) refl in
         let x = gives_state r ts i goal (RefValue kind.Future (suc k.made)) t k3 xs e g c h3 code (stands_more r i xs e g c code types k2 h2 st o future) (keeps_more r i xs e g c code types k2 h2 st o future) none
-            (wants_more r i xs e g c code types ts goal t w) (d.returns, q, new_type types (suc k.made) future) in
+        (wants_more r i xs e g c code types ts goal t w) (d.returns, q, new_type types (suc k.made) future) in
         let k4 = writes (start_line (suc k.started) name) (pushed x.0 (pushed (Run i) k3)) in
         let p4 : ProcessFits r ts k4 xs = record {
           cells = x.2.cells;
@@ -122,10 +121,12 @@ module _ (r : RawTree) (actors : List RoutineTree) (rules : ClassRules r actors)
   acts_after : (types : CellTypes) (f g : Frame) (c : ClassTree) (kept n : ℕ) (act : Act) → f.code ≡ c → kept ≡ n → StaysIn r (class_vars f.code) (typed_by types) f.code act g → ActFits r (class_vars f.code) (typed_by types) f.code kept act g
       → ActFits r (class_vars g.code) (typed_by types) c n act g × StaysIn r (class_vars g.code) (typed_by types) c act g
   acts_after types f g c kept n (Returns v vs) code q stays h = (subst (λ d. ActFits r (class_vars g.code) (typed_by types) d n (Returns v vs) g) code h, tt)
-  acts_after types f g c kept n act code q stays h =
-      (subst (λ d. ActFits r (class_vars g.code) (typed_by types) d n act g) code
-      (subst (λ m. ActFits r (class_vars g.code) (typed_by types) f.code m act g) q
-      (subst (λ d. ActFits r (class_vars d) (typed_by types) f.code kept act g) (sym stays) h)), stays ∙ code)
+  acts_after types f g c kept n act code q stays h = (
+    subst (λ d. ActFits r (class_vars g.code) (typed_by types) d n act g) code
+        (subst (λ m. ActFits r (class_vars g.code) (typed_by types) f.code m act g) q
+        (subst (λ d. ActFits r (class_vars d) (typed_by types) f.code kept act g) (sym stays) h)),
+    stays ∙ code,
+  )
 
   module _ (types : CellTypes) (i : ℕ) (ts : List Task) (c : Core) (xs : Numbered Frame) (o : Orderly c) (go : c.halted ≡ None) (top : c.tasks ≡ Run i ∷ ts) (p : ProcessFits r types c xs) where
     -- a quiet step

@@ -1,25 +1,24 @@
 -- A process that fits, with one actor in hand, and put together again.
-use Rattle.std.proofs.Common.{◌≡◌, ℕ, zero, suc, ◌<◌, nat_eq, Bool, true, false, List, [], ◌∷◌, ◌++◌, length, ◌⊎◌, inl, inr, if◌then◌else◌, refl, sym, ap, ◌∙◌, subst, arith}
+use Rattle.std.proofs.Common.{◌≡◌, ℕ, zero, suc, Bool, true, false, List, [], ◌∷◌, ◌++◌, refl, sym, ◌∙◌, subst}
 use Rattle.std.specs.Prelude.{codes}
 use Rattle.std.specs.declared.option.Option.{Option}
 use Rattle.std.specs.declared.option.Option.TheVariants.{None, Some}
-use Rattle.flow_tree.specs.Tree.{TypeTree, NamedType, FutureType, FutureStreamType}
-use Rattle.flow_value.specs.declared.value.Kind.{Kind}
-use Rattle.flow_value.specs.Values.{ValueTree, ValueTrees, NoValues, MoreValues, IntValue, BoolValue, TextValue, VoidValue, ErrorValue, RecordValue, RefValue, OutcomeTree, GoodOutcome, BadOutcome, refs_of, refs_of_all}
-use Rattle.flow_eval.specs.Typed.{HasType, HaveTypes}
-use Rattle.flow_class.specs.Classes.{ClassTree, RawTree}
-use Rattle.flow_meaning.specs.Numbered.{Numbered, thing, added, put, removed}
-use Rattle.flow_meaning.specs.Cells.{Ref, Waiter, Cell, Single, Stream, waiters}
+use Rattle.flow_tree.specs.Tree.{TypeTree, NamedType, FutureStreamType}
+use Rattle.flow_value.specs.Values.{ValueTree, ValueTrees, NoValues, MoreValues, IntValue, BoolValue, TextValue, VoidValue, ErrorValue, RecordValue, RefValue, refs_of, refs_of_all}
+use Rattle.flow_eval.specs.Typed.{HaveTypes}
+use Rattle.flow_class.specs.Classes.{RawTree}
+use Rattle.flow_meaning.specs.Numbered.{Numbered, thing, put}
+use Rattle.flow_meaning.specs.Cells.{Ref, Waiter, Cell, waiters}
 use Rattle.flow_meaning.specs.Process.{Task, Run, Give, Throw, Catch, Store, Keep, Close, Fire, Drop, Entry, Halt, Spent, NoMeaning, Core}
 use Rattle.flow_meaning.specs.Occ.{refs_in}
-use Rattle.flow_meaning.specs.Work.{turn_of, turn, pushed, running, drops, dropping_values, leave_for, left_cells, leave}
-use Rattle.flow_meaning.specs.Orderly.{is_of, tasks_of, is_suspended, AllWait, CellsWait, Rising, Orderly}
+use Rattle.flow_meaning.specs.Work.{turn_of, turn, pushed, drops, dropping_values}
+use Rattle.flow_meaning.specs.Orderly.{is_of, tasks_of, is_suspended, AllWait, CellsWait, Rising}
 use Rattle.flow_meaning.specs.Frame.{Frame}
-use Rattle.flow_meaning.proofs.Posture.{each_number, thing_put_other, thing_put, thing_added, thing_removed_other, removed_none, drops_tasks, Unmoved, IsOf, own_task, other_task, Awake}
+use Rattle.flow_meaning.proofs.Posture.{each_number, thing_put_other, drops_tasks, Unmoved, IsOf, own_task, other_task, Awake}
 use Rattle.flow_meaning.proofs.Shifts.{cell_waits}
 use Rattle.flow_meaning.proofs.Order.{rising_put}
-use Rattle.flow_unstuck.specs.Asking.{HaveSome, OutcomeFits}
-use Rattle.flow_unstuck.specs.Fitting.{CellTypes, typed_by, Fits, Exists, CellFits, CellAt, WaitsFor, AllWaitFor, WaitersAt, OperandsFit, DoingFits, ActorFits, ActorAt, TasksFit, AllExist, ProcessFits}
+use Rattle.flow_unstuck.specs.Asking.{HaveSome}
+use Rattle.flow_unstuck.specs.Fitting.{CellTypes, typed_by, Fits, Exists, CellAt, AllWaitFor, WaitersAt, OperandsFit, ActorFits, ActorAt, TasksFit, AllExist, ProcessFits}
 
 -- for some types of cells
 abbrev pub FitsSome : RawTree → Core → Numbered Frame → Type 0
@@ -65,7 +64,8 @@ module _ (r : RawTree) (types : CellTypes) where
     ports = h.ports;
     main = h.main;
     requests = h.requests;
-    numbered = h.numbered; framed = h.framed;
+    numbered = h.numbered;
+    framed = h.framed;
   }
 
   pub all_but : (i : ℕ) (c : Core) (xs : Numbered Frame) → ProcessFits r types c xs → FitsBut i c xs
@@ -104,7 +104,8 @@ module _ (r : RawTree) (types : CellTypes) where
     ports = h.ports;
     main = h.main;
     requests = h.requests;
-    numbered = h.numbered; framed = h.framed;
+    numbered = h.numbered;
+    framed = h.framed;
   }
 
   -- whoever waits isn't in hand
@@ -133,7 +134,8 @@ module _ (r : RawTree) (types : CellTypes) where
     ports = h.ports;
     main = h.main;
     requests = h.requests;
-    numbered = h.numbered; framed = rising_put xs 0 c.started i g h.framed;
+    numbered = h.numbered;
+    framed = rising_put xs 0 c.started i g h.framed;
   }
 
   -- references of values that have types exist
@@ -180,7 +182,8 @@ module _ (r : RawTree) (types : CellTypes) where
     ports = p.ports;
     main = p.main;
     requests = p.requests;
-    numbered = p.numbered; framed = p.framed;
+    numbered = p.numbered;
+    framed = p.framed;
   }
 
   -- an actor in hand goes on by a task
@@ -194,7 +197,8 @@ module _ (r : RawTree) (types : CellTypes) where
         ports = h.ports;
         main = h.main;
         requests = h.requests;
-        numbered = h.numbered; framed = h.framed;
+        numbered = h.numbered;
+        framed = h.framed;
       }) (subst (ActorAt r types (thing c.entries i) (thing xs i)) (sym (own_task i t c.tasks own)) a)
 
   pub actor_at : (e : Entry) (f : Frame) (o : Option Entry) (p : Option Frame) (ts : List Task) → o ≡ Some e → p ≡ Some f → ActorFits r types e f ts → ActorAt r types o p ts

@@ -1,50 +1,31 @@
 -- An actor's step in a process that fits.
-use Rattle.std.proofs.Common.{◌≡◌, ℕ, zero, suc, ◌+◌, ◌<◌, ◌≤◌, nat_eq, Bool, true, false, List, [], ◌∷◌, ◌++◌, length, ◌⊎◌, inl, inr, if◌then◌else◌, refl, sym, ap, ◌∙◌, subst, arith}
+use Rattle.std.proofs.Common.{◌≡◌, ℕ, suc, false, List, [], ◌∷◌, refl, sym, ap, ◌∙◌, subst, arith}
 use Rattle.std.specs.Prelude.{slice_get}
 use Rattle.std.specs.declared.option.Option.{Option}
 use Rattle.std.specs.declared.option.Option.TheVariants.{None, Some}
-use Rattle.flow_ast.specs.Fits.{FunctionsFit}
 use Rattle.flow_tree.specs.Tree.{TypeTree, FutureType}
 use Rattle.flow_tree.specs.Decls.{RoutineTree}
-use Rattle.flow_value.specs.declared.value.Kind.TheVariants as kind
-use Rattle.flow_value.specs.Values.{ValueTree, RefValue, OutcomeTree, GoodOutcome, BadOutcome, values_of_list}
-use Rattle.flow_eval.specs.Typed.{HaveTypes, CellsFit}
+use Rattle.flow_value.specs.Values.{GoodOutcome}
+use Rattle.flow_eval.specs.Typed.{CellsFit}
 use Rattle.flow_class.specs.Classes.{ClassTree, RawTree}
-use Rattle.flow_meaning.specs.Numbered.{Numbered, thing, added, put}
-use Rattle.flow_meaning.specs.Cells.{Ref, Waiter, Cell, Single, Stream, waiters, outcome}
-use Rattle.flow_meaning.specs.Asks.{Spot, Act, Goes, Pass, Drops, Effects, Operand, Waits, Sends, Cancels, Prints, SendsTo, Returns, Throws, RunsOut, Stuck, Effect, Start, Goal, Stored, Kept, Ask, Supply}
-use Rattle.flow_meaning.specs.Process.{Task, Run, Give, Throw, Catch, Store, Keep, Close, Fire, Drop, Entry, Halt, Core, View}
-use Rattle.flow_meaning.specs.Lines.{start_line}
-use Rattle.flow_meaning.specs.Work.{turn, writes, pushed, dropping_values, new_cell}
-use Rattle.flow_meaning.specs.Effects.{result_task, push_result, gives}
-use Rattle.flow_meaning.specs.React.{react}
-use Rattle.flow_meaning.specs.Step.{Stepped, proc, kept_by, view, entry_of, enrol, start, start_core, answer_effect, answer, run_next, run}
-use Rattle.flow_meaning.specs.Orderly.{is_of, tasks_of, is_suspended, Rising, Orderly}
+use Rattle.flow_meaning.specs.Numbered.{Numbered, thing, added}
+use Rattle.flow_meaning.specs.Cells.{Waiter, Cell, Single, Stream, waiters, outcome}
+use Rattle.flow_meaning.specs.Asks.{Supply}
+use Rattle.flow_meaning.specs.Process.{Task, Run, Entry, Core}
+use Rattle.flow_meaning.specs.Step.{Stepped, view, entry_of}
+use Rattle.flow_meaning.specs.Orderly.{tasks_of, Rising, Orderly}
 use Rattle.flow_meaning.specs.Frame.{Frame}
-use Rattle.flow_meaning.specs.Class.{begun, fresh_from, classes, class_names}
-use Rattle.flow_meaning.proofs.Posture.{each_number, thing_put_other, thing_put, thing_added, Unmoved, IsOf, own_task, other_task, awake_entry, Awake}
-use Rattle.flow_meaning.proofs.Order.{rising_put, rising_added}
-use Rattle.flow_meaning.proofs.Shifts.{run_of, close_of, store_of, keep_of}
+use Rattle.flow_meaning.proofs.Posture.{each_number, thing_added, IsOf, own_task, other_task, awake_entry, Awake}
+use Rattle.flow_meaning.proofs.Order.{rising_added}
+use Rattle.flow_meaning.proofs.Shifts.{run_of}
 use Rattle.flow_meaning.proofs.TaskShifts.{Popped, popped_at, beyond_none, thing_new}
 use Rattle.flow_unstuck.specs.Places.{class_vars}
-use Rattle.flow_unstuck.specs.Rules.{first_types, KeepsRules}
-use Rattle.flow_unstuck.specs.Asking.{HaveSome, OutcomeFits, Gives, Wanted, ActFits, StaysIn, AsksFit}
-use Rattle.flow_unstuck.specs.Fitting.{CellTypes, typed_by, Fits, CellFits, CellAt, AllWaitFor, WaitersAt, OperandsFit, Standing, DoingFits, PostureFits, ActorFits, ActorAt, TasksFit, ProcessFits}
-use Rattle.flow_unstuck.proofs.Asks.{next_fits}
-use Rattle.flow_unstuck.proofs.Handed.{args_many, begun_fits}
-use Rattle.flow_unstuck.proofs.Retyped.{standing_retyped, operands_retyped, sees_any, operands_any, all_retyped}
-use Rattle.flow_unstuck.proofs.States.{FitsSome, Fine, fine_of, fine_turn, FitsBut, put_back, all_but, popped_but, frame_but, actor_at, actor_of, dropping_fits}
+use Rattle.flow_unstuck.specs.Rules.{KeepsRules, ClassRules}
+use Rattle.flow_unstuck.specs.Asking.{OutcomeFits}
+use Rattle.flow_unstuck.specs.Fitting.{CellTypes, typed_by, Fits, CellFits, AllWaitFor, WaitersAt, Standing, DoingFits, PostureFits, ActorFits, ActorAt, ProcessFits}
+use Rattle.flow_unstuck.proofs.States.{Fine, FitsBut, popped_but, actor_at, actor_of}
 use Rattle.flow_unstuck.proofs.CellStates.{cell_there}
-use Rattle.flow_unstuck.proofs.NewCells.{with_type, Any, new_type, kept_types}
-use Rattle.flow_unstuck.proofs.KeptNone.{OfWait, AsksOfWaitAt, none_kept, still_kept}
-use Rattle.flow_unstuck.proofs.HandFits.{Owner, HandFits, doing_actor, goes_by, gives_task}
-use Rattle.flow_unstuck.proofs.ReactFits.{hand_more, stands_more, keeps_more, wants_more}
-use Rattle.flow_unstuck.proofs.WaitFits.{react_fits}
-
--- all classes keep the rules, and the functions are well typed
-pub record ClassRules (r : RawTree) (actors : List RoutineTree) : Type 0 where
-  pub classes : (k : ℕ) (c : ClassTree) → slice_get r.classes k ≡ Some c → KeepsRules r actors c (class_vars c)
-  pub functions : FunctionsFit r.records r.functions actors
+use Rattle.flow_unstuck.proofs.HandFits.{Owner}
 
 -- An actor with a task: its entry, its frame, its class, and that the task fits.
 pub record Actor (r : RawTree) (types : CellTypes) (i : ℕ) (t : Task) (ts : List Task) (c : Core) (xs : Numbered Frame) : Type 0 where

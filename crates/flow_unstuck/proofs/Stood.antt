@@ -1,24 +1,20 @@
 -- A frame that goes along an edge of its class stands where it comes to.
-use Rattle.std.proofs.Common.{◌≡◌, ℕ, zero, suc, ◌<◌, nat_eq, nat_lt, Bool, true, false, not, ◌&&◌, ◌||◌, List, [], ◌∷◌, length, refl, sym, ap, ◌∙◌, subst, arith}
+use Rattle.std.proofs.Common.{◌≡◌, ℕ, zero, suc, true, false, List, [], ◌∷◌, sym, ◌∙◌}
 use Rattle.std.specs.Prelude.{Contains}
 use Rattle.std.specs.List.{list_any}
 use Rattle.std.specs.declared.option.Option.{Option}
 use Rattle.std.specs.declared.option.Option.TheVariants.{None, Some}
-use Rattle.flow_tree.specs.Tree.{TypeTree, ErrorType}
-use Rattle.flow_tree.specs.Decls.{RecordTree}
-use Rattle.flow_value.specs.Values.{ValueTree, ErrorValue}
-use Rattle.flow_eval.specs.Typed.{HasType}
+use Rattle.flow_tree.specs.Tree.{TypeTree}
 use Rattle.flow_class.specs.declared.class.Slotted.{Slotted}
 use Rattle.flow_class.specs.declared.class.Slotted.TheVariants.{Slot, Local}
 use Rattle.flow_class.specs.Classes.{CatcherTree, InstrTree, LastTree, ChooseLast, BlockTree, CallbackTree, ClassTree}
-use Rattle.flow_class.specs.Code.{Fetched, Body, Last, Nothing, fetch_in, fetch_at, fetch, catcher_at, callback_at, type_at}
+use Rattle.flow_class.specs.Code.{Body, Last, Nothing, fetch_in, fetch_at, fetch, catcher_at, callback_at, type_at}
 use Rattle.flow_valid.specs.Named.{listed, targets}
-use Rattle.flow_valid.specs.Filling.{same_place, among, is_local, dropped, instr_fills, instr_empties, reads, behind, waited, taken, is_error, handled, Comes, goes_on, jumps, is_taken, fails, wait_fails, ReadsFilled}
-use Rattle.flow_meaning.specs.Frame.{Memory, Frame, read, write, emptied, with_error, all_emptied, go, next_instr}
-use Rattle.flow_unstuck.specs.Places.{Filled, HoldsTypes}
-use Rattle.flow_unstuck.specs.Standing.{Reached, FullAt, Stands, StandsWaiting}
-use Rattle.flow_unstuck.proofs.Turning.{Turns, fills, keeps, empties, must_turn, turns_of, turns_on}
-use Rattle.flow_unstuck.proofs.Memories.{place_eq, write_other, write_same, within_of, write_holds, emptied_holds, emptied_other, lost_holds, blank_at}
+use Rattle.flow_valid.specs.Filling.{among, is_local, dropped, instr_fills, instr_empties, reads, behind, waited, taken, is_error, handled, Comes, goes_on, jumps, is_taken, fails, wait_fails, ReadsFilled}
+use Rattle.flow_meaning.specs.Frame.{Memory}
+use Rattle.flow_unstuck.specs.Places.{Filled}
+use Rattle.flow_unstuck.specs.Standing.{Reached, FullAt}
+use Rattle.flow_unstuck.proofs.Turning.{must_turn, turns_of, turns_on}
 
 -- behind an instruction there is another one
 body_next : (is : List InstrTree) (l : LastTree) (n : ℕ) (i : InstrTree) → fetch_in is l n ≡ Body i → fetch_in is l (suc n) ≡ Nothing → ⊥

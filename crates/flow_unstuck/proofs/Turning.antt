@@ -1,5 +1,5 @@
 -- What every walk fills, along an edge that fills, keeps or empties a place.
-use Rattle.std.proofs.Common.{◌≡◌, Bool, true, false, not, ◌&&◌, ◌||◌, refl, sym, ap, ◌∙◌, subst}
+use Rattle.std.proofs.Common.{◌≡◌, Bool, true, false, not, ◌&&◌, ◌||◌, refl, ◌∙◌, subst}
 
 -- Along an edge a place is filled, kept or emptied; F says that it was filled, and H that it is.
 pub data Turns (g : Bool → Bool) (F H : Type 0) : Type 0 where

@@ -1,36 +1,34 @@
 -- A wait in a process that fits, and each ask.
-use Rattle.std.proofs.Common.{◌≡◌, ℕ, zero, suc, ◌+◌, ◌<◌, nat_eq, Bool, true, false, List, [], ◌∷◌, ◌++◌, length, ◌⊎◌, inl, inr, if◌then◌else◌, refl, sym, ap, ◌∙◌, subst, arith}
-use Rattle.std.specs.Prelude.{ℤ, pos, int_le, nat_lt, ◌&&◌}
+use Rattle.std.proofs.Common.{◌≡◌, ℕ, suc, ◌+◌, Bool, true, false, List, [], ◌∷◌, ◌++◌, length, inr, if◌then◌else◌, refl, sym, ap, subst, arith}
+use Rattle.std.specs.Prelude.{pos, int_le, nat_lt, ◌&&◌}
 use Rattle.std.specs.declared.option.Option.{Option}
 use Rattle.std.specs.declared.option.Option.TheVariants.{None, Some}
 use Rattle.flow_base.specs.ErrorNumbers.{second_waiter, bad_argument}
 use Rattle.flow_tree.specs.Tree.{TypeTree}
-use Rattle.flow_value.specs.Values.{ValueTree, RefValue, OutcomeTree, GoodOutcome}
+use Rattle.flow_value.specs.Values.{ValueTree, RefValue}
 use Rattle.flow_eval.specs.Predefined.{natural}
-use Rattle.flow_class.specs.Classes.{ChooseLast, ClassTree, RawTree}
-use Rattle.flow_class.specs.Code.{Last, callback_at, fetch}
-use Rattle.flow_valid.specs.Validity.{operand_type}
-use Rattle.flow_meaning.specs.Numbered.{Numbered, thing, added, put}
-use Rattle.flow_meaning.specs.Cells.{Ref, Waiter, Cell, Single, Stream, is_ready, is_busy, waiters, with_waiter, or_waiter}
+use Rattle.flow_class.specs.Classes.{ClassTree, RawTree}
+use Rattle.flow_meaning.specs.Numbered.{Numbered, thing, put}
+use Rattle.flow_meaning.specs.Cells.{Ref, Waiter, Cell, Single, Stream, is_ready, is_busy, waiters, with_waiter}
 use Rattle.flow_meaning.specs.Asks.{Spot, Act, Goes, Pass, Drops, Effects, Operand, Waits, Sends, Cancels, Prints, SendsTo, Returns, Throws, RunsOut, Stuck, Effect, Start, Goal, Stored, Kept, Supply}
-use Rattle.flow_meaning.specs.Process.{Task, Run, Throw, Keep, Close, Entry, Core}
+use Rattle.flow_meaning.specs.Process.{Run, Throw, Keep, Entry, Core}
 use Rattle.flow_meaning.specs.Lines.{wait_line, print_line}
-use Rattle.flow_meaning.specs.Work.{turn, writes, pushed, running, dropping_values, leave_for, take_branch, is_ready_at, first_ready, Registration, Registered, Refused, Missing, register_at, register_one, register, owner, cancel_owner}
-use Rattle.flow_meaning.specs.Effects.{throws, is_port, effect, send_to}
+use Rattle.flow_meaning.specs.Work.{writes, pushed, running, dropping_values, leave_for, is_ready_at, first_ready, Registration, Registered, Refused, Missing, register_at, register_one, register, owner}
+use Rattle.flow_meaning.specs.Effects.{throws, is_port}
 use Rattle.flow_meaning.specs.React.{at_spot, suspend, wait_by, wait, react}
-use Rattle.flow_meaning.specs.Orderly.{tasks_of, is_suspended, Rising}
+use Rattle.flow_meaning.specs.Orderly.{tasks_of, Rising}
 use Rattle.flow_meaning.specs.Frame.{Frame}
-use Rattle.flow_meaning.proofs.Posture.{thing_put_other, thing_put, other_task}
+use Rattle.flow_meaning.proofs.Posture.{thing_put_other, thing_put}
 use Rattle.flow_meaning.proofs.Order.{rising_put}
-use Rattle.flow_meaning.proofs.Shifts.{run_of, throw_of, keep_of, close_of, owned}
+use Rattle.flow_meaning.proofs.Shifts.{throw_of, keep_of, owned}
 use Rattle.flow_unstuck.specs.Places.{class_vars}
-use Rattle.flow_unstuck.specs.Asking.{NextOperand, HaveSome, OutcomeFits, ActFits, Wanted, Gives}
-use Rattle.flow_unstuck.specs.Fitting.{CellTypes, typed_by, Fits, Exists, CellFits, CellAt, WaitsFor, AllWaitFor, WaitersAt, OperandsFit, Standing, Waiting, DoingFits, PostureFits, ActorFits, ActorAt, TasksFit, ProcessFits}
-use Rattle.flow_unstuck.proofs.States.{FitsSome, Fine, fine_of, fine_turn, FitsBut, put_back, actor_at, operands_exist, dropping_fits}
-use Rattle.flow_unstuck.proofs.CellStates.{cell_there, type_there, put_cells, put_waiters, leave_state}
+use Rattle.flow_unstuck.specs.Asking.{NextOperand, HaveSome, ActFits}
+use Rattle.flow_unstuck.specs.Fitting.{CellTypes, typed_by, Fits, CellFits, CellAt, WaitsFor, AllWaitFor, WaitersAt, OperandsFit, Waiting, ActorAt, ProcessFits}
+use Rattle.flow_unstuck.proofs.States.{fine_of, fine_turn, FitsBut, put_back, actor_at, operands_exist, dropping_fits}
+use Rattle.flow_unstuck.proofs.CellStates.{cell_there, put_cells, put_waiters, leave_state}
 use Rattle.flow_unstuck.proofs.KeptNone.{OfWait}
-use Rattle.flow_unstuck.proofs.HandFits.{Owner, HandFits, doing_actor, goes_by, goes_by_two, operands_more, operand_cell, branch_fits}
-use Rattle.flow_unstuck.proofs.ReactFits.{Ok, Hand, runs, throws_fit, either_fits, rehand, effect_fits, send_in_fits, owner_fits, print_fits}
+use Rattle.flow_unstuck.proofs.HandFits.{HandFits, doing_actor, goes_by_two, operands_more, operand_cell, branch_fits}
+use Rattle.flow_unstuck.proofs.ReactFits.{Ok, runs, throws_fit, either_fits, rehand, effect_fits, send_in_fits, owner_fits, print_fits}
 
 module _ (r : RawTree) (types : CellTypes) (g : Frame) where
   -- the cell of an operand
@@ -121,24 +119,27 @@ module _ (r : RawTree) (i : ℕ) (xs : Numbered Frame) (e : Entry) (g : Frame) (
       → RegistrationOk r types g i k.made xs h.frame k x → Good (suspend i spot (at_spot spot e) vs x k)
   suspend_fits spot vs Missing k go h s o some ok = absurd ok
   suspend_fits spot vs Refused k go h s o some ok =
-      fine_of r k.halted (leave_for i (at_spot spot e) vs (Throw i second_waiter) k) xs go
-      (types, leave_state r types i (at_spot spot e) e vs (Throw i second_waiter) k xs g h.rest h.entry h.frame (throw_of i second_waiter) (operands_exist r types g 0 e.operands o) some
-      (λ ts. doing_actor r types (running (at_spot spot e)) g c (Throw i second_waiter ∷ ts) (record { is = h.owner.is; result = h.owner.result; owns = h.owner.owns; gives = h.owner.gives }) refl (code, inr s, tt)))
+      fine_of r k.halted (leave_for i (at_spot spot e) vs (Throw i second_waiter) k) xs go (
+        types,
+        leave_state r types i (at_spot spot e) e vs (Throw i second_waiter) k xs g h.rest h.entry h.frame (throw_of i second_waiter) (operands_exist r types g 0 e.operands o) some
+            (λ ts. doing_actor r types (running (at_spot spot e)) g c (Throw i second_waiter ∷ ts) (record { is = h.owner.is; result = h.owner.result; owns = h.owner.owns; gives = h.owner.gives }) refl (code, inr s, tt)),
+      )
   suspend_fits spot vs (Registered cells) k go h s o some ok =
       let asleep = record (at_spot spot e) { suspended = true } in
       let d = record (writes (wait_line i spot.group) k) { cells = cells; entries = put k.entries i asleep } in
       let p = h.rest in
       let state : ProcessFits r types d xs = put_back r types i d xs (record {
-            cells = ok.0;
-            waiting = ok.1;
-            actors = λ j n. subst (λ o. ActorAt r types o (thing xs j) (tasks_of j k.tasks)) (sym (thing_put_other k.entries i j asleep n)) (p.actors j n);
-            work = p.work;
-            ports = p.ports;
-            main = p.main;
-            requests = p.requests;
-            numbered = ok.2; framed = p.framed;
-          }) (actor_at r types asleep g (thing (put k.entries i asleep) i) (thing xs i) (tasks_of i k.tasks) (thing_put k.entries i e asleep h.entry) h.frame
-          (record { class = c; is = h.owner.is; result = h.owner.result; owns = h.owner.owns; gives = h.owner.gives; posture = (code, s, o) })) in
+        cells = ok.0;
+        waiting = ok.1;
+        actors = λ j n. subst (λ o. ActorAt r types o (thing xs j) (tasks_of j k.tasks)) (sym (thing_put_other k.entries i j asleep n)) (p.actors j n);
+        work = p.work;
+        ports = p.ports;
+        main = p.main;
+        requests = p.requests;
+        numbered = ok.2;
+        framed = p.framed;
+      }) (actor_at r types asleep g (thing (put k.entries i asleep) i) (thing xs i) (tasks_of i k.tasks) (thing_put k.entries i e asleep h.entry) h.frame
+      (record { class = c; is = h.owner.is; result = h.owner.result; owns = h.owner.owns; gives = h.owner.gives; posture = (code, s, o) })) in
       fine_of r k.halted (dropping_values vs d) xs go (types, dropping_fits r types vs d xs some state)
 
   wait_by_fits : (spot : Spot) (vs : List ValueTree) (x : Option (ℕ × ℕ)) (k : Core) → k.halted ≡ None → HandFits r types i k xs e g c → Waiting r types g → OperandsFit r types g 0 e.operands → HaveSome r.records (typed_by types) vs
@@ -175,9 +176,11 @@ module _ (r : RawTree) (i : ℕ) (xs : Numbered Frame) (e : Entry) (g : Frame) (
       stored_waits (Kept spot) eff q w = cc
   react_fits s (Operand spot q) k go h up f o none no_start no_end =
       let zero_plus : 0 + length e.operands ≡ length e.operands = omega arith in
-      fine_of r k.halted (pushed (Keep i spot q) (pushed (Run i) k)) xs go
-      (types, goes_by_two r types i (Keep i spot q) k xs e g c h (keep_of i spot q)
-      (λ ts. (code, f.0, operands_more r types g 0 e.operands q f.1.0 o (subst (λ m. NextOperand g m f.1.0) (sym zero_plus) f.1.1) f.1.2)))
+      fine_of r k.halted (pushed (Keep i spot q) (pushed (Run i) k)) xs go (
+        types,
+        goes_by_two r types i (Keep i spot q) k xs e g c h (keep_of i spot q)
+            (λ ts. (code, f.0, operands_more r types g 0 e.operands q f.1.0 o (subst (λ m. NextOperand g m f.1.0) (sym zero_plus) f.1.1) f.1.2)),
+      )
   react_fits s (Waits spot vs) k go h up f o none no_start no_end = wait_fits spot vs k go h f.0 o f.1
   react_fits s (Sends n v) k go h up f o none no_start no_end = send_in_fits r i xs e g c code types n v k go h f.0 o f.1
   react_fits s (Cancels n) k go h up f o none no_start no_end =

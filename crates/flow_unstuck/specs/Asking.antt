@@ -3,7 +3,7 @@ use Rattle.std.specs.Prelude.{◌≡◌, ◌⊎◌, ℕ, List, [], ◌∷◌, co
 use Rattle.std.specs.declared.option.Option.{Option}
 use Rattle.std.specs.declared.option.Option.TheVariants.{None, Some}
 use Rattle.flow_tree.specs.Tree.{TypeTree, IntType, StringType, VoidType, NamedType, FutureType, FutureStreamType}
-use Rattle.flow_tree.specs.Decls.{ParamTree, RecordTree, RoutineTree}
+use Rattle.flow_tree.specs.Decls.{ParamTree, RecordTree}
 use Rattle.flow_ast.specs.Fits.{path_type}
 use Rattle.flow_trace.specs.declared.line.Line.{Line}
 use Rattle.flow_value.specs.Values.{ValueTree, RefValue, OutcomeTree, GoodOutcome, BadOutcome, values_of_list}
@@ -11,7 +11,6 @@ use Rattle.flow_eval.specs.Typed.{reference_type, HasType, HaveTypes}
 use Rattle.flow_class.specs.Classes.{EffectInstr, NewInstr, ChooseLast, CallbackTree, ClassTree, RawTree}
 use Rattle.flow_class.specs.Code.{Fetched, Body, Last, fetch, callback_at, type_at}
 use Rattle.flow_valid.specs.Validity.{operand_type}
-use Rattle.flow_meaning.specs.Cells.{Ref}
 use Rattle.flow_meaning.specs.Lines.{print_line}
 use Rattle.flow_meaning.specs.Asks.{DiskCall, ReadCall, WriteCall, SyncCall, SizeCall, Effect, Make, Start, Draw, Delay, Never, Listen, Disk, Goal, Stored, Kept, Ask, Act, Goes, Pass, Drops, Effects, Operand, Waits, Sends, Cancels, Prints, SendsTo, Returns, Throws, RunsOut, Stuck}
 use Rattle.flow_meaning.specs.Frame.{Frame}

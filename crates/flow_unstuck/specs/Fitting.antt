@@ -5,8 +5,8 @@ use Rattle.std.specs.declared.option.Option.TheVariants.{None, Some}
 use Rattle.flow_tree.specs.Tree.{TypeTree, NamedType, FutureType, FutureStreamType}
 use Rattle.flow_value.specs.Values.{ValueTree, RefValue, OutcomeTree}
 use Rattle.flow_eval.specs.Typed.{HasType}
-use Rattle.flow_class.specs.Classes.{ChooseLast, CallbackTree, ClassTree, RawTree}
-use Rattle.flow_class.specs.Code.{Last, fetch, callback_at}
+use Rattle.flow_class.specs.Classes.{CallbackTree, ClassTree, RawTree}
+use Rattle.flow_class.specs.Code.{fetch, callback_at}
 use Rattle.flow_meaning.specs.Numbered.{Numbered, thing}
 use Rattle.flow_meaning.specs.Cells.{Ref, Waiter, Cell, Single, Stream, waiters}
 use Rattle.flow_meaning.specs.Process.{Task, Run, Give, Throw, Catch, Store, Keep, Close, Fire, Drop, Entry, Core}

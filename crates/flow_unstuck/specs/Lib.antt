@@ -7,3 +7,4 @@ pub mod Standing
 pub mod Rules
 pub mod Asking
 pub mod Fitting
+pub mod Frames

@@ -1,6 +1,6 @@
 -- What stands in the places of a class: variables by name, and memories that fit.
-use Rattle.std.specs.Prelude.{◌≡◌, ◌<◌, ◌^◌, ℕ, suc, List, [], ◌∷◌, ◌++◌, length}
-use Rattle.std.specs.declared.option.Option.TheVariants.{None, Some}
+use Rattle.std.specs.Prelude.{◌≡◌, ℕ, suc, List, [], ◌∷◌, ◌++◌, length}
+use Rattle.std.specs.declared.option.Option.TheVariants.{Some}
 use Rattle.flow_tree.specs.Tree.{TypeTree}
 use Rattle.flow_tree.specs.Decls.{ParamTree, SlotTree, RecordTree}
 use Rattle.flow_ast.specs.Typing.{param_named}

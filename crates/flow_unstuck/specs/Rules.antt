@@ -1,10 +1,9 @@
 -- What the instructions of a class have to do with types and with each other: the rules on classes, instruction by instruction.
 use Rattle.std.specs.Prelude.{◌≡◌, ◌≤◌, ◌⊎◌, ℕ, zero, suc, length, true, List, [], ◌∷◌, slice_get}
 use Rattle.std.specs.declared.option.Option.{Option}
-use Rattle.std.specs.Option.{option_map}
 use Rattle.std.specs.declared.option.Option.TheVariants.{None, Some}
 use Rattle.flow_tree.specs.declared.ty.Ident.{Ident}
-use Rattle.flow_tree.specs.Tree.{TypeTree, BoolType, VoidType, StringType, IntType, ErrorType, FutureType, FutureStreamType, PromiseType, PromiseStreamType, ExprTree, ExprTrees}
+use Rattle.flow_tree.specs.Tree.{TypeTree, BoolType, VoidType, StringType, IntType, ErrorType, FutureType, PromiseType, PromiseStreamType, ExprTree, ExprTrees}
 use Rattle.flow_tree.specs.Decls.{ParamTree, SlotTree, RoutineTree}
 use Rattle.flow_ast.specs.declared.predefined.Predefined.{Predefined}
 use Rattle.flow_ast.specs.declared.predefined.Predefined.TheVariants as code
@@ -12,16 +11,16 @@ use Rattle.flow_ast.specs.declared.predefined.Method.{Method}
 use Rattle.flow_ast.specs.declared.predefined.Method.TheVariants as method
 use Rattle.flow_ast.specs.TypingNames.{named, call_names, method_names}
 use Rattle.flow_ast.specs.Typing.{Signature, signature, equality_type, is_there, types_in, all_without_effects, param_types, routine_named}
-use Rattle.flow_ast.specs.Fits.{scope_over, path_type, fields_type, Yields}
+use Rattle.flow_ast.specs.Fits.{scope_over, path_type, Yields, FunctionsFit}
 use Rattle.flow_class.specs.declared.class.Slotted.{Slotted}
-use Rattle.flow_class.specs.declared.class.Slotted.TheVariants.{Slot, Local}
+use Rattle.flow_class.specs.declared.class.Slotted.TheVariants.{Local}
 use Rattle.flow_class.specs.Classes.{CatcherTree, InstrTree, SetInstr, EffectInstr, NewInstr, ActInstr, DropInstr, LastTree, GotoLast, PassLast, TestLast, ChooseLast, ReturnLast, ThrowLast, CallbackTree, ClassTree, RawTree}
 use Rattle.flow_class.specs.Code.{Body, Last, Nothing, fetch, catcher_at, callback_at, type_at}
 use Rattle.flow_valid.specs.Validity.{operand_type}
 use Rattle.flow_valid.specs.Filling.{among, reads, ReadsFilled}
 use Rattle.flow_meaning.specs.Evaluating.{Effectful, World, Actor, effect_in, before_last, last_of}
 use Rattle.flow_meaning.specs.Class.{class_names}
-use Rattle.flow_unstuck.specs.Places.{AreNamed}
+use Rattle.flow_unstuck.specs.Places.{AreNamed, class_vars}
 
 -- the types of a class's parameters, which are its first slots
 abbrev pub first_types : ℕ → List SlotTree → List TypeTree
@@ -120,3 +119,8 @@ module _ (r : RawTree) (actors : List RoutineTree) (c : ClassTree) (vars : List 
         → IsBlock k.block × ((n : ℕ) → k.error ≡ Some n → type_at c (Local n) ≡ Some ErrorType)
     pub known : (b n : ℕ) (q : Slotted) → among (reads c (fetch c b n)) q ≡ true → (t : TypeTree) × (type_at c q ≡ Some t)
     pub filled : ReadsFilled c
+
+-- all classes keep the rules, and the functions are well typed
+pub record ClassRules (r : RawTree) (actors : List RoutineTree) : Type 0 where
+  pub classes : (k : ℕ) (c : ClassTree) → slice_get r.classes k ≡ Some c → KeepsRules r actors c (class_vars c)
+  pub functions : FunctionsFit r.records r.functions actors
