@@ -2,3 +2,9 @@ pub mod Phases
 pub mod Going
 pub mod Ending
 pub mod Existing
+pub mod Places
+pub mod Standing
+pub mod Rules
+pub mod Asking
+pub mod Fitting
+pub mod Frames

@@ -2,6 +2,10 @@
 
 ghost use Rattle.flow_class.specs.Classes.{RawTree};
 ghost use Rattle.flow_valid.specs.Validity.{IsValid};
+ghost use Rattle.std.specs.Prelude.{List};
+ghost use Rattle.flow_tree.specs.Decls.{RoutineTree};
+ghost use Rattle.flow_unstuck.specs.Rules.{ClassRules};
+ghost use Rattle.flow_unstuck.specs.Frames.{FramesAskWhatFits};
 ghost use Rattle.flow_unstuck.specs.Ending.{BurstsEnd};
 ghost use Rattle.flow_unstuck.specs.Existing.{RunsOrStrays, OneTrace};
 
@@ -28,4 +32,10 @@ pub fn bursts_end<K: Around>()
 pub fn runs_or_strays()
     ensures runs { (r : RawTree) → IsValid r → RunsOrStrays r }
     ensures once { (r : RawTree) → IsValid r → OneTrace r }
+{}
+
+/// Of classes that keep the rules, written as what each instruction has to do with types, no frame is stuck: one that fits
+/// asks for what fits, and stands afterwards where what every walk to there fills is filled.
+pub fn frames_ask_what_fits()
+    ensures { (r : RawTree) (actors : List RoutineTree) → ClassRules r actors → FramesAskWhatFits r actors }
 {}
