@@ -24,3 +24,4 @@ pub mod TidySteps
 pub mod Alive
 pub mod LossKeeps
 pub mod Starting
+pub mod Example

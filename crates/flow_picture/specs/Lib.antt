@@ -13,3 +13,4 @@ pub mod Holding
 pub mod Keeps
 pub mod Alive
 pub mod Starting
+pub mod Example
