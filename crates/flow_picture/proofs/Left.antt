@@ -227,21 +227,22 @@ module _ (r : RawTree) (h : HeapTree) (p : Proc Frame) where
     same = marks r at.note at.memory at.entry at.frame at.same;
   }
 
+  gone : (i : ℕ) → Shows r h p → (at : At r h p i) → MayLeave i at.entry.operands p.core
+      → Shows r (withdrawn i (memory.pushed (thrown i) (leaving.marked i h))) (on_core (left_wait i (marked at.entry)) (on_core (pushed (Throw i operation_cancelled)) (with_mark r h p i at.entry)))
+  gone i s at may =
+      withdrawn_shown r (memory.pushed (thrown i) (leaving.marked i h)) (on_core (pushed (Throw i operation_cancelled)) (with_mark r h p i at.entry)) i
+      (pushed_shown r (leaving.marked i h) (with_mark r h p i at.entry) (thrown i) (Throw i operation_cancelled) (mark_shown r h p i s at) refl)
+      (marked_at i at)
+      (record { keeps = may.keeps; kinds = may.kinds; many = may.many; waits = may.waits })
+
   pub cancelled_shown : change.Cancelled r h p
   cancelled_shown i s at may =
       subst (λ b. Shows r (cancelled_by b i (leaving.marked i h)) (on_core (cancel_by at.entry.suspended i at.entry) p))
-      (sym (ap suspended_in at.framed ∙ suspended_as r at.note at.memory at.entry at.frame at.same)) (by_flag at.entry.suspended)
+      (sym (ap suspended_in at.framed ∙ suspended_as r at.note at.memory at.entry at.frame at.same)) (by_flag at.entry.suspended refl)
     where
-      gone : Shows r (withdrawn i (memory.pushed (thrown i) (leaving.marked i h))) (on_core (left_wait i (marked at.entry)) (on_core (pushed (Throw i operation_cancelled)) (with_mark r h p i at.entry)))
-      gone =
-          withdrawn_shown r (memory.pushed (thrown i) (leaving.marked i h)) (on_core (pushed (Throw i operation_cancelled)) (with_mark r h p i at.entry)) i
-          (pushed_shown r (leaving.marked i h) (with_mark r h p i at.entry) (thrown i) (Throw i operation_cancelled) (mark_shown r h p i s at) refl)
-          (marked_at i at)
-          (record { keeps = may.keeps; kinds = may.kinds; many = may.many; waits = may.waits })
-
-      by_flag : (b : Bool) → Shows r (cancelled_by b i (leaving.marked i h)) (on_core (cancel_by b i at.entry) p)
-      by_flag false = mark_shown r h p i s at
-      by_flag true =
+      by_flag : (b : Bool) → at.entry.suspended ≡ b → Shows r (cancelled_by b i (leaving.marked i h)) (on_core (cancel_by b i at.entry) p)
+      by_flag false e = mark_shown r h p i s at
+      by_flag true e =
           subst (λ es. Shows r (withdrawn i (memory.pushed (thrown i) (leaving.marked i h)))
           (proc (record p.core { cells = left_cells i p.core.cells; entries = es; tasks = drops at.entry.operands (Throw i operation_cancelled ∷ p.core.tasks) }) p.actors))
-          (put_twice r h p p.core.entries i (marked at.entry) (running (marked at.entry))) gone
+          (put_twice r h p p.core.entries i (marked at.entry) (running (marked at.entry))) (gone i s at (may e))

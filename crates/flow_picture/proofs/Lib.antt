@@ -25,3 +25,4 @@ pub mod Alive
 pub mod LossKeeps
 pub mod Starting
 pub mod Example
+pub mod Holds

@@ -45,8 +45,18 @@ waiting_heap = record {
   };
   streams = nothing;
   frames = record {
-    things =
-        (1, record { class = 0; state = 1; block = 0; instruction = 0; places = []; callbacks = record { callback = 0; cell = cell_id 2 } ∷ [] }) ∷ [];
+    things = (
+      1,
+      record {
+        class =
+            0;
+        state = 1;
+        block = 0;
+        instruction = 0;
+        places = [];
+        callbacks = record { callback = 0; cell = cell_id 2 } ∷ [];
+      },
+    ) ∷ [];
     greatest = 1;
   };
   actors = record { things = (1, record { result = Some (cell_id 1); marked = false }) ∷ []; greatest = 1 };
@@ -77,8 +87,17 @@ waiting_process = record {
     main = Some 1;
     requests = 2 ∷ [];
   };
-  actors =
-      (1, record { code = waiting_class; mem = record { slots = []; locals = [] }; block = 0; instr = 0; state = 1 }) ∷ [];
+  actors = (
+    1,
+    record {
+      code =
+          waiting_class;
+      mem = record { slots = []; locals = [] };
+      block = 0;
+      instr = 0;
+      state = 1;
+    },
+  ) ∷ [];
 }
 
 abbrev pub WaitingRests : Type 0

@@ -14,3 +14,4 @@ pub mod Keeps
 pub mod Alive
 pub mod Starting
 pub mod Example
+pub mod Holds
