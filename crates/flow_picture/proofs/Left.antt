@@ -140,6 +140,15 @@ marks r n m e f o = record { class = o.class; result = o.result; marked = refl; 
       suspended = x.suspended;
     })
 
+-- what is put twice
+pub put_twice : (es : Numbered Entry) (i : ℕ) (a b : Entry) → put (put es i a) i b ≡ put es i b
+put_twice [] i a b = refl
+put_twice (x ∷ xs) i a b = by_test (nat_eq i x.0) refl (put_twice xs i a b)
+  where
+    by_test : (t : Bool) → nat_eq i x.0 ≡ t → put (put xs i a) i b ≡ put xs i b → put (if t then (x.0, a) ∷ xs else x ∷ put xs i a) i b ≡ (if t then (x.0, b) ∷ xs else x ∷ put xs i b)
+    by_test true e k = ap (λ t. if t then (x.0, b) ∷ xs else (x.0, a) ∷ put xs i b) e
+    by_test false e k = ap (λ t. if t then (x.0, b) ∷ put xs i a else x ∷ put (put xs i a) i b) e ∙ ap (λ ys. x ∷ ys) k
+
 module _ (r : RawTree) (h : HeapTree) (p : Proc Frame) where
   abbrev spots : ℕ → Spot
   spots = spot_of_actor p.actors
@@ -201,14 +210,6 @@ module _ (r : RawTree) (h : HeapTree) (p : Proc Frame) where
         requests = s.requests;
       })
 
-  put_twice : (es : Numbered Entry) (i : ℕ) (a b : Entry) → put (put es i a) i b ≡ put es i b
-  put_twice [] i a b = refl
-  put_twice (x ∷ xs) i a b = by_test (nat_eq i x.0) refl (put_twice xs i a b)
-    where
-      by_test : (t : Bool) → nat_eq i x.0 ≡ t → put (put xs i a) i b ≡ put xs i b → put (if t then (x.0, a) ∷ xs else x ∷ put xs i a) i b ≡ (if t then (x.0, b) ∷ xs else x ∷ put xs i b)
-      by_test true e k = ap (λ t. if t then (x.0, b) ∷ xs else (x.0, a) ∷ put xs i b) e
-      by_test false e k = ap (λ t. if t then (x.0, b) ∷ put xs i a else x ∷ put (put xs i a) i b) e ∙ ap (λ ys. x ∷ ys) k
-
 module _ (r : RawTree) (h : HeapTree) (p : Proc Frame) where
   abbrev thrown : (actor : ℕ) → stack.Task
   thrown i = task.Throw (actor_id i) (record { 0 = operation_cancelled })
@@ -245,4 +246,4 @@ module _ (r : RawTree) (h : HeapTree) (p : Proc Frame) where
       by_flag true e =
           subst (λ es. Shows r (withdrawn i (memory.pushed (thrown i) (leaving.marked i h)))
           (proc (record p.core { cells = left_cells i p.core.cells; entries = es; tasks = drops at.entry.operands (Throw i operation_cancelled ∷ p.core.tasks) }) p.actors))
-          (put_twice r h p p.core.entries i (marked at.entry) (running (marked at.entry))) (gone i s at (may e))
+          (put_twice p.core.entries i (marked at.entry) (running (marked at.entry))) (gone i s at (may e))

@@ -26,3 +26,4 @@ pub mod LossKeeps
 pub mod Starting
 pub mod Example
 pub mod Holds
+pub mod Further

@@ -1,5 +1,5 @@
 -- What the calls of a heap add up to: references that are stored count, cells get content, results are given.
-use Rattle.std.specs.Prelude.{◌≡◌, ℕ, ◌+◌, false, List, [], ◌∷◌}
+use Rattle.std.specs.Prelude.{◌≡◌, ℕ, suc, ◌+◌, true, false, List, [], ◌∷◌}
 use Rattle.std.specs.declared.option.Option.{Option}
 use Rattle.std.specs.declared.option.Option.TheVariants.{None, Some}
 use Rattle.flow_base.specs.ErrorNumbers.{broken_promise}
@@ -19,20 +19,24 @@ use Rattle.flow_cancel.specs.declared.task.Task as stack
 use Rattle.flow_cancel.specs.declared.task.Task.TheVariants as task
 use Rattle.flow_cancel.specs.declared.task.Dropped.TheVariants as after
 use Rattle.flow_cancel.specs.Heap.{HeapTree, actor_id, pushed}
-use Rattle.flow_cancel.specs.Dropping.{Lost}
-use Rattle.flow_cancel.specs.Leaving.{cancelled}
+use Rattle.flow_cancel.specs.Dropping.{Lost, dropped}
+use Rattle.flow_cancel.specs.Leaving.{withdrawn, cancelled}
 use Rattle.flow_meaning.specs.Numbered.{thing}
-use Rattle.flow_meaning.specs.Cells.{Ref, Cell, is_complete}
-use Rattle.flow_meaning.specs.Process.{Task, Run, Proc}
+use Rattle.flow_meaning.specs.Cells.{Ref, side_of, Cell, is_complete}
+use Rattle.flow_meaning.specs.Process.{Task, Run, Entry, Core, Proc}
 use Rattle.flow_meaning.specs.Occ.{Scan, count, refs_in, value_in, in_task}
-use Rattle.flow_meaning.specs.Work.{fill}
+use Rattle.flow_meaning.specs.Work.{fill, cancel}
+use Rattle.flow_meaning.specs.Orderly.{Rising}
 use Rattle.flow_meaning.specs.Work as work
+use Rattle.flow_meaning.specs.Dropping.{lose_ref}
 use Rattle.flow_meaning.specs.Step.{on_core}
 use Rattle.flow_meaning.specs.Frame.{Frame}
 use Rattle.flow_picture.specs.Shows.{Shows}
-use Rattle.flow_picture.specs.Counted.{Counted}
+use Rattle.flow_picture.specs.Counted.{Counted, Agree, frames_hold}
+use Rattle.flow_picture.specs.Acting.{NoKeep, At}
+use Rattle.flow_picture.specs.Leaving.{RightKinds, left_wait}
 use Rattle.flow_picture.specs.Changes.{SameTask, cell_put, stream_put, fire}
-use Rattle.flow_picture.specs.Losing.{RightCell}
+use Rattle.flow_picture.specs.Losing.{RightCell, Losing, Same}
 
 -- A heap shows a process, and its counts are the references in it and in hand.
 pub record Holds (r : RawTree) (in_hand : Scan) (h : HeapTree) (p : Proc Frame) : Type 0 where
@@ -127,3 +131,30 @@ module _ (r : RawTree) (h : HeapTree) (p : Proc Frame) where
       → SameTask p t u
       → ((s : _) (j : ℕ) → in_task s j u ≡ count s j rs)
       → Holds r x (given i t rs h) (on_core (λ c. work.pushed u (work.pushed (Run i) c)) p)
+
+-- What holds besides of a process where actors leave their waits: waiters and operands agree, each operand has the kind of its
+-- cell, and a suspended actor has nothing to do.
+pub record MayWait (c : Core) : Type 0 where
+  pub agree : Agree c
+  pub cells : Rising 0 c.made c.cells
+  pub kinds : (i : ℕ) (e : Entry) → thing c.entries i ≡ Some e → RightKinds c.cells e.operands
+  pub idle : (i : ℕ) (e : Entry) → thing c.entries i ≡ Some e → e.suspended ≡ true → NoKeep i c.tasks
+
+module _ (r : RawTree) (h : HeapTree) (p : Proc Frame) where
+  -- an actor leaves its wait: a suspended one, or one that runs and has no operand to keep
+  abbrev pub WaitLeft : Type 0
+  WaitLeft =
+      (x : Scan) (i : ℕ) → Holds r x h p → MayWait p.core → (s : At r h p i) → NoKeep i p.core.tasks
+      → Holds r x (withdrawn i h) (on_core (left_wait i s.entry) p)
+
+  -- one is cancelled
+  abbrev pub ActorCancelled : Type 0
+  ActorCancelled =
+      (x : Scan) (i : ℕ) → Holds r x h p → MayWait p.core → (s : At r h p i)
+      → Holds r x (cancelled i h) (on_core (cancel i s.entry) p)
+
+  -- A reference is lost, and what that leads to is done, where a turn is left.
+  abbrev pub LossDone : Type 0
+  LossDone =
+      (kd : Kind) (k n : ℕ) (c : Cell) → Losing r h p kd k c → MayWait p.core → p.core.left ≡ suc n
+      → Same r (lost_further kd k (dropped kd k h)) (on_core (lose_ref (frames_hold p.actors) (side_of kd) k) p)

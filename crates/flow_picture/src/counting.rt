@@ -85,3 +85,11 @@ pub fn stored_counts()
     ensures filled { (r : RawTree) (h : HeapTree) (p : Proc Frame) → holds.Filled r h p }
     ensures given { (r : RawTree) (h : HeapTree) (p : Proc Frame) → holds.Given r h p }
 {}
+
+/// An actor leaves its wait or is cancelled, with the references in hand; and a reference is lost and what that leads to is done
+/// as the rule says: the cell is freed or broken, the actor of its result cancelled, or its port freed.
+pub fn losses_done()
+    ensures left { (r : RawTree) (h : HeapTree) (p : Proc Frame) → holds.WaitLeft r h p }
+    ensures cancelled { (r : RawTree) (h : HeapTree) (p : Proc Frame) → holds.ActorCancelled r h p }
+    ensures lost { (r : RawTree) (h : HeapTree) (p : Proc Frame) → holds.LossDone r h p }
+{}
