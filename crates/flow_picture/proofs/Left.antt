@@ -140,6 +140,15 @@ marks r n m e f o = record { class = o.class; result = o.result; marked = refl; 
       suspended = x.suspended;
     })
 
+-- what is put twice
+pub put_twice : (es : Numbered Entry) (i : ℕ) (a b : Entry) → put (put es i a) i b ≡ put es i b
+put_twice [] i a b = refl
+put_twice (x ∷ xs) i a b = by_test (nat_eq i x.0) refl (put_twice xs i a b)
+  where
+    by_test : (t : Bool) → nat_eq i x.0 ≡ t → put (put xs i a) i b ≡ put xs i b → put (if t then (x.0, a) ∷ xs else x ∷ put xs i a) i b ≡ (if t then (x.0, b) ∷ xs else x ∷ put xs i b)
+    by_test true e k = ap (λ t. if t then (x.0, b) ∷ xs else (x.0, a) ∷ put xs i b) e
+    by_test false e k = ap (λ t. if t then (x.0, b) ∷ put xs i a else x ∷ put (put xs i a) i b) e ∙ ap (λ ys. x ∷ ys) k
+
 module _ (r : RawTree) (h : HeapTree) (p : Proc Frame) where
   abbrev spots : ℕ → Spot
   spots = spot_of_actor p.actors
@@ -201,14 +210,6 @@ module _ (r : RawTree) (h : HeapTree) (p : Proc Frame) where
         requests = s.requests;
       })
 
-  put_twice : (es : Numbered Entry) (i : ℕ) (a b : Entry) → put (put es i a) i b ≡ put es i b
-  put_twice [] i a b = refl
-  put_twice (x ∷ xs) i a b = by_test (nat_eq i x.0) refl (put_twice xs i a b)
-    where
-      by_test : (t : Bool) → nat_eq i x.0 ≡ t → put (put xs i a) i b ≡ put xs i b → put (if t then (x.0, a) ∷ xs else x ∷ put xs i a) i b ≡ (if t then (x.0, b) ∷ xs else x ∷ put xs i b)
-      by_test true e k = ap (λ t. if t then (x.0, b) ∷ xs else (x.0, a) ∷ put xs i b) e
-      by_test false e k = ap (λ t. if t then (x.0, b) ∷ put xs i a else x ∷ put (put xs i a) i b) e ∙ ap (λ ys. x ∷ ys) k
-
 module _ (r : RawTree) (h : HeapTree) (p : Proc Frame) where
   abbrev thrown : (actor : ℕ) → stack.Task
   thrown i = task.Throw (actor_id i) (record { 0 = operation_cancelled })
@@ -227,21 +228,22 @@ module _ (r : RawTree) (h : HeapTree) (p : Proc Frame) where
     same = marks r at.note at.memory at.entry at.frame at.same;
   }
 
+  gone : (i : ℕ) → Shows r h p → (at : At r h p i) → MayLeave i at.entry.operands p.core
+      → Shows r (withdrawn i (memory.pushed (thrown i) (leaving.marked i h))) (on_core (left_wait i (marked at.entry)) (on_core (pushed (Throw i operation_cancelled)) (with_mark r h p i at.entry)))
+  gone i s at may =
+      withdrawn_shown r (memory.pushed (thrown i) (leaving.marked i h)) (on_core (pushed (Throw i operation_cancelled)) (with_mark r h p i at.entry)) i
+      (pushed_shown r (leaving.marked i h) (with_mark r h p i at.entry) (thrown i) (Throw i operation_cancelled) (mark_shown r h p i s at) refl)
+      (marked_at i at)
+      (record { keeps = may.keeps; kinds = may.kinds; many = may.many; waits = may.waits })
+
   pub cancelled_shown : change.Cancelled r h p
   cancelled_shown i s at may =
       subst (λ b. Shows r (cancelled_by b i (leaving.marked i h)) (on_core (cancel_by at.entry.suspended i at.entry) p))
-      (sym (ap suspended_in at.framed ∙ suspended_as r at.note at.memory at.entry at.frame at.same)) (by_flag at.entry.suspended)
+      (sym (ap suspended_in at.framed ∙ suspended_as r at.note at.memory at.entry at.frame at.same)) (by_flag at.entry.suspended refl)
     where
-      gone : Shows r (withdrawn i (memory.pushed (thrown i) (leaving.marked i h))) (on_core (left_wait i (marked at.entry)) (on_core (pushed (Throw i operation_cancelled)) (with_mark r h p i at.entry)))
-      gone =
-          withdrawn_shown r (memory.pushed (thrown i) (leaving.marked i h)) (on_core (pushed (Throw i operation_cancelled)) (with_mark r h p i at.entry)) i
-          (pushed_shown r (leaving.marked i h) (with_mark r h p i at.entry) (thrown i) (Throw i operation_cancelled) (mark_shown r h p i s at) refl)
-          (marked_at i at)
-          (record { keeps = may.keeps; kinds = may.kinds; many = may.many; waits = may.waits })
-
-      by_flag : (b : Bool) → Shows r (cancelled_by b i (leaving.marked i h)) (on_core (cancel_by b i at.entry) p)
-      by_flag false = mark_shown r h p i s at
-      by_flag true =
+      by_flag : (b : Bool) → at.entry.suspended ≡ b → Shows r (cancelled_by b i (leaving.marked i h)) (on_core (cancel_by b i at.entry) p)
+      by_flag false e = mark_shown r h p i s at
+      by_flag true e =
           subst (λ es. Shows r (withdrawn i (memory.pushed (thrown i) (leaving.marked i h)))
           (proc (record p.core { cells = left_cells i p.core.cells; entries = es; tasks = drops at.entry.operands (Throw i operation_cancelled ∷ p.core.tasks) }) p.actors))
-          (put_twice r h p p.core.entries i (marked at.entry) (running (marked at.entry))) gone
+          (put_twice p.core.entries i (marked at.entry) (running (marked at.entry))) (gone i s at (may e))

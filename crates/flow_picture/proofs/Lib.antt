@@ -24,3 +24,6 @@ pub mod TidySteps
 pub mod Alive
 pub mod LossKeeps
 pub mod Starting
+pub mod Example
+pub mod Holds
+pub mod Further

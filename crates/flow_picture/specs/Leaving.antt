@@ -1,5 +1,5 @@
 -- An actor leaves its wait in memory as it does in the process.
-use Rattle.std.specs.Prelude.{◌≡◌, ℕ, zero, suc, List, [], ◌∷◌}
+use Rattle.std.specs.Prelude.{◌≡◌, true, ℕ, zero, suc, List, [], ◌∷◌}
 use Rattle.std.specs.declared.option.Option.{Option}
 use Rattle.std.specs.declared.option.Option.TheVariants.{Some}
 use Rattle.flow_value.specs.declared.value.Kind.{Kind}
@@ -50,8 +50,9 @@ module _ (r : RawTree) (h : HeapTree) (p : Proc Frame) where
       (i : ℕ) → Shows r h p → (s : At r h p i) → MayLeave i s.entry.operands p.core
       → Shows r (withdrawn i h) (on_core (left_wait i s.entry) p)
 
-  -- an actor is marked as cancelled
+  -- an actor is marked as cancelled, and leaves its wait if it is suspended
   abbrev pub Cancelled : Type 0
   Cancelled =
-      (i : ℕ) → Shows r h p → (s : At r h p i) → MayLeave i s.entry.operands p.core
+      (i : ℕ) → Shows r h p → (s : At r h p i)
+      → (s.entry.suspended ≡ true → MayLeave i s.entry.operands p.core)
       → Shows r (cancelled i h) (on_core (cancel_by s.entry.suspended i s.entry) p)

@@ -13,3 +13,5 @@ pub mod Holding
 pub mod Keeps
 pub mod Alive
 pub mod Starting
+pub mod Example
+pub mod Holds

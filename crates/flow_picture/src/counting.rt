@@ -10,6 +10,7 @@ ghost use Rattle.flow_picture.specs.References as of;
 ghost use Rattle.flow_picture.specs.Keeping as kept;
 ghost use Rattle.flow_picture.specs.Losing as losing;
 ghost use Rattle.flow_picture.specs.Alive as alive;
+ghost use Rattle.flow_picture.specs.Holds as holds;
 
 /// How many places of a process refer to a side of a cell, after each thing that a process does to its tasks and cells.
 pub fn references_of_cells()
@@ -74,4 +75,21 @@ pub fn references_stay()
     ensures marked { (h : HeapTree) → alive.MarkWanted h }
     ensures referenced { (r : RawTree) (h : HeapTree) (p : Proc Frame) → alive.AliveShown r h p }
     ensures awaited { (r : RawTree) (h : HeapTree) (p : Proc Frame) → alive.WantedShown r h p }
+{}
+
+/// With the references in hand: one that is stored counts, and so do those of a list; what is in hand goes into a cell, which
+/// fires; and the result of an effect is given by a task, under which the actor goes on.
+pub fn stored_counts()
+    ensures held { (r : RawTree) (h : HeapTree) (p : Proc Frame) → holds.Held r h p }
+    ensures all { (r : RawTree) (h : HeapTree) (p : Proc Frame) → holds.AllHeld r h p }
+    ensures filled { (r : RawTree) (h : HeapTree) (p : Proc Frame) → holds.Filled r h p }
+    ensures given { (r : RawTree) (h : HeapTree) (p : Proc Frame) → holds.Given r h p }
+{}
+
+/// An actor leaves its wait or is cancelled, with the references in hand; and a reference is lost and what that leads to is done
+/// as the rule says: the cell is freed or broken, the actor of its result cancelled, or its port freed.
+pub fn losses_done()
+    ensures left { (r : RawTree) (h : HeapTree) (p : Proc Frame) → holds.WaitLeft r h p }
+    ensures cancelled { (r : RawTree) (h : HeapTree) (p : Proc Frame) → holds.ActorCancelled r h p }
+    ensures lost { (r : RawTree) (h : HeapTree) (p : Proc Frame) → holds.LossDone r h p }
 {}

@@ -9,6 +9,7 @@ ghost use Rattle.flow_meaning.specs.Process.{Entry, Proc};
 ghost use Rattle.flow_meaning.specs.Frame.{Memory, Frame};
 ghost use Rattle.flow_frame.specs.Frames.{FrameTree};
 ghost use Rattle.flow_picture.specs.Holding as holding;
+ghost use Rattle.flow_picture.specs.Example.{WaitingRests};
 ghost use Rattle.flow_picture.specs.Starting.{IdleRests, VanishedRests};
 ghost use Rattle.flow_picture.specs.Standing as standing;
 
@@ -44,8 +45,10 @@ pub fn references_of_frames()
     ensures path { (m : Memory) (s : Side) (j : ℕ) → holding.OfPath m s j }
 {}
 
-/// A process that never ran rests, and so does one after a loss of power: everything that holds at rest holds of it.
+/// A process that never ran rests, and so does one after a loss of power, and, for example, one whose `main` waits for a
+/// timer: everything that holds at rest holds of it.
 pub fn starts_at_rest()
     ensures idle { IdleRests }
     ensures vanished { VanishedRests }
+    ensures example { WaitingRests }
 {}
