@@ -1,5 +1,6 @@
 -- Where a body is reached, its blocks are kept: choices and loops.
 use Rattle.std.proofs.Common.{◌≡◌, inr, ℕ, suc, ◌+◌, ◌-◌, ◌^◌, ◌<◌, ◌≤◌, Bool, true, false, ◌||◌, List, [], ◌∷◌, ◌++◌, length, refl, ap, sym, subst, ◌∙◌, arith, length-append, append-nil}
+use Rattle.std.proofs.lemmas.Bool.{false≢true}
 use Rattle.std.specs.declared.option.Option.{Option}
 use Rattle.std.specs.declared.option.Option.TheVariants.{None, Some}
 use Rattle.flow_base.specs.declared.place.Place.{Place}
@@ -52,9 +53,6 @@ use Rattle.flow_lawful.proofs.Fitting.{stands_loop}
 use Rattle.flow_lawful.proofs.Grounds.{ground_pass}
 use Rattle.flow_lawful.proofs.Jumping.{waits_alone, inner_owed}
 
-no_both : false ≡ true → ⊥
-no_both z = cc
-
 abbrev pub IsJump : ℕ → LastTree → Type 0
 IsJump y (GotoLast t) = t ≡ y
 IsJump y (PassLast t) = t ≡ y
@@ -95,10 +93,10 @@ module _ (base : Setting) (ns : Names) (c : ClassTree) (few_slots : length c.slo
   pub jump_leaf : (gs : List Slotted) (s : Scope) (w : Around) (m : ℕ) (p : Point) (a : Aims) (near : Entries c → Type 0) (n g : ℕ) (y st : ℕ) (l : LastTree) → Lies a.hand gs (inner_locals w.depth s) m → ((e : Entries c) → near e → e y ≡ Some (filled gs st)) → Meets p.stale st (length gs)
       → IsJump y l → Live c w.hand a.hand gs p.stale near n n g g (ends w s false [] l)
   jump_leaf gs s w m p a near n g y st (GotoLast t) lies iy meets j =
-      leaf base ns c few_slots few_locals w s gs p a near n g false [] (GotoLast t) lies.from (λ t e o. absurd (no_both t))
+      leaf base ns c few_slots few_locals w s gs p a near n g false [] (GotoLast t) lies.from (λ t e o. absurd (false≢true t))
       (λ e o kc x cover guard. (in_none x, catches c e w.hand a.hand kc p.stale x lies.below guard (covers_sub x gs a.hand.places p.stale lies.sub cover), subst (Enters c e x) (sym j) (enters c e x y gs gs p.stale st cover (iy e o) (λ i r k. k) meets)))
   jump_leaf gs s w m p a near n g y st (PassLast t) lies iy meets j =
-      leaf base ns c few_slots few_locals w s gs p a near n g false [] (PassLast t) lies.from (λ t e o. absurd (no_both t))
+      leaf base ns c few_slots few_locals w s gs p a near n g false [] (PassLast t) lies.from (λ t e o. absurd (false≢true t))
       (λ e o kc x cover guard. (in_none x, catches c e w.hand a.hand kc p.stale x lies.below guard (covers_sub x gs a.hand.places p.stale lies.sub cover), subst (Enters c e x) (sym j) (enters c e x y gs gs p.stale st cover (iy e o) (λ i r k. k) meets)))
   jump_leaf gs s w m p a near n g y st _ lies iy meets j = absurd j
 

@@ -1,5 +1,6 @@
 -- The class of an actor that the front accepts reads only what is filled.
 use Rattle.std.proofs.Common.{◌≡◌, ◌⊎◌, inl, inr, ℕ, zero, suc, ◌+◌, ◌^◌, ◌<◌, ◌≤◌, Bool, true, false, nat_lt, nat_eq, List, [], ◌∷◌, ◌++◌, length, map, reverse, slice_get, refl, ap, sym, subst, ◌∙◌, arith, length-append, append_assoc, if◌then◌else◌}
+use Rattle.std.proofs.lemmas.Bool.{false≢true}
 use Rattle.std.specs.Str.{bytes_eq}
 use Rattle.std.proofs.lemmas.List.{reverse-append}
 use Rattle.std.specs.declared.option.Option.TheVariants.{None, Some}
@@ -211,7 +212,7 @@ class_filled p h a k paths unlost =
     let line = begun_line base ns c k.small.slots k.small.locals a.params (body_slots a.body) refl in
     let live = all_live base ns c k.small.slots k.small.locals agree a.body false false (body_env base a) rows vs gs [] w start begins aims None many
     (record {
-      stands = record { setting = refl; returns = refl; sees = sees; caught = record { known = λ t. absurd (no_catch t) } };
+      stands = record { setting = refl; returns = refl; sees = sees; caught = record { known = λ t. absurd (false≢true t) } };
       above = tt;
       room = all_types ns c [] c.locals refl;
       parts = k.parts;
@@ -220,20 +221,17 @@ class_filled p h a k paths unlost =
       judged = k.judged.body;
     })
     (record { line = line; start = refl; end = nowhere []; out = nowhere []; again = nowhere []; hand = nowhere []; scoped = tt; looped = λ t. tt })
-    (record { known = λ t. absurd (no_catch t) }) unlost.fresh (most (waits_in a.body)) in
+    (record { known = λ t. absurd (false≢true t) }) unlost.fresh (most (waits_in a.body)) in
     let last = 1 + blocks_in false a.body in
     let groups = 1 + groups_in a.body in
     let later = later_live c None no_aim gs 0 outer 0 last 1 groups ch live in
     let first = later_entry c None no_aim gs 0 outer 0 last 1 groups ch live in
     let os = later.entry ∷ later.entries in
     let e = at_number os in
-    let all = later.kept e refl (entries_at c (later.entry ∷ []) later.entries) (tt, record { out = λ t. absurd (no_catch t); again = λ t. absurd (no_catch t); hand = tt }) (located_from c [] c.groups refl) in
+    let all = later.kept e refl (entries_at c (later.entry ∷ []) later.entries) (tt, record { out = λ t. absurd (false≢true t); again = λ t. absurd (false≢true t); hand = tt }) (located_from c [] c.groups refl) in
     reads_filled c e (λ b ps is. let r = kept_at c e os c.blocks all b ps is in record { block = r.block; is = r.is; kept = r.kept })
     (λ q. (filled gs 0, first, λ z m. parameter_in c q (length a.params) refl z (filled_holds gs 0 z m)))
   where
-    no_catch : false ≡ true → ⊥
-    no_catch t = cc
-
     most : {m n : ℕ} → m ≡ n → n ≤ m
     most e = omega (arith, e)
 

@@ -61,9 +61,6 @@ abbrev number_in : Slotted → ℕ
 number_in (place.Slot n) = n
 number_in (place.Local n) = n
 
-no_both : false ≡ true → ⊥
-no_both z = cc
-
 module _ (base : Setting) (ns : Names) (c : ClassTree) (few_slots : length c.slots < 2 ^ 64) (few_locals : length c.locals < 2 ^ 64) (agree : (f : List ℕ) → is_there (effectful ns f) ≡ calls_effect (called base f)) where
   abbrev Alives : Body → Type 0
   Alives b = Lives base ns c few_slots few_locals agree b
