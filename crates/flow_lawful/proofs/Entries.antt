@@ -69,6 +69,7 @@ covers_waited gs st s cover q h = by_kind (is_local q) refl
     by_kind : (b : Bool) → is_local q ≡ b → s q && not (is_local q) ≡ true
     by_kind true e = absurd (too_old (omega arith) (h.2 e))
     by_kind false e = and_true (s q) (is_local q) (cover q (h.0, h.1, λ k. absurd (false≢true (sym e ∙ k)))) e
+
 abbrev caught_by : Option ℕ → Slotted → Bool
 caught_by o q = is_caught o q
 

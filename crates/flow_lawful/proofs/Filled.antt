@@ -35,7 +35,7 @@ use Rattle.flow_fits.proofs.PathsDerived.{program_paths}
 use Rattle.flow_fits.proofs.Names.{none_some, no_second}
 use Rattle.flow_faithful.proofs.Whole.{EachActor}
 use Rattle.flow_lawful.proofs.InForce.{sees_params, param_at}
-use Rattle.flow_lawful.proofs.Numbered.{all_types}
+use Rattle.flow_lawful.proofs.Numbered.{seam, one_more, all_types}
 use Rattle.flow_lawful.proofs.Declaring.{Accepted, is_accepted}
 use Rattle.flow_lawful.proofs.Effects.{effects_agree}
 use Rattle.flow_lawful.proofs.Tested.{IsWell, actors_well, class_of, keeps_rules}
@@ -57,13 +57,6 @@ at_number (o ∷ os) (suc n) = at_number os n
 entry_seam : (pre os : List Entry) (o : Entry) → at_number (pre ++ o ∷ os) (length pre) ≡ o
 entry_seam [] os o = refl
 entry_seam (x ∷ pre) os o = entry_seam pre os o
-
-one_more : {A : Type 0} (pre : List A) (x : A) → length (pre ++ x ∷ []) ≡ suc (length pre)
-one_more pre x = omega (arith, length-append pre (x ∷ []))
-
-seam : {A : Type 0} (pre xs : List A) (x : A) → slice_get (pre ++ x ∷ xs) (length pre) ≡ Some x
-seam [] xs x = refl
-seam (y ∷ pre) xs x = seam pre xs x
 
 -- slots alone, newest first
 abbrev slots_down : ℕ → List Slotted

@@ -64,7 +64,7 @@ here_aim gs st l = record { places = gs; stale = st; from = l }
 pub lies_here : (gs : List Slotted) (st l : ℕ) (ds : List ℕ) → ((j k : ℕ) → Has gs j (place.Local k) → k < l) → AllFrom l ds → Lies (here_aim gs st l) gs ds l
 lies_here gs st l ds below from = record { sub = λ j q k. k; below = below; from = from; low = omega arith }
 
-abbrev number_in : Slotted → ℕ
+abbrev pub number_in : Slotted → ℕ
 number_in (place.Slot n) = n
 number_in (place.Local n) = n
 
@@ -174,6 +174,7 @@ module _ (base : Setting) (ns : Names) (c : ClassTree) (few_slots : length c.slo
         scoped = tt;
         looped = λ t. absurd (true≢false t);
       }
+
   -- chunks
   pub live_to : (h : Option Hand) (a : Aim) (gs : List Slotted) (st : ℕ) (outer : Entries c → Type 0) (n m o g i j : ℕ) (ch : Chunk) → m ≡ o → i ≡ j → Live c h a gs st outer n m g i ch → Live c h a gs st outer n o g j ch
   live_to h a gs st outer n m o g i j ch e f v = record { entries = v.entries; size = v.size ∙ e; gsize = v.gsize ∙ f; acts = v.acts; held = v.held; kept = v.kept }
@@ -226,6 +227,7 @@ module _ (base : Setting) (ns : Names) (c : ClassTree) (few_slots : length c.slo
       by_way : (b : Bool) → is_reached u.ends ≡ b → Rest h near gs d p u n m g i ch
       by_way true e = record { later = later_map h outer near n m g i ch (f e) (later_live c h a gs (behind d p u.ends).stale outer n m g i ch (live e)); entry_is = λ t. later_entry c h a gs (behind d p u.ends).stale outer n m g i ch (live e) }
       by_way false e = record { later = later_dead c h near n m g i ch size gsize; entry_is = λ t. absurd (false≢true (sym e ∙ t)) }
+
   -- what a point behind asks of the one before
   pub exits_here : (vs : List Variable) (gs : List Slotted) (p : Point) (r : Reached) → length vs ≡ length gs → Exits (behind (length vs) p r).stale (length gs) p.stale r
   exits_here vs gs p r e = subst (λ d. Exits (behind (length vs) p r).stale d p.stale r) e (exits_self (length vs) p r)

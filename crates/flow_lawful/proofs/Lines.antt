@@ -185,6 +185,7 @@ not_lost p at named j z h = by_stale (nat_lt j p.stale) refl (ap (λ f. not (nat
     by_stale : (b : Bool) → nat_lt j p.stale ≡ b → not (nat_le 0 j && nat_lt j p.stale) && true ≡ true → p.stale ≤ j
     by_stale false e k = not_less j p.stale e
     by_stale true e k = absurd (false≢true (sym (ap₂ (λ a b. not (a && b) && true) (all_le j) e) ∙ k))
+
 module _ (base : Setting) (c : ClassTree) where
   -- a variable of a name: its number, and its place
   pub record Found (vs : List Variable) (gs : List Slotted) (s : Scope) (x : List ℕ) : Type 0 where

@@ -65,11 +65,11 @@ module _ (ns : Names) (c : ClassTree) (few_slots : length c.slots < 2 ^ 64) (few
   all_caught n [] h = refl
   all_caught n (b ∷ bs) h = both (catches c n b.catcher) _ h.0.caught (all_caught (suc n) bs h.1)
 
-seam : {A : Type 0} (pre xs : List A) (x : A) → slice_get (pre ++ x ∷ xs) (length pre) ≡ Some x
+pub seam : {A : Type 0} (pre xs : List A) (x : A) → slice_get (pre ++ x ∷ xs) (length pre) ≡ Some x
 seam [] xs x = refl
 seam (y ∷ pre) xs x = seam pre xs x
 
-one_more : {A : Type 0} (pre : List A) (x : A) → length (pre ++ x ∷ []) ≡ suc (length pre)
+pub one_more : {A : Type 0} (pre : List A) (x : A) → length (pre ++ x ∷ []) ≡ suc (length pre)
 one_more pre x = omega (arith, length-append pre (x ∷ []))
 
 -- the locals of a class stand in it from the first on

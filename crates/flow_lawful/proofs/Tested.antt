@@ -95,6 +95,7 @@ types_well p h a k =
     subst (λ s. list_all (block_fits c s) c.blocks && list_all (list_all (callback_fits c s)) c.groups ≡ true) (sym same)
     (both (list_all (block_fits c (over_class base c)) c.blocks) _
     (both (block_fits c (over_class base c) (block_with None ch)) _ (block_fit base ns c k.small.slots k.small.locals agree None ch f) f.more) f.groups)
+
 all_hold : (a b c d e : Bool) → a ≡ true → b ≡ true → c ≡ true → d ≡ true → e ≡ true → first_broken ((3, a) ∷ (4, b) ∷ (5, c) ∷ (6, d) ∷ (7, e) ∷ []) ≡ None
 all_hold true true true true true f g h i j = refl
 all_hold false b c d e f g h i j = cc
