@@ -1,5 +1,6 @@
 -- Where a body is reached, its blocks are kept: straight statements and jumps.
 use Rattle.std.proofs.Common.{◌≡◌, inr, ℕ, suc, ◌+◌, ◌^◌, ◌<◌, ◌≤◌, Bool, true, false, List, [], ◌∷◌, ◌++◌, length, if◌then◌else◌, refl, ap, sym, subst, ◌∙◌, arith}
+use Rattle.std.proofs.lemmas.Bool.{false≢true}
 use Rattle.std.specs.Str.{bytes_eq}
 use Rattle.std.specs.declared.option.Option.{Option}
 use Rattle.std.specs.declared.option.Option.TheVariants.{None, Some}
@@ -150,17 +151,11 @@ module _ (base : Setting) (ns : Names) (c : ClassTree) (few_slots : length c.slo
     where
       by_exit : (x : Exit) → Live c w.hand a.hand gs p.stale (EndNear l w a p x) n.block n.block n.group n.group (finished w s x)
       by_exit (Text close) =
-          leaf base ns c few_slots few_locals w s gs p a (EndNear l w a p (Text close)) n.block n.group false [] (cancelled close) g.hand.from (λ z en o. absurd (no_both z))
+          leaf base ns c few_slots few_locals w s gs p a (EndNear l w a p (Text close)) n.block n.group false [] (cancelled close) g.hand.from (λ z en o. absurd (false≢true z))
           (λ en o kc z cover guard. (in_none z, catches c en w.hand a.hand kc p.stale z g.hand.below guard (covers_sub z gs a.hand.places p.stale g.hand.sub cover), tt))
-        where
-          no_both : false ≡ true → ⊥
-          no_both z = cc
       by_exit (Scoped last) =
-          leaf base ns c few_slots few_locals w s gs p a (EndNear l w a p (Scoped last)) n.block n.group false (drop_of (scope s)) last g.hand.from (λ z en o. absurd (no_both z))
+          leaf base ns c few_slots few_locals w s gs p a (EndNear l w a p (Scoped last)) n.block n.group false (drop_of (scope s)) last g.hand.from (λ z en o. absurd (false≢true z))
           (λ en o kc z cover guard. drop_kept c en w.hand a.hand kc (scope s) last a.end p at_once z refl o.0 g.end.below g.hand.below g.end.from g.scoped (covers_sub z gs a.end.places p.stale g.end.sub cover) (covers_sub z gs a.hand.places p.stale g.hand.sub cover) guard)
-        where
-          no_both : false ≡ true → ⊥
-          no_both z = cc
       by_exit (Part last) =
           leaf base ns c few_slots few_locals w s gs p a (EndNear l w a p (Part last)) n.block n.group false [] last g.hand.from (λ z en o. absurd o.0) (λ en o kc z cover guard. absurd o.0)
 

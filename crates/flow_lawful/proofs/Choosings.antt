@@ -1,5 +1,6 @@
 -- Where a body is reached, its blocks are kept: choices and loops.
 use Rattle.std.proofs.Common.{◌≡◌, inr, ℕ, suc, ◌+◌, ◌-◌, ◌^◌, ◌<◌, ◌≤◌, Bool, true, false, ◌||◌, List, [], ◌∷◌, ◌++◌, length, refl, ap, sym, subst, ◌∙◌, arith, length-append, append-nil}
+use Rattle.std.proofs.lemmas.Bool.{false≢true}
 use Rattle.std.specs.declared.option.Option.{Option}
 use Rattle.std.specs.declared.option.Option.TheVariants.{None, Some}
 use Rattle.flow_base.specs.declared.place.Place.{Place}
@@ -34,7 +35,7 @@ use Rattle.flow_lawful.proofs.OverPlaces.{over_names, Sees}
 use Rattle.flow_lawful.proofs.Fitting.{at_item, stands_behind, stands_marked}
 use Rattle.flow_lawful.proofs.Walks.{Enters}
 use Rattle.flow_lawful.proofs.Waysides.{Meets, Exits, behind_is, exits_left, exits_right}
-use Rattle.flow_lawful.proofs.Lines.{filled, covers_sub, AllFresh, fresh_left, fresh_right, in_none, Lined}
+use Rattle.flow_lawful.proofs.Lines.{Sub, filled, covers_sub, AllFresh, fresh_left, fresh_right, in_none, Lined}
 use Rattle.flow_lawful.proofs.Entries.{Aim, Lies, Entries, enters, HandFact, catches, Live, later_live, join}
 use Rattle.flow_lawful.proofs.Surroundings.{Aims, behind_once, HandWay, sides_left, sides_right, sides_first, hand_fact}
 use Rattle.flow_lawful.proofs.Reading.{whole_in}
@@ -51,9 +52,6 @@ use Rattle.flow_lawful.proofs.Surroundings.{onward_once}
 use Rattle.flow_lawful.proofs.Fitting.{stands_loop}
 use Rattle.flow_lawful.proofs.Grounds.{ground_pass}
 use Rattle.flow_lawful.proofs.Jumping.{waits_alone, inner_owed}
-
-no_both : false ≡ true → ⊥
-no_both z = cc
 
 abbrev pub IsJump : ℕ → LastTree → Type 0
 IsJump y (GotoLast t) = t ≡ y
@@ -79,26 +77,26 @@ module _ (base : Setting) (ns : Names) (c : ClassTree) (few_slots : length c.slo
   abbrev ended : Aims → List Slotted → ℕ → ℕ → Aims
   ended a gs st m = record a { end = here_aim gs st m }
 
-  -- a test at the end of a block
-  pub test_leaf : (rows : RowsHere) (vs : List Variable) (gs : List Slotted) (s : Scope) (w : Around) (m : ℕ) (p : Point) (a : Aims) (near : Entries c → Type 0) (n g : ℕ) (q : ExprTree) (y z st : ℕ) → Sees base c rows s → Lined base c vs gs rows s m → p.from ≡ 0
-      → Lies a.hand gs (inner_locals w.depth s) m → fault (over_names base c rows) false q ≡ None → AllFresh (expr_uses vs p q) → ((e : Entries c) → near e → e y ≡ Some (filled gs p.stale)) → ((e : Entries c) → near e → e z ≡ Some (filled gs st))
-      → Meets p.stale st (length gs) → ((e : Entries c) → near e → HandFact c e w.hand a.hand p.stale) → Live c w.hand a.hand gs p.stale near n n g g (ends w s true [] (TestLast (over c.slots s q) y z))
-  test_leaf rows vs gs s w m p a near n g q y z st sees line start lies f fresh iy iz meets fact =
+  -- a test at the end of a block, whose ways may lead to places of different scopes
+  pub test_leaf : (rows : RowsHere) (vs : List Variable) (gs hs : List Slotted) (s : Scope) (w : Around) (m : ℕ) (p : Point) (a : Aims) (near : Entries c → Type 0) (n g : ℕ) (q : ExprTree) (y z st : ℕ) → Sees base c rows s → Lined base c vs gs rows s m → p.from ≡ 0
+      → Lies a.hand gs (inner_locals w.depth s) m → fault (over_names base c rows) false q ≡ None → AllFresh (expr_uses vs p q) → ((e : Entries c) → near e → e y ≡ Some (filled gs p.stale)) → ((e : Entries c) → near e → e z ≡ Some (filled hs st))
+      → Sub hs gs → Meets p.stale st (length hs) → ((e : Entries c) → near e → HandFact c e w.hand a.hand p.stale) → Live c w.hand a.hand gs p.stale near n n g g (ends w s true [] (TestLast (over c.slots s q) y z))
+  test_leaf rows vs gs hs s w m p a near n g q y z st sees line start lies f fresh iy iz sub meets fact =
       leaf base ns c few_slots few_locals w s gs p a near n g true [] (TestLast (over c.slots s q) y z) lies.from (λ t e o. fact e o)
       (λ e o kc x cover guard. (
         whole_in base ns c rows s sees vs gs m line p start x cover false q f fresh,
         catches c e w.hand a.hand kc p.stale x lies.below guard (covers_sub x gs a.hand.places p.stale lies.sub cover),
-        (enters c e x y gs gs p.stale p.stale cover (iy e o) (λ j r k. k) (inr (omega arith)), enters c e x z gs gs p.stale st cover (iz e o) (λ j r k. k) meets),
+        (enters c e x y gs gs p.stale p.stale cover (iy e o) (λ j r k. k) (inr (omega arith)), enters c e x z gs hs p.stale st cover (iz e o) sub meets),
       ))
 
   -- a jump at the end of a block
   pub jump_leaf : (gs : List Slotted) (s : Scope) (w : Around) (m : ℕ) (p : Point) (a : Aims) (near : Entries c → Type 0) (n g : ℕ) (y st : ℕ) (l : LastTree) → Lies a.hand gs (inner_locals w.depth s) m → ((e : Entries c) → near e → e y ≡ Some (filled gs st)) → Meets p.stale st (length gs)
       → IsJump y l → Live c w.hand a.hand gs p.stale near n n g g (ends w s false [] l)
   jump_leaf gs s w m p a near n g y st (GotoLast t) lies iy meets j =
-      leaf base ns c few_slots few_locals w s gs p a near n g false [] (GotoLast t) lies.from (λ t e o. absurd (no_both t))
+      leaf base ns c few_slots few_locals w s gs p a near n g false [] (GotoLast t) lies.from (λ t e o. absurd (false≢true t))
       (λ e o kc x cover guard. (in_none x, catches c e w.hand a.hand kc p.stale x lies.below guard (covers_sub x gs a.hand.places p.stale lies.sub cover), subst (Enters c e x) (sym j) (enters c e x y gs gs p.stale st cover (iy e o) (λ i r k. k) meets)))
   jump_leaf gs s w m p a near n g y st (PassLast t) lies iy meets j =
-      leaf base ns c few_slots few_locals w s gs p a near n g false [] (PassLast t) lies.from (λ t e o. absurd (no_both t))
+      leaf base ns c few_slots few_locals w s gs p a near n g false [] (PassLast t) lies.from (λ t e o. absurd (false≢true t))
       (λ e o kc x cover guard. (in_none x, catches c e w.hand a.hand kc p.stale x lies.below guard (covers_sub x gs a.hand.places p.stale lies.sub cover), subst (Enters c e x) (sym j) (enters c e x y gs gs p.stale st cover (iy e o) (λ i r k. k) meets)))
   jump_leaf gs s w m p a near n g y st _ lies iy meets j = absurd j
 
@@ -153,8 +151,8 @@ module _ (base : Setting) (ns : Names) (c : ClassTree) (few_slots : length c.slo
       let later = later_live c w.hand a.hand gs p.stale owed1 n.block j.block n.group j.group c1 live in
       let entry = later_entry c w.hand a.hand gs p.stale owed1 n.block j.block n.group j.group c1 live in
       let near0 : Entries c → Type 0 = λ en. outer en × (en n.block ≡ Some (filled gs p.stale)) × (en j.block ≡ r2.later.entry) in
-      let one = test_leaf rows vs gs s w n.local p a near0 n.block n.group q n.block j.block st said.stands.sees g.line g.start g.hand (no_first (fault names false q) (wants (form names q) BoolType) test) (fresh_left es us fresh12) (λ en o. o.1)
-      (λ en o. o.2 ∙ r2.entry_is refl) (ex.fresh refl) (λ en o. hand_fact c en w.hand a.hand p u.throws refl (sides_first c en l w a p u v o.0.1).hand) in
+      let one = test_leaf rows vs gs gs s w n.local p a near0 n.block n.group q n.block j.block st said.stands.sees g.line g.start g.hand (no_first (fault names false q) (wants (form names q) BoolType) test) (fresh_left es us fresh12) (λ en o. o.1)
+      (λ en o. o.2 ∙ r2.entry_is refl) (λ j m k. k) (ex.fresh refl) (λ en o. hand_fact c en w.hand a.hand p u.throws refl (sides_first c en l w a p u v o.0.1).hand) in
       live_to base ns c few_slots few_locals w.hand a.hand gs p.stale outer n.block (suc j.block + blocks_in w.looped.tried x) (n.block + (suc (blocks_in w.looped.tried b) + suc (blocks_in w.looped.tried x))) n.group (j.group + groups_in x) (n.group + (groups_in b + groups_in x))
       (joined w.hand (joined w.hand c0 c1) c2) (omega arith) (omega arith)
       (join_two c w.hand w.hand w.hand a.hand gs p.stale outer near0 owed1 outer n.block n.block j.block (suc j.block + blocks_in w.looped.tried x) n.group n.group j.group (j.group + groups_in x) c0 c1 c2 one later r2.later (λ en o i1 i2. (o, i1 ∙ entry, i2))
@@ -242,8 +240,8 @@ module _ (base : Setting) (ns : Names) (c : ClassTree) (few_slots : length c.slo
       let entry2 = later_entry c w.hand a.hand gs p.stale owed2 i.block j.block i.group j.group c2 live2 in
       let near1 : Entries c → Type 0 = λ en. outer en × (en j.block ≡ r2.later.entry) in
       let near0 : Entries c → Type 0 = λ en. outer en × (en n.block ≡ Some (filled gs p.stale)) × (en i.block ≡ Some (filled gs p.stale)) in
-      let one = test_leaf rows vs gs s w n.local p a near0 n.block n.group q n.block i.block p.stale said.stands.sees g.line g.start g.hand (no_first (fault names false q) (wants (form names q) BoolType) test) (fresh_left es us fresh12) (λ en o. o.1)
-      (λ en o. o.2) (inr (omega arith)) (λ en o. hand_fact c en w.hand a.hand p u.throws refl (sides_first c en l w a p u v o.0.1).hand) in
+      let one = test_leaf rows vs gs gs s w n.local p a near0 n.block n.group q n.block i.block p.stale said.stands.sees g.line g.start g.hand (no_first (fault names false q) (wants (form names q) BoolType) test) (fresh_left es us fresh12) (λ en o. o.1)
+      (λ en o. o.2) (λ j m k. k) (inr (omega arith)) (λ en o. hand_fact c en w.hand a.hand p u.throws refl (sides_first c en l w a p u v o.0.1).hand) in
       let three = join_two c w.hand w.hand w.hand a.hand gs p.stale near1 near0 owed1 owed2 n.block n.block i.block j.block n.group n.group i.group j.group c0 c1 c2 one later1 later2 (λ en o i1 i2. (o.0, i1 ∙ entry1, i2 ∙ entry2))
       (λ en o i1 i2. inner_owed base ns c few_slots few_locals agree en l w j.block n.local a gs p st r (λ h. o.1 ∙ r2.entry_is (reached_left r.ends r'.ends h)) (exits_left st (length gs) p.stale r.ends r'.ends ex)
       (sides_left c en l w a p r r' (sides_right c en l w a p (node at_once) (both r r') (sides_first c en l w a p u v o.0.1))))
@@ -364,8 +362,8 @@ module _ (base : Setting) (ns : Names) (c : ClassTree) (few_slots : length c.slo
       let near0 : Entries c → Type 0 = λ en. en n.block ≡ Some (filled gs hp.stale) in
       let nearT : Entries c → Type 0 = λ en. outer en × (en g'.block ≡ Some (filled gs hp.stale)) × (en j.block ≡ r2.later.entry) in
       let one = jump_leaf gs s w n.local p a near0 n.block n.group n.block hp.stale (PassLast n.block) g.hand (λ en o. o) (head_meets vs gs p r size) refl in
-      let two = test_leaf rows vs gs s w n.local hp a nearT (suc n.block) n.group q g'.block j.block lost said.stands.sees g.line hstart g.hand (no_first (fault names false q) (wants (form names q) BoolType) test) (fresh_left es us fresh12) (λ en o. o.1)
-      (λ en o. o.2 ∙ r2.entry_is refl) (out_test vs gs p r size) (λ en o. hand_fact c en w.hand a.hand hp at_once refl (head_hand en w.hand a.hand (length vs) p r (sides_first c en l w a p u v o.0.1).hand)) in
+      let two = test_leaf rows vs gs gs s w n.local hp a nearT (suc n.block) n.group q g'.block j.block lost said.stands.sees g.line hstart g.hand (no_first (fault names false q) (wants (form names q) BoolType) test) (fresh_left es us fresh12) (λ en o. o.1)
+      (λ en o. o.2 ∙ r2.entry_is refl) (λ j m k. k) (out_test vs gs p r size) (λ en o. hand_fact c en w.hand a.hand hp at_once refl (head_hand en w.hand a.hand (length vs) p r (sides_first c en l w a p u v o.0.1).hand)) in
       let three = loop_body b body true l t e rows vs gs s w n (begun g') p a cu k n.block j.block
       (record {
         stands = stands_marked base ns c few_slots few_locals agree (in_loop e) rows s w.caught (stands_loop base ns c few_slots few_locals agree e rows s w.caught said.stands);

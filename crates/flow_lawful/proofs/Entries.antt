@@ -1,5 +1,6 @@
 -- The entries of blocks, and chunks that keep them.
 use Rattle.std.proofs.Common.{◌≡◌, ◌⊎◌, inl, inr, ℕ, suc, ◌+◌, ◌<◌, ◌≤◌, Bool, true, false, not, ◌&&◌, ◌||◌, nat_eq, List, [], ◌∷◌, ◌++◌, length, refl, ap, sym, subst, ◌∙◌, arith, length-append}
+use Rattle.std.proofs.lemmas.Bool.{false≢true, or_left, or_right}
 use Rattle.std.specs.List.{list_any}
 use Rattle.std.specs.declared.option.Option.{Option}
 use Rattle.std.specs.declared.option.Option.TheVariants.{None, Some}
@@ -12,7 +13,7 @@ use Rattle.flow_split.specs.Lowered.{Chunk, catch_part, blocks_of, joined}
 use Rattle.flow_valid.specs.Filling.{among, is_local, dropped}
 use Rattle.flow_lawful.proofs.Walks.{Places, is_caught, after, waited, handled, Enters, Catches, Kept}
 use Rattle.flow_lawful.proofs.Waysides.{Meets}
-use Rattle.flow_lawful.proofs.Lines.{Has, has_below, Sub, Holds, filled, filled_holds, Covers, covers_filled, same_self}
+use Rattle.flow_lawful.proofs.Lines.{and_true, Has, has_below, Sub, Holds, filled, filled_holds, Covers, covers_filled, same_self}
 
 abbrev pub Entry : Type 0
 Entry = Option (List Slotted)
@@ -55,15 +56,6 @@ pub safe_drop : (a : Aim) (ds : List ℕ) (q : Slotted) → IsBelow a → AllFro
 safe_drop a ds (place.Slot n) below from st h = refl
 safe_drop a ds (place.Local n) below from st h = not_dropped a.from n ds (below h.0 n h.1) from
 
-and_true : (a b : Bool) → a ≡ true → b ≡ false → a && not b ≡ true
-and_true true false e f = refl
-and_true true true e f = cc
-and_true false b e f = cc
-
-or_right : (a b : Bool) → b ≡ true → a || b ≡ true
-or_right true b e = refl
-or_right false b e = e
-
 pub covers_dropped : (a : Aim) (ds : List ℕ) (st : ℕ) (s : Places) → IsBelow a → AllFrom a.from ds → Covers s a.places st → Covers (after (DropInstr ds) s) a.places st
 covers_dropped a ds st s below from cover q h = and_true (s q) (dropped ds q) (cover q h) (safe_drop a ds q below from st h)
 
@@ -76,10 +68,7 @@ covers_waited gs st s cover q h = by_kind (is_local q) refl
 
     by_kind : (b : Bool) → is_local q ≡ b → s q && not (is_local q) ≡ true
     by_kind true e = absurd (too_old (omega arith) (h.2 e))
-    by_kind false e = and_true (s q) (is_local q) (cover q (h.0, h.1, λ k. absurd (no_both (sym e ∙ k)))) e
-      where
-        no_both : false ≡ true → ⊥
-        no_both z = cc
+    by_kind false e = and_true (s q) (is_local q) (cover q (h.0, h.1, λ k. absurd (false≢true (sym e ∙ k)))) e
 
 abbrev caught_by : Option ℕ → Slotted → Bool
 caught_by o q = is_caught o q
@@ -128,10 +117,6 @@ module _ (c : ClassTree) where
       kept : (j : ℕ) → j < length a.places → Meets st a.stale (length a.places) → a.stale ≤ j → st ≤ j
       kept j lt (inl m) le = absurd (omega arith)
       kept j lt (inr m) le = omega arith
-
-      or_left : (x y : Bool) → x ≡ true → x || y ≡ true
-      or_left true y z = refl
-      or_left false y z = cc
 
       by_side : (q : Slotted) (j : ℕ) → ((j ≡ length a.places) × (place.Local g.hand.error ≡ q)) ⊎ Has a.places j q → (is_local q ≡ true → a.stale ≤ j) → handled kc s q ≡ true
       by_side q j (inl k) l =

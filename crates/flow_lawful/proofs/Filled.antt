@@ -1,5 +1,6 @@
 -- The class of an actor that the front accepts reads only what is filled.
 use Rattle.std.proofs.Common.{◌≡◌, ◌⊎◌, inl, inr, ℕ, zero, suc, ◌+◌, ◌^◌, ◌<◌, ◌≤◌, Bool, true, false, nat_lt, nat_eq, List, [], ◌∷◌, ◌++◌, length, map, reverse, slice_get, refl, ap, sym, subst, ◌∙◌, arith, length-append, append_assoc, if◌then◌else◌}
+use Rattle.std.proofs.lemmas.Bool.{false≢true}
 use Rattle.std.specs.Str.{bytes_eq}
 use Rattle.std.proofs.lemmas.List.{reverse-append}
 use Rattle.std.specs.declared.option.Option.TheVariants.{None, Some}
@@ -34,7 +35,7 @@ use Rattle.flow_fits.proofs.PathsDerived.{program_paths}
 use Rattle.flow_fits.proofs.Names.{none_some, no_second}
 use Rattle.flow_faithful.proofs.Whole.{EachActor}
 use Rattle.flow_lawful.proofs.InForce.{sees_params, param_at}
-use Rattle.flow_lawful.proofs.Numbered.{all_types}
+use Rattle.flow_lawful.proofs.Numbered.{seam, one_more, all_types}
 use Rattle.flow_lawful.proofs.Declaring.{Accepted, is_accepted}
 use Rattle.flow_lawful.proofs.Effects.{effects_agree}
 use Rattle.flow_lawful.proofs.Tested.{IsWell, actors_well, class_of, keeps_rules}
@@ -56,13 +57,6 @@ at_number (o ∷ os) (suc n) = at_number os n
 entry_seam : (pre os : List Entry) (o : Entry) → at_number (pre ++ o ∷ os) (length pre) ≡ o
 entry_seam [] os o = refl
 entry_seam (x ∷ pre) os o = entry_seam pre os o
-
-one_more : {A : Type 0} (pre : List A) (x : A) → length (pre ++ x ∷ []) ≡ suc (length pre)
-one_more pre x = omega (arith, length-append pre (x ∷ []))
-
-seam : {A : Type 0} (pre xs : List A) (x : A) → slice_get (pre ++ x ∷ xs) (length pre) ≡ Some x
-seam [] xs x = refl
-seam (y ∷ pre) xs x = seam pre xs x
 
 -- slots alone, newest first
 abbrev slots_down : ℕ → List Slotted
@@ -211,7 +205,7 @@ class_filled p h a k paths unlost =
     let line = begun_line base ns c k.small.slots k.small.locals a.params (body_slots a.body) refl in
     let live = all_live base ns c k.small.slots k.small.locals agree a.body false false (body_env base a) rows vs gs [] w start begins aims None many
     (record {
-      stands = record { setting = refl; returns = refl; sees = sees; caught = record { known = λ t. absurd (no_catch t) } };
+      stands = record { setting = refl; returns = refl; sees = sees; caught = record { known = λ t. absurd (false≢true t) } };
       above = tt;
       room = all_types ns c [] c.locals refl;
       parts = k.parts;
@@ -220,20 +214,17 @@ class_filled p h a k paths unlost =
       judged = k.judged.body;
     })
     (record { line = line; start = refl; end = nowhere []; out = nowhere []; again = nowhere []; hand = nowhere []; scoped = tt; looped = λ t. tt })
-    (record { known = λ t. absurd (no_catch t) }) unlost.fresh (most (waits_in a.body)) in
+    (record { known = λ t. absurd (false≢true t) }) unlost.fresh (most (waits_in a.body)) in
     let last = 1 + blocks_in false a.body in
     let groups = 1 + groups_in a.body in
     let later = later_live c None no_aim gs 0 outer 0 last 1 groups ch live in
     let first = later_entry c None no_aim gs 0 outer 0 last 1 groups ch live in
     let os = later.entry ∷ later.entries in
     let e = at_number os in
-    let all = later.kept e refl (entries_at c (later.entry ∷ []) later.entries) (tt, record { out = λ t. absurd (no_catch t); again = λ t. absurd (no_catch t); hand = tt }) (located_from c [] c.groups refl) in
+    let all = later.kept e refl (entries_at c (later.entry ∷ []) later.entries) (tt, record { out = λ t. absurd (false≢true t); again = λ t. absurd (false≢true t); hand = tt }) (located_from c [] c.groups refl) in
     reads_filled c e (λ b ps is. let r = kept_at c e os c.blocks all b ps is in record { block = r.block; is = r.is; kept = r.kept })
     (λ q. (filled gs 0, first, λ z m. parameter_in c q (length a.params) refl z (filled_holds gs 0 z m)))
   where
-    no_catch : false ≡ true → ⊥
-    no_catch t = cc
-
     most : {m n : ℕ} → m ≡ n → n ≤ m
     most e = omega (arith, e)
 

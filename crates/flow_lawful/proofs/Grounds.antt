@@ -1,5 +1,6 @@
 -- What is known where a body begins, and chunks that are kept from there.
 use Rattle.std.proofs.Common.{◌≡◌, inr, ℕ, zero, suc, ◌+◌, ◌^◌, ◌<◌, ◌≤◌, Bool, true, false, List, [], ◌∷◌, ◌++◌, length, if◌then◌else◌, refl, ap, sym, subst, ◌∙◌, arith}
+use Rattle.std.proofs.lemmas.Bool.{false≢true, true≢false}
 use Rattle.std.specs.declared.option.Option.{Option}
 use Rattle.std.specs.declared.option.Option.TheVariants.{None, Some}
 use Rattle.flow_tree.specs.Tree.{TypeTree}
@@ -63,7 +64,7 @@ here_aim gs st l = record { places = gs; stale = st; from = l }
 pub lies_here : (gs : List Slotted) (st l : ℕ) (ds : List ℕ) → ((j k : ℕ) → Has gs j (place.Local k) → k < l) → AllFrom l ds → Lies (here_aim gs st l) gs ds l
 lies_here gs st l ds below from = record { sub = λ j q k. k; below = below; from = from; low = omega arith }
 
-abbrev number_in : Slotted → ℕ
+abbrev pub number_in : Slotted → ℕ
 number_in (place.Slot n) = n
 number_in (place.Local n) = n
 
@@ -171,11 +172,8 @@ module _ (base : Setting) (ns : Names) (c : ClassTree) (few_slots : length c.slo
         again = lies_past a.again gs (inner_locals w.looped.depth s) l m le g.again;
         hand = lies_here gs lost m [] below tt;
         scoped = tt;
-        looped = λ t. absurd (no_both t);
+        looped = λ t. absurd (true≢false t);
       }
-    where
-      no_both : true ≡ false → ⊥
-      no_both t = cc
 
   -- chunks
   pub live_to : (h : Option Hand) (a : Aim) (gs : List Slotted) (st : ℕ) (outer : Entries c → Type 0) (n m o g i j : ℕ) (ch : Chunk) → m ≡ o → i ≡ j → Live c h a gs st outer n m g i ch → Live c h a gs st outer n o g j ch
@@ -228,10 +226,7 @@ module _ (base : Setting) (ns : Names) (c : ClassTree) (few_slots : length c.slo
     where
       by_way : (b : Bool) → is_reached u.ends ≡ b → Rest h near gs d p u n m g i ch
       by_way true e = record { later = later_map h outer near n m g i ch (f e) (later_live c h a gs (behind d p u.ends).stale outer n m g i ch (live e)); entry_is = λ t. later_entry c h a gs (behind d p u.ends).stale outer n m g i ch (live e) }
-      by_way false e = record { later = later_dead c h near n m g i ch size gsize; entry_is = λ t. absurd (no_both (sym e ∙ t)) }
-        where
-          no_both : false ≡ true → ⊥
-          no_both t = cc
+      by_way false e = record { later = later_dead c h near n m g i ch size gsize; entry_is = λ t. absurd (false≢true (sym e ∙ t)) }
 
   -- what a point behind asks of the one before
   pub exits_here : (vs : List Variable) (gs : List Slotted) (p : Point) (r : Reached) → length vs ≡ length gs → Exits (behind (length vs) p r).stale (length gs) p.stale r

@@ -39,7 +39,7 @@ use Rattle.flow_lawful.proofs.Waysides.{behind_is, exits_left, exits_right}
 use Rattle.flow_lawful.proofs.Lines.{filled, fresh_left, fresh_right}
 use Rattle.flow_lawful.proofs.Entries.{Entries, later_live, join}
 use Rattle.flow_lawful.proofs.Surroundings.{Aims, behind_once, sides_first}
-use Rattle.flow_lawful.proofs.Grounds.{here_aim, Ground, live_to, rest_of, exits_here}
+use Rattle.flow_lawful.proofs.Grounds.{number_in, here_aim, Ground, live_to, rest_of, exits_here}
 use Rattle.flow_rules.specs.Items.{with_var, in_catch, fresh as rule_fresh}
 use Rattle.flow_staterule.specs.Ways.{handled}
 use Rattle.flow_staterule.specs.Uses.{caught_as}
@@ -56,13 +56,6 @@ use Rattle.flow_lawful.proofs.InForce.{sees_error}
 use Rattle.flow_lawful.proofs.Lines.{lined_more, lined_marked}
 use Rattle.flow_lawful.proofs.Grounds.{lies_more}
 use Rattle.flow_lawful.proofs.Choosings.{jump_leaf, monus_twice}
-
-abbrev number_in : Slotted → ℕ
-number_in (place.Slot n) = n
-number_in (place.Local n) = n
-
-no_both : false ≡ true → ⊥
-no_both z = cc
 
 module _ (base : Setting) (ns : Names) (c : ClassTree) (few_slots : length c.slots < 2 ^ 64) (few_locals : length c.locals < 2 ^ 64) (agree : (f : List ℕ) → is_there (effectful ns f) ≡ calls_effect (called base f)) where
   abbrev Alives : Body → Type 0

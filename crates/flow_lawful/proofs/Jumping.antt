@@ -1,5 +1,6 @@
 -- Where a body is reached, its blocks are kept: jumps, scopes and choices.
 use Rattle.std.proofs.Common.{◌≡◌, inr, ℕ, suc, ◌+◌, ◌-◌, ◌^◌, ◌<◌, Bool, true, false, List, [], ◌∷◌, ◌++◌, length, map, if◌then◌else◌, refl, ap, sym, subst, ◌∙◌, arith, length-append, append-nil}
+use Rattle.std.proofs.lemmas.Bool.{false≢true}
 use Rattle.std.specs.Option.{option_and_then}
 use Rattle.std.specs.declared.option.Option.{Option}
 use Rattle.std.specs.declared.option.Option.TheVariants.{None, Some}
@@ -47,9 +48,6 @@ use Rattle.flow_lawful.proofs.Grounds.{here_aim, Ground, ground_inner, live_to, 
 use Rattle.flow_lawful.proofs.Choosing.{none_behind}
 use Rattle.flow_lawful.proofs.Grounds.{no_aim, lies_nowhere}
 use Rattle.flow_lawful.proofs.Alive.{Rows, Thrown, thrown_marked, Outer, Lives, rest_lives}
-
-no_both : false ≡ true → ⊥
-no_both z = cc
 
 module _ (base : Setting) (ns : Names) (c : ClassTree) (few_slots : length c.slots < 2 ^ 64) (few_locals : length c.locals < 2 ^ 64) (agree : (f : List ℕ) → is_there (effectful ns f) ≡ calls_effect (called base f)) where
   abbrev pub Alives : Body → Type 0
@@ -119,7 +117,7 @@ module _ (base : Setting) (ns : Names) (c : ClassTree) (few_slots : length c.slo
       → Live c w.hand a.hand gs p.stale near n.block (n.block + exit_blocks b) n.group n.group (exits b w s n last)
   exits_live false l rows vs gs s w n p a aim last near e g lies way =
       live_to base ns c few_slots few_locals w.hand a.hand gs p.stale near n.block n.block (n.block + 0) n.group n.group n.group (exits false w s n last) (omega arith) refl
-      (leaf base ns c few_slots few_locals w s gs p a near n.block n.group false (map DropInstr (left_lists w.looped.depth s)) last g.hand.from (λ z en o. absurd (no_both z))
+      (leaf base ns c few_slots few_locals w s gs p a near n.block n.group false (map DropInstr (left_lists w.looped.depth s)) last g.hand.from (λ z en o. absurd (false≢true z))
       (λ en o kc z cover guard. lists_kept c en w.hand a.hand kc (left_lists w.looped.depth s) last aim p at_once z refl (way en o) lies.below g.hand.below (lists_from aim.from w.looped.depth s lies.from) (lists_from a.hand.from w.looped.depth s (g.looped e))
       (covers_sub z gs aim.places p.stale lies.sub cover) (covers_sub z gs a.hand.places p.stale g.hand.sub cover) guard))
   exits_live true l rows vs gs s w n p a aim last near e g lies way =
@@ -128,7 +126,7 @@ module _ (base : Setting) (ns : Names) (c : ClassTree) (few_slots : length c.slo
         entries = Some (filled gs p.stale) ∷ [];
         size = refl;
         gsize = omega arith;
-        acts = λ z en at o. absurd (no_both z);
+        acts = λ z en at o. absurd (false≢true z);
         held = g.hand.from;
         kept = λ en at o gr. record {
           first = λ kc z cover guard. (

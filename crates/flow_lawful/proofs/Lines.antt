@@ -1,5 +1,6 @@
 -- The variables in force in the words of the rule on state, with their places; what is read is filled.
 use Rattle.std.proofs.Common.{◌≡◌, ◌⊎◌, inl, inr, ℕ, suc, ◌^◌, ◌<◌, ◌≤◌, Bool, true, false, not, ◌&&◌, ◌||◌, nat_eq, nat_lt, nat_le, List, [], ◌∷◌, ◌++◌, length, slice_get, if◌then◌else◌, refl, ap, ap₂, sym, subst, ◌∙◌, arith}
+use Rattle.std.proofs.lemmas.Bool.{false≢true, or_right}
 use Rattle.std.specs.Str.{bytes_eq}
 use Rattle.std.specs.List.{list_all}
 use Rattle.std.proofs.lemmas.List.Folds.{list_all-append, list_any-append}
@@ -73,7 +74,7 @@ abbrev pub filled : List Slotted → (stale : ℕ) → List Slotted
 filled [] stale = []
 filled (g ∷ gs) stale = if is_local g && nat_lt (length gs) stale then filled gs stale else g ∷ filled gs stale
 
-or_split : (a b : Bool) → a || b ≡ true → (a ≡ true) ⊎ (b ≡ true)
+pub or_split : (a b : Bool) → a || b ≡ true → (a ≡ true) ⊎ (b ≡ true)
 or_split true b e = inl refl
 or_split false b e = inr e
 
@@ -100,6 +101,11 @@ filled_holds (g ∷ gs) st q e = by_kept (is_local g && nat_lt (length gs) st) r
             (length gs, inl (refl, same), λ l. kept_local (length gs) st (is_local g) k (ap is_local same ∙ l))
         by_first (inr h) = with_more (f h)
 
+pub and_true : (a b : Bool) → a ≡ true → b ≡ false → a && not b ≡ true
+and_true true false e f = refl
+and_true true true e f = cc
+and_true false b e f = cc
+
 -- a set has what is filled
 abbrev pub Covers : Places → List Slotted → (stale : ℕ) → Type 0
 Covers s gs stale = (q : Slotted) → Holds gs stale q → s q ≡ true
@@ -124,10 +130,6 @@ covers_filled (g ∷ gs) st q h = by_kept (is_local g && nat_lt (length gs) st) 
 
         below : (n st : ℕ) → nat_lt n st ≡ true → st ≤ n → ⊥
         below n st e le = grind (arith, e)
-
-    or_right : (a b : Bool) → b ≡ true → a || b ≡ true
-    or_right true b e = refl
-    or_right false b e = e
 
     by_kept : (b : Bool) → is_local g && nat_lt (length gs) st ≡ b → ((h.0 ≡ length gs) × (g ≡ q)) ⊎ Has gs h.0 q → (Has gs h.0 q → among (filled gs st) q ≡ true) → among (if b then filled gs st else g ∷ filled gs st) q ≡ true
     by_kept true e (inl k) f = absurd (gone e k)
@@ -182,10 +184,7 @@ not_lost p at named j z h = by_stale (nat_lt j p.stale) refl (ap (λ f. not (nat
 
     by_stale : (b : Bool) → nat_lt j p.stale ≡ b → not (nat_le 0 j && nat_lt j p.stale) && true ≡ true → p.stale ≤ j
     by_stale false e k = not_less j p.stale e
-    by_stale true e k = absurd (no_false (sym (ap₂ (λ a b. not (a && b) && true) (all_le j) e) ∙ k))
-      where
-        no_false : false ≡ true → ⊥
-        no_false z = cc
+    by_stale true e k = absurd (false≢true (sym (ap₂ (λ a b. not (a && b) && true) (all_le j) e) ∙ k))
 
 module _ (base : Setting) (c : ClassTree) where
   -- a variable of a name: its number, and its place

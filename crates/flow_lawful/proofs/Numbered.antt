@@ -1,5 +1,6 @@
 -- The class of an actor names what there is, leads on, and catches further on.
 use Rattle.std.proofs.Common.{◌≡◌, ℕ, suc, ◌+◌, ◌^◌, ◌<◌, true, false, List, [], ◌∷◌, ◌++◌, length, slice_get, refl, ap, sym, subst, ◌∙◌, arith, length-append, append_assoc}
+use Rattle.std.proofs.lemmas.Bool.{false≢true}
 use Rattle.std.specs.List.{list_all}
 use Rattle.std.specs.declared.option.Option.TheVariants.{None, Some}
 use Rattle.flow_tree.specs.Tree.{TypeTree}
@@ -64,11 +65,11 @@ module _ (ns : Names) (c : ClassTree) (few_slots : length c.slots < 2 ^ 64) (few
   all_caught n [] h = refl
   all_caught n (b ∷ bs) h = both (catches c n b.catcher) _ h.0.caught (all_caught (suc n) bs h.1)
 
-seam : {A : Type 0} (pre xs : List A) (x : A) → slice_get (pre ++ x ∷ xs) (length pre) ≡ Some x
+pub seam : {A : Type 0} (pre xs : List A) (x : A) → slice_get (pre ++ x ∷ xs) (length pre) ≡ Some x
 seam [] xs x = refl
 seam (y ∷ pre) xs x = seam pre xs x
 
-one_more : {A : Type 0} (pre : List A) (x : A) → length (pre ++ x ∷ []) ≡ suc (length pre)
+pub one_more : {A : Type 0} (pre : List A) (x : A) → length (pre ++ x ∷ []) ≡ suc (length pre)
 one_more pre x = omega (arith, length-append pre (x ∷ []))
 
 -- the locals of a class stand in it from the first on
@@ -97,7 +98,7 @@ numbered_well ns a small parts ok =
     let gs = lowered_groups ns c.slots [] w start a.body in
     let ls = locals_count a.body in
     let g = all_kept ns c small.slots small.locals a.body false false [] [] w start 0 (length c.blocks)
-    (record { within = omega arith; exit = tt; hand = tt; out = λ e. absurd (no_loop e); again = λ e. absurd (no_loop e) })
+    (record { within = omega arith; exit = tt; hand = tt; out = λ e. absurd (false≢true e); again = λ e. absurd (false≢true e) })
     (record { blocks = omega (arith, more); locals = omega (arith, ls); groups = omega (arith, gs); first = omega arith; types = all_types ns c [] c.locals refl }) tt (omega arith) parts ok in
     let s = block_sound c small.slots small.locals (length c.blocks) 0 1 (1 + blocks_in false a.body) None ch tt (omega arith) g in
     let all : AllSound c small.slots small.locals 0 c.blocks = (s, g.more) in
@@ -106,6 +107,3 @@ numbered_well ns a small parts ok =
       forward = all_on ns c small.slots small.locals 0 c.blocks all;
       caught = all_caught ns c small.slots small.locals 0 c.blocks all;
     }
-  where
-    no_loop : false ≡ true → ⊥
-    no_loop e = cc

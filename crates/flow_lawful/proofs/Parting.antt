@@ -11,7 +11,7 @@ use Rattle.flow_class.specs.Classes.{InstrTree, DropInstr, LastTree, TestLast, C
 use Rattle.flow_class.specs.Scopes.{Scope, scope, over, path_over, Above}
 use Rattle.flow_catch.specs.Inner.{inner_locals}
 use Rattle.flow_layout.specs.Locals.{body_locals, declared_locals}
-use Rattle.flow_rules.specs.Judged.{Setting, called, fault}
+use Rattle.flow_rules.specs.Judged.{Setting, called}
 use Rattle.flow_rules.specs.Items.{Env, item, into_fault, value_fault, declare_fault, assign_fault, modify_fault, body_refusal}
 use Rattle.flow_staterule.specs.declared.scope.Point.{Point}
 use Rattle.flow_staterule.specs.declared.ways.Reached.{Reached}
@@ -33,15 +33,14 @@ use Rattle.flow_lowered.proofs.Places.{names, names_with, placing}
 use Rattle.flow_fits.specs.Paths.{HasPaths}
 use Rattle.flow_fits.proofs.Names.{no_first, no_second}
 use Rattle.flow_fits.proofs.Agreement.{neither_first, no_item}
-use Rattle.flow_lawful.proofs.OverPlaces.{over_names, Sees}
 use Rattle.flow_lawful.proofs.Fitting.{Stands, at_item, new_here, stands_behind, stands_into, above_taken}
 use Rattle.flow_lawful.proofs.Walks.{Places, AllIn, after}
 use Rattle.flow_lawful.proofs.Waysides.{Meets, Exits}
-use Rattle.flow_lawful.proofs.Lines.{Has, Sub, filled, Covers, covers_sub, AllFresh, fresh_left, in_none, Lined}
-use Rattle.flow_lawful.proofs.Entries.{AllFrom, Aim, IsBelow, Lies, Entries, enters, HandFact, catches, Live, Later, later_live}
+use Rattle.flow_lawful.proofs.Lines.{Has, Sub, filled, Covers, covers_sub, AllFresh, fresh_left, in_none}
+use Rattle.flow_lawful.proofs.Entries.{AllFrom, Aim, IsBelow, Lies, Entries, catches, Live, Later, later_live}
 use Rattle.flow_lawful.proofs.Surroundings.{Aims, HandWay, hand_fact}
-use Rattle.flow_lawful.proofs.Reading.{covers_after, covers_new, keeps_assigned, whole_in, assign_in, change_in, declared_by}
-use Rattle.flow_lawful.proofs.Grounds.{Ground, ground_past, ground_into, leaf, acting_live}
+use Rattle.flow_lawful.proofs.Reading.{covers_after, covers_new, keeps_assigned, assign_in, change_in, declared_by}
+use Rattle.flow_lawful.proofs.Grounds.{Ground, ground_past, ground_into, acting_live}
 use Rattle.flow_lawful.proofs.Waysides.{exits_onward}
 use Rattle.flow_lawful.proofs.Alive.{Thrown}
 use Rattle.flow_staterule.specs.Ways.{head, round}
@@ -254,18 +253,6 @@ module _ (base : Setting) (ns : Names) (c : ClassTree) (few_slots : length c.slo
               more = k.more;
             };
       }
-
-  -- a test whose ways lead to places of different scopes
-  pub for_leaf : (rows : RowsHere) (vs : List Variable) (gs hs : List Slotted) (s : Scope) (w : Around) (m : ℕ) (p : Point) (a : Aims) (near : Entries c → Type 0) (n g : ℕ) (q : ExprTree) (y z st : ℕ) → Sees base c rows s → Lined base c vs gs rows s m → p.from ≡ 0
-      → Lies a.hand gs (inner_locals w.depth s) m → fault (over_names base c rows) false q ≡ None → AllFresh (expr_uses vs p q) → ((e : Entries c) → near e → e y ≡ Some (filled gs p.stale)) → ((e : Entries c) → near e → e z ≡ Some (filled hs st))
-      → Sub hs gs → Meets p.stale st (length hs) → ((e : Entries c) → near e → HandFact c e w.hand a.hand p.stale) → Live c w.hand a.hand gs p.stale near n n g g (ends w s true [] (TestLast (over c.slots s q) y z))
-  for_leaf rows vs gs hs s w m p a near n g q y z st sees line start lies f fresh iy iz sub meets fact =
-      leaf base ns c few_slots few_locals w s gs p a near n g true [] (TestLast (over c.slots s q) y z) lies.from (λ t e o. fact e o)
-      (λ e o kc x cover guard. (
-        whole_in base ns c rows s sees vs gs m line p start x cover false q f fresh,
-        catches c e w.hand a.hand kc p.stale x lies.below guard (covers_sub x gs a.hand.places p.stale lies.sub cover),
-        (enters c e x y gs gs p.stale p.stale cover (iy e o) (λ j r k. k) (inr (omega arith)), enters c e x z gs hs p.stale st cover (iz e o) sub meets),
-      ))
 
   -- the init, the test, the body and the step, whose entries all may know
 

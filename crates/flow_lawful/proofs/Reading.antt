@@ -1,5 +1,6 @@
 -- What the instructions of a lowered statement read is filled, and what they fill is filled behind them.
 use Rattle.std.proofs.Common.{◌≡◌, ◌⊎◌, inl, inr, ℕ, pos, Bool, true, false, not, ◌&&◌, ◌||◌, List, [], ◌∷◌, ◌++◌, length, refl, ap, ap₂, subst, ◌∙◌}
+use Rattle.std.proofs.lemmas.Bool.{or_left, or_right}
 use Rattle.std.specs.declared.option.Option.{Option}
 use Rattle.std.specs.declared.option.Option.TheVariants.{None, Some}
 use Rattle.flow_tree.specs.declared.ty.Ident.{Ident}
@@ -27,20 +28,7 @@ use Rattle.flow_valid.specs.Filling.{among, filled_path, instr_reads, instr_fill
 use Rattle.flow_fits.proofs.Names.{no_first, no_second, holds, there}
 use Rattle.flow_lawful.proofs.OverPlaces.{over_names, Sees, base_known}
 use Rattle.flow_lawful.proofs.Walks.{Places, AllIn, after}
-use Rattle.flow_lawful.proofs.Lines.{Has, Covers, AllFresh, fresh_left, fresh_right, in_both, in_none, Lined, found_in, expr_in, exprs_in, same_self}
-
-or_right : (a b : Bool) → b ≡ true → a || b ≡ true
-or_right true b e = refl
-or_right false b e = e
-
-or_left : (a b : Bool) → a ≡ true → a || b ≡ true
-or_left true b e = refl
-or_left false b e = cc
-
-and_true : (a b : Bool) → a ≡ true → b ≡ false → a && not b ≡ true
-and_true true false e f = refl
-and_true true true e f = cc
-and_true false b e f = cc
+use Rattle.flow_lawful.proofs.Lines.{and_true, Has, Covers, AllFresh, fresh_left, fresh_right, in_both, in_none, Lined, found_in, expr_in, exprs_in, same_self}
 
 abbrev pub IsNamed : List Ident → Type 0
 IsNamed [] = ⊥

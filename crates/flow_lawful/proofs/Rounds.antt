@@ -52,10 +52,10 @@ use Rattle.flow_lowered.proofs.Fors.{step_is_init, step_later, step_locals, test
 use Rattle.flow_rules.specs.Items.{started, maybe_test}
 use Rattle.flow_staterule.specs.Uses.{declaring}
 use Rattle.flow_staterule.specs.Ways.{with_step}
-use Rattle.flow_lawful.proofs.Choosings.{head_hand, body_hand, head_meets}
+use Rattle.flow_lawful.proofs.Choosings.{test_leaf, head_hand, body_hand, head_meets}
 use Rattle.flow_split.specs.Counts.{test_blocks}
 use Rattle.flow_lowered.proofs.Fors.{step_later}
-use Rattle.flow_lawful.proofs.Parting.{part_ends, part_blocks, part_groups, same_point, Into, opens, step_meets, dropping_live, for_leaf, ring}
+use Rattle.flow_lawful.proofs.Parting.{part_ends, part_blocks, part_groups, same_point, Into, opens, step_meets, dropping_live, ring}
 
 module _ (base : Setting) (ns : Names) (c : ClassTree) (few_slots : length c.slots < 2 ^ 64) (few_locals : length c.locals < 2 ^ 64) (agree : (f : List ℕ) → is_there (effectful ns f) ≡ calls_effect (called base f)) where
   abbrev Alives : Body → Type 0
@@ -250,7 +250,7 @@ module _ (base : Setting) (ns : Names) (c : ClassTree) (few_slots : length c.slo
       let one = live_to base ns c few_slots few_locals w.hand a.hand gs p.stale near0 n.block n.block hd.block n.group n.group hd.group c0 (omega (arith, part_blocks tr i is_init)) (omega (arith, part_groups i is_init))
       (op.live hd.block hp.stale (PassLast hd.block) refl refl (head_meets base ns c few_slots few_locals agree vs2 hs p big size2)) in
       let around : (en : Entries c) → outer en → HandWay c en w.hand a.hand p lp.throws = λ en z. subst (λ y. HandWay c en w.hand a.hand p (onward y lp.throws)) once (hand_right c en w.hand a.hand p first.throws (onward first.ends lp.throws) (sides_first c en l w a p u vx z.1).hand) in
-      let test = λ (t : ExprTree) (is : q ≡ Some t). for_leaf base ns c few_slots few_locals agree rows2 vs2 hs gs sc v hd.local hp a nearT (suc hd.block) hd.group t gg.block o.block st4 op.stands.sees line2 reach_hp hand2
+      let test = λ (t : ExprTree) (is : q ≡ Some t). test_leaf base ns c few_slots few_locals agree rows2 vs2 hs gs sc v hd.local hp a nearT (suc hd.block) hd.group t gg.block o.block st4 op.stands.sees line2 reach_hp hand2
       (test_sound rows2 q t is (at_item base ns c few_slots few_locals agree e' rows2 at (λ z. maybe_test z q) op.stands.setting (neither_first it _ m1)))
       (subst (λ z. AllFresh (maybe_uses vs2 hp z)) is (fresh_right us0 us1 fresh01)) (λ en z. z.2) (λ en z. z.1 ∙ rx.entry_is (ap is_reached same ∙ ap (λ y. is_reached (looped (is_there y) big).ends) is)) op.sub
       (test_meets st4 (length gs) (length vs2) p big (subst (λ y. Exits st4 (length gs) p.stale (looped (is_there y) big).ends) is ex4))

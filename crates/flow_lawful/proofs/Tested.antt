@@ -1,5 +1,6 @@
 -- The classes of a program that the front accepts keep the rules V1 to V7.
 use Rattle.std.proofs.Common.{◌≡◌, ℕ, zero, suc, ◌^◌, ◌<◌, ◌≤◌, Bool, true, false, ◌&&◌, List, [], ◌∷◌, length, map, slice_get, refl, ap, sym, subst, ◌∙◌, arith}
+use Rattle.std.proofs.lemmas.Bool.{false≢true}
 use Rattle.std.specs.List.{list_all}
 use Rattle.std.specs.declared.option.Option.TheVariants.{None, Some}
 use Rattle.flow_tree.specs.declared.limits.TheConstants.{TOKENS}
@@ -89,14 +90,11 @@ types_well p h a k =
     let params = no_second (written base a.returns) (params_fault base (λ x. false) a.params) (no_second (name_fault k.judged.before a.name.name) _ k.judged.header) in
     let sees = sees_params base ns c k.small.slots k.small.locals base a.params (body_slots a.body) refl params in
     let f = body_fit base ns c k.small.slots k.small.locals agree a.body false false (body_env base a) vs [] w (record { block = 1; local = 0; group = 1 })
-    (record { setting = refl; returns = refl; sees = sees; caught = record { known = λ t. absurd (no_catch t) } }) (record { exit = tt; again = refl }) tt (all_types ns c [] c.locals refl) k.parts k.placed k.judged.body in
+    (record { setting = refl; returns = refl; sees = sees; caught = record { known = λ t. absurd (false≢true t) } }) (record { exit = tt; again = refl }) tt (all_types ns c [] c.locals refl) k.parts k.placed k.judged.body in
     let same : class_setting (compiled p) c ≡ over_class base c = ap (λ (s : Setting). over_class s c) (setting_same p h.apart false) in
     subst (λ s. list_all (block_fits c s) c.blocks && list_all (list_all (callback_fits c s)) c.groups ≡ true) (sym same)
     (both (list_all (block_fits c (over_class base c)) c.blocks) _
     (both (block_fits c (over_class base c) (block_with None ch)) _ (block_fit base ns c k.small.slots k.small.locals agree None ch f) f.more) f.groups)
-  where
-    no_catch : false ≡ true → ⊥
-    no_catch e = cc
 
 all_hold : (a b c d e : Bool) → a ≡ true → b ≡ true → c ≡ true → d ≡ true → e ≡ true → first_broken ((3, a) ∷ (4, b) ∷ (5, c) ∷ (6, d) ∷ (7, e) ∷ []) ≡ None
 all_hold true true true true true f g h i j = refl

@@ -73,9 +73,6 @@ use Rattle.flow_lawful.proofs.Surroundings.{sides_onward}
 use Rattle.flow_lawful.proofs.Alive.{thrown_into}
 use Rattle.flow_lawful.proofs.Choosings.{monus_twice}
 
-no_both : false ≡ true → ⊥
-no_both z = cc
-
 some_less : (k : ℕ) → 1 ≤ k → nat_lt 0 k ≡ true
 some_less k le = grind arith
 

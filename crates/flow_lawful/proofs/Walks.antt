@@ -1,5 +1,6 @@
 -- A class is read where it is filled, if each block is entered with places that all ways into it fill.
 use Rattle.std.proofs.Common.{◌≡◌, ℕ, zero, suc, ◌+◌, ◌<◌, Bool, true, false, not, ◌&&◌, ◌||◌, List, [], ◌∷◌, slice_get, Contains, refl, ap, sym, subst, ◌∙◌, arith}
+use Rattle.std.proofs.lemmas.Bool.{false≢true}
 use Rattle.std.specs.List.{slice_index_or}
 use Rattle.std.specs.declared.option.Option.{Option}
 use Rattle.std.specs.declared.option.Option.TheVariants.{None, Some}
@@ -117,10 +118,7 @@ module _ (c : ClassTree) (entry : ℕ → Option (List Slotted)) where
 
     both_and : (a b y : Bool) → (a ≡ true → b ≡ true) → a && y ≡ true → b && y ≡ true
     both_and true true y f h = h
-    both_and true false y f h = absurd (no_truth (f refl))
-      where
-        no_truth : false ≡ true → ⊥
-        no_truth e = cc
+    both_and true false y f h = absurd (false≢true (f refl))
     both_and false b y f h = cc
 
     one_step : {b n : ℕ} {filled : Bool} (i : InstrTree) (a : At b n filled) (rest : List InstrTree) → a.rest ≡ rest → fetch c b n ≡ Body i → At b (suc n) (filling.behind c p i filled)

@@ -1,5 +1,6 @@
 -- What is lost where a body is left: the points to which its ways lead.
 use Rattle.std.proofs.Common.{◌≡◌, ◌⊎◌, inl, inr, ℕ, ◌≤◌, Bool, true, false, ◌&&◌, ◌||◌, if◌then◌else◌, refl, ap, sym, subst, ◌∙◌, arith}
+use Rattle.std.proofs.lemmas.Bool.{or_left, or_right}
 use Rattle.flow_staterule.specs.declared.scope.Point.{Point}
 use Rattle.flow_staterule.specs.declared.ways.Reached.{Reached}
 use Rattle.flow_staterule.specs.Ways.{at_once, either, is_reached, onward}
@@ -13,14 +14,6 @@ Meets stale wanted there = (there ≤ wanted) ⊎ (stale ≤ wanted)
 pub record Exits (wanted there stale : ℕ) (r : Reached) : Type 0 where
   pub waited : r.waited ≡ true → there ≤ wanted
   pub fresh : r.fresh ≡ true → Meets stale wanted there
-
-or_left : (a b : Bool) → a ≡ true → a || b ≡ true
-or_left true b e = refl
-or_left false b e = cc
-
-or_right : (a b : Bool) → b ≡ true → a || b ≡ true
-or_right true b e = refl
-or_right false b e = e
 
 and_both : (a b : Bool) → a ≡ true → b ≡ true → a && b ≡ true
 and_both true b e f = f
