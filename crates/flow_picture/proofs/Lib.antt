@@ -27,3 +27,4 @@ pub mod Starting
 pub mod Example
 pub mod Holds
 pub mod Further
+pub mod NamingFrames

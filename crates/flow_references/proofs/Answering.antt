@@ -8,6 +8,7 @@ use Rattle.std.specs.declared.option.Option.TheVariants.{None, Some}
 use Rattle.flow_base.specs.ErrorNumbers.{too_long, bad_argument}
 use Rattle.flow_tree.specs.declared.expr.Op.{Op}
 use Rattle.flow_tree.specs.declared.expr.Op.TheVariants.{Or, And, Eq, Ne, Lt, Le, Gt, Ge, Add, Sub, Mul, Div, Rem}
+use Rattle.flow_tree.specs.declared.ty.Ident.{Ident}
 use Rattle.flow_tree.specs.Decls.{RecordTree}
 use Rattle.flow_ast.specs.declared.predefined.Predefined.{Predefined}
 use Rattle.flow_ast.specs.declared.predefined.Predefined.TheVariants as call
@@ -19,8 +20,9 @@ use Rattle.flow_value.specs.Values.{ValueTree, ValueTrees, IntValue, BoolValue, 
 use Rattle.flow_eval.specs.Answers.{Answer, Given, Throws, NoMeaning, if_int, whole, truth, int_of, bool_of, text_of, arg}
 use Rattle.flow_eval.specs.Operators.{quotient, remainder, compared, equated, on_ints, on_texts, operated, negated, inverted}
 use Rattle.flow_eval.specs.Predefined.{read_int, int_read, to_string, to_int, in_error_range, natural, error_number, call_answer, substr, text_method, got, future_method, promise_method, stream_method, error_method, reference_method, method_answer}
-use Rattle.flow_eval.specs.Records.{field_place, value_at, at_place, field, field_answer}
+use Rattle.flow_eval.specs.Records.{field_place, value_at, value_put, at_place, field, field_answer}
 use Rattle.flow_eval.specs.Eval.{Res, Done, Fails, Spent, Meaningless, then as goes_on, at_once, more_args, found, truth_of, or_then, and_then, both, second, method_called}
+use Rattle.flow_eval.specs.Functions.{put_at, place_of, put_in, read_in}
 use Rattle.flow_references.specs.Named.{Rule, GivesFutures, Named, FieldsNamed, AllNamed, MaybeNamed, ResNamed, AllResNamed}
 
 pub same_of : {X : Type 0} {x y : X} → Some x ≡ Some y → x ≡ y
@@ -272,3 +274,30 @@ module _ (p : Rule) where
   more_named (Fails e left) go h f = tt
   more_named Spent go h f = tt
   more_named Meaningless go h f = tt
+
+  -- assignments
+  put_named : (vs : ValueTrees) (k : ℕ) (w : ValueTree) → FieldsNamed p vs → Named p w → FieldsNamed p (value_put vs k w)
+  put_named NoValues k w h n = tt
+  put_named (MoreValues v vs) zero w h n = (n, h.1)
+  put_named (MoreValues v vs) (suc k) w h n = (h.0, put_named vs k w h.1 n)
+
+  put_at_named : (v : ValueTree) (k : Option ℕ) (o : Option ValueTree) → Named p v → MaybeNamed p o → MaybeNamed p (put_at v k o)
+  put_at_named (RecordValue r vs) (Some k) (Some w) h n = put_named vs k w h n
+  put_at_named (RecordValue r vs) (Some k) None h n = tt
+  put_at_named (RecordValue r vs) None o h n = tt
+  put_at_named (IntValue z) k o h n = tt
+  put_at_named (BoolValue z) k o h n = tt
+  put_at_named (TextValue z) k o h n = tt
+  put_at_named VoidValue k o h n = tt
+  put_at_named (ErrorValue z) k o h n = tt
+  put_at_named (RefValue z c) k o h n = tt
+
+  pub put_in_named : (rs : List RecordTree) (o : Option ValueTree) (xs : List Ident) (w : ValueTree) → MaybeNamed p o → Named p w → MaybeNamed p (put_in rs o xs w)
+  put_in_named rs None xs w h n = tt
+  put_in_named rs (Some v) [] w h n = n
+  put_in_named rs (Some v) (x ∷ xs) w h n = put_at_named v (place_of rs v x.name) (put_in rs (field rs v x.name) xs w) h (put_in_named rs (field rs v x.name) xs w (field_named rs v x.name h) n)
+
+  pub read_in_named : (rs : List RecordTree) (o : Option ValueTree) (xs : List Ident) → MaybeNamed p o → MaybeNamed p (read_in rs o xs)
+  read_in_named rs None xs h = tt
+  read_in_named rs (Some v) [] h = h
+  read_in_named rs (Some v) (x ∷ xs) h = read_in_named rs (field rs v x.name) xs (field_named rs v x.name h)

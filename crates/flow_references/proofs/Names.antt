@@ -13,16 +13,16 @@ use Rattle.flow_ast.specs.declared.predefined.Predefined.{Predefined}
 use Rattle.flow_ast.specs.TypingNames.{named, call_names, method_names, constant_names}
 use Rattle.flow_ast.specs.Typing.{routine_named}
 use Rattle.flow_value.specs.declared.value.RecordId.{RecordId}
-use Rattle.flow_value.specs.Values.{ValueTree, ValueTrees, IntValue, BoolValue, TextValue, VoidValue, ErrorValue, RecordValue, RefValue, NoValues, MoreValues}
+use Rattle.flow_value.specs.Values.{ValueTree, ErrorValue}
 use Rattle.flow_eval.specs.Answers.{bool_of, error_of}
 use Rattle.flow_eval.specs.Operators.{operated, negated, inverted}
 use Rattle.flow_eval.specs.Predefined.{call_answer}
-use Rattle.flow_eval.specs.Records.{record_id, value_put, field, field_answer}
+use Rattle.flow_eval.specs.Records.{record_id, field, field_answer}
 use Rattle.flow_eval.specs.Eval.{Res, Done, Fails, Spent, Meaningless, Setting, Runner, then as goes_on, at_once, variable, second, method_called, function_called, declared_called, called, eval, eval_all}
-use Rattle.flow_eval.specs.Functions.{Locals, Run, Goes, Breaks, Continues, Returns, Raises, SpentRun, NoRun, after, scoped, valued, chosen, again, passes, stepped, caught_by, thrown, error_at, rethrown, default_value, bound, declared, put_at, with_first, place_of, put_in, read_in, read_path, put_at_var, put_place, put_path, assigned, entered, finished, scope, skip, leave_loop, change_sign, handled, try_run, evaluated, if_run, pass_run, turn_run, loop_run, for_run, throw_run, declare_run, assign_run, change_operand, changed, modify_run, call_by, call_run, return_run, exec, body_run, run_function, deepest}
+use Rattle.flow_eval.specs.Functions.{Locals, Run, Goes, Breaks, Continues, Returns, Raises, SpentRun, NoRun, after, scoped, valued, chosen, again, passes, stepped, caught_by, thrown, error_at, rethrown, default_value, bound, declared, with_first, put_in, read_path, put_at_var, put_place, put_path, assigned, entered, finished, scope, skip, leave_loop, change_sign, handled, try_run, evaluated, if_run, pass_run, turn_run, loop_run, for_run, throw_run, declare_run, assign_run, change_operand, changed, modify_run, call_by, call_run, return_run, exec, body_run, run_function, deepest}
 use Rattle.flow_references.specs.Named as law
 use Rattle.flow_references.specs.Named.{Rule, GivesFutures, Named, FieldsNamed, AllNamed, MaybeNamed, ResNamed, AllResNamed, CellsNamed, LookNamed}
-use Rattle.flow_references.proofs.Answering.{same_of, AnswerNamed, answer_named, call_named, field_named, found_named, inverted_named, maybe_method, more_named, negated_named, once_named, operated_named, record_named, second_named, value_then, values_then}
+use Rattle.flow_references.proofs.Answering.{put_in_named, read_in_named, same_of, AnswerNamed, answer_named, call_named, field_named, found_named, inverted_named, maybe_method, more_named, negated_named, once_named, operated_named, record_named, second_named, value_then, values_then}
 
 module _ (p : Rule) where
   module _ (s : Setting) (run : Runner) (gives : GivesFutures p) (cells : CellsNamed p s) (runs : (f : RoutineTree) (vs : List ValueTree) (left : ℕ) → AllNamed p vs → ResNamed p (run f vs left)) where
@@ -194,36 +194,9 @@ module _ (p : Rule) where
     default_named StringType = tt
     default_named t = tt
 
-    -- assignments
-    put_named : (vs : ValueTrees) (k : ℕ) (w : ValueTree) → FieldsNamed p vs → Named p w → FieldsNamed p (value_put vs k w)
-    put_named NoValues k w h n = tt
-    put_named (MoreValues v vs) zero w h n = (n, h.1)
-    put_named (MoreValues v vs) (suc k) w h n = (h.0, put_named vs k w h.1 n)
-
-    put_at_named : (v : ValueTree) (k : Option ℕ) (o : Option ValueTree) → Named p v → MaybeNamed p o → MaybeNamed p (put_at v k o)
-    put_at_named (RecordValue r vs) (Some k) (Some w) h n = put_named vs k w h n
-    put_at_named (RecordValue r vs) (Some k) None h n = tt
-    put_at_named (RecordValue r vs) None o h n = tt
-    put_at_named (IntValue z) k o h n = tt
-    put_at_named (BoolValue z) k o h n = tt
-    put_at_named (TextValue z) k o h n = tt
-    put_at_named VoidValue k o h n = tt
-    put_at_named (ErrorValue z) k o h n = tt
-    put_at_named (RefValue z c) k o h n = tt
-
-    put_in_named : (o : Option ValueTree) (xs : List Ident) (w : ValueTree) → MaybeNamed p o → Named p w → MaybeNamed p (put_in s.records o xs w)
-    put_in_named None xs w h n = tt
-    put_in_named (Some v) [] w h n = n
-    put_in_named (Some v) (x ∷ xs) w h n = put_at_named v (place_of s.records v x.name) (put_in s.records (field s.records v x.name) xs w) h (put_in_named (field s.records v x.name) xs w (field_named p s.records v x.name h) n)
-
-    read_in_named : (o : Option ValueTree) (xs : List Ident) → MaybeNamed p o → MaybeNamed p (read_in s.records o xs)
-    read_in_named None xs h = tt
-    read_in_named (Some v) [] h = h
-    read_in_named (Some v) (x ∷ xs) h = read_in_named (field s.records v x.name) xs (field_named p s.records v x.name h)
-
     read_path_named : (vars : Locals) (xs : List Ident) → VarsNamed vars → MaybeNamed p (read_path s.records vars xs)
     read_path_named vars [] h = tt
-    read_path_named vars (x ∷ xs) h = read_in_named (named vars x.name) xs (vars_look vars h x.name)
+    read_path_named vars (x ∷ xs) h = read_in_named p s.records (named vars x.name) xs (vars_look vars h x.name)
 
     abbrev MaybeVars : Option Locals → Type 0
     MaybeVars None = Unit {0}
@@ -235,7 +208,7 @@ module _ (p : Rule) where
 
     put_var : (vars : Locals) (k : ℕ) (o : Option (List ℕ × ValueTree)) (xs : List Ident) (w : ValueTree) → slice_get vars k ≡ o → VarsNamed vars → Named p w → MaybeVars (put_at_var s.records vars k o xs w)
     put_var vars k None xs w e h n = tt
-    put_var vars k (Some v) xs w e h n = set_var vars k v.0 (put_in s.records (Some v.1) xs w) h (put_in_named (Some v.1) xs w (var_at vars k (Some v) e h) n)
+    put_var vars k (Some v) xs w e h n = set_var vars k v.0 (put_in s.records (Some v.1) xs w) h (put_in_named p s.records (Some v.1) xs w (var_at vars k (Some v) e h) n)
 
     put_place_named : (vars : Locals) (k : Option ℕ) (xs : List Ident) (w : ValueTree) → VarsNamed vars → Named p w → MaybeVars (put_place s.records vars k xs w)
     put_place_named vars None xs w h n = tt
