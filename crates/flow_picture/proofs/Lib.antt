@@ -28,3 +28,4 @@ pub mod Example
 pub mod Holds
 pub mod Further
 pub mod NamingFrames
+pub mod NamingWork
