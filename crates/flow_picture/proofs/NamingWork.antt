@@ -1,23 +1,22 @@
 -- What a process does to itself keeps a rule on references.
-use Rattle.std.proofs.Common.{◌≡◌, ℕ, zero, suc, ◌+◌, ◌<◌, ◌≤◌, nat_eq, Bool, true, false, List, [], ◌∷◌, ◌++◌, if◌then◌else◌, refl, sym, ap, ◌∙◌, subst, arith}
+use Rattle.std.proofs.Common.{◌≡◌, ℕ, zero, suc, nat_eq, Bool, true, false, List, [], ◌∷◌, ◌++◌, if◌then◌else◌, refl, subst}
 use Rattle.std.specs.Prelude.{◌&&◌, not}
 use Rattle.std.specs.declared.option.Option.{Option}
 use Rattle.std.specs.declared.option.Option.TheVariants.{None, Some}
 use Rattle.flow_base.specs.ErrorNumbers.{operation_cancelled, second_waiter, broken_promise}
 use Rattle.flow_value.specs.declared.value.Kind.{Kind}
-use Rattle.flow_value.specs.declared.value.Kind.TheVariants as kind
 use Rattle.flow_value.specs.Values.{ValueTree, ValueTrees, IntValue, BoolValue, TextValue, VoidValue, ErrorValue, RecordValue, RefValue, NoValues, MoreValues, OutcomeTree, GoodOutcome, BadOutcome, refs_of, refs_of_all}
 use Rattle.flow_meaning.specs.Numbered.{Numbered, thing, added, put, removed}
-use Rattle.flow_meaning.specs.Cells.{Side, PromiseSide, FutureSide, side_of, Ref, Waiter, Cell, Single, Stream, waiters, held, filled, taken, bad, after_taking, left_by, with_waiter, is_busy, is_complete, is_ready}
+use Rattle.flow_meaning.specs.Cells.{Side, PromiseSide, FutureSide, side_of, Ref, Waiter, Cell, Single, Stream, waiters, held, filled, taken, after_taking, left_by, with_waiter, is_busy, is_complete, is_ready}
 use Rattle.flow_meaning.specs.Asks.{Spot}
-use Rattle.flow_meaning.specs.Process.{Task, Run, Give, Throw, Fire, Entry, Core}
+use Rattle.flow_meaning.specs.Process.{Task, Give, Throw, Fire, Entry, Core}
 use Rattle.flow_meaning.specs.Lines.{take_line, cancel_line, broken_line, wait_line, end_line}
 use Rattle.flow_meaning.specs.Occ.{Scan, Occ, refs_in, value_in}
-use Rattle.flow_meaning.specs.Work.{halt, turn_of, writes, pushed, drops, dropping_values, new_cell, fill, fill_cell, free, free_cell, left_cells, running, leave_for, give, take_branch, Registration, Registered, Refused, Missing, register_at, register_one, register, is_result, owner, marked, cancel_by, cancel, cancel_owner}
-use Rattle.flow_meaning.specs.Dropping.{Loss, Kept, Freed, Broken, Orphan, Unheard, promises_gone, futures_gone, loss, port_of, suffer, lose_cell, lose_ref, drop, fire_to, fire_at, fire_cell, fire, set_result, give_result, close}
-use Rattle.flow_meaning.specs.React.{at_spot, suspend}
+use Rattle.flow_meaning.specs.Work.{turn_of, writes, pushed, drops, dropping_values, fill, fill_cell, free, free_cell, left_cells, running, leave_for, give, take_branch, Registration, Registered, Refused, Missing, register_at, register_one, register, is_result, owner, marked, cancel_by, cancel, cancel_owner}
+use Rattle.flow_meaning.specs.Dropping.{promises_gone, loss, port_of, suffer, lose_cell, lose_ref, drop, fire_to, fire_at, fire_cell, fire, set_result, give_result, close}
+use Rattle.flow_meaning.specs.React.{suspend}
 use Rattle.flow_references.specs.Named.{Rule, Named, FieldsNamed, AllNamed}
-use Rattle.flow_picture.specs.Naming.{Each, OutcomeNamed, ContentNamed, RefNamed, RefsNamed, CellNamed, CellsNamed, EntriesNamed, TaskNamed, TasksNamed, CoreNamed}
+use Rattle.flow_picture.specs.Naming.{Each, OutcomeNamed, ContentNamed, RefsNamed, CellNamed, CellsNamed, EntriesNamed, TaskNamed, TasksNamed, CoreNamed}
 
 -- so it is with each thing after a change
 module _ {A : Type 0} (P : A → Type 0) where

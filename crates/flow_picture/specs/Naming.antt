@@ -1,5 +1,5 @@
 -- A rule on references, kept by all that a process holds.
-use Rattle.std.specs.Prelude.{◌≡◌, ◌⊎◌, ℕ, ◌<◌, Bool, true, List, [], ◌∷◌}
+use Rattle.std.specs.Prelude.{◌≡◌, ℕ, ◌<◌, true, List, [], ◌∷◌}
 use Rattle.std.specs.declared.option.Option.{Option}
 use Rattle.std.specs.declared.option.Option.TheVariants.{None, Some}
 use Rattle.flow_value.specs.declared.value.Kind.{Kind}
@@ -12,7 +12,7 @@ use Rattle.flow_meaning.specs.Cells.{Ref, Cell, Single, Stream}
 use Rattle.flow_meaning.specs.Asks.{Supply}
 use Rattle.flow_meaning.specs.Process.{Task, Run, Give, Throw, Catch, Store, Keep, Close, Fire, Drop, Entry, Core, Proc}
 use Rattle.flow_meaning.specs.Step.{Stepped, step}
-use Rattle.flow_meaning.specs.Deliver.{deliver, arrive, stop}
+use Rattle.flow_meaning.specs.Deliver.{deliver, arrive, boot, stop}
 use Rattle.flow_meaning.specs.Frame.{Memory, Frame}
 use Rattle.flow_meaning.specs.Class.{classes}
 
@@ -88,5 +88,27 @@ HoldsAbove p n = (kd : Kind) (k : ℕ) → n < k → p kd k ≡ true
 -- No reference comes from nowhere: what holds of all references, and of those to new cells, holds of all after a step.
 abbrev pub StepsNamed : Type 0
 StepsNamed =
-    (r : RawTree) (p : Rule) (s : Supply) (q : Proc Frame) (t : Stepped Frame) → GivesFutures p → HoldsAbove p q.core.made
+    (r : RawTree) (p : Rule) (s : Supply) (q : Proc Frame) (t : Stepped Frame) → GivesFutures p
+    → HoldsAbove p q.core.made
     → ProcNamed p q → step (classes r) s q ≡ Some t → ProcNamed p t.0
+
+-- So it is with what is brought to a process.
+abbrev pub DeliveriesNamed : Type 0
+DeliveriesNamed =
+    (p : Rule) (k : ℕ) (o : OutcomeTree) (c : Core) → p kind.Promise k ≡ true → OutcomeNamed p o
+    → CoreNamed p c → CoreNamed p (deliver k o c)
+
+abbrev pub ArrivalsNamed : Type 0
+ArrivalsNamed =
+    (p : Rule) (k : ℕ) (v : ValueTree) (c : Core) → Named p v → CoreNamed p c
+    → CoreNamed p (arrive k v c)
+
+abbrev pub BootsNamed : Type 0
+BootsNamed =
+    (r : RawTree) (p : Rule) (me : ℕ) (q : Proc Frame) → ProcNamed p q
+    → ProcNamed p (boot (classes r) me q)
+
+abbrev pub StopsNamed : Type 0
+StopsNamed =
+    (p : Rule) (c : Core) → ((k : ℕ) → c.main ≡ Some k → p kind.Future k ≡ true) → CoreNamed p c
+    → CoreNamed p (stop c)
