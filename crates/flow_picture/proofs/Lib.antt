@@ -27,3 +27,8 @@ pub mod Starting
 pub mod Example
 pub mod Holds
 pub mod Further
+pub mod NamingPlaces
+pub mod NamingFrames
+pub mod NamingWork
+pub mod NamingSteps
+pub mod NamingDeliveries

@@ -15,3 +15,4 @@ pub mod Alive
 pub mod Starting
 pub mod Example
 pub mod Holds
+pub mod Naming
