@@ -12,7 +12,7 @@ ghost use Rattle.flow_picture.specs.Holding as holding;
 ghost use Rattle.flow_picture.specs.Example.{WaitingRests};
 ghost use Rattle.flow_picture.specs.Starting.{IdleRests, VanishedRests};
 ghost use Rattle.flow_picture.specs.Standing as standing;
-ghost use Rattle.flow_picture.specs.Naming.{StepsNamed, DeliveriesNamed, ArrivalsNamed, BootsNamed, StopsNamed};
+ghost use Rattle.flow_picture.specs.Naming.{StepsNamed, AnyMade, DeliveriesNamed, ArrivalsNamed, BootsNamed, StopsNamed};
 
 /// Each step of classes, and each thing that the world brings to a process, keeps that the branches of an actor that wait at
 /// a cell are those of its operands there, and that the numbers of cells, requests and ports' streams rise; unless it stops
@@ -55,9 +55,10 @@ pub fn starts_at_rest()
 {}
 
 /// No reference comes from nowhere: a rule on references that holds of all that a process of classes holds, and of the
-/// references to each cell that isn't made yet, holds after each step and each thing that the world brings to the process.
+/// reference to the cell that a step makes, holds after the step, and after each thing that the world brings to the process.
 pub fn references_come_from_somewhere()
     ensures steps { StepsNamed }
+    ensures any { AnyMade }
     ensures deliveries { DeliveriesNamed }
     ensures arrivals { ArrivalsNamed }
     ensures boots { BootsNamed }
