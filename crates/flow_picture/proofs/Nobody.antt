@@ -1,5 +1,5 @@
 -- Where no reference to the promise side of a cell is counted, none is there.
-use Rattle.std.proofs.Common.{◌≡◌, ℕ, nat_eq, Bool, true, false, List, [], ◌∷◌, if◌then◌else◌, refl, arith}
+use Rattle.std.proofs.Common.{◌≡◌, ℕ, ◌+◌, nat_eq, Bool, true, false, List, [], ◌∷◌, if◌then◌else◌, refl, arith}
 use Rattle.std.specs.Prelude.{◌&&◌, not}
 use Rattle.std.specs.declared.option.Option.{Option}
 use Rattle.std.specs.declared.option.Option.TheVariants.{None, Some}
@@ -7,13 +7,13 @@ use Rattle.flow_value.specs.Values.{ValueTree, ValueTrees, IntValue, BoolValue, 
 use Rattle.flow_references.specs.Named.{Named, FieldsNamed, AllNamed}
 use Rattle.flow_meaning.specs.Numbered.{Numbered}
 use Rattle.flow_meaning.specs.Cells.{PromiseSide, side_of, Ref, Cell, Single, Stream, held}
-use Rattle.flow_meaning.specs.Process.{Task, Run, Give, Throw, Catch, Store, Keep, Close, Fire, Drop}
-use Rattle.flow_meaning.specs.Occ.{same_side, refs_in, value_in, one, count, in_cells, in_task, in_tasks}
+use Rattle.flow_meaning.specs.Process.{Entry, Task, Run, Give, Throw, Catch, Store, Keep, Close, Fire, Drop}
+use Rattle.flow_meaning.specs.Occ.{count_kept, in_entries, same_side, refs_in, value_in, one, count, in_cells, in_task, in_tasks}
 use Rattle.flow_meaning.specs.Frame.{Memory, Frame, occ_memory}
 use Rattle.flow_picture.specs.Counted.{frames_hold}
 use Rattle.flow_picture.specs.Naming.{OutcomeNamed, RefNamed, CellNamed, CellsNamed, TaskNamed, TasksNamed, PlacesNamed, MemoryNamed, FramesNamed}
 use Rattle.flow_picture.specs.Alone as law
-use Rattle.flow_picture.specs.Alone.{spares}
+use Rattle.flow_picture.specs.Alone.{spares, results_at}
 use Rattle.flow_picture.proofs.Sums.{count_joined}
 use Rattle.flow_picture.proofs.Holding.{all_held, memory_held}
 
@@ -83,6 +83,20 @@ module _ (k : ℕ) where
   frames_free : (xs : Numbered Frame) → frames_hold xs PromiseSide k ≡ 0 → FramesNamed (spares k) xs
   frames_free [] h = tt
   frames_free (x ∷ xs) h = (memory_free x.1.mem (omega (arith, h)), frames_free xs (omega (arith, h)))
+
+  -- actors refer to their results, and to what they keep
+  abbrev kept_at : Numbered Entry → ℕ
+  kept_at [] = 0
+  kept_at (x ∷ xs) = count_kept PromiseSide k x.1.suspended x.1.operands + kept_at xs
+
+  results_kept : (xs : Numbered Entry) → in_entries PromiseSide k xs ≡ results_at k xs + kept_at xs
+  results_kept [] = refl
+  results_kept (x ∷ xs) = let a = results_kept xs in omega (arith, a)
+
+pub nobody_else : law.NobodyElse
+nobody_else k p waits h =
+    let a = results_kept k p.core.entries in
+    ((cells_free k p.core.cells (omega (arith, a, h)), waits, tasks_free k p.core.tasks (omega (arith, a, h))), frames_free k p.actors (omega (arith, a, h)))
 
 pub nobody_yet : law.NobodyYet
 nobody_yet k p waits h =

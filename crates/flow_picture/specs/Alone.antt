@@ -35,7 +35,12 @@ owners_of k c = results_at k c.entries + in_ports PromiseSide k c.ports + in_req
 abbrev pub OwnersCounted : Type 0
 OwnersCounted = (k : ℕ) (p : Proc Frame) → Alone k p → references PromiseSide k p ≡ owners_of k p.core
 
--- It is so where nothing is counted, but for the operands of waits, which aren't.
+-- And it is so where these alone are counted, or nothing is; but the operands of waits aren't counted.
+abbrev pub NobodyElse : Type 0
+NobodyElse =
+    (k : ℕ) (p : Proc Frame) → EntriesNamed (spares k) p.core.entries
+    → references PromiseSide k p ≡ owners_of k p.core → Alone k p
+
 abbrev pub NobodyYet : Type 0
 NobodyYet =
     (k : ℕ) (p : Proc Frame) → EntriesNamed (spares k) p.core.entries → references PromiseSide k p ≡ 0

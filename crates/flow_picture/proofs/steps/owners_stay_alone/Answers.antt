@@ -1,12 +1,15 @@
 use Rattle.flow_picture.proofs.Alone.{owners_counted, stays_alone, born_alone}
-use Rattle.flow_picture.proofs.Nobody.{nobody_yet}
+use Rattle.flow_picture.proofs.Nobody.{nobody_else, nobody_yet}
 use Rattle.flow_picture.proofs.steps.owners_stay_alone.Goals as goal
 
 pub returns-clause-counted : goal.returns-clause-counted
 returns-clause-counted c = owners_counted
 
-pub returns-clause-nobody : goal.returns-clause-nobody
-returns-clause-nobody c = nobody_yet
+pub returns-clause-nobody_else : goal.returns-clause-nobody_else
+returns-clause-nobody_else c = nobody_else
+
+pub returns-clause-nobody_yet : goal.returns-clause-nobody_yet
+returns-clause-nobody_yet c = nobody_yet
 
 pub returns-clause-born : goal.returns-clause-born
 returns-clause-born c = born_alone
