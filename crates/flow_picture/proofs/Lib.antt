@@ -34,3 +34,4 @@ pub mod NamingSteps
 pub mod NamingDeliveries
 pub mod Alone
 pub mod Nobody
+pub mod Once

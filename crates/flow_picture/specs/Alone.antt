@@ -12,6 +12,7 @@ use Rattle.flow_meaning.specs.Step.{Stepped, step}
 use Rattle.flow_meaning.specs.Class.{classes}
 use Rattle.flow_meaning.specs.Frame.{Frame}
 use Rattle.flow_picture.specs.Counted.{references}
+use Rattle.flow_picture.specs.Rested.{InNumbers}
 use Rattle.flow_picture.specs.Naming.{EntriesNamed, ProcNamed, HoldsNew}
 
 -- the rule that no reference is to the promise side of a cell
@@ -63,3 +64,14 @@ IsOwned _ = ⊥
 
 abbrev pub BornAlone : Type 0
 BornAlone = (n k : ℕ) (eff : Effect) → IsOwned eff → HoldsNew (spares k) n eff
+
+-- A cell is the stream of one port at most, and of one open request, and a cell that isn't made is neither.
+abbrev pub PortsOnce : Type 0
+PortsOnce =
+    (c : Core) (k : ℕ) → InNumbers c
+    → (in_ports PromiseSide k c.ports < 2) × (c.made < k → in_ports PromiseSide k c.ports ≡ 0)
+
+abbrev pub RequestsOnce : Type 0
+RequestsOnce =
+    (c : Core) (k : ℕ) → InNumbers c
+    → (in_requests PromiseSide k c.requests < 2) × (c.made < k → in_requests PromiseSide k c.requests ≡ 0)

@@ -12,7 +12,7 @@ ghost use Rattle.flow_picture.specs.Holding as holding;
 ghost use Rattle.flow_picture.specs.Example.{WaitingRests};
 ghost use Rattle.flow_picture.specs.Starting.{IdleRests, VanishedRests};
 ghost use Rattle.flow_picture.specs.Standing as standing;
-ghost use Rattle.flow_picture.specs.Alone.{OwnersCounted, NobodyElse, NobodyYet, StaysAlone, BornAlone};
+ghost use Rattle.flow_picture.specs.Alone.{OwnersCounted, NobodyElse, NobodyYet, StaysAlone, BornAlone, PortsOnce, RequestsOnce};
 ghost use Rattle.flow_picture.specs.Naming.{StepsNamed, AnyMade, DeliveriesNamed, ArrivalsNamed, BootsNamed, StopsNamed};
 
 /// Each step of classes, and each thing that the world brings to a process, keeps that the branches of an actor that wait at
@@ -67,11 +67,14 @@ pub fn references_come_from_somewhere()
 {}
 
 /// What a process made a cell for is alone in referring to its promise side: it is so of a cell that is made for an actor, a
-/// timer, a port or the disk, each step keeps it so, and then these alone are counted.
+/// timer, a port or the disk, each step keeps it so, and then these alone are counted. A cell is the stream of one port at
+/// most, and of one open request.
 pub fn owners_stay_alone()
     ensures counted { OwnersCounted }
     ensures nobody_else { NobodyElse }
     ensures nobody_yet { NobodyYet }
     ensures born { BornAlone }
     ensures stays { StaysAlone }
+    ensures ports { PortsOnce }
+    ensures requests { RequestsOnce }
 {}
