@@ -21,7 +21,7 @@ use Rattle.flow_picture.proofs.Sums.{count_joined, refs_joined}
 
 module _ (s : Side) (j : ℕ) where
   -- what stands at places, in order
-  abbrev all_held : List (Option ValueTree) → ℕ
+  abbrev pub all_held : List (Option ValueTree) → ℕ
   all_held [] = 0
   all_held (o ∷ os) = held s j o + all_held os
 
@@ -37,7 +37,7 @@ module _ (s : Side) (j : ℕ) where
       let b = refs_joined s j (filled (reversed os)) (filled (o ∷ [])) in
       let c = reversed_held os in omega (arith, a, b, c)
 
-  memory_held : (m : Memory) → occ_memory s j m ≡ all_held m.locals + all_held m.slots
+  pub memory_held : (m : Memory) → occ_memory s j m ≡ all_held m.locals + all_held m.slots
   memory_held m =
       let a = refs_joined s j (filled (reversed m.locals)) (filled (reversed m.slots)) in
       let b = reversed_held m.locals in

@@ -32,3 +32,6 @@ pub mod NamingFrames
 pub mod NamingWork
 pub mod NamingSteps
 pub mod NamingDeliveries
+pub mod Alone
+pub mod Nobody
+pub mod Once

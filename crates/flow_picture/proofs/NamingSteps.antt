@@ -1,5 +1,5 @@
 -- Each step of classes keeps a rule on references.
-use Rattle.std.proofs.Common.{◌≡◌, ℕ, suc, ◌+◌, Bool, true, false, List, [], ◌∷◌, ◌++◌, length, refl, subst, arith}
+use Rattle.std.proofs.Common.{◌≡◌, ℕ, suc, ◌+◌, Bool, true, false, List, [], ◌∷◌, ◌++◌, length, refl, subst}
 use Rattle.std.specs.Prelude.{cond, ℤ, pos, ◌-ℤ◌, ◌^◌, int_le, nat_le, nat_lt, ◌&&◌, slice_get}
 use Rattle.std.specs.declared.option.Option.{Option}
 use Rattle.std.specs.declared.option.Option.TheVariants.{None, Some}
@@ -26,7 +26,7 @@ use Rattle.flow_meaning.specs.Frame.{Frame, lose}
 use Rattle.flow_meaning.specs.Class.{classes, class_names}
 use Rattle.flow_references.specs.Named.{Rule, GivesFutures, Named, AllNamed}
 use Rattle.flow_picture.specs.Naming as law
-use Rattle.flow_picture.specs.Naming.{Each, OutcomeNamed, RefNamed, RefsNamed, CellNamed, TaskNamed, TasksNamed, CoreNamed, MemoryNamed, FramesNamed, ProcNamed, HoldsAbove}
+use Rattle.flow_picture.specs.Naming.{Each, OutcomeNamed, RefNamed, RefsNamed, CellNamed, TaskNamed, TasksNamed, CoreNamed, MemoryNamed, FramesNamed, ProcNamed, HoldsNew, ActMakes, AskMakes, FrameMakes, TaskMakes, HoldsNext}
 use Rattle.flow_picture.proofs.NamingFrames.{EffectNamed, ActNamed, StepNamed, MaybeFrame, next_named, lose_named, store_named, take_named, raise_named, fresh_named}
 use Rattle.flow_picture.proofs.NamingWork.{each_put, each_removed, each_added, each_at, dropping_named, push_named, turn_named, fill_named, leave_named, branch_named, operands_named, cancels_named, suspend_named, drop_named, fire_named, close_named}
 
@@ -45,11 +45,8 @@ module _ (p : Rule) where
   made_named : (cell : Cell) (c : Core) → CellNamed p cell → CoreNamed p c → CoreNamed p (new_cell cell c)
   made_named cell c h n = (each_added (CellNamed p) c.cells (suc c.made) cell n.0 h, n.1, n.2)
 
-  fresh : (c : Core) → HoldsAbove p c.made → (k : Kind) → p k (suc c.made) ≡ true
-  fresh c above k = above k (suc c.made) (omega arith)
-
-  gives_named : (i : ℕ) (goal : Goal) (k : Kind) (cell : Cell) (c : Core) → HoldsAbove p c.made → CellNamed p cell → CoreNamed p c → CoreNamed p (gives_new i goal k cell c)
-  gives_named i goal k cell c above h n = result_named i goal (RefValue k (suc c.made)) (new_cell cell c) (fresh c above k) (made_named cell c h n)
+  gives_named : (i : ℕ) (goal : Goal) (k : Kind) (cell : Cell) (c : Core) → p k (suc c.made) ≡ true → CellNamed p cell → CoreNamed p c → CoreNamed p (gives_new i goal k cell c)
+  gives_named i goal k cell c above h n = result_named i goal (RefValue k (suc c.made)) (new_cell cell c) above (made_named cell c h n)
 
   empty_named : (k : Kind) → CellNamed p (empty_cell k)
   empty_named kind.Promise = tt
@@ -64,18 +61,18 @@ module _ (p : Rule) where
   bad_named : (i err : ℕ) (c : Core) → CoreNamed p c → CoreNamed p (throws i err c).0
   bad_named i err c n = push_named p (Throw i err) c tt n
 
-  port_named : (i : ℕ) (goal : Goal) (port : ℕ) (o : Option ℕ) (c : Core) → HoldsAbove p c.made → CoreNamed p c → CoreNamed p (open_port i goal port o c).0
+  port_named : (i : ℕ) (goal : Goal) (port : ℕ) (o : Option ℕ) (c : Core) → p kind.FutureStream (suc c.made) ≡ true → CoreNamed p c → CoreNamed p (open_port i goal port o c).0
   port_named i goal port (Some cell) c above n = bad_named i port_in_use c n
   port_named i goal port None c above n = gives_named i goal kind.FutureStream (Stream [] None None) (record c { ports = added c.ports port (suc c.made) }) above tt n
 
-  opened_named : (i : ℕ) (goal : Goal) (c : Core) → HoldsAbove p c.made → CoreNamed p c → CoreNamed p (gives_open i goal c)
+  opened_named : (i : ℕ) (goal : Goal) (c : Core) → p kind.Future (suc c.made) ≡ true → CoreNamed p c → CoreNamed p (gives_open i goal c)
   opened_named i goal c above n = gives_named i goal kind.Future (Single None []) (record c { requests = c.requests ++ suc c.made ∷ [] }) above tt n
 
-  disk_named : (i : ℕ) (goal : Goal) (call : Option (DiskCall ℕ)) (c : Core) → HoldsAbove p c.made → CoreNamed p c → CoreNamed p (ask_disk i goal call c).0
+  disk_named : (i : ℕ) (goal : Goal) (call : Option (DiskCall ℕ)) (c : Core) → p kind.Future (suc c.made) ≡ true → CoreNamed p c → CoreNamed p (ask_disk i goal call c).0
   disk_named i goal None c above n = bad_named i bad_argument c n
   disk_named i goal (Some call) c above n = opened_named i goal c above n
 
-  effect_named : (s : Supply) (i : ℕ) (goal : Goal) (eff : Effect) (c : Core) → HoldsAbove p c.made → CoreNamed p c → CoreNamed p (effect s i goal eff c).0
+  effect_named : (s : Supply) (i : ℕ) (goal : Goal) (eff : Effect) (c : Core) → HoldsNew p c.made eff → CoreNamed p c → CoreNamed p (effect s i goal eff c).0
   effect_named s i goal (Make k) c above n = gives_named i goal k (empty_cell k) c above (empty_named k) n
   effect_named s i goal (Start class args) c above n = n
   effect_named s i goal (Draw lo hi) c above n =
@@ -112,7 +109,7 @@ module _ (p : Rule) where
   print_named i None c n = n
   print_named i (Some l) c n = push_named p (Run i) (writes l c) tt n
 
-  react_named : (s : Supply) (i : ℕ) (act : Act) (c : Core) → HoldsAbove p c.made → ActNamed p act → CoreNamed p c → CoreNamed p (react s i act c).0
+  react_named : (s : Supply) (i : ℕ) (act : Act) (c : Core) → ActMakes p c.made act → ActNamed p act → CoreNamed p c → CoreNamed p (react s i act c).0
   react_named s i Goes c above h n = push_named p (Run i) c tt n
   react_named s i Pass c above h n = turn_named p c.left c (pushed (Run i)) n (λ m. push_named p (Run i) (record c { left = m }) tt n)
   react_named s i (Drops vs) c above h n = dropping_named p vs (pushed (Run i) c) h (push_named p (Run i) c tt n)
@@ -132,10 +129,10 @@ module _ (p : Rule) where
   enrol_named class name c n =
       (each_added (CellNamed p) c.cells (suc c.made) (Single None []) n.0 tt, each_added (λ e. RefsNamed p e.operands) c.entries (suc c.started) (entry_of class (suc c.made)) n.1 tt, (tt, n.2))
 
-  start_named : (i : ℕ) (goal : Goal) (class : ℕ) (name : List ℕ) (c : Core) → HoldsAbove p c.made → CoreNamed p c → CoreNamed p (start_core i goal class name c)
+  start_named : (i : ℕ) (goal : Goal) (class : ℕ) (name : List ℕ) (c : Core) → p kind.Future (suc c.made) ≡ true → CoreNamed p c → CoreNamed p (start_core i goal class name c)
   start_named i goal class name c above n =
       turn_named p c.left c (λ d. enrol class name (push_result i (result_task i goal (RefValue kind.Future (suc d.made))) d)) n
-      (λ m. enrol_named class name (push_result i (result_task i goal (RefValue kind.Future (suc c.made))) (record c { left = m })) (result_named i goal (RefValue kind.Future (suc c.made)) (record c { left = m }) (fresh c above kind.Future) n))
+      (λ m. enrol_named class name (push_result i (result_task i goal (RefValue kind.Future (suc c.made))) (record c { left = m })) (result_named i goal (RefValue kind.Future (suc c.made)) (record c { left = m }) above n))
 
   thrown_named : (i err : ℕ) (x : Raised) (o : Option Entry) (c : Core) → thing c.entries i ≡ o → AllNamed p x.values → CoreNamed p c → CoreNamed p (throw_core i err x o c)
   thrown_named i err x None c at h n = n
@@ -207,19 +204,19 @@ module _ (p : Rule) where
     close_keeps i o None c xs h n m = (n, m)
     close_keeps i o (Some en) c xs h n m = (close_named p (scan_of (classes r).occ (removed xs i)) i en.result o c h n, each_removed (λ f. MemoryNamed p f.mem) xs i m)
 
-    start_keeps : (i : ℕ) (goal : Goal) (class : ℕ) (x : Option Frame) (c : Core) (xs : Numbered Frame) → HoldsAbove p c.made → MaybeFrame p x → CoreNamed p c → FramesNamed p xs → ProcNamed p (start (classes r) i goal class x (proc c xs)).0
+    start_keeps : (i : ℕ) (goal : Goal) (class : ℕ) (x : Option Frame) (c : Core) (xs : Numbered Frame) → p kind.Future (suc c.made) ≡ true → MaybeFrame p x → CoreNamed p c → FramesNamed p xs → ProcNamed p (start (classes r) i goal class x (proc c xs)).0
     start_keeps i goal class None c xs above h n m = (n, m)
     start_keeps i goal class (Some f) c xs above h n m = (start_named i goal class ((classes r).label class) c above n, each_added (λ f. MemoryNamed p f.mem) xs (suc c.started) f m h)
 
-    effect_keeps : (s : Supply) (i : ℕ) (goal : Goal) (eff : Effect) (c : Core) (xs : Numbered Frame) → HoldsAbove p c.made → EffectNamed p eff → CoreNamed p c → FramesNamed p xs → ProcNamed p (answer_effect (classes r) s i goal eff (proc c xs)).0
+    effect_keeps : (s : Supply) (i : ℕ) (goal : Goal) (eff : Effect) (c : Core) (xs : Numbered Frame) → HoldsNew p c.made eff → EffectNamed p eff → CoreNamed p c → FramesNamed p xs → ProcNamed p (answer_effect (classes r) s i goal eff (proc c xs)).0
     effect_keeps s i goal (Start class args) c xs above h n m = start_keeps i goal class ((classes r).fresh class args) c xs above (fresh_named p (slice_get r.classes class) args h) n m
     effect_keeps s i goal eff c xs above h n m = (react_named s i (Effects goal eff) c above h n, m)
 
-    answer_keeps : (s : Supply) (i : ℕ) (act : Act) (c : Core) (xs : Numbered Frame) → HoldsAbove p c.made → ActNamed p act → CoreNamed p c → FramesNamed p xs → ProcNamed p (answer (classes r) s i act (proc c xs)).0
+    answer_keeps : (s : Supply) (i : ℕ) (act : Act) (c : Core) (xs : Numbered Frame) → ActMakes p c.made act → ActNamed p act → CoreNamed p c → FramesNamed p xs → ProcNamed p (answer (classes r) s i act (proc c xs)).0
     answer_keeps s i (Effects goal eff) c xs above h n m = effect_keeps s i goal eff c xs above h n m
     answer_keeps s i act c xs above h n m = (react_named s i act c above h n, m)
 
-    next_keeps : (s : Supply) (i : ℕ) (ts : List Task) (x : Option Ask × Frame) (c : Core) (xs : Numbered Frame) → HoldsAbove p c.made → StepNamed p x → TasksNamed p ts → CoreNamed p c → FramesNamed p xs → ProcNamed p (run_next (classes r) s i ts x (proc c xs)).0
+    next_keeps : (s : Supply) (i : ℕ) (ts : List Task) (x : Option Ask × Frame) (c : Core) (xs : Numbered Frame) → AskMakes p c.made x.0 → StepNamed p x → TasksNamed p ts → CoreNamed p c → FramesNamed p xs → ProcNamed p (run_next (classes r) s i ts x (proc c xs)).0
     next_keeps s i ts (None, f) c xs above h k n m = (n, frames_put xs i f m h.1)
     next_keeps s i ts (Some ask, f) c xs above h k n m = answer_keeps s i ask.act (record c { tasks = ts; left = ask.left }) (put xs i f) above h.0 (n.0, n.1, k) (frames_put xs i f m h.1)
 
@@ -232,7 +229,7 @@ module _ (p : Rule) where
         by_cell (Some (Single o ws)) at f = subst (λ y. CellNamed p (Single y ws)) f (each_at (CellNamed p) c.cells k (Single o ws) n.0 at)
         by_cell (Some (Stream q d w)) at f = absurd (cc)
 
-    run_keeps : (s : Supply) (i : ℕ) (ts : List Task) (x : Option Frame) (c : Core) (xs : Numbered Frame) → thing xs i ≡ x → HoldsAbove p c.made → TasksNamed p ts → CoreNamed p c → FramesNamed p xs → ProcNamed p (run (classes r) s i ts x (proc c xs)).0
+    run_keeps : (s : Supply) (i : ℕ) (ts : List Task) (x : Option Frame) (c : Core) (xs : Numbered Frame) → thing xs i ≡ x → FrameMakes p r s i c x → TasksNamed p ts → CoreNamed p c → FramesNamed p xs → ProcNamed p (run (classes r) s i ts x (proc c xs)).0
     run_keeps s i ts None c xs at above k n m = (n, m)
     run_keeps s i ts (Some f) c xs at above k n m =
         next_keeps s i ts ((classes r).next (view s i c) f) c xs above (next_named p gives (class_names r) (view s i c) (seen_named c n) f (frame_at xs i f at m)) k n m
@@ -241,7 +238,7 @@ module _ (p : Rule) where
     MaybeKeeps None = Unit {0}
     MaybeKeeps (Some t) = ProcNamed p t.0
 
-    tasks_keep : (s : Supply) (ts : List Task) (c : Core) (xs : Numbered Frame) → HoldsAbove p c.made → TasksNamed p ts → CoreNamed p c → FramesNamed p xs → MaybeKeeps (step_tasks (classes r) s ts (proc c xs))
+    tasks_keep : (s : Supply) (ts : List Task) (c : Core) (xs : Numbered Frame) → TaskMakes p r s c xs ts → TasksNamed p ts → CoreNamed p c → FramesNamed p xs → MaybeKeeps (step_tasks (classes r) s ts (proc c xs))
     tasks_keep s [] c xs above k n m = tt
     tasks_keep s (Run i ∷ ts) c xs above k n m = run_keeps s i ts (thing xs i) c xs refl above k.1 n m
     tasks_keep s (Give i b o ∷ ts) c xs above k n m = give_keeps i b o (thing xs i) (record c { tasks = ts }) xs refl k.0 (n.0, n.1, k.1) m
@@ -253,9 +250,46 @@ module _ (p : Rule) where
     tasks_keep s (Fire j ∷ ts) c xs above k n m = (fire_named p (scan_of (classes r).occ xs) j (record c { tasks = ts }) (n.0, n.1, k.1), m)
     tasks_keep s (Drop kd j ∷ ts) c xs above k n m = (drop_named p (scan_of (classes r).occ xs) kd j (record c { tasks = ts }) (n.0, n.1, k.1), m)
 
-    if_keeps : (s : Supply) (x : Option Halt) (c : Core) (xs : Numbered Frame) → HoldsAbove p c.made → CoreNamed p c → FramesNamed p xs → MaybeKeeps (step_if (classes r) s x (proc c xs))
+    if_keeps : (s : Supply) (x : Option Halt) (c : Core) (xs : Numbered Frame) → TaskMakes p r s c xs c.tasks → CoreNamed p c → FramesNamed p xs → MaybeKeeps (step_if (classes r) s x (proc c xs))
     if_keeps s (Some x) c xs above n m = tt
     if_keeps s None c xs above n m = tasks_keep s c.tasks c xs above n.2 n m
 
 pub steps_named : law.StepsNamed
 steps_named r p s q t gives above n e = subst (MaybeKeeps p r gives) e (if_keeps p r gives s q.core.halted q.core q.actors above n.0 n.1)
+
+-- what a step makes
+new_made : (p : Rule) (n : ℕ) (eff : Effect) → HoldsNext p n → HoldsNew p n eff
+new_made p n (Make k) h = h k
+new_made p n (Start class args) h = h kind.Future
+new_made p n (Draw lo hi) h = tt
+new_made p n (Delay ticks) h = h kind.Future
+new_made p n Never h = h kind.Future
+new_made p n (Listen port) h = h kind.FutureStream
+new_made p n (Disk call) h = h kind.Future
+
+act_made : (p : Rule) (n : ℕ) (act : Act) → HoldsNext p n → ActMakes p n act
+act_made p n (Effects goal eff) h = new_made p n eff h
+act_made p n act h = tt
+
+ask_made : (p : Rule) (n : ℕ) (o : Option Ask) → HoldsNext p n → AskMakes p n o
+ask_made p n None h = tt
+ask_made p n (Some q) h = act_made p n q.act h
+
+frame_made : (p : Rule) (r : RawTree) (s : Supply) (i : ℕ) (c : Core) (o : Option Frame) → HoldsNext p c.made → FrameMakes p r s i c o
+frame_made p r s i c None h = tt
+frame_made p r s i c (Some f) h = ask_made p c.made ((classes r).next (view s i c) f).0 h
+
+task_made : (p : Rule) (r : RawTree) (s : Supply) (c : Core) (xs : Numbered Frame) (ts : List Task) → HoldsNext p c.made → TaskMakes p r s c xs ts
+task_made p r s c xs (Run i ∷ ts) h = frame_made p r s i c (thing xs i) h
+task_made p r s c xs (Give i b o ∷ ts) h = tt
+task_made p r s c xs (Throw i e ∷ ts) h = tt
+task_made p r s c xs (Catch i e ∷ ts) h = tt
+task_made p r s c xs (Store i v ∷ ts) h = tt
+task_made p r s c xs (Keep i spot q ∷ ts) h = tt
+task_made p r s c xs (Close i o ∷ ts) h = tt
+task_made p r s c xs (Fire k ∷ ts) h = tt
+task_made p r s c xs (Drop kd k ∷ ts) h = tt
+task_made p r s c xs [] h = tt
+
+pub any_made : law.AnyMade
+any_made r p s q h = task_made p r s q.core q.actors q.core.tasks h

@@ -68,7 +68,7 @@ module _ (p : Rule) where
     field_refs NoValues h = tt
     field_refs (MoreValues v vs) h = joined_refs (refs_of v) (refs_of_all vs) (value_refs v h.0) (field_refs vs h.1)
 
-  all_refs : (vs : List ValueTree) → AllNamed p vs → RefsNamed p (refs_in vs)
+  pub all_refs : (vs : List ValueTree) → AllNamed p vs → RefsNamed p (refs_in vs)
   all_refs [] h = tt
   all_refs (v ∷ vs) h = joined_refs (refs_of v) (refs_in vs) (value_refs v h.0) (all_refs vs h.1)
 
@@ -86,7 +86,7 @@ module _ (p : Rule) where
   turn_named zero c f n h = n
   turn_named (suc m) c f n h = h m
 
-  outcome_values : (o : OutcomeTree) → OutcomeNamed p o → AllNamed p (value_in o)
+  pub outcome_values : (o : OutcomeTree) → OutcomeNamed p o → AllNamed p (value_in o)
   outcome_values (GoodOutcome v) h = (h, tt)
   outcome_values (BadOutcome e) h = tt
 
@@ -100,7 +100,7 @@ module _ (p : Rule) where
   filled_named (Stream q e w) (GoodOutcome v) h k = more_named q v h k
   filled_named (Stream q e w) (BadOutcome x) h k = h
 
-  held_named : (c : Cell) → CellNamed p c → AllNamed p (held c)
+  pub held_named : (c : Cell) → CellNamed p c → AllNamed p (held c)
   held_named (Single None ws) h = tt
   held_named (Single (Some (GoodOutcome v)) ws) h = (h, tt)
   held_named (Single (Some (BadOutcome e)) ws) h = tt

@@ -16,3 +16,4 @@ pub mod Starting
 pub mod Example
 pub mod Holds
 pub mod Naming
+pub mod Alone

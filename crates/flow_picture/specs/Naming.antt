@@ -1,5 +1,5 @@
 -- A rule on references, kept by all that a process holds.
-use Rattle.std.specs.Prelude.{◌≡◌, ℕ, ◌<◌, true, List, [], ◌∷◌}
+use Rattle.std.specs.Prelude.{◌≡◌, ℕ, suc, true, List, [], ◌∷◌}
 use Rattle.std.specs.declared.option.Option.{Option}
 use Rattle.std.specs.declared.option.Option.TheVariants.{None, Some}
 use Rattle.flow_value.specs.declared.value.Kind.{Kind}
@@ -7,11 +7,11 @@ use Rattle.flow_value.specs.declared.value.Kind.TheVariants as kind
 use Rattle.flow_value.specs.Values.{ValueTree, OutcomeTree, GoodOutcome, BadOutcome}
 use Rattle.flow_class.specs.Classes.{RawTree}
 use Rattle.flow_references.specs.Named.{Rule, GivesFutures, Named, AllNamed, MaybeNamed}
-use Rattle.flow_meaning.specs.Numbered.{Numbered}
+use Rattle.flow_meaning.specs.Numbered.{Numbered, thing}
 use Rattle.flow_meaning.specs.Cells.{Ref, Cell, Single, Stream}
-use Rattle.flow_meaning.specs.Asks.{Supply}
+use Rattle.flow_meaning.specs.Asks.{Act, Effects, Effect, Make, Start, Draw, Delay, Never, Listen, Disk, Ask, Supply}
 use Rattle.flow_meaning.specs.Process.{Task, Run, Give, Throw, Catch, Store, Keep, Close, Fire, Drop, Entry, Core, Proc}
-use Rattle.flow_meaning.specs.Step.{Stepped, step}
+use Rattle.flow_meaning.specs.Step.{Stepped, view, step}
 use Rattle.flow_meaning.specs.Deliver.{deliver, arrive, boot, stop}
 use Rattle.flow_meaning.specs.Frame.{Memory, Frame}
 use Rattle.flow_meaning.specs.Class.{classes}
@@ -81,16 +81,49 @@ module _ (p : Rule) where
   abbrev pub ProcNamed : Proc Frame → Type 0
   ProcNamed q = CoreNamed q.core × FramesNamed q.actors
 
--- each reference to a cell that isn't made yet keeps the rule
-abbrev pub HoldsAbove : Rule → ℕ → Type 0
-HoldsAbove p n = (kd : Kind) (k : ℕ) → n < k → p kd k ≡ true
+-- Of the reference to a cell that an effect makes the rule holds; n cells were made before.
+abbrev pub HoldsNew : Rule → ℕ → Effect → Type 0
+HoldsNew p n (Make k) = p k (suc n) ≡ true
+HoldsNew p n (Start class args) = p kind.Future (suc n) ≡ true
+HoldsNew p n (Draw lo hi) = Unit {0}
+HoldsNew p n (Delay ticks) = p kind.Future (suc n) ≡ true
+HoldsNew p n Never = p kind.Future (suc n) ≡ true
+HoldsNew p n (Listen port) = p kind.FutureStream (suc n) ≡ true
+HoldsNew p n (Disk call) = p kind.Future (suc n) ≡ true
 
--- No reference comes from nowhere: what holds of all references, and of those to new cells, holds of all after a step.
+abbrev pub ActMakes : Rule → ℕ → Act → Type 0
+ActMakes p n (Effects goal eff) = HoldsNew p n eff
+ActMakes p n _ = Unit {0}
+
+abbrev pub AskMakes : Rule → ℕ → Option Ask → Type 0
+AskMakes p n None = Unit {0}
+AskMakes p n (Some q) = ActMakes p n q.act
+
+abbrev pub FrameMakes : Rule → RawTree → Supply → ℕ → Core → Option Frame → Type 0
+FrameMakes p r s i c None = Unit {0}
+FrameMakes p r s i c (Some f) = AskMakes p c.made ((classes r).next (view s i c) f).0
+
+abbrev pub TaskMakes : Rule → RawTree → Supply → Core → Numbered Frame → List Task → Type 0
+TaskMakes p r s c xs (Run i ∷ ts) = FrameMakes p r s i c (thing xs i)
+TaskMakes p r s c xs _ = Unit {0}
+
+-- so it is with what the next step makes
+abbrev pub Makes : RawTree → Rule → Supply → Proc Frame → Type 0
+Makes r p s q = TaskMakes p r s q.core q.actors q.core.tasks
+
+-- No reference comes from nowhere: what holds of all references, and of the one to the cell that a step makes, holds of all
+-- after the step.
 abbrev pub StepsNamed : Type 0
 StepsNamed =
     (r : RawTree) (p : Rule) (s : Supply) (q : Proc Frame) (t : Stepped Frame) → GivesFutures p
-    → HoldsAbove p q.core.made
-    → ProcNamed p q → step (classes r) s q ≡ Some t → ProcNamed p t.0
+    → Makes r p s q → ProcNamed p q → step (classes r) s q ≡ Some t → ProcNamed p t.0
+
+-- It is so where the rule holds of each kind of reference to the next cell.
+abbrev pub HoldsNext : Rule → ℕ → Type 0
+HoldsNext p n = (kd : Kind) → p kd (suc n) ≡ true
+
+abbrev pub AnyMade : Type 0
+AnyMade = (r : RawTree) (p : Rule) (s : Supply) (q : Proc Frame) → HoldsNext p q.core.made → Makes r p s q
 
 -- So it is with what is brought to a process.
 abbrev pub DeliveriesNamed : Type 0

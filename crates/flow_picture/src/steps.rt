@@ -12,7 +12,8 @@ ghost use Rattle.flow_picture.specs.Holding as holding;
 ghost use Rattle.flow_picture.specs.Example.{WaitingRests};
 ghost use Rattle.flow_picture.specs.Starting.{IdleRests, VanishedRests};
 ghost use Rattle.flow_picture.specs.Standing as standing;
-ghost use Rattle.flow_picture.specs.Naming.{StepsNamed, DeliveriesNamed, ArrivalsNamed, BootsNamed, StopsNamed};
+ghost use Rattle.flow_picture.specs.Alone.{OwnersCounted, NobodyElse, NobodyYet, StaysAlone, BornAlone, PortsOnce, RequestsOnce};
+ghost use Rattle.flow_picture.specs.Naming.{StepsNamed, AnyMade, DeliveriesNamed, ArrivalsNamed, BootsNamed, StopsNamed};
 
 /// Each step of classes, and each thing that the world brings to a process, keeps that the branches of an actor that wait at
 /// a cell are those of its operands there, and that the numbers of cells, requests and ports' streams rise; unless it stops
@@ -55,11 +56,25 @@ pub fn starts_at_rest()
 {}
 
 /// No reference comes from nowhere: a rule on references that holds of all that a process of classes holds, and of the
-/// references to each cell that isn't made yet, holds after each step and each thing that the world brings to the process.
+/// reference to the cell that a step makes, holds after the step, and after each thing that the world brings to the process.
 pub fn references_come_from_somewhere()
     ensures steps { StepsNamed }
+    ensures any { AnyMade }
     ensures deliveries { DeliveriesNamed }
     ensures arrivals { ArrivalsNamed }
     ensures boots { BootsNamed }
     ensures stops { StopsNamed }
+{}
+
+/// What a process made a cell for is alone in referring to its promise side: it is so of a cell that is made for an actor, a
+/// timer, a port or the disk, each step keeps it so, and then these alone are counted. A cell is the stream of one port at
+/// most, and of one open request.
+pub fn owners_stay_alone()
+    ensures counted { OwnersCounted }
+    ensures nobody_else { NobodyElse }
+    ensures nobody_yet { NobodyYet }
+    ensures born { BornAlone }
+    ensures stays { StaysAlone }
+    ensures ports { PortsOnce }
+    ensures requests { RequestsOnce }
 {}

@@ -1,9 +1,12 @@
-use Rattle.flow_picture.proofs.NamingSteps.{steps_named}
+use Rattle.flow_picture.proofs.NamingSteps.{steps_named, any_made}
 use Rattle.flow_picture.proofs.NamingDeliveries.{deliveries_named, arrivals_named, boots_named, stops_named}
 use Rattle.flow_picture.proofs.steps.references_come_from_somewhere.Goals as goal
 
 pub returns-clause-steps : goal.returns-clause-steps
 returns-clause-steps c = steps_named
+
+pub returns-clause-any : goal.returns-clause-any
+returns-clause-any c = any_made
 
 pub returns-clause-deliveries : goal.returns-clause-deliveries
 returns-clause-deliveries c = deliveries_named

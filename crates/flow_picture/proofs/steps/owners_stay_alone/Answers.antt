@@ -1,0 +1,25 @@
+use Rattle.flow_picture.proofs.Alone.{owners_counted, stays_alone, born_alone}
+use Rattle.flow_picture.proofs.Nobody.{nobody_else, nobody_yet}
+use Rattle.flow_picture.proofs.Once.{ports_once, requests_once}
+use Rattle.flow_picture.proofs.steps.owners_stay_alone.Goals as goal
+
+pub returns-clause-counted : goal.returns-clause-counted
+returns-clause-counted c = owners_counted
+
+pub returns-clause-nobody_else : goal.returns-clause-nobody_else
+returns-clause-nobody_else c = nobody_else
+
+pub returns-clause-nobody_yet : goal.returns-clause-nobody_yet
+returns-clause-nobody_yet c = nobody_yet
+
+pub returns-clause-born : goal.returns-clause-born
+returns-clause-born c = born_alone
+
+pub returns-clause-stays : goal.returns-clause-stays
+returns-clause-stays c = stays_alone
+
+pub returns-clause-ports : goal.returns-clause-ports
+returns-clause-ports c = ports_once
+
+pub returns-clause-requests : goal.returns-clause-requests
+returns-clause-requests c = requests_once
