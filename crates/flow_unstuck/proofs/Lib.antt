@@ -31,3 +31,4 @@ pub mod ReactFits
 pub mod WaitFits
 pub mod StepFits
 pub mod RunFits
+pub mod TasksFitOn
