@@ -21,6 +21,7 @@ pub mod Assigned
 pub mod Given
 pub mod Asks
 pub mod Handed
+pub mod Registered
 pub mod Retyped
 pub mod States
 pub mod CellStates

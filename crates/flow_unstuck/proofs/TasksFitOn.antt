@@ -1,39 +1,39 @@
 -- The tasks of actors keep a process fitting, and have a meaning.
-use Rattle.std.proofs.Common.{◌≡◌, ℕ, zero, suc, ◌+◌, ◌<◌, nat_eq, Bool, true, false, List, [], ◌∷◌, ◌++◌, length, ◌⊎◌, inl, inr, if◌then◌else◌, refl, sym, ap, ◌∙◌, subst, arith}
-use Rattle.std.specs.Prelude.{slice_get}
+use Rattle.std.proofs.Common.{◌≡◌, ℕ, suc, ◌+◌, Bool, true, false, List, [], ◌∷◌, ◌++◌, length, ◌⊎◌, inl, inr, refl, sym, ◌∙◌, subst, arith}
 use Rattle.std.specs.declared.option.Option.{Option}
 use Rattle.std.specs.declared.option.Option.TheVariants.{None, Some}
 use Rattle.flow_base.specs.ErrorNumbers.{operation_cancelled}
 use Rattle.flow_tree.specs.Tree.{TypeTree}
 use Rattle.flow_tree.specs.Decls.{RoutineTree}
 use Rattle.flow_value.specs.Values.{ValueTree, RefValue, OutcomeTree, GoodOutcome, BadOutcome}
-use Rattle.flow_class.specs.Classes.{CatcherTree, ClassTree, RawTree}
+use Rattle.flow_class.specs.Classes.{CatcherTree, RawTree}
 use Rattle.flow_class.specs.Code.{catcher_at, fetch}
 use Rattle.flow_meaning.specs.Numbered.{Numbered, thing, put}
 use Rattle.flow_meaning.specs.Cells.{Ref, Cell, is_ready}
 use Rattle.flow_meaning.specs.Asks.{Spot, Supply}
 use Rattle.flow_meaning.specs.Process.{Task, Run, Give, Throw, Catch, Store, Keep, Close, Fire, Drop, Entry, Core}
 use Rattle.flow_meaning.specs.Lines.{throw_line, catch_line}
-use Rattle.flow_meaning.specs.Work.{writes, pushed, running, dropping_values, leave_for, take_branch, is_ready_at}
-use Rattle.flow_meaning.specs.Step.{Stepped, proc, give, store, throw, throw_core, Verdict, GoesOn, Cancelled, Ready, verdict, with_operand, below, leave_kept, keep_by, keep, handle}
+use Rattle.flow_meaning.specs.Work.{writes, pushed, running, dropping_values, leave_for, is_ready_at}
+use Rattle.flow_meaning.specs.Step.{Stepped, proc, give, store, throw, throw_core, Verdict, GoesOn, Cancelled, Ready, verdict, with_operand, below, keep_by, keep, handle}
 use Rattle.flow_meaning.specs.Orderly.{tasks_of, NextStep, Orderly}
 use Rattle.flow_meaning.specs.Frame.{Frame, everything, lose, raise, raised}
-use Rattle.flow_meaning.specs.Class.{classes, class_names}
-use Rattle.flow_meaning.proofs.Posture.{IsOf, thing_put_other, thing_put, own_task}
+use Rattle.flow_meaning.specs.Class.{classes}
+use Rattle.flow_meaning.proofs.Posture.{IsOf, thing_put_other, thing_put}
 use Rattle.flow_meaning.proofs.Shifts.{run_of, give_of, throw_of, catch_of, store_of, keep_of, close_of}
 use Rattle.flow_meaning.proofs.TaskShifts.{popped_at, next_below, below_unmoved}
 use Rattle.flow_unstuck.specs.Places.{class_vars, HoldsTypes}
 use Rattle.flow_unstuck.specs.Rules.{ClassRules}
-use Rattle.flow_unstuck.specs.Asking.{NextOperand, HaveSome, OutcomeFits}
+use Rattle.flow_unstuck.specs.Asking.{NextOperand, HaveSome}
 use Rattle.flow_unstuck.specs.Fitting.{CellTypes, typed_by, Fits, OperandsFit, Standing, Waiting, DoingFits, ActorFits, ActorAt, TasksFit, ProcessFits}
 use Rattle.flow_unstuck.proofs.Asks.{everything_some}
 use Rattle.flow_unstuck.proofs.Handed.{Onward, store_fits, lose_fits, take_fits, caught_standing, caught_waiting}
 use Rattle.flow_unstuck.proofs.States.{Fine, fine_of, FitsBut, put_back, frame_but, actor_at, operands_exist, dropping_fits}
 use Rattle.flow_unstuck.proofs.CellStates.{leave_state}
 use Rattle.flow_unstuck.proofs.KeptNone.{SamePoint, next_moved, operands_moved}
-use Rattle.flow_unstuck.proofs.HandFits.{Owner, HandFits, doing_actor, goes_by, branch_fits}
+use Rattle.flow_unstuck.proofs.HandFits.{HandFits, doing_actor, goes_by, branch_fits}
 use Rattle.flow_unstuck.proofs.WaitFits.{operand_typed}
 use Rattle.flow_unstuck.proofs.StepFits.{Actor, actor_here, After, frame_rules}
+use Rattle.flow_unstuck.proofs.Registered.{awake_registered, entry_registered}
 
 -- the operand that is kept last
 operands_last : (r : RawTree) (types : CellTypes) (f : Frame) (n : ℕ) (qs : List Ref) (q : Ref) → OperandsFit r types f n (qs ++ q ∷ []) → (t : TypeTree) × NextOperand f (n + length qs) t × Fits r types (RefValue q.0 q.1) t
@@ -106,7 +106,8 @@ module _ (r : RawTree) (actors : List RoutineTree) (rules : ClassRules r actors)
       let h = put_hand (Store i v) a z.1 in
       let state = put_back r types i popped_core (put xs i z.1) h.rest
           (actor_at r types a.entry z.1 (thing c.entries i) (thing (put xs i z.1) i) (tasks_of i ts) a.at h.frame
-          (subst (ActorFits r types a.entry z.1) (sym pop.rest) (doing_actor r types a.entry z.1 a.class (Run i ∷ []) a.owner a.awake (out.2 ∙ a.doing.0, out.0, no_operands z.1 a.entry a.doing.3)))) in
+          (subst (ActorFits r types a.entry z.1) (sym pop.rest) (doing_actor r types a.entry z.1 a.class (Run i ∷ []) a.owner a.awake (out.2 ∙ a.doing.0, out.0, no_operands z.1 a.entry a.doing.3))))
+          (awake_registered i c.entries c.cells a.entry a.at a.awake) in
       subst (λ x. Fits_after (store (classes r) i v x (proc popped_core xs))) (sym a.stands)
       (fine_of r c.halted (dropping_values z.0 popped_core) (put xs i z.1) go (types, dropping_fits r types z.0 popped_core (put xs i z.1) out.1 state))
 
@@ -120,7 +121,7 @@ module _ (r : RawTree) (actors : List RoutineTree) (rules : ClassRules r actors)
             awake = a.awake;
             frame = a.stands;
             owner = a.owner;
-            rest = record { cells = b.cells; waiting = b.waiting; actors = b.actors; work = b.work; ports = b.ports; main = b.main; requests = b.requests; numbered = b.numbered; framed = b.framed };
+            rest = record { cells = b.cells; waiting = b.waiting; actors = b.actors; work = b.work; ports = b.ports; main = b.main; requests = b.requests; numbered = b.numbered; framed = b.framed; registered = b.registered };
           } in
       fine_of r c.halted (pushed (Run i) d) xs go (types, goes_by r types i (Run i) d xs a.entry a.frame a.class h (run_of i) (λ us. (a.doing.0, a.doing.1, no_operands a.frame a.entry a.doing.2)))
 
@@ -143,7 +144,7 @@ module _ (r : RawTree) (actors : List RoutineTree) (rules : ClassRules r actors)
           let h = put_hand (Throw i err) a g in
           let b = h.rest in
           let k = writes (throw_line i err) popped_core in
-          let rest : FitsBut r types i k (put xs i g) = record { cells = b.cells; waiting = b.waiting; actors = b.actors; work = b.work; ports = b.ports; main = b.main; requests = b.requests; numbered = b.numbered; framed = b.framed } in
+          let rest : FitsBut r types i k (put xs i g) = record { cells = b.cells; waiting = b.waiting; actors = b.actors; work = b.work; ports = b.ports; main = b.main; requests = b.requests; numbered = b.numbered; framed = b.framed; registered = b.registered } in
           fine_of r c.halted (leave_for i a.entry vs t k) (put xs i g) go
           (types, leave_state r types i a.entry a.entry vs t k (put xs i g) g rest a.at h.frame own (operands_exist r types a.frame 0 a.entry.operands a.doing.2) some
           (λ us. doing_actor r types (running a.entry) g a.class (t ∷ us) (record { is = a.owner.is; result = a.owner.result; owns = a.owner.owns; gives = a.owner.gives }) refl (d us)))
@@ -194,6 +195,7 @@ module _ (r : RawTree) (actors : List RoutineTree) (rules : ClassRules r actors)
             requests = b.requests;
             numbered = b.numbered;
             framed = b.framed;
+            registered = b.registered;
           }
 
       lost : (a : Actor r types i (Keep i spot q) ts c xs) → Waiting r types (lose a.frame).1 × HaveSome r.records (typed_by types) (lose a.frame).0
@@ -217,10 +219,12 @@ module _ (r : RawTree) (actors : List RoutineTree) (rules : ClassRules r actors)
                 requests = b.requests;
                 numbered = b.numbered;
                 framed = b.framed;
+                registered = λ j n. entry_registered i j c.entries c.cells e n (b.registered j n);
               } in
           fine_of r c.halted d xs go (types, put_back r types i d xs rest
           (actor_at r types e a.frame (thing (put c.entries i e) i) (thing xs i) (tasks_of i ts) (thing_put c.entries i a.entry e a.at) a.stands
-          (subst (ActorFits r types e a.frame) (sym pop.rest) (doing_actor r types e a.frame a.class (Run i ∷ []) (record { is = a.owner.is; result = a.owner.result; owns = a.owner.owns; gives = a.owner.gives }) a.awake a.doing))))
+          (subst (ActorFits r types e a.frame) (sym pop.rest) (doing_actor r types e a.frame a.class (Run i ∷ []) (record { is = a.owner.is; result = a.owner.result; owns = a.owner.owns; gives = a.owner.gives }) a.awake a.doing)))
+          (awake_registered i (put c.entries i e) c.cells e (thing_put c.entries i a.entry e a.at) a.awake))
       by_verdict a Cancelled ready =
           let g = (lose a.frame).1 in
           let e = with_operand spot q a.entry in
