@@ -1,3 +1,3 @@
 mod Grammar
 mod Rules
-mod Whole
+pub mod Whole

@@ -36,16 +36,16 @@ use Rattle.flow_faithful.proofs.Grammar.{begun, variables, slots_count, stmts_ma
 use Rattle.flow_faithful.proofs.Rules.{neither, in_place}
 
 -- something holds of each actor
-abbrev EachActor : (RoutineTree → Type 0) → List DeclTree → Type 0
+abbrev pub EachActor : (RoutineTree → Type 0) → List DeclTree → Type 0
 EachActor P [] = Unit {0}
 EachActor P (StructDecl r ∷ ds) = EachActor P ds
 EachActor P (FunctionDecl f ∷ ds) = EachActor P ds
 EachActor P (ActorDecl a ∷ ds) = P a × EachActor P ds
 
 -- what the grammar says of an actor in so many tokens
-record Formed (tokens : ℕ) (a : RoutineTree) : Type 0 where
-  parts : HasParts a.body
-  few : length a.params + variables a.body ≤ tokens
+pub record Formed (tokens : ℕ) (a : RoutineTree) : Type 0 where
+  pub parts : HasParts a.body
+  pub few : length a.params + variables a.body ≤ tokens
 
 formed_more : (m n : ℕ) (ds : List DeclTree) → m ≤ n → EachActor (Formed m) ds → EachActor (Formed n) ds
 formed_more m n [] le h = tt
@@ -91,7 +91,7 @@ with_first P (StructDecl r) ds h k = k
 with_first P (FunctionDecl f) ds h k = k
 with_first P (ActorDecl a) ds h k = (h.0, k)
 
-decls_formed : {n : ℕ} {all : List Marked} {ds : List DeclTree} → DeclsRule n all ds → EachActor (Formed (length all)) ds
+pub decls_formed : {n : ℕ} {all : List Marked} {ds : List DeclTree} → DeclsRule n all ds → EachActor (Formed (length all)) ds
 decls_formed no_decls = tt
 decls_formed {n = n} {all = all} (more_decls {x = x} {xs = xs} first more d r eq) =
     let e = ap length eq in
@@ -101,10 +101,10 @@ decls_formed {n = n} {all = all} (more_decls {x = x} {xs = xs} first more d r eq
     (formed_more (length first) (length all) (x ∷ []) (omega (arith, e, sum, b)) (decl_formed d))
     (formed_more (length more) (length all) xs (omega (arith, e, sum)) (decls_formed r))
 
-program_decls : (end : Place) (m : List Marked) (p : ProgramTree) → ProgramRule end m p → DeclsRule 1 m p.decls
+pub program_decls : (end : Place) (m : List Marked) (p : ProgramTree) → ProgramRule end m p → DeclsRule 1 m p.decls
 program_decls end m p (program d) = d
 
-as_many : (xs : List Marked) → length (spots_of xs) ≡ length xs
+pub as_many : (xs : List Marked) → length (spots_of xs) ≡ length xs
 as_many [] = refl
 as_many (x ∷ xs) = ap suc (as_many xs)
 
@@ -113,7 +113,7 @@ param_names : (ps : List ParamTree) → slot_names (map param_slot ps) ≡ map p
 param_names [] = refl
 param_names (p ∷ ps) = ap (λ l. p.name.name ∷ l) (param_names ps)
 
-abbrev Placed : RoutineTree → Type 0
+abbrev pub Placed : RoutineTree → Type 0
 Placed a = InPlace (slots_of a) false false [] a.body
 
 routine_placed : (before : List ℕ → Option Meaning) (s : Setting) (a : RoutineTree) → HasParts a.body → routine_refusal before s a ≡ None → Placed a
@@ -122,7 +122,7 @@ routine_placed before s a parts h =
     in_place (slots_of a) a.body (body_env s a) false false [] (map param_slot a.params) [] parts b.0 refl refl
     (record { known = λ x e. tt; names = param_names a.params; slots = ap (λ l. map param_slot a.params ++ l) (sym (append-nil (body_slots a.body))) })
 
-decls_placed : (all : Bool → Setting) (before ds : List DeclTree) (n : ℕ) → EachActor (Formed n) ds → decls_refusal all before ds ≡ None → EachActor Placed ds
+pub decls_placed : (all : Bool → Setting) (before ds : List DeclTree) (n : ℕ) → EachActor (Formed n) ds → decls_refusal all before ds ≡ None → EachActor Placed ds
 decls_placed all before [] n f h = tt
 decls_placed all before (StructDecl r ∷ ds) n f h = decls_placed all (before ++ StructDecl r ∷ []) ds n f (neither (decl_refusal all (known before) (StructDecl r)) _ h).1
 decls_placed all before (FunctionDecl g ∷ ds) n f h = decls_placed all (before ++ FunctionDecl g ∷ []) ds n f (neither (decl_refusal all (known before) (FunctionDecl g)) _ h).1
@@ -131,7 +131,7 @@ decls_placed all before (ActorDecl a ∷ ds) n f h =
     (routine_placed (known before) (all false) a f.0.parts b.0, decls_placed all (before ++ ActorDecl a ∷ []) ds n f.1 b.1)
 
 -- the classes
-small : (n : ℕ) (a : RoutineTree) → n < 2 ^ 64 → Formed n a → IsSmall a
+pub small : (n : ℕ) (a : RoutineTree) → n < 2 ^ 64 → Formed n a → IsSmall a
 small n a lt f = record {
   slots = omega (arith, f.few, lt, length-append (map param_slot a.params) (body_slots a.body), length-map a.params, slots_count a.body);
   locals = omega (arith, f.few, lt, locals_count a.body);

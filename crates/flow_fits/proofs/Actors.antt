@@ -1,20 +1,18 @@
 -- The actors in which no rule fails are well typed.
-use Rattle.std.proofs.Common.{◌≡◌, ℕ, zero, suc, Bool, true, false, not, ◌&&◌, List, [], ◌∷◌, ◌++◌, slice_get, refl, sym, ap, ap₂, subst, ◌∙◌, inl}
+use Rattle.std.proofs.Common.{◌≡◌, ℕ, zero, suc, Bool, true, false, not, List, [], ◌∷◌, ◌++◌, slice_get, refl, sym, ap, subst, ◌∙◌}
 use Rattle.std.proofs.lemmas.Bool.{false≢true}
 use Rattle.std.specs.declared.option.Option.{Option}
 use Rattle.std.specs.declared.option.Option.TheVariants.{None, Some}
 use Rattle.flow_base.specs.declared.place.Place.{Place}
 use Rattle.flow_tree.specs.declared.ty.Ident.{Ident}
-use Rattle.flow_tree.specs.Tree.{TypeTree, BoolType, ErrorType, ExprTree, ExprTrees, NoExprs, MoreExprs}
+use Rattle.flow_tree.specs.Tree.{TypeTree, BoolType, ErrorType, ExprTree}
 use Rattle.flow_tree.specs.Body.{IntoTree, WaitTree, Body, End, BlockStmt, IfStmt, IfElseStmt, WhileStmt, ForStmt, LoopStmt, BreakStmt, ContinueStmt, ReturnStmt, ThrowStmt, TryStmt, ChooseStmt, DeclareStmt, AssignStmt, ModifyStmt, CallStmt, WaitStmt, Branches, NoBranches, MoreBranches}
 use Rattle.flow_tree.specs.Decls.{ParamTree, RoutineTree, DeclTree, StructDecl, FunctionDecl, ActorDecl}
-use Rattle.flow_ast.specs.TypingNames.{named, constant_names}
-use Rattle.flow_ast.specs.Typing.{is_there, more_types, without_effects, all_without_effects}
-use Rattle.flow_ast.specs.Fits.{declared_in, fields_type, path_type, ThrowFits}
-use Rattle.flow_rules.specs.declared.rule.TheConstants.{UNKNOWN_NAME, NEEDS_VALUE, FALLS_OFF, BREAK_OUTSIDE, WAIT_OUTSIDE}
+use Rattle.flow_ast.specs.Fits.{declared_in, path_type, ThrowFits}
+use Rattle.flow_rules.specs.declared.rule.TheConstants.{NEEDS_VALUE, FALLS_OFF, BREAK_OUTSIDE, WAIT_OUTSIDE}
 use Rattle.flow_rules.specs.Least.{lesser, unless}
 use Rattle.flow_rules.specs.Known.{known}
-use Rattle.flow_rules.specs.Judged.{Setting, Need, called, called_on, needs_of, calls, said, form, fault, faults, fits, wanted, wants, variable_form}
+use Rattle.flow_rules.specs.Judged.{Setting, form, fault, wanted, wants}
 use Rattle.flow_rules.specs.Closing as closing
 use Rattle.flow_rules.specs.Items.{Env, item, with_var, with_states, in_loop, in_catch, behind, declared, waited, started, fresh, into_fault, value_fault, target_form, target_fault, assign_fault, modify_fault, ends_of, base_form, base_fault, path_fault, call_by_name, call_on, call_fault, test_fault, maybe_test, throw_fault, declare_fault, wait_fault, maybe_into, wait_type, body_refusal, branch_refusal, slot_names}
 use Rattle.flow_rules.specs.Items as rule
@@ -25,16 +23,13 @@ use Rattle.flow_meaning.specs.Source.{records_in, functions_in, actors_in}
 use Rattle.flow_fits.specs.Scopes.{scope_in, setting_in}
 use Rattle.flow_fits.specs.Joined.{IsTyped}
 use Rattle.flow_fits.specs.Paths.{IsPath, HasPaths, HavePaths, AllHavePaths}
-use Rattle.flow_fits.specs.ActorFits.{into_param, waited_params, Gives, ValueGiven, HaveTypes, base_type, CallStands, StandsWell, StandWell, ActorFits}
-use Rattle.flow_fits.proofs.Names.{none_some, some_same, there, no_first, no_second, holds}
-use Rattle.flow_fits.proofs.Expressions.{typed, wanted_is, constant_typed}
+use Rattle.flow_fits.specs.ActorFits.{into_param, waited_params, Gives, ValueGiven, StandsWell, StandWell, ActorFits}
+use Rattle.flow_fits.proofs.Names.{none_some, some_same, no_first, no_second, holds}
+use Rattle.flow_fits.proofs.Expressions.{typed, wanted_is}
 use Rattle.flow_fits.proofs.Agreement.{Distinct, agrees, neither_first, neither_second, no_item, not_true}
 use Rattle.flow_fits.proofs.Standing.{InitKind, no_init, declares, assigns, modifies, init_kind, StepKind, no_step, assigned, modified, step_kind, caught_param, Stands, stands_behind, stands_loop, stands_declared, stands_caught, at_item, stands_started}
-use Rattle.flow_fits.proofs.Statements.{yields, maybe_yields, target, path_to, modify_fits}
-
-both_true : (a b : Bool) → a ≡ true → b ≡ true → a && b ≡ true
-both_true true b e f = f
-both_true false b e f = absurd (false≢true e)
+use Rattle.flow_fits.proofs.CallsFitting.{call_stands}
+use Rattle.flow_fits.proofs.Statements.{yields, maybe_yields, target, modify_fits}
 
 module _ (ds : List DeclTree) (apart : Distinct ds) where
   abbrev at_actor : List ParamTree → Setting
@@ -63,37 +58,6 @@ module _ (ds : List DeclTree) (apart : Distinct ds) where
       let w = ap (rule.assigned (form s v)) (sym t.by_form) ∙ no_second l (rule.assigned (form s v) (target_form s xs)) h in
       let same = wanted_is (form s v) k.type t.type k.by_form w in
       (t.type, t.in_scope, (k.in_scope ∙ ap Some same, k.inside))
-
-  have_types : (vars : List ParamTree) (k : ℕ) (ns : List Need) (es : ExprTrees) → faults (at_actor vars) k ns es ≡ None → HaveTypes ds vars es
-  have_types vars k ns NoExprs h = ([], refl, refl)
-  have_types vars k ns (MoreExprs e es) h =
-      let s = at_actor vars in
-      let one = lesser (fault s false e) (fits (form s e) (slice_get ns k)) in
-      let t = judged vars false e (no_first (fault s false e) (fits (form s e) (slice_get ns k)) (no_first one (faults s (suc k) ns es) h)) in
-      let r = have_types vars (suc k) ns es (no_second one (faults s (suc k) ns es) h) in
-      (t.type ∷ r.0, ap₂ more_types t.in_scope r.1, both_true (without_effects (scope_in ds vars) e) (all_without_effects (scope_in ds vars) es) (t.quiet (inl refl)) r.2)
-
-  base_typed : (vars : List ParamTree) (x : Ident) (xs : List Ident) → base_fault (at_actor vars) (x ∷ xs) ≡ None → (t : TypeTree) × (base_type ds vars (x ∷ xs) ≡ Some t)
-  base_typed vars x xs h =
-      let s = at_actor vars in
-      let o = variable_form s x.name in
-      let a = no_first (unless (is_there o) UNKNOWN_NAME) (path_fault s o xs) h in
-      let f = there o (holds (is_there o) UNKNOWN_NAME a) in
-      let r = path_to ds apart false vars xs f.value (ap (λ z. path_fault s z xs) (sym f.is) ∙ no_second (unless (is_there o) UNKNOWN_NAME) (path_fault s o xs) h) in
-      (r.type, ap (λ z. fields_type (records_in ds) z xs) (sym (constant_typed s (scope_in ds vars) (agrees ds vars apart false) x.name (named constant_names x.name)) ∙ f.is) ∙ r.in_scope)
-
-  call_stands : (vars : List ParamTree) (xs : List Ident) (es : ExprTrees) → IsPath xs → call_fault (at_actor vars) xs es ≡ None → CallStands ds vars xs es
-  call_stands vars [] es p h = absurd p
-  call_stands vars (x ∷ []) es p h =
-      let s = at_actor vars in
-      have_types vars 0 (needs_of (called s x.name)) es (no_first (faults s 0 (needs_of (called s x.name)) es) (calls es (called s x.name) (said s)) h)
-  call_stands vars (x ∷ (y ∷ ys)) es p h =
-      let s = at_actor vars in
-      let b = (ends_of x (y ∷ ys)).0 in
-      let m = (ends_of x (y ∷ ys)).1.name in
-      let n = needs_of (called_on (base_form s b) m) in
-      let c = calls es (called_on (base_form s b) m) (said s) in
-      (base_typed vars x (ends_of y ys).0 (no_first (base_fault s b) (lesser (faults s 0 n es) c) h), have_types vars 0 n es (no_first (faults s 0 n es) c (no_second (base_fault s b) (lesser (faults s 0 n es) c) h)))
 
   wait_gives : (vars : List ParamTree) (states : List (List ℕ)) (w : WaitTree) → wait_fault (at_actor vars) states w ≡ None → Gives ds vars w.operand (wait_type w.next w.into)
   wait_gives vars states w h =
@@ -221,7 +185,7 @@ module _ (ds : List DeclTree) (apart : Distinct ds) where
         (modify_fits ds apart false vars xs d p.0 (at_item ds false e vars at (λ s. modify_fault s xs d) k.setting (neither_first f _ h)), stands_well t e vars r loop c k s p.1 (neither_second f _ h))
     stands_well (CallStmt at xs es t) e vars r loop c k s p h =
         let f = item at (call_fault e.setting xs es) in
-        (call_stands vars xs es p.0 (at_item ds false e vars at (λ s. call_fault s xs es) k.setting (neither_first f _ h)), stands_well t e vars r loop c k s p.1 (neither_second f _ h))
+        (call_stands ds apart vars xs es p.0 (at_item ds false e vars at (λ s. call_fault s xs es) k.setting (neither_first f _ h)), stands_well t e vars r loop c k s p.1 (neither_second f _ h))
     stands_well (WaitStmt at w t) e vars r loop c k s p h =
         let f = item at (wait_fault e.setting e.states w) in (
           wait_gives vars e.states w (at_item ds false e vars at (λ s. wait_fault s e.states w) k.setting (neither_first f _ h)),

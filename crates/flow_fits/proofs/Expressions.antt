@@ -36,7 +36,7 @@ order_there IntType e = refl
 order_there StringType e = refl
 order_there t e = absurd (false≢true e)
 
-equality_there : (t : TypeTree) → is_there (equality_type t) ≡ true → equality_type t ≡ Some BoolType
+pub equality_there : (t : TypeTree) → is_there (equality_type t) ≡ true → equality_type t ≡ Some BoolType
 equality_there IntType e = refl
 equality_there BoolType e = refl
 equality_there StringType e = refl

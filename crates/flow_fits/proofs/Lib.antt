@@ -1,9 +1,10 @@
-mod Names
-mod Expressions
-mod Agreement
-mod Statements
-mod Standing
-mod Bodies
-mod Actors
-mod PathsDerived
-mod Accepted
+pub mod Names
+pub mod Expressions
+pub mod Agreement
+pub mod Statements
+pub mod Standing
+pub mod Bodies
+pub mod CallsFitting
+pub mod Actors
+pub mod PathsDerived
+pub mod Accepted

@@ -2,16 +2,16 @@
 use Rattle.std.specs.Prelude.{◌≡◌, ℕ, Bool, true, false, List, [], ◌∷◌, ◌++◌, slice_get}
 use Rattle.std.specs.declared.option.Option.{Option}
 use Rattle.std.specs.declared.option.Option.TheVariants.{None, Some}
-use Rattle.flow_tree.specs.declared.ty.Ident.{Ident}
-use Rattle.flow_tree.specs.Tree.{TypeTree, BoolType, ErrorType, ExprTree, ExprTrees}
+use Rattle.flow_tree.specs.Tree.{TypeTree, BoolType, ErrorType, ExprTree}
 use Rattle.flow_tree.specs.Body.{IntoTree, Body, End, BlockStmt, IfStmt, IfElseStmt, WhileStmt, ForStmt, LoopStmt, BreakStmt, ContinueStmt, ReturnStmt, ThrowStmt, TryStmt, ChooseStmt, DeclareStmt, AssignStmt, ModifyStmt, CallStmt, WaitStmt, Branches, NoBranches, MoreBranches}
 use Rattle.flow_tree.specs.Decls.{ParamTree, RoutineTree, DeclTree}
-use Rattle.flow_ast.specs.Typing.{type_in, types_in, variable_type, all_without_effects}
-use Rattle.flow_ast.specs.Fits.{declared_in, fields_type, path_type, Yields, MaybeYields, ChangeFits, ThrowFits}
+use Rattle.flow_ast.specs.Typing.{type_in}
+use Rattle.flow_ast.specs.Fits.{declared_in, path_type, Yields, MaybeYields, ChangeFits, ThrowFits}
 use Rattle.flow_rules.specs.Closing.{ways}
-use Rattle.flow_rules.specs.Items.{has_default, ends_of, wait_type}
+use Rattle.flow_rules.specs.Items.{has_default, wait_type}
 use Rattle.flow_meaning.specs.Source.{records_in, functions_in, actors_in}
 use Rattle.flow_fits.specs.Scopes.{scope_in, QuietInside}
+use Rattle.flow_fits.specs.CallsFit.{CallStands}
 
 abbrev pub into_param : IntoTree → ParamTree
 into_param i = record { ty = i.ty; name = i.name }
@@ -28,22 +28,6 @@ module _ (ds : List DeclTree) where
   abbrev pub ValueGiven : List ParamTree → TypeTree → Option ExprTree → Type 0
   ValueGiven vars t None = has_default t ≡ true
   ValueGiven vars t (Some e) = Gives vars e t
-
-  -- arguments have types and no effects
-  abbrev pub HaveTypes : List ParamTree → ExprTrees → Type 0
-  HaveTypes vars es =
-      (ts : List TypeTree) × (types_in (scope_in ds vars) es ≡ Some ts) × (all_without_effects (scope_in ds vars) es ≡ true)
-
-  -- what a method is called on: a variable or a constant, or a field in it
-  abbrev pub base_type : List ParamTree → List Ident → Option TypeTree
-  base_type vars [] = None
-  base_type vars (x ∷ xs) = fields_type (records_in ds) (variable_type (scope_in ds vars) x.name) xs
-
-  -- a call as a statement
-  abbrev pub CallStands : List ParamTree → List Ident → ExprTrees → Type 0
-  CallStands vars [] es = ⊥
-  CallStands vars (x ∷ []) es = HaveTypes vars es
-  CallStands vars (x ∷ (y ∷ ys)) es = ((t : TypeTree) × (base_type vars (ends_of x (y ∷ ys)).0 ≡ Some t)) × HaveTypes vars es
 
   -- Each statement of an actor's body, where the actor gives this type, is well typed over the variables in force, in a loop
   -- or not, and with the variable of the innermost catch around it.
@@ -88,7 +72,7 @@ module _ (ds : List DeclTree) where
     StandsWell r loop c vars (ModifyStmt at xs d k) =
         ((t : TypeTree) × (path_type (records_in ds) vars xs ≡ Some t) × ChangeFits (records_in ds) (functions_in ds) (actors_in ds) vars d t)
         × StandsWell r loop c vars k
-    StandsWell r loop c vars (CallStmt at xs es k) = CallStands vars xs es × StandsWell r loop c vars k
+    StandsWell r loop c vars (CallStmt at xs es k) = CallStands ds vars xs es × StandsWell r loop c vars k
     StandsWell r loop c vars (WaitStmt at w k) =
         Gives vars w.operand (wait_type w.next w.into) × StandsWell r loop c (waited_params vars w.into) k
 

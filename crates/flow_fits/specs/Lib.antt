@@ -1,4 +1,5 @@
 pub mod Scopes
+pub mod CallsFit
 pub mod ActorFits
 pub mod Joined
 pub mod Agreeing

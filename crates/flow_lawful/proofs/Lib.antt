@@ -1,0 +1,17 @@
+pub mod Naming
+pub mod Chunks
+pub mod Rooms
+pub mod Statements
+pub mod Waits
+pub mod Numbered
+pub mod Choosing
+pub mod Sorting
+pub mod Declaring
+pub mod TypesKnown
+pub mod Heading
+pub mod OverPlaces
+pub mod InForce
+pub mod Instructions
+pub mod Fitting
+pub mod Effects
+pub mod Tested

@@ -1,0 +1,10 @@
+// Laws of the classes of a program.
+
+ghost use Rattle.flow_lawful.specs.Laws.{CompilesWithinRules};
+
+/// The classes of a program that the front accepts keep the rules V1 to V7: its records and functions keep the rules on
+/// declarations, the name of a class counting as an actor's; the heads of the classes stand behind them, and `main` is there; in
+/// each class what is named exists, jumps and handlers lead on, each group is named by one `choose`, and everything fits its type.
+pub fn compiled_within_rules()
+    ensures { CompilesWithinRules }
+{}

@@ -1,0 +1,4 @@
+//! Laws of compiled programs: the classes of a program that the front accepts keep the rules on class programs.
+#![tactic(auto)]
+
+pub mod laws;
