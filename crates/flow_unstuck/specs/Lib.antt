@@ -9,3 +9,4 @@ pub mod Asking
 pub mod Registering
 pub mod Fitting
 pub mod Frames
+pub mod Written
