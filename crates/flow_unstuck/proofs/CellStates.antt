@@ -193,4 +193,4 @@ module _ (r : RawTree) (types : CellTypes) where
       }) (subst (λ o. ActorAt r types o (thing xs i) (tasks_of i d.tasks)) (sym (thing_put c.entries i e0 (running e) at))
       (subst (λ o. ActorAt r types (Some (running e)) o (tasks_of i d.tasks)) (sym fr)
       (subst (ActorFits r types (running e) f) (sym (tasks i ∙ own_task i t c.tasks own)) (fits (tasks_of i c.tasks)))))
-         (awake_registered i (put c.entries i (running e)) (left_cells i c.cells) (running e) (thing_put c.entries i e0 (running e) at) refl)
+      (awake_registered i (put c.entries i (running e)) (left_cells i c.cells) (running e) (thing_put c.entries i e0 (running e) at) refl)

@@ -38,3 +38,4 @@ pub mod Numbers
 pub mod Variables
 pub mod EffectsTyped
 pub mod Instructions
+pub mod KeptClasses
