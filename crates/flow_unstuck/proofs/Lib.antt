@@ -39,3 +39,4 @@ pub mod Variables
 pub mod EffectsTyped
 pub mod Instructions
 pub mod KeptClasses
+pub mod ActorsFit

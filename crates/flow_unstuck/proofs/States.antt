@@ -9,7 +9,7 @@ use Rattle.flow_eval.specs.Typed.{HaveTypes}
 use Rattle.flow_class.specs.Classes.{RawTree}
 use Rattle.flow_meaning.specs.Numbered.{Numbered, thing, put}
 use Rattle.flow_meaning.specs.Cells.{Ref, Waiter, Cell, waiters}
-use Rattle.flow_meaning.specs.Process.{Task, Run, Give, Throw, Catch, Store, Keep, Close, Fire, Drop, Entry, Halt, Spent, NoMeaning, Core}
+use Rattle.flow_meaning.specs.Process.{Task, Run, Give, Throw, Catch, Store, Keep, Close, Fire, Drop, Entry, Halt, Core}
 use Rattle.flow_meaning.specs.Occ.{refs_in}
 use Rattle.flow_meaning.specs.Work.{turn_of, turn, pushed, drops, dropping_values}
 use Rattle.flow_meaning.specs.Orderly.{is_of, tasks_of, is_suspended, AllWait, CellsWait, Rising}
@@ -18,18 +18,9 @@ use Rattle.flow_meaning.proofs.Posture.{each_number, thing_put_other, drops_task
 use Rattle.flow_meaning.proofs.Shifts.{cell_waits}
 use Rattle.flow_meaning.proofs.Order.{rising_put}
 use Rattle.flow_unstuck.specs.Asking.{HaveSome}
+pub use Rattle.flow_unstuck.specs.Keeping.{FitsSome, Fine}
 use Rattle.flow_unstuck.specs.Registering.{IsRegistered}
 use Rattle.flow_unstuck.specs.Fitting.{CellTypes, typed_by, Fits, Exists, CellAt, AllWaitFor, WaitersAt, OperandsFit, ActorFits, ActorAt, TasksFit, AllExist, ProcessFits}
-
--- for some types of cells
-abbrev pub FitsSome : RawTree → Core → Numbered Frame → Type 0
-FitsSome r c xs = (types : CellTypes) × ProcessFits r types c xs
-
--- a process fits, or its event was spent
-abbrev pub Fine : RawTree → Option Halt → Core → Numbered Frame → Type 0
-Fine r None c xs = FitsSome r c xs
-Fine r (Some Spent) c xs = Unit {0}
-Fine r (Some NoMeaning) c xs = ⊥
 
 pub fine_of : (r : RawTree) (o : Option Halt) (c : Core) (xs : Numbered Frame) → o ≡ None → FitsSome r c xs → Fine r o c xs
 fine_of r None c xs e h = h

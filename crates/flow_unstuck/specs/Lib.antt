@@ -8,5 +8,6 @@ pub mod Rules
 pub mod Asking
 pub mod Registering
 pub mod Fitting
+pub mod Keeping
 pub mod Frames
 pub mod Written

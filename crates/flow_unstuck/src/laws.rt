@@ -8,6 +8,7 @@ ghost use Rattle.flow_unstuck.specs.Rules.{ClassRules};
 ghost use Rattle.flow_unstuck.specs.Written.{AreWritten, heads, FunctionsKept};
 ghost use Rattle.flow_unstuck.specs.Frames.{FramesAskWhatFits};
 ghost use Rattle.flow_unstuck.specs.Ending.{BurstsEnd};
+ghost use Rattle.flow_unstuck.specs.Keeping.{ActorsKeepFitting};
 ghost use Rattle.flow_unstuck.specs.Existing.{RunsOrStrays, OneTrace};
 
 /// The world around a process.
@@ -42,4 +43,11 @@ pub fn frames_ask_what_fits()
     ensures kept { (r : RawTree) (actors : List RoutineTree) → ClassRules r actors → FramesAskWhatFits r actors }
     ensures rules { (r : RawTree) → IsValid r → AreWritten r → FunctionsKept r → ClassRules r (heads r) }
     ensures valid { (r : RawTree) → IsValid r → AreWritten r → FunctionsKept r → FramesAskWhatFits r (heads r) }
+{}
+
+/// What an actor of valid classes does keeps a process fitting, for some types of its cells, and has a meaning: its next step,
+/// the result of an effect that it stores, an operand that it keeps, a branch that it takes, an error that is thrown where it
+/// stands, and its handler. Of the ends of actors, of fires and of drops this says nothing.
+pub fn actors_keep_fitting()
+    ensures { (r : RawTree) → IsValid r → AreWritten r → FunctionsKept r → ActorsKeepFitting r }
 {}
