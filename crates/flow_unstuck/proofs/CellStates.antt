@@ -18,6 +18,8 @@ use Rattle.flow_meaning.proofs.Order.{rising_put, filled_waiters, taking_waiters
 use Rattle.flow_unstuck.specs.Asking.{HaveSome, OutcomeFits}
 use Rattle.flow_unstuck.specs.Fitting.{CellTypes, typed_by, Fits, QueueFits, CellFits, CellAt, AllWaitFor, WaitersAt, ActorFits, ActorAt, ProcessFits}
 use Rattle.flow_unstuck.proofs.States.{Fine, fine_of, FitsBut, put_back, own_fits, RefsExist, some_refs, drops_fit}
+use Rattle.flow_unstuck.specs.Registering.{Among}
+use Rattle.flow_unstuck.proofs.Registered.{awake_registered, entry_registered, cells_registered, put_keeps, left_keeps}
 
 module _ (r : RawTree) (types : CellTypes) where
   -- a cell that has a type is there
@@ -85,6 +87,7 @@ module _ (r : RawTree) (types : CellTypes) where
     requests = p.requests;
     numbered = rising_put c.cells 0 c.made k (filled cell o) p.numbered;
     framed = p.framed;
+    registered = λ j. cells_registered j c.entries c.cells (put c.cells k (filled cell o)) (put_keeps j k c.cells cell (filled cell o) at (λ h. subst (Among j) (sym (filled_waiters cell o)) h)) (p.registered j);
   }
 
   pub fill_fits : (k : ℕ) (o : OutcomeTree) (c : Core) (xs : Numbered Frame) (t u : TypeTree) → c.halted ≡ None → types k ≡ Some t → IsOfType t u → OutcomeFits r.records (typed_by types) o u → ProcessFits r types c xs
@@ -118,6 +121,7 @@ module _ (r : RawTree) (types : CellTypes) where
     requests = p.requests;
     numbered = rising_put c.cells 0 c.made k (after_taking cell) p.numbered;
     framed = p.framed;
+    registered = λ j n. cells_registered j c.entries c.cells (put c.cells k (after_taking cell)) (put_keeps j k c.cells cell (after_taking cell) at (λ h. subst (Among j) (sym (taking_waiters cell)) h)) (p.registered j n);
   }
 
   -- an actor leaves all cells
@@ -185,6 +189,8 @@ module _ (r : RawTree) (types : CellTypes) where
         requests = p.requests;
         numbered = left_rising i c.cells 0 c.made p.numbered;
         framed = p.framed;
+        registered = λ j n. entry_registered i j c.entries (left_cells i c.cells) (running e) n (cells_registered j c.entries c.cells (left_cells i c.cells) (left_keeps i j c.cells n) (p.registered j n));
       }) (subst (λ o. ActorAt r types o (thing xs i) (tasks_of i d.tasks)) (sym (thing_put c.entries i e0 (running e) at))
       (subst (λ o. ActorAt r types (Some (running e)) o (tasks_of i d.tasks)) (sym fr)
       (subst (ActorFits r types (running e) f) (sym (tasks i ∙ own_task i t c.tasks own)) (fits (tasks_of i c.tasks)))))
+      (awake_registered i (put c.entries i (running e)) (left_cells i c.cells) (running e) (thing_put c.entries i e0 (running e) at) refl)

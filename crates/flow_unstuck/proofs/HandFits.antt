@@ -28,6 +28,7 @@ use Rattle.flow_unstuck.specs.Fitting.{CellTypes, typed_by, Fits, CellFits, Cell
 use Rattle.flow_unstuck.proofs.Given.{operand_ref}
 use Rattle.flow_unstuck.proofs.States.{Fine, fine_of, fine_turn, FitsBut, put_back, all_but, push_fits, actor_at, actor_of, operands_exist}
 use Rattle.flow_unstuck.proofs.CellStates.{type_there, IsOfType, taken_fits, taking_state, leave_state}
+use Rattle.flow_unstuck.proofs.Registered.{awake_registered, entry_registered}
 
 -- an unfinished actor, but for what is to be done for it
 pub record Owner (r : RawTree) (types : CellTypes) (e : Entry) (c : ClassTree) : Type 0 where
@@ -59,6 +60,7 @@ module _ (r : RawTree) (types : CellTypes) where
   goes_by i t k xs e g c h own d =
       push_fits r types i t k xs h.rest own
       (actor_at r types e g (thing k.entries i) (thing xs i) (t ∷ tasks_of i k.tasks) h.entry h.frame (doing_actor e g c (t ∷ tasks_of i k.tasks) h.owner h.awake (d (tasks_of i k.tasks))))
+      (awake_registered i k.entries k.cells e h.entry h.awake)
 
   -- and one over the actor's next step
   pub goes_by_two : (i : ℕ) (t : Task) (k : Core) (xs : Numbered Frame) (e : Entry) (g : Frame) (c : ClassTree) → HandFits r types i k xs e g c → IsOf i t → ((ts : List Task) → DoingFits r types c e g (t ∷ ts))
@@ -75,7 +77,9 @@ module _ (r : RawTree) (types : CellTypes) where
         requests = h.rest.requests;
         numbered = h.rest.numbered;
         framed = h.rest.framed;
+        registered = h.rest.registered;
       }) own (actor_at r types e g (thing k.entries i) (thing xs i) (t ∷ tasks_of i m.tasks) h.entry h.frame (doing_actor e g c (t ∷ tasks_of i m.tasks) h.owner h.awake (d (tasks_of i m.tasks))))
+      (awake_registered i k.entries k.cells e h.entry h.awake)
 
   -- operands
   pub operands_more : (g : Frame) (n : ℕ) (qs : List Ref) (q : Ref) (t : TypeTree) → OperandsFit r types g n qs → NextOperand g (n + length qs) t → Fits r types (RefValue q.0 q.1) t → OperandsFit r types g n (qs ++ q ∷ [])
@@ -141,8 +145,10 @@ module _ (r : RawTree) (types : CellTypes) where
         requests = h.requests;
         numbered = h.numbered;
         framed = h.framed;
+        registered = λ j n. entry_registered i j c.entries c.cells (marked e) n (h.registered j n);
       }) (actor_at r types (marked e) f (thing (put c.entries i (marked e)) i) (thing xs i) (tasks_of i c.tasks) (thing_put c.entries i e (marked e) at) fr
       (record { class = a.class; is = a.is; result = a.result; owns = a.owns; gives = a.gives; posture = marked_posture e.suspended a.class (tasks_of i c.tasks) a.posture }))
+      (awake_registered i (put c.entries i (marked e)) c.cells (marked e) (thing_put c.entries i e (marked e) at) s)
     where
       marked_doing : (c : ClassTree) (ts : List Task) → DoingFits r types c e f ts → DoingFits r types c (marked e) f ts
       marked_doing c [] h = h
@@ -163,7 +169,7 @@ module _ (r : RawTree) (types : CellTypes) where
   pub cancel_state : (i : ℕ) (e : Entry) (c : Core) (xs : Numbered Frame) → thing c.entries i ≡ Some e → ProcessFits r types c xs → ProcessFits r types (cancel i e c) xs
   cancel_state i e c xs at p =
       cancelled_state e.suspended i e (writes (cancel_line i) c) xs (thing xs i) at refl refl
-      (record { cells = p.cells; waiting = p.waiting; actors = p.actors; work = p.work; ports = p.ports; main = p.main; requests = p.requests; numbered = p.numbered; framed = p.framed })
+      (record { cells = p.cells; waiting = p.waiting; actors = p.actors; work = p.work; ports = p.ports; main = p.main; requests = p.requests; numbered = p.numbered; framed = p.framed; registered = p.registered })
 
   -- a branch is taken from a cell that is ready
   pub branch_fits : (i b n : ℕ) (en e0 : Entry) (vs : List ValueTree) (c : Core) (xs : Numbered Frame) (f : Frame) (cls : ClassTree) (t : TypeTree) (cell : Cell) → thing c.cells n ≡ Some cell → is_ready cell ≡ true → c.halted ≡ None
@@ -203,7 +209,7 @@ module _ (r : RawTree) (types : CellTypes) where
       by_turns m =
           let d = record (writes (take_line i en.spot.group b) (record c { left = m })) { cells = put c.cells n (after_taking cell) } in
           let p = taking_state r types n cell t i c xs at has cell_fits rest in
-          let q : FitsBut r types i d xs = record { cells = p.cells; waiting = p.waiting; actors = p.actors; work = p.work; ports = p.ports; main = p.main; requests = p.requests; numbered = p.numbered; framed = p.framed } in
+          let q : FitsBut r types i d xs = record { cells = p.cells; waiting = p.waiting; actors = p.actors; work = p.work; ports = p.ports; main = p.main; requests = p.requests; numbered = p.numbered; framed = p.framed; registered = p.registered } in
           subst (λ o. Fine r (give i b en vs o d).halted (give i b en vs o d) xs) (sym got.1)
           (fine_of r c.halted (leave_for i en vs (Give i b got.0) d) xs go (
             types,

@@ -71,7 +71,7 @@ module _ (ns : Names) (v : View) (f : Frame) where
   at_choose g e = subst (λ o. AsksOfWait (fetched ns v f o)) (sym e) (choose_waits (spot_of f.code g) (callback_at f.code g v.kept))
 
 -- so elsewhere no operand is kept, and there those that are kept stay where they fit
-next_moved : (f g : Frame) (n : ℕ) (t : TypeTree) → SamePoint f g → NextOperand f n t → NextOperand g n t
+pub next_moved : (f g : Frame) (n : ℕ) (t : TypeTree) → SamePoint f g → NextOperand f n t → NextOperand g n t
 next_moved f g n t q h = record {
   group = h.group;
   callback = h.callback;
@@ -82,7 +82,7 @@ next_moved f g n t q h = record {
   type = h.type;
 }
 
-operands_moved : (r : RawTree) (types : CellTypes) (f g : Frame) (n : ℕ) (qs : List Ref) → SamePoint f g → OperandsFit r types f n qs → OperandsFit r types g n qs
+pub operands_moved : (r : RawTree) (types : CellTypes) (f g : Frame) (n : ℕ) (qs : List Ref) → SamePoint f g → OperandsFit r types f n qs → OperandsFit r types g n qs
 operands_moved r types f g n [] q h = tt
 operands_moved r types f g n (x ∷ qs) q h = ((h.0.0, next_moved f g n h.0.0 q h.0.1, h.0.2), operands_moved r types f g (suc n) qs q h.1)
 

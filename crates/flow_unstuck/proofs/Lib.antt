@@ -21,6 +21,7 @@ pub mod Assigned
 pub mod Given
 pub mod Asks
 pub mod Handed
+pub mod Registered
 pub mod Retyped
 pub mod States
 pub mod CellStates
@@ -31,3 +32,11 @@ pub mod ReactFits
 pub mod WaitFits
 pub mod StepFits
 pub mod RunFits
+pub mod TasksFitOn
+pub mod Tops
+pub mod Numbers
+pub mod Variables
+pub mod EffectsTyped
+pub mod Instructions
+pub mod KeptClasses
+pub mod ActorsFit

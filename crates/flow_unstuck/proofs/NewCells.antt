@@ -16,6 +16,7 @@ use Rattle.flow_meaning.proofs.TaskShifts.{beyond_none, thing_new}
 use Rattle.flow_unstuck.specs.Fitting.{CellTypes, CellFits, CellAt, AllWaitFor, WaitersAt, ActorAt}
 use Rattle.flow_unstuck.proofs.Retyped.{cell_retyped, actor_retyped, tasks_retyped, all_exist_retyped, sees_any, cell_any, operands_any, task_any, tasks_any, seen_any, FirstSees}
 use Rattle.flow_unstuck.proofs.States.{FitsBut}
+use Rattle.flow_unstuck.proofs.Registered.{cells_registered, added_keeps}
 
 -- one cell more has a type
 abbrev pub with_type : CellTypes → ℕ → TypeTree → CellTypes
@@ -99,6 +100,7 @@ module _ (r : RawTree) (types : CellTypes) (t : TypeTree) (c : Core) (xs : Numbe
     requests = all_exist_retyped r types more Any kept_types c.requests (seen_any Any any c.requests) p.requests;
     numbered = rising_added c.cells 0 c.made cell (omega arith) p.numbered;
     framed = p.framed;
+    registered = λ j n. cells_registered j c.entries c.cells (added c.cells (suc c.made) cell) (added_keeps j (suc c.made) c.cells cell none_here) (p.registered j n);
   }
     where
       new_waiters : (o : Option TypeTree) → WaitersAt r more xs o (Some cell)

@@ -132,6 +132,7 @@ module _ (r : RawTree) (i : ℕ) (xs : Numbered Frame) (e : Entry) (g : Frame) (
           requests = exist_more ts k.requests (suc k.made) m.rest.requests (FutureType u, new_type types (suc k.made) (FutureType u));
           numbered = m.rest.numbered;
           framed = m.rest.framed;
+          registered = m.rest.registered;
         };
       })
 
@@ -164,6 +165,7 @@ module _ (r : RawTree) (i : ℕ) (xs : Numbered Frame) (e : Entry) (g : Frame) (
           requests = m.rest.requests;
           numbered = m.rest.numbered;
           framed = m.rest.framed;
+          registered = m.rest.registered;
         };
       })
 
@@ -204,7 +206,7 @@ module _ (r : RawTree) (i : ℕ) (xs : Numbered Frame) (e : Entry) (g : Frame) (
       fine_turn r (λ d. fill n v (pushed (Run i) d)) k xs
       (λ m. let d = record k { left = m } in
       let p = h.rest in
-      let rest : FitsBut r types i d xs = record { cells = p.cells; waiting = p.waiting; actors = p.actors; work = p.work; ports = p.ports; main = p.main; requests = p.requests; numbered = p.numbered; framed = p.framed } in
+      let rest : FitsBut r types i d xs = record { cells = p.cells; waiting = p.waiting; actors = p.actors; work = p.work; ports = p.ports; main = p.main; requests = p.requests; numbered = p.numbered; framed = p.framed; registered = p.registered } in
       fill_fits r types n v (pushed (Run i) d) xs t u go at is f (runs types d (rehand types k d h.entry rest h) s o))
 
   pub send_in_fits : (types : CellTypes) (n : ℕ) (v : OutcomeTree) (k : Core) → k.halted ≡ None → Hand types k → Standing r types g → OperandsFit r types g 0 e.operands → SentFits r.records (typed_by types) n v → Ok (send_in (thing k.cells n) i n v k)
@@ -234,5 +236,5 @@ module _ (r : RawTree) (i : ℕ) (xs : Numbered Frame) (e : Entry) (g : Frame) (
   print_fits types l k x go h s o =
       let d = writes x.0 k in
       let p = h.rest in
-      let rest : FitsBut r types i d xs = record { cells = p.cells; waiting = p.waiting; actors = p.actors; work = p.work; ports = p.ports; main = p.main; requests = p.requests; numbered = p.numbered; framed = p.framed } in
+      let rest : FitsBut r types i d xs = record { cells = p.cells; waiting = p.waiting; actors = p.actors; work = p.work; ports = p.ports; main = p.main; requests = p.requests; numbered = p.numbered; framed = p.framed; registered = p.registered } in
       subst (λ z. Ok (print i z k)) (sym x.1) (fine_of r k.halted (pushed (Run i) d) xs go (types, runs types d (rehand types k d h.entry rest h) s o))

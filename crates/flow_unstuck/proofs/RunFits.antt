@@ -36,6 +36,7 @@ use Rattle.flow_unstuck.proofs.HandFits.{HandFits, doing_actor, goes_by, gives_s
 use Rattle.flow_unstuck.proofs.ReactFits.{hand_more, stands_more, keeps_more, wants_more}
 use Rattle.flow_unstuck.proofs.WaitFits.{react_fits}
 use Rattle.flow_unstuck.proofs.StepFits.{Actor, actor_here, cells_seen, After, frame_rules, add_actor}
+use Rattle.flow_unstuck.proofs.Registered.{awake_registered}
 
 module _ (r : RawTree) (actors : List RoutineTree) (rules : ClassRules r actors) (s : Supply) where
   -- the call of an actor
@@ -55,7 +56,7 @@ module _ (r : RawTree) (actors : List RoutineTree) (rules : ClassRules r actors)
           awake = h.awake;
           frame = h.frame;
           owner = h.owner;
-          rest = record { cells = p.cells; waiting = p.waiting; actors = p.actors; work = p.work; ports = p.ports; main = p.main; requests = p.requests; numbered = p.numbered; framed = p.framed };
+          rest = record { cells = p.cells; waiting = p.waiting; actors = p.actors; work = p.work; ports = p.ports; main = p.main; requests = p.requests; numbered = p.numbered; framed = p.framed; registered = p.registered };
         } in
         let future = FutureType d.returns in
         let ts = with_type types (suc k.made) future in
@@ -75,6 +76,7 @@ module _ (r : RawTree) (actors : List RoutineTree) (rules : ClassRules r actors)
           requests = x.2.requests;
           numbered = x.2.numbered;
           framed = x.2.framed;
+          registered = x.2.registered;
         } in
         let args2 = all_retyped r types ts Any keeps (values_of_list args) (first_types d.params d.slots) (all_sees_any Any (λ n. tt) (values_of_list args)) fits in
         let st4 = begun_fits r actors (class_vars d) (typed_by ts) d (rules.classes class d is) args args2 in
@@ -138,6 +140,7 @@ module _ (r : RawTree) (actors : List RoutineTree) (rules : ClassRules r actors)
         put_back r types i c (put xs i g) rest
         (actor_at r types a.entry g (thing c.entries i) (thing (put xs i g) i) (tasks_of i c.tasks) a.at (thing_put xs i a.frame g a.stands)
         (subst (ActorFits r types a.entry g) (sym list) (doing_actor r types a.entry g a.class (Run i ∷ tasks_of i ts) a.owner a.awake (code, st, kept))))
+        (awake_registered i c.entries c.cells a.entry a.at a.awake)
 
     answered_fits : (a : Actor r types i (Run i) ts c xs) (q : Option Ask × Frame) → next_step (class_names r) (view s i c) a.frame ≡ q → AsksFit r (class_vars a.frame.code) (typed_by types) a.frame.code (view s i c).kept q
         → After r actors rules s (run_next (classes r) s i ts q (proc c xs))
@@ -155,7 +158,7 @@ module _ (r : RawTree) (actors : List RoutineTree) (rules : ClassRules r actors)
         let o2 = still_kept r types (class_names r) v f ops ask g a.doing.2 e in
         let none : ((OfWait ask.act → ⊥) → ops ≡ []) = (λ n. none_kept r types (class_names r) v f ops a.doing.2 (λ w. n (subst (AsksOfWaitAt f) e w).0)) in
         let b = a.rest in
-        let rest : FitsBut r types i k xs = record { cells = b.cells; waiting = b.waiting; actors = b.actors; work = b.work; ports = b.ports; main = b.main; requests = b.requests; numbered = b.numbered; framed = b.framed } in
+        let rest : FitsBut r types i k xs = record { cells = b.cells; waiting = b.waiting; actors = b.actors; work = b.work; ports = b.ports; main = b.main; requests = b.requests; numbered = b.numbered; framed = b.framed; registered = b.registered } in
         let rest2 = frame_but r types i k xs g a.running o.waiting rest in
         asked_fits types i k (put xs i g) a.entry g a.class go
         (record { entry = a.at; awake = a.awake; frame = thing_put xs i f g a.stands; owner = a.owner; rest = rest2 })

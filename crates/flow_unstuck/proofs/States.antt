@@ -9,7 +9,7 @@ use Rattle.flow_eval.specs.Typed.{HaveTypes}
 use Rattle.flow_class.specs.Classes.{RawTree}
 use Rattle.flow_meaning.specs.Numbered.{Numbered, thing, put}
 use Rattle.flow_meaning.specs.Cells.{Ref, Waiter, Cell, waiters}
-use Rattle.flow_meaning.specs.Process.{Task, Run, Give, Throw, Catch, Store, Keep, Close, Fire, Drop, Entry, Halt, Spent, NoMeaning, Core}
+use Rattle.flow_meaning.specs.Process.{Task, Run, Give, Throw, Catch, Store, Keep, Close, Fire, Drop, Entry, Halt, Core}
 use Rattle.flow_meaning.specs.Occ.{refs_in}
 use Rattle.flow_meaning.specs.Work.{turn_of, turn, pushed, drops, dropping_values}
 use Rattle.flow_meaning.specs.Orderly.{is_of, tasks_of, is_suspended, AllWait, CellsWait, Rising}
@@ -18,17 +18,9 @@ use Rattle.flow_meaning.proofs.Posture.{each_number, thing_put_other, drops_task
 use Rattle.flow_meaning.proofs.Shifts.{cell_waits}
 use Rattle.flow_meaning.proofs.Order.{rising_put}
 use Rattle.flow_unstuck.specs.Asking.{HaveSome}
+pub use Rattle.flow_unstuck.specs.Keeping.{FitsSome, Fine}
+use Rattle.flow_unstuck.specs.Registering.{IsRegistered}
 use Rattle.flow_unstuck.specs.Fitting.{CellTypes, typed_by, Fits, Exists, CellAt, AllWaitFor, WaitersAt, OperandsFit, ActorFits, ActorAt, TasksFit, AllExist, ProcessFits}
-
--- for some types of cells
-abbrev pub FitsSome : RawTree → Core → Numbered Frame → Type 0
-FitsSome r c xs = (types : CellTypes) × ProcessFits r types c xs
-
--- a process fits, or its event was spent
-abbrev pub Fine : RawTree → Option Halt → Core → Numbered Frame → Type 0
-Fine r None c xs = FitsSome r c xs
-Fine r (Some Spent) c xs = Unit {0}
-Fine r (Some NoMeaning) c xs = ⊥
 
 pub fine_of : (r : RawTree) (o : Option Halt) (c : Core) (xs : Numbered Frame) → o ≡ None → FitsSome r c xs → Fine r o c xs
 fine_of r None c xs e h = h
@@ -53,10 +45,11 @@ module _ (r : RawTree) (types : CellTypes) where
     pub requests : AllExist r types c.requests
     pub numbered : Rising 0 c.made c.cells
     pub framed : Rising 0 c.started xs
+    pub registered : (j : ℕ) → (i ≡ j → ⊥) → IsRegistered j c.entries c.cells
 
   -- the actor is there with its task
-  pub put_back : (i : ℕ) (c : Core) (xs : Numbered Frame) → FitsBut i c xs → ActorAt r types (thing c.entries i) (thing xs i) (tasks_of i c.tasks) → ProcessFits r types c xs
-  put_back i c xs h a = record {
+  pub put_back : (i : ℕ) (c : Core) (xs : Numbered Frame) → FitsBut i c xs → ActorAt r types (thing c.entries i) (thing xs i) (tasks_of i c.tasks) → IsRegistered i c.entries c.cells → ProcessFits r types c xs
+  put_back i c xs h a own = record {
     cells = h.cells;
     waiting = h.waiting;
     actors = each_number i (λ j. ActorAt r types (thing c.entries j) (thing xs j) (tasks_of j c.tasks)) a h.actors;
@@ -66,10 +59,11 @@ module _ (r : RawTree) (types : CellTypes) where
     requests = h.requests;
     numbered = h.numbered;
     framed = h.framed;
+    registered = each_number i (λ j. IsRegistered j c.entries c.cells) own h.registered;
   }
 
   pub all_but : (i : ℕ) (c : Core) (xs : Numbered Frame) → ProcessFits r types c xs → FitsBut i c xs
-  all_but i c xs h = record { cells = h.cells; waiting = h.waiting; actors = λ j k. h.actors j; work = h.work; ports = h.ports; main = h.main; requests = h.requests; numbered = h.numbered; framed = h.framed }
+  all_but i c xs h = record { cells = h.cells; waiting = h.waiting; actors = λ j k. h.actors j; work = h.work; ports = h.ports; main = h.main; requests = h.requests; numbered = h.numbered; framed = h.framed; registered = λ j n. h.registered j }
 
   -- what is left of the tasks
   rest_fits : (t : Task) (ts : List Task) → TasksFit r types (t ∷ ts) → TasksFit r types ts
@@ -106,6 +100,7 @@ module _ (r : RawTree) (types : CellTypes) where
     requests = h.requests;
     numbered = h.numbered;
     framed = h.framed;
+    registered = λ j n. h.registered j;
   }
 
   -- whoever waits isn't in hand
@@ -136,6 +131,7 @@ module _ (r : RawTree) (types : CellTypes) where
     requests = h.requests;
     numbered = h.numbered;
     framed = rising_put xs 0 c.started i g h.framed;
+    registered = h.registered;
   }
 
   -- references of values that have types exist
@@ -184,11 +180,12 @@ module _ (r : RawTree) (types : CellTypes) where
     requests = p.requests;
     numbered = p.numbered;
     framed = p.framed;
+    registered = p.registered;
   }
 
   -- an actor in hand goes on by a task
-  pub push_fits : (i : ℕ) (t : Task) (c : Core) (xs : Numbered Frame) → FitsBut i c xs → IsOf i t → ActorAt r types (thing c.entries i) (thing xs i) (t ∷ tasks_of i c.tasks) → ProcessFits r types (pushed t c) xs
-  push_fits i t c xs h own a =
+  pub push_fits : (i : ℕ) (t : Task) (c : Core) (xs : Numbered Frame) → FitsBut i c xs → IsOf i t → ActorAt r types (thing c.entries i) (thing xs i) (t ∷ tasks_of i c.tasks) → IsRegistered i c.entries c.cells → ProcessFits r types (pushed t c) xs
+  push_fits i t c xs h own a reg =
       put_back i (pushed t c) xs (record {
         cells = h.cells;
         waiting = h.waiting;
@@ -199,7 +196,8 @@ module _ (r : RawTree) (types : CellTypes) where
         requests = h.requests;
         numbered = h.numbered;
         framed = h.framed;
-      }) (subst (ActorAt r types (thing c.entries i) (thing xs i)) (sym (own_task i t c.tasks own)) a)
+        registered = h.registered;
+      }) (subst (ActorAt r types (thing c.entries i) (thing xs i)) (sym (own_task i t c.tasks own)) a) reg
 
   pub actor_at : (e : Entry) (f : Frame) (o : Option Entry) (p : Option Frame) (ts : List Task) → o ≡ Some e → p ≡ Some f → ActorFits r types e f ts → ActorAt r types o p ts
   actor_at e f o p ts a b h = subst (λ x. ActorAt r types x p ts) (sym a) (subst (λ y. ActorAt r types (Some e) y ts) (sym b) h)

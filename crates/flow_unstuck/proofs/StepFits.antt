@@ -26,6 +26,8 @@ use Rattle.flow_unstuck.specs.Fitting.{CellTypes, typed_by, Fits, CellFits, AllW
 use Rattle.flow_unstuck.proofs.States.{Fine, FitsBut, popped_but, actor_at, actor_of}
 use Rattle.flow_unstuck.proofs.CellStates.{cell_there}
 use Rattle.flow_unstuck.proofs.HandFits.{Owner}
+use Rattle.flow_unstuck.specs.Registering.{IsRegistered}
+use Rattle.flow_unstuck.proofs.Registered.{awake_registered}
 
 -- An actor with a task: its entry, its frame, its class, and that the task fits.
 pub record Actor (r : RawTree) (types : CellTypes) (i : ℕ) (t : Task) (ts : List Task) (c : Core) (xs : Numbered Frame) : Type 0 where
@@ -110,6 +112,8 @@ module _ (r : RawTree) (actors : List RoutineTree) (rules : ClassRules r actors)
         requests = p.requests;
         numbered = p.numbered;
         framed = rising_added xs 0 k.started a (omega arith) p.framed;
+        registered = each_number n (λ j. IsRegistered j (added k.entries n e) k.cells) (awake_registered n (added k.entries n e) k.cells e (thing_new k.entries n e none) refl)
+            (λ j m x at s. p.registered j x (sym (thing_added k.entries n j e m) ∙ at) s);
       }
     where
       more_frames : (ws : List Waiter) (t : TypeTree) → AllWaitFor r types xs ws t → AllWaitFor r types (added xs (suc k.started) a) ws t

@@ -1,5 +1,5 @@
 -- A wait in a process that fits, and each ask.
-use Rattle.std.proofs.Common.{◌≡◌, ℕ, suc, ◌+◌, Bool, true, false, List, [], ◌∷◌, ◌++◌, length, inr, if◌then◌else◌, refl, sym, ap, subst, arith}
+use Rattle.std.proofs.Common.{◌≡◌, ℕ, suc, ◌+◌, Bool, true, false, List, [], ◌∷◌, ◌++◌, length, inr, if◌then◌else◌, refl, sym, ap, ◌∙◌, subst, arith}
 use Rattle.std.specs.Prelude.{pos, int_le, nat_lt, ◌&&◌}
 use Rattle.std.specs.declared.option.Option.{Option}
 use Rattle.std.specs.declared.option.Option.TheVariants.{None, Some}
@@ -27,6 +27,8 @@ use Rattle.flow_unstuck.specs.Fitting.{CellTypes, typed_by, Fits, CellFits, Cell
 use Rattle.flow_unstuck.proofs.States.{fine_of, fine_turn, FitsBut, put_back, actor_at, operands_exist, dropping_fits}
 use Rattle.flow_unstuck.proofs.CellStates.{cell_there, put_cells, put_waiters, leave_state}
 use Rattle.flow_unstuck.proofs.KeptNone.{OfWait}
+use Rattle.flow_unstuck.specs.Registering.{AtEach}
+use Rattle.flow_unstuck.proofs.Registered.{same_entry, entry_registered, cells_registered, Keeping, AllNow, all_keeping, all_now}
 use Rattle.flow_unstuck.proofs.HandFits.{HandFits, doing_actor, goes_by_two, operands_more, operand_cell, branch_fits}
 use Rattle.flow_unstuck.proofs.ReactFits.{Ok, runs, throws_fit, either_fits, rehand, effect_fits, send_in_fits, owner_fits, print_fits}
 
@@ -116,15 +118,15 @@ module _ (r : RawTree) (i : ℕ) (xs : Numbered Frame) (e : Entry) (g : Frame) (
   Good d = Ok r i xs e g c code d
 
   suspend_fits : (spot : Spot) (vs : List ValueTree) (x : Registration) (k : Core) → k.halted ≡ None → (h : HandFits r types i k xs e g c) → Waiting r types g → OperandsFit r types g 0 e.operands → HaveSome r.records (typed_by types) vs
-      → RegistrationOk r types g i k.made xs h.frame k x → Good (suspend i spot (at_spot spot e) vs x k)
-  suspend_fits spot vs Missing k go h s o some ok = absurd ok
-  suspend_fits spot vs Refused k go h s o some ok =
+      → RegistrationOk r types g i k.made xs h.frame k x → ((j : ℕ) → Keeping j k.cells x) → AllNow i e.operands x → Good (suspend i spot (at_spot spot e) vs x k)
+  suspend_fits spot vs Missing k go h s o some ok keep now = absurd ok
+  suspend_fits spot vs Refused k go h s o some ok keep now =
       fine_of r k.halted (leave_for i (at_spot spot e) vs (Throw i second_waiter) k) xs go (
         types,
         leave_state r types i (at_spot spot e) e vs (Throw i second_waiter) k xs g h.rest h.entry h.frame (throw_of i second_waiter) (operands_exist r types g 0 e.operands o) some
             (λ ts. doing_actor r types (running (at_spot spot e)) g c (Throw i second_waiter ∷ ts) (record { is = h.owner.is; result = h.owner.result; owns = h.owner.owns; gives = h.owner.gives }) refl (code, inr s, tt)),
       )
-  suspend_fits spot vs (Registered cells) k go h s o some ok =
+  suspend_fits spot vs (Registered cells) k go h s o some ok keep now =
       let asleep = record (at_spot spot e) { suspended = true } in
       let d = record (writes (wait_line i spot.group) k) { cells = cells; entries = put k.entries i asleep } in
       let p = h.rest in
@@ -138,8 +140,10 @@ module _ (r : RawTree) (i : ℕ) (xs : Numbered Frame) (e : Entry) (g : Frame) (
         requests = p.requests;
         numbered = ok.2;
         framed = p.framed;
+        registered = λ j n. entry_registered i j k.entries cells asleep n (cells_registered j k.entries k.cells cells (keep j) (p.registered j n));
       }) (actor_at r types asleep g (thing (put k.entries i asleep) i) (thing xs i) (tasks_of i k.tasks) (thing_put k.entries i e asleep h.entry) h.frame
-      (record { class = c; is = h.owner.is; result = h.owner.result; owns = h.owner.owns; gives = h.owner.gives; posture = (code, s, o) })) in
+      (record { class = c; is = h.owner.is; result = h.owner.result; owns = h.owner.owns; gives = h.owner.gives; posture = (code, s, o) }))
+      (λ x at q. subst (λ (z : Entry). AtEach i cells z.operands) (same_entry (sym (thing_put k.entries i e asleep h.entry) ∙ at)) now) in
       fine_of r k.halted (dropping_values vs d) xs go (types, dropping_fits r types vs d xs some state)
 
   wait_by_fits : (spot : Spot) (vs : List ValueTree) (x : Option (ℕ × ℕ)) (k : Core) → k.halted ≡ None → HandFits r types i k xs e g c → Waiting r types g → OperandsFit r types g 0 e.operands → HaveSome r.records (typed_by types) vs
@@ -150,6 +154,7 @@ module _ (r : RawTree) (i : ℕ) (xs : Numbered Frame) (e : Entry) (g : Frame) (
   wait_by_fits spot vs None k go h s o some q =
       suspend_fits spot vs (register i 0 e.operands (Registered k.cells)) k go h s o some
       (all_ok r types g i k.made xs h.frame k 0 e.operands (Registered k.cells) o (h.rest.cells, h.rest.waiting, h.rest.numbered))
+      (λ j. all_keeping j i 0 e.operands k.cells (Registered k.cells) (λ n h. h)) (all_now i 0 e.operands (Registered k.cells))
 
   wait_fits : (spot : Spot) (vs : List ValueTree) (k : Core) → k.halted ≡ None → HandFits r types i k xs e g c → Waiting r types g → OperandsFit r types g 0 e.operands → HaveSome r.records (typed_by types) vs → Good (wait i spot (thing k.entries i) vs k)
   wait_fits spot vs k go h s o some =
@@ -164,7 +169,7 @@ module _ (r : RawTree) (i : ℕ) (xs : Numbered Frame) (e : Entry) (g : Frame) (
       fine_turn r (pushed (Run i)) k xs
       (λ m. let d = record k { left = m } in
       let p = h.rest in
-      let rest : FitsBut r types i d xs = record { cells = p.cells; waiting = p.waiting; actors = p.actors; work = p.work; ports = p.ports; main = p.main; requests = p.requests; numbered = p.numbered; framed = p.framed } in
+      let rest : FitsBut r types i d xs = record { cells = p.cells; waiting = p.waiting; actors = p.actors; work = p.work; ports = p.ports; main = p.main; requests = p.requests; numbered = p.numbered; framed = p.framed; registered = p.registered } in
       fine_of r k.halted (pushed (Run i) d) xs go (types, runs r i xs e g c code types d (rehand r i xs e g c code types k d h.entry rest h) f o))
   react_fits s (Drops vs) k go h up f o none no_start no_end =
       fine_of r k.halted (dropping_values vs (pushed (Run i) k)) xs go (types, dropping_fits r types vs (pushed (Run i) k) xs f.1 (runs r i xs e g c code types k h f.0 o))

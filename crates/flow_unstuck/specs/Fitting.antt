@@ -15,6 +15,7 @@ use Rattle.flow_meaning.specs.Frame.{Frame}
 use Rattle.flow_unstuck.specs.Places.{class_vars}
 use Rattle.flow_unstuck.specs.Standing.{Stands, StandsWaiting}
 use Rattle.flow_unstuck.specs.Rules.{takes_type}
+use Rattle.flow_unstuck.specs.Registering.{IsRegistered}
 use Rattle.flow_unstuck.specs.Asking.{Stores, NextOperand, OutcomeFits}
 
 -- The type of a cell is that of its futures.
@@ -138,3 +139,4 @@ module _ (r : RawTree) (types : CellTypes) where
     pub requests : AllExist c.requests
     pub numbered : Rising 0 c.made c.cells
     pub framed : Rising 0 c.started xs
+    pub registered : (i : ℕ) → IsRegistered i c.entries c.cells

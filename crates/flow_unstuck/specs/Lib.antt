@@ -6,5 +6,8 @@ pub mod Places
 pub mod Standing
 pub mod Rules
 pub mod Asking
+pub mod Registering
 pub mod Fitting
+pub mod Keeping
 pub mod Frames
+pub mod Written

@@ -5,8 +5,10 @@ ghost use Rattle.flow_valid.specs.Validity.{IsValid};
 ghost use Rattle.std.specs.Prelude.{List};
 ghost use Rattle.flow_tree.specs.Decls.{RoutineTree};
 ghost use Rattle.flow_unstuck.specs.Rules.{ClassRules};
+ghost use Rattle.flow_unstuck.specs.Written.{AreWritten, heads, FunctionsKept};
 ghost use Rattle.flow_unstuck.specs.Frames.{FramesAskWhatFits};
 ghost use Rattle.flow_unstuck.specs.Ending.{BurstsEnd};
+ghost use Rattle.flow_unstuck.specs.Keeping.{ActorsKeepFitting};
 ghost use Rattle.flow_unstuck.specs.Existing.{RunsOrStrays, OneTrace};
 
 /// The world around a process.
@@ -34,8 +36,18 @@ pub fn runs_or_strays()
     ensures once { (r : RawTree) → IsValid r → OneTrace r }
 {}
 
-/// Of classes that keep the rules, written as what each instruction has to do with types, no frame is stuck: one that fits
-/// asks for what fits, and stands afterwards where what every walk to there fills is filled.
+/// No frame of valid classes, whose functions are well typed, is stuck: one that fits asks for what fits, and stands
+/// afterwards where what every walk to there fills is filled. So it is of classes that keep the rules, written as what each
+/// instruction has to do with types, and valid classes do.
 pub fn frames_ask_what_fits()
-    ensures { (r : RawTree) (actors : List RoutineTree) → ClassRules r actors → FramesAskWhatFits r actors }
+    ensures kept { (r : RawTree) (actors : List RoutineTree) → ClassRules r actors → FramesAskWhatFits r actors }
+    ensures rules { (r : RawTree) → IsValid r → AreWritten r → FunctionsKept r → ClassRules r (heads r) }
+    ensures valid { (r : RawTree) → IsValid r → AreWritten r → FunctionsKept r → FramesAskWhatFits r (heads r) }
+{}
+
+/// What an actor of valid classes does keeps a process fitting, for some types of its cells, and has a meaning: its next step,
+/// the result of an effect that it stores, an operand that it keeps, a branch that it takes, an error that is thrown where it
+/// stands, and its handler. Of the ends of actors, of fires and of drops this says nothing.
+pub fn actors_keep_fitting()
+    ensures { (r : RawTree) → IsValid r → AreWritten r → FunctionsKept r → ActorsKeepFitting r }
 {}
