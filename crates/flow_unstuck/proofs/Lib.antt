@@ -40,3 +40,4 @@ pub mod EffectsTyped
 pub mod Instructions
 pub mod KeptClasses
 pub mod ActorsFit
+pub mod Unseen
