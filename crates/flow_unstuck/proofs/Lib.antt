@@ -41,3 +41,4 @@ pub mod Instructions
 pub mod KeptClasses
 pub mod ActorsFit
 pub mod Unseen
+pub mod Removing

@@ -19,10 +19,10 @@ use Rattle.flow_unstuck.proofs.Retyped.{Sees, SeesAll, OutcomeSees, QueueSees, C
 abbrev pub Off : ℕ → ℕ → Type 0
 Off k n = n ≡ k → ⊥
 
-zero_first : (a b : ℕ) → a + b ≡ 0 → a ≡ 0
+pub zero_first : (a b : ℕ) → a + b ≡ 0 → a ≡ 0
 zero_first a b e = omega (arith, e)
 
-zero_second : (a b : ℕ) → a + b ≡ 0 → b ≡ 0
+pub zero_second : (a b : ℕ) → a + b ≡ 0 → b ≡ 0
 zero_second a b e = omega (arith, e)
 
 abbrev mark : Bool → ℕ
@@ -75,7 +75,7 @@ module _ (k : ℕ) where
   kind_off kind.Future n a b = side_off k n b
   kind_off kind.FutureStream n a b = side_off k n b
 
-  refs_off : (qs : List Ref) → Nil qs → OperandsSee (Off k) qs
+  pub refs_off : (qs : List Ref) → Nil qs → OperandsSee (Off k) qs
   refs_off [] h = tt
   refs_off (q ∷ qs) h = (
     kind_off q.0 q.1 (zero_first (one PromiseSide k (side_of q.0) q.1) (count PromiseSide k qs) h.0) (zero_first (one FutureSide k (side_of q.0) q.1) (count FutureSide k qs) h.1),
