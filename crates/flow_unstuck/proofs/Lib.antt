@@ -42,3 +42,4 @@ pub mod KeptClasses
 pub mod ActorsFit
 pub mod Unseen
 pub mod Removing
+pub mod Losses
