@@ -43,3 +43,4 @@ pub mod ActorsFit
 pub mod Unseen
 pub mod Removing
 pub mod Losses
+pub mod Fires
