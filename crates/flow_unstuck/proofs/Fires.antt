@@ -15,12 +15,12 @@ use Rattle.flow_meaning.specs.Orderly.{tasks_of, is_suspended, AllWait, Orderly}
 use Rattle.flow_meaning.specs.Frame.{Frame}
 use Rattle.flow_meaning.proofs.Shifts.{cell_waits}
 use Rattle.flow_unstuck.specs.Fitting.{CellTypes, WaitersAt, AllWaitFor, WaitsFor, ActorAt, PostureFits, TasksFit, ProcessFits}
+use Rattle.flow_unstuck.specs.Alone.{frames_scan, PortsAlone}
 use Rattle.flow_unstuck.specs.Keeping.{Fine}
 use Rattle.flow_unstuck.proofs.States.{fine_turn, all_but, actor_of}
 use Rattle.flow_unstuck.proofs.CellStates.{cell_there}
 use Rattle.flow_unstuck.proofs.HandFits.{branch_fits}
-use Rattle.flow_unstuck.proofs.Removing.{frames_scan}
-use Rattle.flow_unstuck.proofs.Losses.{PortsAlone, lose_fits}
+use Rattle.flow_unstuck.proofs.Losses.{lose_fits}
 
 fewer_tasks : (q a b t d p e f : ℕ) → q + (a + b + (t + d) + p + e + f) ≡ 0 → q + (a + b + d + p + e + f) ≡ 0
 fewer_tasks q a b t d p e f h = omega (arith, h)

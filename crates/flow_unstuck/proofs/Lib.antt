@@ -44,3 +44,4 @@ pub mod Unseen
 pub mod Removing
 pub mod Losses
 pub mod Fires
+pub mod Closes

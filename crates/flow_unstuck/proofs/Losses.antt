@@ -19,17 +19,13 @@ use Rattle.flow_meaning.specs.Frame.{Frame}
 use Rattle.flow_meaning.proofs.Posture.{each_number, thing_removed_other}
 use Rattle.flow_meaning.proofs.Shifts.{owned}
 use Rattle.flow_unstuck.specs.Fitting.{CellTypes, Exists, CellFits, ProcessFits}
+use Rattle.flow_unstuck.specs.Alone.{frames_scan, PortsAlone}
 use Rattle.flow_unstuck.specs.Keeping.{Fine}
 use Rattle.flow_unstuck.proofs.States.{fine_of, fine_turn}
 use Rattle.flow_unstuck.proofs.CellStates.{cell_there, IsOfType, fill_fits}
 use Rattle.flow_unstuck.proofs.HandFits.{cancel_state}
 use Rattle.flow_unstuck.proofs.Unseen.{zero_first, zero_second}
-use Rattle.flow_unstuck.proofs.Removing.{frames_scan, unseen, freed_fits}
-
--- the promise side of a port's stream is the port's alone, which is there once
-pub record PortsAlone (c : Core) (xs : Numbered Frame) : Type 0 where
-  pub alone : (port k : ℕ) → port_of k c.ports ≡ Some port → Occ (frames_scan xs) PromiseSide k (record c { ports = removed c.ports port }) ≡ 0
-  pub once : (port : ℕ) → thing (removed c.ports port) port ≡ None
+use Rattle.flow_unstuck.proofs.Removing.{unseen, freed_fits}
 
 ports_less : (s : Side) (k : ℕ) (ps : Numbered ℕ) (port : ℕ) → in_ports s k ps ≡ 0 → in_ports s k (removed ps port) ≡ 0
 ports_less s k [] port a = a

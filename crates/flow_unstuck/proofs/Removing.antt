@@ -6,17 +6,18 @@ use Rattle.flow_tree.specs.Tree.{TypeTree}
 use Rattle.flow_value.specs.Values.{ValueTree, GoodOutcome, BadOutcome}
 use Rattle.flow_class.specs.Classes.{RawTree}
 use Rattle.flow_meaning.specs.Numbered.{Numbered, thing, removed}
-use Rattle.flow_meaning.specs.Cells.{Side, PromiseSide, FutureSide, Ref, Waiter, Cell, Single, Stream, waiters, held}
+use Rattle.flow_meaning.specs.Cells.{PromiseSide, FutureSide, Ref, Waiter, Cell, Single, Stream, waiters, held}
 use Rattle.flow_meaning.specs.Process.{Task, Entry, Core}
-use Rattle.flow_meaning.specs.Occ.{in_cells, in_entries, in_tasks, in_ports, in_requests, count_kept, count_maybe, in_core, Occ, scan_of}
+use Rattle.flow_meaning.specs.Occ.{in_cells, in_entries, in_tasks, in_ports, in_requests, count_kept, count_maybe, in_core, Occ}
 use Rattle.flow_meaning.specs.Work.{free_cell}
 use Rattle.flow_meaning.specs.Orderly.{is_of, tasks_of}
-use Rattle.flow_meaning.specs.Frame.{Frame, occ_memory}
+use Rattle.flow_meaning.specs.Frame.{Frame}
 use Rattle.flow_meaning.proofs.Posture.{each_number, thing_removed_other, removed_none}
 use Rattle.flow_meaning.proofs.Order.{rising_removed}
 use Rattle.flow_unstuck.specs.Asking.{HaveSome}
 use Rattle.flow_unstuck.specs.Registering.{Among, WaitsAt, AtEach, IsRegistered}
 use Rattle.flow_unstuck.specs.Fitting.{CellTypes, typed_by, CellFits, CellAt, QueueFits, AllWaitFor, WaitersAt, ActorAt, ProcessFits}
+use Rattle.flow_unstuck.specs.Alone.{frames_scan}
 use Rattle.flow_unstuck.specs.Keeping.{Fine}
 use Rattle.flow_unstuck.proofs.Retyped.{CellSees, MemorySees, OperandsSee, TasksSee, AllSeen, FirstSees, cell_retyped, actor_retyped, tasks_retyped, all_exist_retyped}
 use Rattle.flow_unstuck.proofs.Registered.{cells_registered, removed_keeps}
@@ -57,9 +58,6 @@ no_wait i k cells q h = go (thing cells k) refl h
 asleep_off : (i k : ℕ) (cells : Numbered Cell) (qs : List Ref) → ((cell : Cell) → thing cells k ≡ Some cell → waiters cell ≡ []) → AtEach i cells qs → OperandsSee (Off k) qs
 asleep_off i k cells [] q h = tt
 asleep_off i k cells (x ∷ xs) q h = ((λ e. no_wait i k cells q (subst (λ n. WaitsAt i (thing cells n)) e h.0)), asleep_off i k cells xs q h.1)
-
-abbrev pub frames_scan : Numbered Frame → Side → ℕ → ℕ
-frames_scan xs = scan_of (λ s k (f : Frame). occ_memory s k f.mem) xs
 
 pub unseen : (k : ℕ) (c : Core) (xs : Numbered Frame) → ((i : ℕ) → IsRegistered i c.entries c.cells) → Occ (frames_scan xs) PromiseSide k c ≡ 0 → Occ (frames_scan xs) FutureSide k c ≡ 0 → StateSees k c xs
 unseen k c xs reg a b =

@@ -100,7 +100,7 @@ module _ (k : ℕ) where
   queue_off [] h = tt
   queue_off (v ∷ vs) h = (value_off v (nil_first (refs_of v) (refs_in vs) h), queue_off vs (nil_second (refs_of v) (refs_in vs) h))
 
-  outcome_off : (o : OutcomeTree) → Nil (refs_in (value_in o)) → OutcomeSees (Off k) o
+  pub outcome_off : (o : OutcomeTree) → Nil (refs_in (value_in o)) → OutcomeSees (Off k) o
   outcome_off (GoodOutcome v) h = value_off v (nil_first (refs_of v) [] h)
   outcome_off (BadOutcome e) h = tt
 
