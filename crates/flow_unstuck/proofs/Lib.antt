@@ -45,3 +45,4 @@ pub mod Removing
 pub mod Losses
 pub mod Fires
 pub mod Closes
+pub mod StepsKept

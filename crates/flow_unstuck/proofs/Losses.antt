@@ -75,18 +75,18 @@ module _ (r : RawTree) (types : CellTypes) (xs : Numbered Frame) where
         let b2 = fewer_ports (frames_scan xs FutureSide k) (in_cells FutureSide k c.cells) (in_entries FutureSide k c.entries) (in_tasks FutureSide k c.tasks) (in_ports FutureSide k c.ports) (in_ports FutureSide k d.ports)
         (in_requests FutureSide k c.requests) (count_maybe FutureSide k FutureSide c.main) b (ports_less FutureSide k c.ports port z) in
         let pd : ProcessFits r types d xs = record {
-              cells = p.cells;
-              waiting = p.waiting;
-              actors = p.actors;
-              work = p.work;
-              ports = each_number port (λ i. (n : ℕ) → thing d.ports i ≡ Some n → types n ≡ Some _) (λ n e. absurd (none_there (thing d.ports port) n (alone.once port) e))
-                  (λ i o n e. p.ports i n (sym (thing_removed_other c.ports port i o) ∙ e));
-              main = p.main;
-              requests = p.requests;
-              numbered = p.numbered;
-              framed = p.framed;
-              registered = p.registered;
-            } in
+          cells = p.cells;
+          waiting = p.waiting;
+          actors = p.actors;
+          work = p.work;
+          ports = each_number port (λ i. (n : ℕ) → thing d.ports i ≡ Some n → types n ≡ Some _) (λ n e. absurd (none_there (thing d.ports port) n (alone.once port) e))
+              (λ i o n e. p.ports i n (sym (thing_removed_other c.ports port i o) ∙ e));
+          main = p.main;
+          requests = p.requests;
+          numbered = p.numbered;
+          framed = p.framed;
+          registered = p.registered;
+        } in
         subst (λ x. Fine r (free_cell k x d).halted (free_cell k x d) xs) (sym at) (freed_fits r types k d xs pd (unseen k d xs p.registered (alone.alone port k q) b2) cell t go at h)
       where
         none_there : (o : Option ℕ) (n : ℕ) → o ≡ None → o ≡ Some n → ⊥
