@@ -16,7 +16,7 @@ use Rattle.flow_unstuck.proofs.RunFits.{run_fits}
 use Rattle.flow_unstuck.proofs.TasksFitOn.{give_fits, store_keeps, catch_fits, throw_fits, keep_fits}
 
 module _ (r : RawTree) (actors : List RoutineTree) (rules : ClassRules r actors) (s : Supply) (c : Core) (xs : Numbered Frame) (o : Orderly c) (go : c.halted ≡ None) (p : FitsSome r c xs) where
-  by_tasks : (ts : List Task) → c.tasks ≡ ts → IsOfActor ts → IsFine r (step_tasks (classes r) s ts (proc c xs))
+  pub by_tasks : (ts : List Task) → c.tasks ≡ ts → IsOfActor ts → IsFine r (step_tasks (classes r) s ts (proc c xs))
   by_tasks [] e h = absurd h
   by_tasks (Run i ∷ ts) e h = run_fits r actors rules s p.0 i ts c xs o go e p.1
   by_tasks (Give i b v ∷ ts) e h = give_fits r actors rules s p.0 i ts c xs o go p.1 b v e

@@ -40,3 +40,9 @@ pub mod EffectsTyped
 pub mod Instructions
 pub mod KeptClasses
 pub mod ActorsFit
+pub mod Unseen
+pub mod Removing
+pub mod Losses
+pub mod Fires
+pub mod Closes
+pub mod StepsKept

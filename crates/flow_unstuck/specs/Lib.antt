@@ -9,5 +9,6 @@ pub mod Asking
 pub mod Registering
 pub mod Fitting
 pub mod Keeping
+pub mod Alone
 pub mod Frames
 pub mod Written

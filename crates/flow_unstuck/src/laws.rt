@@ -9,6 +9,7 @@ ghost use Rattle.flow_unstuck.specs.Written.{AreWritten, heads, FunctionsKept};
 ghost use Rattle.flow_unstuck.specs.Frames.{FramesAskWhatFits};
 ghost use Rattle.flow_unstuck.specs.Ending.{BurstsEnd};
 ghost use Rattle.flow_unstuck.specs.Keeping.{ActorsKeepFitting};
+ghost use Rattle.flow_unstuck.specs.Alone.{StepsKeepFitting};
 ghost use Rattle.flow_unstuck.specs.Existing.{RunsOrStrays, OneTrace};
 
 /// The world around a process.
@@ -47,7 +48,9 @@ pub fn frames_ask_what_fits()
 
 /// What an actor of valid classes does keeps a process fitting, for some types of its cells, and has a meaning: its next step,
 /// the result of an effect that it stores, an operand that it keeps, a branch that it takes, an error that is thrown where it
-/// stands, and its handler. Of the ends of actors, of fires and of drops this says nothing.
-pub fn actors_keep_fitting()
-    ensures { (r : RawTree) → IsValid r → AreWritten r → FunctionsKept r → ActorsKeepFitting r }
+/// stands, and its handler. And each step does, also the end of an actor, a fire and a drop, where what is owned is owned
+/// alone: the promise sides of the streams of ports and of the results of actors.
+pub fn steps_keep_fitting()
+    ensures actors { (r : RawTree) → IsValid r → AreWritten r → FunctionsKept r → ActorsKeepFitting r }
+    ensures steps { (r : RawTree) → IsValid r → AreWritten r → FunctionsKept r → StepsKeepFitting r }
 {}

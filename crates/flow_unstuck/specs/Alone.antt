@@ -1,0 +1,37 @@
+-- What is owned alone: promise sides that nothing but their owner refers to.
+use Rattle.std.specs.Prelude.{◌≡◌, ℕ, List, ◌∷◌}
+use Rattle.std.specs.declared.option.Option.TheVariants.{None, Some}
+use Rattle.flow_value.specs.Values.{OutcomeTree}
+use Rattle.flow_class.specs.Classes.{RawTree}
+use Rattle.flow_meaning.specs.Numbered.{Numbered, thing, removed}
+use Rattle.flow_meaning.specs.Cells.{Side, PromiseSide, FutureSide}
+use Rattle.flow_meaning.specs.Asks.{Supply}
+use Rattle.flow_meaning.specs.Process.{Task, Close, Entry, Core, Proc}
+use Rattle.flow_meaning.specs.Occ.{refs_in, value_in, count, Occ, scan_of}
+use Rattle.flow_meaning.specs.Dropping.{port_of}
+use Rattle.flow_meaning.specs.Orderly.{Orderly}
+use Rattle.flow_meaning.specs.Step.{step}
+use Rattle.flow_meaning.specs.Frame.{Frame, occ_memory}
+use Rattle.flow_meaning.specs.Class.{classes}
+use Rattle.flow_unstuck.specs.Keeping.{FitsSome, IsFine}
+
+-- the references in the variables of frames
+abbrev pub frames_scan : Numbered Frame → Side → ℕ → ℕ
+frames_scan xs = scan_of (λ s k (f : Frame). occ_memory s k f.mem) xs
+
+-- Without a port nothing refers to the promise side of its stream; and a port is there once.
+pub record PortsAlone (c : Core) (xs : Numbered Frame) : Type 0 where
+  pub alone : (port k : ℕ) → port_of k c.ports ≡ Some port → Occ (frames_scan xs) PromiseSide k (record c { ports = removed c.ports port }) ≡ 0
+  pub once : (port : ℕ) → thing (removed c.ports port) port ≡ None
+
+-- Without an actor nothing refers to the promise side of its result; and the value that it ends with doesn't refer to that
+-- result, which no value of its type can.
+pub record ResultsAlone (c : Core) (xs : Numbered Frame) : Type 0 where
+  pub alone : (i k : ℕ) (e : Entry) → thing c.entries i ≡ Some e → e.result ≡ Some k → Occ (frames_scan (removed xs i)) PromiseSide k (record c { entries = removed c.entries i }) ≡ 0
+  pub apart : (i k : ℕ) (e : Entry) (o : OutcomeTree) (ts : List Task) → c.tasks ≡ Close i o ∷ ts → thing c.entries i ≡ Some e → e.result ≡ Some k → count FutureSide k (refs_in (value_in o)) ≡ 0
+
+-- Where what is owned is owned alone, a step keeps a process fitting, and has a meaning.
+abbrev pub StepsKeepFitting : RawTree → Type 0
+StepsKeepFitting r =
+    (s : Supply) (p : Proc Frame) → Orderly p.core → p.core.halted ≡ None → FitsSome r p.core p.actors → PortsAlone p.core p.actors → ResultsAlone p.core p.actors
+    → IsFine r (step (classes r) s p)
