@@ -32,6 +32,7 @@ use Rattle.flow_picture.specs.Rested.{NumbersRise}
 use Rattle.flow_picture.specs.Keeps as law
 use Rattle.flow_picture.specs.Keeps.{Tied}
 use Rattle.flow_picture.proofs.Owners.{entry_found}
+use Rattle.flow_picture.proofs.OwnersOnce.{port_gone, request_gone, port_made, request_made}
 use Rattle.flow_picture.proofs.Tidy.{Tidy, fill_tidy, gone_tidy, free_tidy, nobody_waits, new_agrees, new_tidy, number_added, numbers_more, ports_more, port_added, port_removed, leave_tidy, branch_tidy, cancel_tidy}
 use Rattle.flow_picture.proofs.TidyWaits.{suspend_tidy, enrol_tidy, kept_tidy, over_tidy}
 
@@ -52,13 +53,13 @@ made_tidy i goal k cell c w t = push_tidy i (result_task i goal (RefValue k (suc
 opened_tidy : (i : ℕ) (goal : Goal) (c : Core) → Tidy c → Unless Tidy (gives_open i goal c)
 opened_tidy i goal c t =
     push_tidy i (result_task i goal (RefValue kind.Future (suc c.made))) (new_cell (Single None []) (record c { requests = c.requests ++ suc c.made ∷ [] }))
-    (new_agrees (Single None []) c refl t, rising_added c.cells 0 c.made (Single None []) (omega arith) t.1, number_added 0 c.made c.requests (omega arith) t.2, ports_more 0 c.made c.ports t.3)
+    (new_agrees (Single None []) c refl t, rising_added c.cells 0 c.made (Single None []) (omega arith) t.1, number_added 0 c.made c.requests (omega arith) t.2, ports_more 0 c.made c.ports t.3, request_made c t.4)
 
 port_tidy : (i : ℕ) (goal : Goal) (port : ℕ) (o : Option ℕ) (c : Core) → thing c.ports port ≡ o → Tidy c → Unless Tidy (open_port i goal port o c).0
 port_tidy i goal port (Some cell) c e t = unless c.halted t
 port_tidy i goal port None c e t =
     push_tidy i (result_task i goal (RefValue kind.FutureStream (suc c.made))) (new_cell (Stream [] None None) (record c { ports = added c.ports port (suc c.made) }))
-    (new_agrees (Stream [] None None) c refl t, rising_added c.cells 0 c.made (Stream [] None None) (omega arith) t.1, numbers_more 0 c.made c.requests t.2, port_added 0 c.made port c.ports (omega arith) e t.3)
+    (new_agrees (Stream [] None None) c refl t, rising_added c.cells 0 c.made (Stream [] None None) (omega arith) t.1, numbers_more 0 c.made c.requests t.2, port_added 0 c.made port c.ports (omega arith) e t.3, port_made c port t.4)
 
 disk_tidy : (i : ℕ) (goal : Goal) (call : Option (DiskCall ℕ)) (c : Core) → Tidy c → Unless Tidy (ask_disk i goal call c).0
 disk_tidy i goal None c t = unless c.halted t
@@ -87,13 +88,13 @@ send_to_tidy : (s : Supply) (i : ℕ) (q port : ℤ) (text : List ℕ) (c : Core
 send_to_tidy s i q port text c t = either Tidy (int_le (pos 0) q && nat_lt (natural q) s.processes && is_port port) _ (throws i bad_argument c) (unless c.halted t) (unless c.halted t)
 
 -- waits
-wait_by_tidy : (i : ℕ) (spot : Spot) (e e0 : Entry) (vs : List ValueTree) (b : Option (ℕ × ℕ)) (c : Core) → Awake i c → thing c.entries i ≡ Some e0 → Tidy c → Unless Tidy (wait_by i spot e vs b c)
-wait_by_tidy i spot e e0 vs None c a at t = suspend_tidy i spot e e0 vs c a at t
-wait_by_tidy i spot e e0 vs (Some b) c a at t = branch_tidy i b.0 b.1 e e0 vs c at t
+wait_by_tidy : (i : ℕ) (spot : Spot) (e e0 : Entry) (vs : List ValueTree) (b : Option (ℕ × ℕ)) (c : Core) → Awake i c → thing c.entries i ≡ Some e0 → e.result ≡ e0.result → Tidy c → Unless Tidy (wait_by i spot e vs b c)
+wait_by_tidy i spot e e0 vs None c a at same t = suspend_tidy i spot e e0 vs c a at same t
+wait_by_tidy i spot e e0 vs (Some b) c a at same t = branch_tidy i b.0 b.1 e e0 vs c at same t
 
 wait_tidy : (i : ℕ) (spot : Spot) (vs : List ValueTree) (c : Core) (o : Option Entry) → Awake i c → thing c.entries i ≡ o → Tidy c → Unless Tidy (wait i spot o vs c)
 wait_tidy i spot vs c None a at t = tt
-wait_tidy i spot vs c (Some e) a at t = wait_by_tidy i spot (at_spot spot e) e vs (first_ready c.cells 0 e.operands) c a at t
+wait_tidy i spot vs c (Some e) a at t = wait_by_tidy i spot (at_spot spot e) e vs (first_ready c.cells 0 e.operands) c a at refl t
 
 cancel_owner_tidy : (k : ℕ) (o : Option (ℕ × Entry)) (c : Core) → owner k c.entries ≡ o → Rising 0 c.started c.entries → Tidy c → Tidy (cancel_owner o c)
 cancel_owner_tidy k None c e r t = t
@@ -145,7 +146,7 @@ suffer_tidy scan FutureSide k cell (suc a) (suc b) o q c at f ow r t = unless c.
 suffer_tidy scan FutureSide k cell (suc a) zero (Some x) q c at f ow r t =
     unless (cancel x.0 x.1 c).halted (cancel_tidy x.0 x.1 c (entry_found k 0 c.started x c.entries r ow).0 t)
 suffer_tidy scan FutureSide k cell (suc a) zero None (Some port) c at f ow r t =
-    free_tidy k cell (record c { ports = removed c.ports port }) at (nobody_waits scan k cell c at f) (t.0, t.1, t.2, port_removed 0 c.made port c.ports t.3)
+    free_tidy k cell (record c { ports = removed c.ports port }) at (nobody_waits scan k cell c at f) (t.0, t.1, t.2, port_removed 0 c.made port c.ports t.3, port_gone c port t.4)
 suffer_tidy scan FutureSide k cell (suc a) zero None None c at f ow r t = unless c.halted t
 
 lose_cell_tidy : (scan : Scan) (s : Side) (k : ℕ) (x : Option Cell) (c : Core) → thing c.cells k ≡ x → Rising 0 c.started c.entries → Tidy c → Unless Tidy (lose_cell scan s k x c)
@@ -162,7 +163,7 @@ drop_tidy scan kd k c r t = after_turn Tidy (lose_ref scan (side_of kd) k) c c.l
 fire_to_tidy : (k : ℕ) (cell : Cell) (w : Waiter) (x : Option Entry) (c : Core) → thing c.cells k ≡ Some cell → thing c.entries w.actor ≡ x → Tidy c → Unless Tidy (fire_to k cell w x c)
 fire_to_tidy k cell w None c ck at t = tt
 fire_to_tidy k cell w (Some e) c ck at t =
-    let p = pushed (Fire k) c in subst (λ y. Unless Tidy (take_branch w.actor w.branch k e [] y p)) ck (branch_tidy w.actor w.branch k e e [] p at t)
+    let p = pushed (Fire k) c in subst (λ y. Unless Tidy (take_branch w.actor w.branch k e [] y p)) ck (branch_tidy w.actor w.branch k e e [] p at refl t)
 
 fire_at_tidy : (scan : Scan) (k : ℕ) (cell : Cell) (b : Bool) (ws : List Waiter) (c : Core) → thing c.cells k ≡ Some cell → Rising 0 c.started c.entries → Tidy c → Unless Tidy (fire_at scan k cell b ws c)
 fire_at_tidy scan k cell b [] c ck r t = lose_tidy scan FutureSide k c r t
@@ -199,14 +200,14 @@ close_tidy scan i x v c a r t =
     let d = record c { entries = removed c.entries i } in
     after_turn Tidy (λ d. give_result scan x v (writes (end_line i v) d)) d c.left (λ n. given_tidy scan x v (writes (end_line i v) (record d { left = n })) (over_tidy i c a r t))
 
-leave_kept_tidy : (i b : ℕ) (v : Verdict) (x : Ref) (en e0 : Entry) (vs : List ValueTree) (c : Core) → thing c.entries i ≡ Some e0 → Tidy c → Unless Tidy (leave_kept i b v x en vs c)
-leave_kept_tidy i b GoesOn x en e0 vs c at t = unless c.halted t
-leave_kept_tidy i b Cancelled x en e0 vs c at t = unless c.halted (leave_tidy i en e0 vs (Throw i operation_cancelled) c at t)
-leave_kept_tidy i b Ready x en e0 vs c at t = branch_tidy i b x.1 en e0 vs c at t
+leave_kept_tidy : (i b : ℕ) (v : Verdict) (x : Ref) (en e0 : Entry) (vs : List ValueTree) (c : Core) → thing c.entries i ≡ Some e0 → en.result ≡ e0.result → Tidy c → Unless Tidy (leave_kept i b v x en vs c)
+leave_kept_tidy i b GoesOn x en e0 vs c at same t = unless c.halted t
+leave_kept_tidy i b Cancelled x en e0 vs c at same t = unless c.halted (leave_tidy i en e0 vs (Throw i operation_cancelled) c at same t)
+leave_kept_tidy i b Ready x en e0 vs c at same t = branch_tidy i b x.1 en e0 vs c at same t
 
 thrown_tidy : (i err : ℕ) (x : Raised) (o : Option Entry) (c : Core) → thing c.entries i ≡ o → Tidy c → Unless Tidy (throw_core i err x o c)
 thrown_tidy i err x None c at t = tt
-thrown_tidy i err x (Some e) c at t = unless c.halted (leave_tidy i e e x.values (fate i err x.caught) (writes (throw_line i err) c) at t)
+thrown_tidy i err x (Some e) c at t = unless c.halted (leave_tidy i e e x.values (fate i err x.caught) (writes (throw_line i err) c) at refl t)
 
 module _ {A : Type 0} (e : Engine A) where
   abbrev Keeps : Stepped A → Type 0
@@ -227,8 +228,8 @@ module _ {A : Type 0} (e : Engine A) where
 
   keep_by_keeps : (i b : ℕ) (v : Verdict) (spot : Spot) (r : Ref) (en : Entry) (x : A) (k : Core) (xs : Numbered A) → Awake i k → thing k.entries i ≡ Some en → Tidy k → Keeps (keep_by e i b v r (with_operand spot r en) x (proc k xs))
   keep_by_keeps i b GoesOn spot r en x k xs a at t = unless k.halted (kept_tidy i spot r en k a at t)
-  keep_by_keeps i b Cancelled spot r en x k xs a at t = leave_kept_tidy i b Cancelled r (with_operand spot r en) en (e.lose x).0 (record k { tasks = below k.tasks }) at t
-  keep_by_keeps i b Ready spot r en x k xs a at t = leave_kept_tidy i b Ready r (with_operand spot r en) en (e.lose x).0 (record k { tasks = below k.tasks }) at t
+  keep_by_keeps i b Cancelled spot r en x k xs a at t = leave_kept_tidy i b Cancelled r (with_operand spot r en) en (e.lose x).0 (record k { tasks = below k.tasks }) at refl t
+  keep_by_keeps i b Ready spot r en x k xs a at t = leave_kept_tidy i b Ready r (with_operand spot r en) en (e.lose x).0 (record k { tasks = below k.tasks }) at refl t
 
   keep_keeps : (i : ℕ) (spot : Spot) (r : Ref) (x : Option A) (en : Option Entry) (k : Core) (xs : Numbered A) → Awake i k → thing k.entries i ≡ en → Tidy k → Keeps (keep e i spot r x en (proc k xs))
   keep_keeps i spot r None None k xs a at t = tt
@@ -286,10 +287,10 @@ module _ {A : Type 0} (e : Engine A) where
 
 -- as it is said
 to_tied : (c : Core) → Tidy c → Tied c
-to_tied c t = record { agree = t.0; numbers = record { ports = t.3; cells = t.1; requests = t.2 } }
+to_tied c t = record { agree = t.0; numbers = record { ports = t.3; cells = t.1; requests = t.2 }; once = t.4 }
 
 to_tidy : (c : Core) → Tied c → Tidy c
-to_tidy c t = (t.agree, t.numbers.cells, t.numbers.requests, t.numbers.ports)
+to_tidy c t = (t.agree, t.numbers.cells, t.numbers.requests, t.numbers.ports, t.once)
 
 pub steps_tied : law.StepsTied
 steps_tied r s p q o t h = unless_map q.0.core.halted (to_tied q.0.core) (step_keeps (classes r) s p q o (to_tidy p.core t) h)
@@ -312,7 +313,7 @@ deliveries_tied k o c t =
     let u = to_tidy c t in
     let d = pushed (Drop kind.Promise k) (record c { requests = closed_request k c.requests }) in
     unless_map (deliver k o c).halted (to_tied (deliver k o c))
-    (after_turn Tidy (fill k o) d c.left (λ n. fill_tidy k o (record d { left = n }) (u.0, u.1, closed_rise k 0 c.made c.requests u.2, u.3)))
+    (after_turn Tidy (fill k o) d c.left (λ n. fill_tidy k o (record d { left = n }) (u.0, u.1, closed_rise k 0 c.made c.requests u.2, u.3, request_gone c k u.4)))
 
 pub arrivals_tied : law.ArrivalsTied
 arrivals_tied k v c t =

@@ -17,6 +17,7 @@ use Rattle.flow_meaning.proofs.Order.{rising_put}
 use Rattle.flow_picture.specs.Counted.{branches_of, branches_at, waiters_at, waiting_by, waiting_of}
 use Rattle.flow_picture.proofs.Finds.{none_above, thing_new, thing_removed}
 use Rattle.flow_picture.proofs.Leaving.{joined, no_more}
+use Rattle.flow_picture.proofs.OwnersOnce.{entry_once, entry_made, entry_gone}
 use Rattle.flow_picture.proofs.Tidy.{Tidy, agree_by, entry_tidy, leave_tidy, new_tidy}
 
 -- an actor that runs waits nowhere
@@ -109,9 +110,9 @@ module _ (i above made : ℕ) (cs : Numbered Cell) where
       by_test k false = ap (λ bs. bs ++ branches_at k (suc b) rs) (no_more (own k))
 
 -- an actor in hand waits
-pub suspend_tidy : (i : ℕ) (spot : Spot) (e e0 : Entry) (vs : List ValueTree) (c : Core) → Awake i c → thing c.entries i ≡ Some e0 → Tidy c
+pub suspend_tidy : (i : ℕ) (spot : Spot) (e e0 : Entry) (vs : List ValueTree) (c : Core) → Awake i c → thing c.entries i ≡ Some e0 → e.result ≡ e0.result → Tidy c
     → Unless Tidy (suspend i spot e vs (register i 0 e.operands (Registered c.cells)) c)
-suspend_tidy i spot e e0 vs c awake at t =
+suspend_tidy i spot e e0 vs c awake at same t =
     by_registration (register i 0 e.operands (Registered c.cells))
     (all_registered i 0 c.made c.cells (λ k. []) 0 e.operands (Registered c.cells) (λ k. t.0 i k ∙ ap (branches_at k 0) (awake_waits (thing c.entries i) awake), λ j k n. refl, t.1))
   where
@@ -120,7 +121,7 @@ suspend_tidy i spot e e0 vs c awake at t =
 
     by_registration : (q : Registration) → Waits i 0 c.made c.cells (λ k. [] ++ branches_at k 0 e.operands) q → Unless Tidy (suspend i spot e vs q c)
     by_registration Missing h = tt
-    by_registration Refused h = unless c.halted (leave_tidy i e e0 vs (Throw i second_waiter) c at t)
+    by_registration Refused h = unless c.halted (leave_tidy i e e0 vs (Throw i second_waiter) c at same t)
     by_registration (Registered cells) h = unless c.halted (
       each_number i (λ j. (k : ℕ) → branches_of j (waiters_at (thing cells k)) ≡ branches_at k 0 (waiting_of (thing (put c.entries i asleep) j)))
           (λ k. h.0 k ∙ sym (ap (λ o. branches_at k 0 (waiting_of o)) (thing_put c.entries i e0 asleep at)))
@@ -128,6 +129,7 @@ suspend_tidy i spot e e0 vs c awake at t =
       h.2,
       t.2,
       t.3,
+      entry_once c i e0 asleep at same t.4,
     )
 
 -- an actor is made
@@ -144,11 +146,12 @@ enrol_tidy class name c rise t =
       n.1,
       n.2,
       n.3,
+      entry_made c i e refl t.4,
     )
 
 -- one operand more
 pub kept_tidy : (i : ℕ) (spot : Spot) (r : Ref) (e : Entry) (c : Core) → Awake i c → thing c.entries i ≡ Some e → Tidy c → Tidy (record c { entries = put c.entries i (with_operand spot r e) })
-kept_tidy i spot r e c awake at t = entry_tidy i e (with_operand spot r e) c at (by_flag e.suspended (sym (ap is_suspended at) ∙ awake)) t
+kept_tidy i spot r e c awake at t = entry_tidy i e (with_operand spot r e) c at (by_flag e.suspended (sym (ap is_suspended at) ∙ awake)) refl t
   where
     by_flag : (b : Bool) → Some b ≡ Some false → waiting_by b (e.operands ++ r ∷ []) ≡ waiting_by b e.operands
     by_flag true q = absurd (cc)
@@ -164,4 +167,5 @@ over_tidy i c awake rise t = (
   t.1,
   t.2,
   t.3,
+  entry_gone c i t.4,
 )

@@ -12,11 +12,13 @@ use Rattle.flow_meaning.specs.Deliver.{boot_core, deliver, arrive, stop}
 use Rattle.flow_meaning.specs.Frame.{Frame}
 use Rattle.flow_picture.specs.Counted.{Agree}
 use Rattle.flow_picture.specs.Rested.{InNumbers}
+use Rattle.flow_picture.specs.Alone.{OwnedOnce}
 
--- waiters and operands agree, and numbers rise
+-- waiters and operands agree, numbers rise, and a cell is made for one thing at most
 pub record Tied (c : Core) : Type 0 where
   pub agree : Agree c
   pub numbers : InNumbers c
+  pub once : OwnedOnce c
 
 -- where the event isn't stopped
 abbrev pub TiedUnlessStopped : Core → Type 0

@@ -12,12 +12,12 @@ ghost use Rattle.flow_picture.specs.Holding as holding;
 ghost use Rattle.flow_picture.specs.Example.{WaitingRests};
 ghost use Rattle.flow_picture.specs.Starting.{IdleRests, VanishedRests};
 ghost use Rattle.flow_picture.specs.Standing as standing;
-ghost use Rattle.flow_picture.specs.Alone.{OwnersCounted, NobodyElse, NobodyYet, StaysAlone, BornAlone, PortsOnce, RequestsOnce};
+ghost use Rattle.flow_picture.specs.Alone.{OwnersCounted, NobodyElse, NobodyYet, StaysAlone, BornAlone, PortsOnce, RequestsOnce, OneReference};
 ghost use Rattle.flow_picture.specs.Naming.{StepsNamed, AnyMade, DeliveriesNamed, ArrivalsNamed, BootsNamed, StopsNamed};
 
 /// Each step of classes, and each thing that the world brings to a process, keeps that the branches of an actor that wait at
-/// a cell are those of its operands there, and that the numbers of cells, requests and ports' streams rise; unless it stops
-/// the event.
+/// a cell are those of its operands there, that the numbers of cells, requests and ports' streams rise, and that a cell is
+/// made for one thing at most: the result of an actor, the stream of a port, an open request; unless it stops the event.
 pub fn waits_kept()
     ensures steps { StepsTied }
     ensures deliveries { DeliveriesTied }
@@ -67,8 +67,8 @@ pub fn references_come_from_somewhere()
 {}
 
 /// What a process made a cell for is alone in referring to its promise side: it is so of a cell that is made for an actor, a
-/// timer, a port or the disk, each step keeps it so, and then these alone are counted. A cell is the stream of one port at
-/// most, and of one open request.
+/// timer, a port or the disk, each step keeps it so, and then these alone are counted: once, where the cell is made for one
+/// thing at most. A cell is the stream of one port at most, and of one open request.
 pub fn owners_stay_alone()
     ensures counted { OwnersCounted }
     ensures nobody_else { NobodyElse }
@@ -77,4 +77,5 @@ pub fn owners_stay_alone()
     ensures stays { StaysAlone }
     ensures ports { PortsOnce }
     ensures requests { RequestsOnce }
+    ensures one { OneReference }
 {}
