@@ -330,3 +330,10 @@ stopped_tied (Some k) c t = to_tied (stop_main (Some k) c) (to_tidy c t)
 
 pub stops_tied : law.StopsTied
 stops_tied c t = stopped_tied c.main c t
+
+-- nothing is there
+pub idle_tied : law.IdleTied
+idle_tied = record { agree = λ i k. refl; numbers = record { ports = tt; cells = tt; requests = tt }; once = λ k. (omega arith, λ l. refl) }
+
+pub vanished_tied : law.VanishedTied
+vanished_tied p = record { agree = λ i k. refl; numbers = record { ports = tt; cells = tt; requests = tt }; once = λ k. (omega arith, λ l. refl) }

@@ -8,7 +8,7 @@ use Rattle.flow_meaning.specs.Process.{Core, Proc}
 use Rattle.flow_meaning.specs.Orderly.{Orderly, UnlessStopped}
 use Rattle.flow_meaning.specs.Step.{Stepped, step}
 use Rattle.flow_meaning.specs.Class.{classes}
-use Rattle.flow_meaning.specs.Deliver.{boot_core, deliver, arrive, stop}
+use Rattle.flow_meaning.specs.Deliver.{idle_core, vanish, boot_core, deliver, arrive, stop}
 use Rattle.flow_meaning.specs.Frame.{Frame}
 use Rattle.flow_picture.specs.Counted.{Agree}
 use Rattle.flow_picture.specs.Rested.{InNumbers}
@@ -43,3 +43,10 @@ BootsTied =
 
 abbrev pub StopsTied : Type 0
 StopsTied = (c : Core) → Tied c → Tied (stop c)
+
+-- They hold of a process that never ran, and after a loss of power.
+abbrev pub IdleTied : Type 0
+IdleTied = Tied idle_core
+
+abbrev pub VanishedTied : Type 0
+VanishedTied = (p : Proc Frame) → Tied (vanish p).core
