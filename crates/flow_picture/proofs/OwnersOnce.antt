@@ -1,5 +1,5 @@
 -- A cell is made for one thing at most.
-use Rattle.std.proofs.Common.{◌≡◌, ℕ, suc, ◌+◌, ◌≤◌, nat_eq, Bool, true, false, List, [], ◌∷◌, ◌++◌, if◌then◌else◌, refl, ap, arith}
+use Rattle.std.proofs.Common.{◌≡◌, ℕ, ◌<◌, suc, ◌+◌, ◌≤◌, nat_eq, Bool, true, false, List, [], ◌∷◌, ◌++◌, if◌then◌else◌, refl, ap, arith}
 use Rattle.std.proofs.lemmas.Bool.Decides.{nat_tests}
 use Rattle.std.specs.declared.option.Option.TheVariants.{Some}
 use Rattle.flow_meaning.specs.Numbered.{Numbered, thing, added, put, removed}
@@ -7,24 +7,50 @@ use Rattle.flow_meaning.specs.Cells.{PromiseSide}
 use Rattle.flow_meaning.specs.Process.{Entry, Core}
 use Rattle.flow_meaning.specs.Occ.{one, count_maybe, in_ports, in_requests}
 use Rattle.flow_meaning.specs.Deliver.{closed_request}
-use Rattle.flow_picture.specs.Alone.{results_at, owners_of, FewAt, OwnedOnce}
+use Rattle.flow_picture.specs.Alone.{results_at, owners_of, OwnedOnce}
+use Rattle.std.specs.Prelude.{nat_lt}
 use Rattle.flow_picture.proofs.Sums.{sum_by, sum_put, sum_added, ports_sum}
 
--- few of a cell
-pub less_few : (made k m n : ℕ) → m ≤ n → FewAt made k n → FewAt made k m
-less_few made k m n l h = (let a = h.0 in omega (arith, l, a), λ g. let a = h.1 g in omega (arith, l, a))
+-- what stood before: how many cells were made, and what each was made for
+pub record Since : Type 0 where
+  pub made : ℕ
+  pub owners : ℕ → ℕ
 
-pub next_few : (made k n : ℕ) → FewAt made k n → FewAt (suc made) k n
-next_few made k n h = (h.0, λ g. h.1 (omega (arith, g)))
+-- An old cell isn't made for more, and a new one for one thing.
+abbrev pub FewSince : Since → (made k n : ℕ) → Type 0
+FewSince z made k n = (k ≤ z.made → n ≤ z.owners k) × (z.made < k → n < 2) × (made < k → n ≡ 0)
 
-pub new_few : (made k n x : ℕ) → x ≡ one PromiseSide k PromiseSide (suc made) + n → FewAt made k n → FewAt (suc made) k x
-new_few made k n x e h = by_test (nat_eq k (suc made)) refl e
+abbrev pub OnceSince : Since → Core → Type 0
+OnceSince z c = (z.made ≤ c.made) × ((k : ℕ) → FewSince z c.made k (owners_of k c))
+
+less_few : (z : Since) (made k m n : ℕ) → m ≤ n → FewSince z made k n → FewSince z made k m
+less_few z made k m n l h = (λ g. let a = h.0 g in omega (arith, l, a), λ g. let a = h.1 g in omega (arith, l, a), λ g. let a = h.2 g in omega (arith, l, a))
+
+next_few : (z : Since) (made k n : ℕ) → FewSince z made k n → FewSince z (suc made) k n
+next_few z made k n h = (h.0, h.1, λ g. h.2 (omega (arith, g)))
+
+new_few : (z : Since) (made k n x : ℕ) → z.made ≤ made → x ≡ one PromiseSide k PromiseSide (suc made) + n → FewSince z made k n → FewSince z (suc made) k x
+new_few z made k n x low e h = by_test (nat_eq k (suc made)) refl e
   where
-    by_test : (b : Bool) → nat_eq k (suc made) ≡ b → x ≡ (if b then 1 else 0) + n → FewAt (suc made) k x
+    by_test : (b : Bool) → nat_eq k (suc made) ≡ b → x ≡ (if b then 1 else 0) + n → FewSince z (suc made) k x
     by_test true g f =
         let same : k ≡ suc made = grind (arith, nat_tests) in
-        let z = h.1 (omega (arith, same)) in (omega (arith, f, z), λ l. absurd (omega (arith, same, l)))
-    by_test false g f = let a = h.0 in (omega (arith, f, a), λ l. let z = h.1 (omega (arith, l)) in omega (arith, f, z))
+        let none = h.2 (omega (arith, same)) in
+        (λ l. absurd (omega (arith, same, l, low)), λ l. omega (arith, f, none), λ l. absurd (omega (arith, same, l)))
+    by_test false g f = (λ l. let a = h.0 l in omega (arith, f, a), λ l. let a = h.1 l in omega (arith, f, a), λ l. let a = h.2 (omega (arith, l)) in omega (arith, f, a))
+
+abbrev pub since : Core → Since
+since c = record { made = c.made; owners = λ k. owners_of k c }
+
+pub once_since : (c : Core) → OwnedOnce c → OnceSince (since c) c
+once_since c h = (omega arith, λ k. (λ l. omega arith, λ l. (h k).0, (h k).1))
+
+pub once_of : (z : Since) (c : Core) → ((k : ℕ) → z.owners k < 2) → OnceSince z c → OwnedOnce c
+once_of z c few h k = (by_test (nat_lt z.made k) refl, (h.1 k).2)
+  where
+    by_test : (b : Bool) → nat_lt z.made k ≡ b → owners_of k c < 2
+    by_test true e = let l : z.made < k = grind (arith, nat_tests) in (h.1 k).1 l
+    by_test false e = let l : k ≤ z.made = grind (arith, nat_tests) in let a = (h.1 k).0 l in let b = few k in omega (arith, a, b)
 
 module _ (k : ℕ) where
   abbrev result_of : ℕ → Entry → ℕ
@@ -82,28 +108,30 @@ module _ (k : ℕ) where
       by_test false r = omega (arith, r)
 
 -- what was made a cell for
-pub entry_once : (c : Core) (i : ℕ) (e new : Entry) → thing c.entries i ≡ Some e → new.result ≡ e.result → OwnedOnce c → OwnedOnce (record c { entries = put c.entries i new })
-entry_once c i e new at same h k = less_few c.made k _ (owners_of k c) (let a = results_put k c.entries i e new at same in omega (arith, a)) (h k)
+pub entry_once : (z : Since) (c : Core) (i : ℕ) (e new : Entry) → thing c.entries i ≡ Some e → new.result ≡ e.result → OnceSince z c → OnceSince z (record c { entries = put c.entries i new })
+entry_once z c i e new at same h = (h.0, λ k. less_few z c.made k _ (owners_of k c) (let a = results_put k c.entries i e new at same in omega (arith, a)) (h.1 k))
 
-pub entry_gone : (c : Core) (i : ℕ) → OwnedOnce c → OwnedOnce (record c { entries = removed c.entries i })
-entry_gone c i h k = less_few c.made k _ (owners_of k c) (let a = results_removed k c.entries i in omega (arith, a)) (h k)
+pub entry_gone : (z : Since) (c : Core) (i : ℕ) → OnceSince z c → OnceSince z (record c { entries = removed c.entries i })
+entry_gone z c i h = (h.0, λ k. less_few z c.made k _ (owners_of k c) (let a = results_removed k c.entries i in omega (arith, a)) (h.1 k))
 
-pub port_gone : (c : Core) (q : ℕ) → OwnedOnce c → OwnedOnce (record c { ports = removed c.ports q })
-port_gone c q h k = less_few c.made k _ (owners_of k c) (let a = ports_removed k c.ports q in omega (arith, a)) (h k)
+pub port_gone : (z : Since) (c : Core) (q : ℕ) → OnceSince z c → OnceSince z (record c { ports = removed c.ports q })
+port_gone z c q h = (h.0, λ k. less_few z c.made k _ (owners_of k c) (let a = ports_removed k c.ports q in omega (arith, a)) (h.1 k))
 
-pub request_gone : (c : Core) (j : ℕ) → OwnedOnce c → OwnedOnce (record c { requests = closed_request j c.requests })
-request_gone c j h k = less_few c.made k _ (owners_of k c) (let a = requests_closed k j c.requests in omega (arith, a)) (h k)
+pub request_gone : (z : Since) (c : Core) (j : ℕ) → OnceSince z c → OnceSince z (record c { requests = closed_request j c.requests })
+request_gone z c j h = (h.0, λ k. less_few z c.made k _ (owners_of k c) (let a = requests_closed k j c.requests in omega (arith, a)) (h.1 k))
 
-pub made_once : (c : Core) → OwnedOnce c → OwnedOnce (record c { made = suc c.made })
-made_once c h k = next_few c.made k (owners_of k c) (h k)
+pub made_once : (z : Since) (c : Core) → OnceSince z c → OnceSince z (record c { made = suc c.made })
+made_once z c h = (let l = h.0 in omega (arith, l), λ k. next_few z c.made k (owners_of k c) (h.1 k))
 
-pub entry_made : (c : Core) (i : ℕ) (new : Entry) → new.result ≡ Some (suc c.made) → OwnedOnce c → OwnedOnce (record c { made = suc c.made; entries = added c.entries i new })
-entry_made c i new e h k =
-    new_few c.made k (owners_of k c) _
-    (let a = results_added k c.entries i new in let b = ap (count_maybe PromiseSide k PromiseSide) e in omega (arith, a, b)) (h k)
+pub entry_made : (z : Since) (c : Core) (i : ℕ) (new : Entry) → new.result ≡ Some (suc c.made) → OnceSince z c → OnceSince z (record c { made = suc c.made; entries = added c.entries i new })
+entry_made z c i new e h = (
+  let l = h.0 in omega (arith, l),
+  λ k. new_few z c.made k (owners_of k c) _ h.0
+      (let a = results_added k c.entries i new in let b = ap (count_maybe PromiseSide k PromiseSide) e in omega (arith, a, b)) (h.1 k),
+)
 
-pub port_made : (c : Core) (q : ℕ) → OwnedOnce c → OwnedOnce (record c { made = suc c.made; ports = added c.ports q (suc c.made) })
-port_made c q h k = new_few c.made k (owners_of k c) _ (let a = ports_added k c.ports q (suc c.made) in omega (arith, a)) (h k)
+pub port_made : (z : Since) (c : Core) (q : ℕ) → OnceSince z c → OnceSince z (record c { made = suc c.made; ports = added c.ports q (suc c.made) })
+port_made z c q h = (let l = h.0 in omega (arith, l), λ k. new_few z c.made k (owners_of k c) _ h.0 (let a = ports_added k c.ports q (suc c.made) in omega (arith, a)) (h.1 k))
 
-pub request_made : (c : Core) → OwnedOnce c → OwnedOnce (record c { made = suc c.made; requests = c.requests ++ suc c.made ∷ [] })
-request_made c h k = new_few c.made k (owners_of k c) _ (let a = requests_added k c.requests (suc c.made) in omega (arith, a)) (h k)
+pub request_made : (z : Since) (c : Core) → OnceSince z c → OnceSince z (record c { made = suc c.made; requests = c.requests ++ suc c.made ∷ [] })
+request_made z c h = (let l = h.0 in omega (arith, l), λ k. new_few z c.made k (owners_of k c) _ h.0 (let a = requests_added k c.requests (suc c.made) in omega (arith, a)) (h.1 k))

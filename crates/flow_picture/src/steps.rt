@@ -1,6 +1,6 @@
 // What the steps of a process keep.
 
-ghost use Rattle.flow_picture.specs.Keeps.{StepsTied, DeliveriesTied, ArrivalsTied, BootsTied, StopsTied, IdleTied, VanishedTied};
+ghost use Rattle.flow_picture.specs.Keeps.{StepsTied, DeliveriesTied, ArrivalsTied, BootsTied, StopsTied, IdleTied, VanishedTied, OwnersStay};
 ghost use Rattle.std.specs.Prelude.{ℕ, List};
 ghost use Rattle.flow_class.specs.Classes.{RawTree};
 ghost use Rattle.flow_value.specs.declared.value.Value.{Value};
@@ -18,7 +18,7 @@ ghost use Rattle.flow_picture.specs.Naming.{StepsNamed, AnyMade, DeliveriesNamed
 /// Each step of classes, and each thing that the world brings to a process, keeps that the branches of an actor that wait at
 /// a cell are those of its operands there, that the numbers of cells, requests and ports' streams rise, and that a cell is
 /// made for one thing at most: the result of an actor, the stream of a port, an open request; unless it stops the event. So
-/// it is of a process that never ran, and after a loss of power.
+/// it is of a process that never ran, and after a loss of power. A step makes a cell for something only where it makes it.
 pub fn waits_kept()
     ensures steps { StepsTied }
     ensures deliveries { DeliveriesTied }
@@ -27,6 +27,7 @@ pub fn waits_kept()
     ensures stops { StopsTied }
     ensures idle { IdleTied }
     ensures vanished { VanishedTied }
+    ensures owners { OwnersStay }
 {}
 
 /// What a frame in memory becomes is what the frame of the process becomes: a place is read or written; the actor goes on
