@@ -35,3 +35,4 @@ pub mod NamingDeliveries
 pub mod Alone
 pub mod Nobody
 pub mod Once
+pub mod OwnersOnce

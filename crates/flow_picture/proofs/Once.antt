@@ -6,6 +6,7 @@ use Rattle.flow_meaning.specs.Cells.{PromiseSide}
 use Rattle.flow_meaning.specs.Occ.{one, in_ports, in_requests}
 use Rattle.flow_picture.specs.Rested.{NumbersRise, PortsRise}
 use Rattle.flow_picture.specs.Alone as law
+use Rattle.flow_picture.proofs.Alone.{owners_counted}
 
 module _ (k : ℕ) where
   abbrev this : ℕ → ℕ
@@ -64,3 +65,6 @@ ports_once c k h = (ports_few k 0 c.made c.ports h.ports, λ l. ports_above k 0 
 
 pub requests_once : law.RequestsOnce
 requests_once c k h = (requests_few k 0 c.made c.requests h.requests, λ l. requests_above k 0 c.made c.requests l h.requests)
+
+pub one_reference : law.OneReference
+one_reference k p once alone some = let a = owners_counted k p alone in let b = (once k).0 in omega (arith, a, b, some)

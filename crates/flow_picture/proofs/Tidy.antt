@@ -1,4 +1,4 @@
--- Waiters and operands agree, and numbers rise, after each thing that a process does to itself.
+-- Waiters and operands agree, numbers rise, and a cell is made for one thing at most, after each thing that a process does to itself.
 use Rattle.std.proofs.Common.{◌≡◌, ℕ, suc, ◌≤◌, nat_eq, Bool, true, false, List, [], ◌∷◌, ◌++◌, if◌then◌else◌, refl, sym, ap, ◌∙◌, subst, arith}
 use Rattle.std.proofs.lemmas.Bool.Decides.{nat_tests}
 use Rattle.std.specs.Option.{option_map}
@@ -22,10 +22,11 @@ use Rattle.flow_picture.proofs.Finds.{none_above, thing_new, thing_removed}
 use Rattle.flow_picture.proofs.Left.{found_left}
 use Rattle.flow_picture.proofs.Sums.{cells_sum, sum_removed}
 use Rattle.flow_picture.proofs.Losing.{unwaited}
+use Rattle.flow_picture.proofs.OwnersOnce.{Since, OnceSince, entry_once, made_once}
 
 -- the parts of what is kept
-abbrev pub Tidy : Core → Type 0
-Tidy c = Agree c × Rising 0 c.made c.cells × NumbersRise 0 c.made c.requests × PortsRise 0 c.made c.ports
+abbrev pub Tidy : Since → Core → Type 0
+Tidy z c = Agree c × Rising 0 c.made c.cells × NumbersRise 0 c.made c.requests × PortsRise 0 c.made c.ports × OnceSince z c
 
 -- the same waiters at each cell, and the same waits of each actor
 pub agree_by : (c d : Core) → ((k : ℕ) → waiters_at (thing d.cells k) ≡ waiters_at (thing c.cells k)) → ((i : ℕ) → waiting_of (thing d.entries i) ≡ waiting_of (thing c.entries i)) → Agree c → Agree d
@@ -37,20 +38,20 @@ cell_waiters k cell new cs at w =
     each_number k (λ j. waiters_at (thing (put cs k new) j) ≡ waiters_at (thing cs j))
     (ap waiters_at (thing_put cs k cell new at) ∙ w ∙ sym (ap waiters_at at)) (λ j n. ap waiters_at (thing_put_other cs k j new n))
 
-cell_tidy : (k : ℕ) (cell new : Cell) (c : Core) → thing c.cells k ≡ Some cell → waiters new ≡ waiters cell → Tidy c → Tidy (record c { cells = put c.cells k new })
-cell_tidy k cell new c at w t =
-    (agree_by c (record c { cells = put c.cells k new }) (cell_waiters k cell new c.cells at w) (λ i. refl) t.0, rising_put c.cells 0 c.made k new t.1, t.2, t.3)
+cell_tidy : (z : Since) → (k : ℕ) (cell new : Cell) (c : Core) → thing c.cells k ≡ Some cell → waiters new ≡ waiters cell → Tidy z c → Tidy z (record c { cells = put c.cells k new })
+cell_tidy z k cell new c at w t =
+    (agree_by c (record c { cells = put c.cells k new }) (cell_waiters k cell new c.cells at w) (λ i. refl) t.0, rising_put c.cells 0 c.made k new t.1, t.2, t.3, t.4)
 
-fill_cell_tidy : (k : ℕ) (v : OutcomeTree) (c : Core) (x : Option Cell) → thing c.cells k ≡ x → Tidy c → Unless Tidy (fill_cell k v x c)
-fill_cell_tidy k v c None at t = tt
-fill_cell_tidy k v c (Some cell) at t = unless c.halted (cell_tidy k cell (filled cell v) c at (filled_waiters cell v) t)
+fill_cell_tidy : (z : Since) → (k : ℕ) (v : OutcomeTree) (c : Core) (x : Option Cell) → thing c.cells k ≡ x → Tidy z c → Unless (Tidy z) (fill_cell k v x c)
+fill_cell_tidy z k v c None at t = tt
+fill_cell_tidy z k v c (Some cell) at t = unless c.halted (cell_tidy z k cell (filled cell v) c at (filled_waiters cell v) t)
 
-pub fill_tidy : (k : ℕ) (v : OutcomeTree) (c : Core) → Tidy c → Unless Tidy (fill k v c)
-fill_tidy k v c t = fill_cell_tidy k v c (thing c.cells k) refl t
+pub fill_tidy : (z : Since) → (k : ℕ) (v : OutcomeTree) (c : Core) → Tidy z c → Unless (Tidy z) (fill k v c)
+fill_tidy z k v c t = fill_cell_tidy z k v c (thing c.cells k) refl t
 
 -- a cell goes at which nobody waits
-pub gone_tidy : (k : ℕ) (cell : Cell) (c : Core) → thing c.cells k ≡ Some cell → waiters cell ≡ [] → Tidy c → Tidy (record c { cells = removed c.cells k })
-gone_tidy k cell c at w t = (
+pub gone_tidy : (z : Since) → (k : ℕ) (cell : Cell) (c : Core) → thing c.cells k ≡ Some cell → waiters cell ≡ [] → Tidy z c → Tidy z (record c { cells = removed c.cells k })
+gone_tidy z k cell c at w t = (
   agree_by c (record c { cells = removed c.cells k })
       (each_number k (λ j. waiters_at (thing (removed c.cells k) j) ≡ waiters_at (thing c.cells j))
       (ap waiters_at (thing_removed c.cells 0 c.made k t.1) ∙ sym w ∙ sym (ap waiters_at at)) (λ j n. ap waiters_at (thing_removed_other c.cells k j n)))
@@ -58,11 +59,12 @@ gone_tidy k cell c at w t = (
   rising_removed c.cells 0 c.made k t.1,
   t.2,
   t.3,
+  t.4,
 )
 
-pub free_tidy : (k : ℕ) (cell : Cell) (c : Core) → thing c.cells k ≡ Some cell → waiters cell ≡ [] → Tidy c → Unless Tidy (free k c)
-free_tidy k cell c at w t =
-    subst (λ x. Unless Tidy (free_cell k x c)) (sym at) (unless c.halted (gone_tidy k cell c at w t))
+pub free_tidy : (z : Since) → (k : ℕ) (cell : Cell) (c : Core) → thing c.cells k ≡ Some cell → waiters cell ≡ [] → Tidy z c → Unless (Tidy z) (free k c)
+free_tidy z k cell c at w t =
+    subst (λ x. Unless (Tidy z) (free_cell k x c)) (sym at) (unless c.halted (gone_tidy z k cell c at w t))
 
 -- where no future is left, nobody waits
 pub nobody_waits : (scan : Scan) (k : ℕ) (cell : Cell) (c : Core) → thing c.cells k ≡ Some cell → Occ scan FutureSide k c ≡ 0 → waiters cell ≡ []
@@ -127,15 +129,15 @@ port_removed above n q (x ∷ xs) h = by_test (nat_eq q x.0) (port_removed x.1 n
     by_test false k = (h.0, h.1, still xs x.0 h.2, k)
 
 -- the parts of a core with a new cell
-pub new_agrees : (cell : Cell) (c : Core) → waiters cell ≡ [] → Tidy c → Agree (new_cell cell c)
-new_agrees cell c w t = agree_by c (new_cell cell c) (waiters_new c.cells (suc c.made) cell (none_above c.cells 0 c.made (suc c.made) t.1 (omega arith)) w) (λ i. refl) t.0
+pub new_agrees : (z : Since) → (cell : Cell) (c : Core) → waiters cell ≡ [] → Tidy z c → Agree (new_cell cell c)
+new_agrees z cell c w t = agree_by c (new_cell cell c) (waiters_new c.cells (suc c.made) cell (none_above c.cells 0 c.made (suc c.made) t.1 (omega arith)) w) (λ i. refl) t.0
 
-pub new_tidy : (cell : Cell) (c : Core) → waiters cell ≡ [] → Tidy c → Tidy (new_cell cell c)
-new_tidy cell c w t = (new_agrees cell c w t, rising_added c.cells 0 c.made cell (omega arith) t.1, numbers_more 0 c.made c.requests t.2, ports_more 0 c.made c.ports t.3)
+pub new_tidy : (z : Since) → (cell : Cell) (c : Core) → waiters cell ≡ [] → Tidy z c → Tidy z (new_cell cell c)
+new_tidy z cell c w t = (new_agrees z cell c w t, rising_added c.cells 0 c.made cell (omega arith) t.1, numbers_more 0 c.made c.requests t.2, ports_more 0 c.made c.ports t.3, made_once z c t.4)
 
 -- an entry changes, but not where its actor waits
-pub entry_tidy : (i : ℕ) (e new : Entry) (c : Core) → thing c.entries i ≡ Some e → waiting_by new.suspended new.operands ≡ waiting_by e.suspended e.operands → Tidy c → Tidy (record c { entries = put c.entries i new })
-entry_tidy i e new c at w t = (
+pub entry_tidy : (z : Since) → (i : ℕ) (e new : Entry) (c : Core) → thing c.entries i ≡ Some e → waiting_by new.suspended new.operands ≡ waiting_by e.suspended e.operands → new.result ≡ e.result → Tidy z c → Tidy z (record c { entries = put c.entries i new })
+entry_tidy z i e new c at w same t = (
   agree_by c (record c { entries = put c.entries i new }) (λ k. refl)
       (each_number i (λ j. waiting_of (thing (put c.entries i new) j) ≡ waiting_of (thing c.entries j))
       (ap waiting_of (thing_put c.entries i e new at) ∙ w ∙ sym (ap waiting_of at)) (λ j n. ap waiting_of (thing_put_other c.entries i j new n)))
@@ -143,6 +145,7 @@ entry_tidy i e new c at w t = (
   t.1,
   t.2,
   t.3,
+  entry_once z c i e new at same t.4,
 )
 
 -- the waiters of an actor leave a cell
@@ -185,33 +188,34 @@ rising_left : (i above n : ℕ) (cs : Numbered Cell) → Rising above n cs → R
 rising_left i above n [] h = tt
 rising_left i above n (x ∷ xs) h = (h.0, h.1, rising_left i x.0 n xs h.2)
 
-pub leave_tidy : (i : ℕ) (e e0 : Entry) (vs : List ValueTree) (u : Task) (c : Core) → thing c.entries i ≡ Some e0 → Tidy c → Tidy (leave_for i e vs u c)
-leave_tidy i e e0 vs u c at t = (
+pub leave_tidy : (z : Since) → (i : ℕ) (e e0 : Entry) (vs : List ValueTree) (u : Task) (c : Core) → thing c.entries i ≡ Some e0 → e.result ≡ e0.result → Tidy z c → Tidy z (leave_for i e vs u c)
+leave_tidy z i e e0 vs u c at same t = (
   each_number i (λ j. (k : ℕ) → branches_of j (waiters_at (thing (left_cells i c.cells) k)) ≡ branches_at k 0 (waiting_of (thing (put c.entries i (running e)) j)))
       (λ k. ap (branches_of i) (left_waiters i k c.cells) ∙ none_left i (waiters_at (thing c.cells k)) ∙ sym (ap (λ o. branches_at k 0 (waiting_of o)) (thing_put c.entries i e0 (running e) at)))
       (λ j n k. ap (branches_of j) (left_waiters i k c.cells) ∙ others_left i j (waiters_at (thing c.cells k)) n ∙ t.0 j k ∙ ap (λ o. branches_at k 0 (waiting_of o)) (sym (thing_put_other c.entries i j (running e) n))),
   rising_left i 0 c.made c.cells t.1,
   t.2,
   t.3,
+  entry_once z c i e0 (running e) at same t.4,
 )
 
-give_tidy : (i b : ℕ) (e e0 : Entry) (vs : List ValueTree) (o : Option OutcomeTree) (c : Core) → thing c.entries i ≡ Some e0 → Tidy c → Unless Tidy (give i b e vs o c)
-give_tidy i b e e0 vs None c at t = tt
-give_tidy i b e e0 vs (Some o) c at t = unless c.halted (leave_tidy i e e0 vs (Give i b o) c at t)
+give_tidy : (z : Since) → (i b : ℕ) (e e0 : Entry) (vs : List ValueTree) (o : Option OutcomeTree) (c : Core) → thing c.entries i ≡ Some e0 → e.result ≡ e0.result → Tidy z c → Unless (Tidy z) (give i b e vs o c)
+give_tidy z i b e e0 vs None c at same t = tt
+give_tidy z i b e e0 vs (Some o) c at same t = unless c.halted (leave_tidy z i e e0 vs (Give i b o) c at same t)
 
-branch_at : (i b k : ℕ) (e e0 : Entry) (vs : List ValueTree) (x : Option Cell) (c : Core) → thing c.cells k ≡ x → thing c.entries i ≡ Some e0 → Tidy c → Unless Tidy (take_branch i b k e vs x c)
-branch_at i b k e e0 vs None c ck at t = tt
-branch_at i b k e e0 vs (Some cell) c ck at t =
-    after_turn Tidy (λ d. give i b e vs (taken cell) (record (writes (take_line i e.spot.group b) d) { cells = put d.cells k (after_taking cell) })) c c.left
-    (λ n. give_tidy i b e e0 vs (taken cell) (record (writes (take_line i e.spot.group b) (record c { left = n })) { cells = put c.cells k (after_taking cell) }) at
-    (cell_tidy k cell (after_taking cell) c ck (taking_waiters cell) t))
+branch_at : (z : Since) → (i b k : ℕ) (e e0 : Entry) (vs : List ValueTree) (x : Option Cell) (c : Core) → thing c.cells k ≡ x → thing c.entries i ≡ Some e0 → e.result ≡ e0.result → Tidy z c → Unless (Tidy z) (take_branch i b k e vs x c)
+branch_at z i b k e e0 vs None c ck at same t = tt
+branch_at z i b k e e0 vs (Some cell) c ck at same t =
+    after_turn (Tidy z) (λ d. give i b e vs (taken cell) (record (writes (take_line i e.spot.group b) d) { cells = put d.cells k (after_taking cell) })) c c.left
+    (λ n. give_tidy z i b e e0 vs (taken cell) (record (writes (take_line i e.spot.group b) (record c { left = n })) { cells = put c.cells k (after_taking cell) }) at same
+    (cell_tidy z k cell (after_taking cell) c ck (taking_waiters cell) t))
 
-pub branch_tidy : (i b k : ℕ) (e e0 : Entry) (vs : List ValueTree) (c : Core) → thing c.entries i ≡ Some e0 → Tidy c → Unless Tidy (take_branch i b k e vs (thing c.cells k) c)
-branch_tidy i b k e e0 vs c at t = branch_at i b k e e0 vs (thing c.cells k) c refl at t
+pub branch_tidy : (z : Since) → (i b k : ℕ) (e e0 : Entry) (vs : List ValueTree) (c : Core) → thing c.entries i ≡ Some e0 → e.result ≡ e0.result → Tidy z c → Unless (Tidy z) (take_branch i b k e vs (thing c.cells k) c)
+branch_tidy z i b k e e0 vs c at same t = branch_at z i b k e e0 vs (thing c.cells k) c refl at same t
 
-cancel_by_tidy : (s : Bool) (i : ℕ) (e : Entry) (c : Core) → thing c.entries i ≡ Some e → Tidy c → Tidy (cancel_by s i e c)
-cancel_by_tidy true i e c at t = leave_tidy i (marked e) e [] (Throw i operation_cancelled) c at t
-cancel_by_tidy false i e c at t = entry_tidy i e (marked e) c at refl t
+cancel_by_tidy : (z : Since) → (s : Bool) (i : ℕ) (e : Entry) (c : Core) → thing c.entries i ≡ Some e → Tidy z c → Tidy z (cancel_by s i e c)
+cancel_by_tidy z true i e c at t = leave_tidy z i (marked e) e [] (Throw i operation_cancelled) c at refl t
+cancel_by_tidy z false i e c at t = entry_tidy z i e (marked e) c at refl refl t
 
-pub cancel_tidy : (i : ℕ) (e : Entry) (c : Core) → thing c.entries i ≡ Some e → Tidy c → Tidy (cancel i e c)
-cancel_tidy i e c at t = cancel_by_tidy e.suspended i e (writes (cancel_line i) c) at t
+pub cancel_tidy : (z : Since) → (i : ℕ) (e : Entry) (c : Core) → thing c.entries i ≡ Some e → Tidy z c → Tidy z (cancel i e c)
+cancel_tidy z i e c at t = cancel_by_tidy z e.suspended i e (writes (cancel_line i) c) at t

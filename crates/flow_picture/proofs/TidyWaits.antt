@@ -17,6 +17,7 @@ use Rattle.flow_meaning.proofs.Order.{rising_put}
 use Rattle.flow_picture.specs.Counted.{branches_of, branches_at, waiters_at, waiting_by, waiting_of}
 use Rattle.flow_picture.proofs.Finds.{none_above, thing_new, thing_removed}
 use Rattle.flow_picture.proofs.Leaving.{joined, no_more}
+use Rattle.flow_picture.proofs.OwnersOnce.{Since, entry_once, entry_made, entry_gone}
 use Rattle.flow_picture.proofs.Tidy.{Tidy, agree_by, entry_tidy, leave_tidy, new_tidy}
 
 -- an actor that runs waits nowhere
@@ -109,18 +110,18 @@ module _ (i above made : ℕ) (cs : Numbered Cell) where
       by_test k false = ap (λ bs. bs ++ branches_at k (suc b) rs) (no_more (own k))
 
 -- an actor in hand waits
-pub suspend_tidy : (i : ℕ) (spot : Spot) (e e0 : Entry) (vs : List ValueTree) (c : Core) → Awake i c → thing c.entries i ≡ Some e0 → Tidy c
-    → Unless Tidy (suspend i spot e vs (register i 0 e.operands (Registered c.cells)) c)
-suspend_tidy i spot e e0 vs c awake at t =
+pub suspend_tidy : (z : Since) → (i : ℕ) (spot : Spot) (e e0 : Entry) (vs : List ValueTree) (c : Core) → Awake i c → thing c.entries i ≡ Some e0 → e.result ≡ e0.result → Tidy z c
+    → Unless (Tidy z) (suspend i spot e vs (register i 0 e.operands (Registered c.cells)) c)
+suspend_tidy z i spot e e0 vs c awake at same t =
     by_registration (register i 0 e.operands (Registered c.cells))
     (all_registered i 0 c.made c.cells (λ k. []) 0 e.operands (Registered c.cells) (λ k. t.0 i k ∙ ap (branches_at k 0) (awake_waits (thing c.entries i) awake), λ j k n. refl, t.1))
   where
     asleep : Entry
     asleep = record e { suspended = true }
 
-    by_registration : (q : Registration) → Waits i 0 c.made c.cells (λ k. [] ++ branches_at k 0 e.operands) q → Unless Tidy (suspend i spot e vs q c)
+    by_registration : (q : Registration) → Waits i 0 c.made c.cells (λ k. [] ++ branches_at k 0 e.operands) q → Unless (Tidy z) (suspend i spot e vs q c)
     by_registration Missing h = tt
-    by_registration Refused h = unless c.halted (leave_tidy i e e0 vs (Throw i second_waiter) c at t)
+    by_registration Refused h = unless c.halted (leave_tidy z i e e0 vs (Throw i second_waiter) c at same t)
     by_registration (Registered cells) h = unless c.halted (
       each_number i (λ j. (k : ℕ) → branches_of j (waiters_at (thing cells k)) ≡ branches_at k 0 (waiting_of (thing (put c.entries i asleep) j)))
           (λ k. h.0 k ∙ sym (ap (λ o. branches_at k 0 (waiting_of o)) (thing_put c.entries i e0 asleep at)))
@@ -128,12 +129,13 @@ suspend_tidy i spot e e0 vs c awake at t =
       h.2,
       t.2,
       t.3,
+      entry_once z c i e0 asleep at same t.4,
     )
 
 -- an actor is made
-pub enrol_tidy : (class : ℕ) (name : List ℕ) (c : Core) → Rising 0 c.started c.entries → Tidy c → Tidy (enrol class name c)
-enrol_tidy class name c rise t =
-    let n = new_tidy (Single None []) c refl t in
+pub enrol_tidy : (z : Since) → (class : ℕ) (name : List ℕ) (c : Core) → Rising 0 c.started c.entries → Tidy z c → Tidy z (enrol class name c)
+enrol_tidy z class name c rise t =
+    let n = new_tidy z (Single None []) c refl t in
     let i = suc c.started in
     let e = entry_of class (suc c.made) in
     let none = none_above c.entries 0 c.started i rise (omega arith) in (
@@ -144,19 +146,20 @@ enrol_tidy class name c rise t =
       n.1,
       n.2,
       n.3,
+      entry_made z c i e refl t.4,
     )
 
 -- one operand more
-pub kept_tidy : (i : ℕ) (spot : Spot) (r : Ref) (e : Entry) (c : Core) → Awake i c → thing c.entries i ≡ Some e → Tidy c → Tidy (record c { entries = put c.entries i (with_operand spot r e) })
-kept_tidy i spot r e c awake at t = entry_tidy i e (with_operand spot r e) c at (by_flag e.suspended (sym (ap is_suspended at) ∙ awake)) t
+pub kept_tidy : (z : Since) → (i : ℕ) (spot : Spot) (r : Ref) (e : Entry) (c : Core) → Awake i c → thing c.entries i ≡ Some e → Tidy z c → Tidy z (record c { entries = put c.entries i (with_operand spot r e) })
+kept_tidy z i spot r e c awake at t = entry_tidy z i e (with_operand spot r e) c at (by_flag e.suspended (sym (ap is_suspended at) ∙ awake)) refl t
   where
     by_flag : (b : Bool) → Some b ≡ Some false → waiting_by b (e.operands ++ r ∷ []) ≡ waiting_by b e.operands
     by_flag true q = absurd (cc)
     by_flag false q = refl
 
 -- an actor is gone
-pub over_tidy : (i : ℕ) (c : Core) → Awake i c → Rising 0 c.started c.entries → Tidy c → Tidy (record c { entries = removed c.entries i })
-over_tidy i c awake rise t = (
+pub over_tidy : (z : Since) → (i : ℕ) (c : Core) → Awake i c → Rising 0 c.started c.entries → Tidy z c → Tidy z (record c { entries = removed c.entries i })
+over_tidy z i c awake rise t = (
   agree_by c (record c { entries = removed c.entries i }) (λ k. refl)
       (each_number i (λ j. waiting_of (thing (removed c.entries i) j) ≡ waiting_of (thing c.entries j))
       (ap waiting_of (thing_removed c.entries 0 c.started i rise) ∙ sym (awake_waits (thing c.entries i) awake)) (λ j n. ap waiting_of (thing_removed_other c.entries i j n)))
@@ -164,4 +167,5 @@ over_tidy i c awake rise t = (
   t.1,
   t.2,
   t.3,
+  entry_gone z c i t.4,
 )

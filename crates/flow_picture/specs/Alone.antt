@@ -75,3 +75,16 @@ abbrev pub RequestsOnce : Type 0
 RequestsOnce =
     (c : Core) (k : ℕ) → InNumbers c
     → (in_requests PromiseSide k c.requests < 2) × (c.made < k → in_requests PromiseSide k c.requests ≡ 0)
+
+-- A cell is made for one thing at most, and one that isn't made for nothing.
+abbrev pub FewAt : (made k n : ℕ) → Type 0
+FewAt made k n = (n < 2) × (made < k → n ≡ 0)
+
+abbrev pub OwnedOnce : Core → Type 0
+OwnedOnce c = (k : ℕ) → FewAt c.made k (owners_of k c)
+
+-- Then there is one promise reference, where nobody else refers.
+abbrev pub OneReference : Type 0
+OneReference =
+    (k : ℕ) (p : Proc Frame) → OwnedOnce p.core → Alone k p → 0 < owners_of k p.core
+    → references PromiseSide k p ≡ 1

@@ -1,5 +1,5 @@
 -- What the steps of a process and what is brought to it keep.
-use Rattle.std.specs.Prelude.{◌≡◌, ℕ, List}
+use Rattle.std.specs.Prelude.{◌≡◌, ℕ, suc, ◌<◌, ◌≤◌, List}
 use Rattle.std.specs.declared.option.Option.TheVariants.{Some}
 use Rattle.flow_value.specs.Values.{ValueTree, OutcomeTree}
 use Rattle.flow_class.specs.Classes.{RawTree}
@@ -8,15 +8,17 @@ use Rattle.flow_meaning.specs.Process.{Core, Proc}
 use Rattle.flow_meaning.specs.Orderly.{Orderly, UnlessStopped}
 use Rattle.flow_meaning.specs.Step.{Stepped, step}
 use Rattle.flow_meaning.specs.Class.{classes}
-use Rattle.flow_meaning.specs.Deliver.{boot_core, deliver, arrive, stop}
+use Rattle.flow_meaning.specs.Deliver.{idle_core, vanish, boot_core, deliver, arrive, stop}
 use Rattle.flow_meaning.specs.Frame.{Frame}
 use Rattle.flow_picture.specs.Counted.{Agree}
 use Rattle.flow_picture.specs.Rested.{InNumbers}
+use Rattle.flow_picture.specs.Alone.{owners_of, OwnedOnce}
 
--- waiters and operands agree, and numbers rise
+-- waiters and operands agree, numbers rise, and a cell is made for one thing at most
 pub record Tied (c : Core) : Type 0 where
   pub agree : Agree c
   pub numbers : InNumbers c
+  pub once : OwnedOnce c
 
 -- where the event isn't stopped
 abbrev pub TiedUnlessStopped : Core → Type 0
@@ -41,3 +43,18 @@ BootsTied =
 
 abbrev pub StopsTied : Type 0
 StopsTied = (c : Core) → Tied c → Tied (stop c)
+
+-- They hold of a process that never ran, and after a loss of power.
+abbrev pub IdleTied : Type 0
+IdleTied = Tied idle_core
+
+abbrev pub VanishedTied : Type 0
+VanishedTied = (p : Proc Frame) → Tied (vanish p).core
+
+-- A step makes a cell for something only where it makes the cell, and no cell is made a second time.
+abbrev pub OwnersStay : Type 0
+OwnersStay =
+    (r : RawTree) (s : Supply) (p : Proc Frame) (q : Stepped Frame) → Orderly p.core → Tied p.core
+    → step (classes r) s p ≡ Some q
+    → UnlessStopped q.0.core.halted
+    ((p.core.made ≤ q.0.core.made) × ((k : ℕ) → k < suc p.core.made → owners_of k q.0.core ≤ owners_of k p.core))

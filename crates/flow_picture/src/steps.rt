@@ -1,6 +1,6 @@
 // What the steps of a process keep.
 
-ghost use Rattle.flow_picture.specs.Keeps.{StepsTied, DeliveriesTied, ArrivalsTied, BootsTied, StopsTied};
+ghost use Rattle.flow_picture.specs.Keeps.{StepsTied, DeliveriesTied, ArrivalsTied, BootsTied, StopsTied, IdleTied, VanishedTied, OwnersStay};
 ghost use Rattle.std.specs.Prelude.{ℕ, List};
 ghost use Rattle.flow_class.specs.Classes.{RawTree};
 ghost use Rattle.flow_value.specs.declared.value.Value.{Value};
@@ -12,18 +12,22 @@ ghost use Rattle.flow_picture.specs.Holding as holding;
 ghost use Rattle.flow_picture.specs.Example.{WaitingRests};
 ghost use Rattle.flow_picture.specs.Starting.{IdleRests, VanishedRests};
 ghost use Rattle.flow_picture.specs.Standing as standing;
-ghost use Rattle.flow_picture.specs.Alone.{OwnersCounted, NobodyElse, NobodyYet, StaysAlone, BornAlone, PortsOnce, RequestsOnce};
+ghost use Rattle.flow_picture.specs.Alone.{OwnersCounted, NobodyElse, NobodyYet, StaysAlone, BornAlone, PortsOnce, RequestsOnce, OneReference};
 ghost use Rattle.flow_picture.specs.Naming.{StepsNamed, AnyMade, DeliveriesNamed, ArrivalsNamed, BootsNamed, StopsNamed};
 
 /// Each step of classes, and each thing that the world brings to a process, keeps that the branches of an actor that wait at
-/// a cell are those of its operands there, and that the numbers of cells, requests and ports' streams rise; unless it stops
-/// the event.
+/// a cell are those of its operands there, that the numbers of cells, requests and ports' streams rise, and that a cell is
+/// made for one thing at most: the result of an actor, the stream of a port, an open request; unless it stops the event. So
+/// it is of a process that never ran, and after a loss of power. A step makes a cell for something only where it makes it.
 pub fn waits_kept()
     ensures steps { StepsTied }
     ensures deliveries { DeliveriesTied }
     ensures arrivals { ArrivalsTied }
     ensures boots { BootsTied }
     ensures stops { StopsTied }
+    ensures idle { IdleTied }
+    ensures vanished { VanishedTied }
+    ensures owners { OwnersStay }
 {}
 
 /// What a frame in memory becomes is what the frame of the process becomes: a place is read or written; the actor goes on
@@ -67,8 +71,8 @@ pub fn references_come_from_somewhere()
 {}
 
 /// What a process made a cell for is alone in referring to its promise side: it is so of a cell that is made for an actor, a
-/// timer, a port or the disk, each step keeps it so, and then these alone are counted. A cell is the stream of one port at
-/// most, and of one open request.
+/// timer, a port or the disk, each step keeps it so, and then these alone are counted: once, where the cell is made for one
+/// thing at most. A cell is the stream of one port at most, and of one open request.
 pub fn owners_stay_alone()
     ensures counted { OwnersCounted }
     ensures nobody_else { NobodyElse }
@@ -77,4 +81,5 @@ pub fn owners_stay_alone()
     ensures stays { StaysAlone }
     ensures ports { PortsOnce }
     ensures requests { RequestsOnce }
+    ensures one { OneReference }
 {}

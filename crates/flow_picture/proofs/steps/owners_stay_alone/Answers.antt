@@ -1,6 +1,6 @@
 use Rattle.flow_picture.proofs.Alone.{owners_counted, stays_alone, born_alone}
 use Rattle.flow_picture.proofs.Nobody.{nobody_else, nobody_yet}
-use Rattle.flow_picture.proofs.Once.{ports_once, requests_once}
+use Rattle.flow_picture.proofs.Once.{ports_once, requests_once, one_reference}
 use Rattle.flow_picture.proofs.steps.owners_stay_alone.Goals as goal
 
 pub returns-clause-counted : goal.returns-clause-counted
@@ -23,3 +23,6 @@ returns-clause-ports c = ports_once
 
 pub returns-clause-requests : goal.returns-clause-requests
 returns-clause-requests c = requests_once
+
+pub returns-clause-one : goal.returns-clause-one
+returns-clause-one c = one_reference

@@ -1,4 +1,4 @@
-use Rattle.flow_picture.proofs.TidySteps.{steps_tied, deliveries_tied, arrivals_tied, boots_tied, stops_tied}
+use Rattle.flow_picture.proofs.TidySteps.{steps_tied, deliveries_tied, arrivals_tied, boots_tied, stops_tied, idle_tied, vanished_tied, owners_stay}
 use Rattle.flow_picture.proofs.steps.waits_kept.Goals as goal
 
 pub returns-clause-steps : goal.returns-clause-steps
@@ -15,3 +15,12 @@ returns-clause-boots c = boots_tied
 
 pub returns-clause-stops : goal.returns-clause-stops
 returns-clause-stops c = stops_tied
+
+pub returns-clause-idle : goal.returns-clause-idle
+returns-clause-idle c = idle_tied
+
+pub returns-clause-vanished : goal.returns-clause-vanished
+returns-clause-vanished c = vanished_tied
+
+pub returns-clause-owners : goal.returns-clause-owners
+returns-clause-owners c = owners_stay
