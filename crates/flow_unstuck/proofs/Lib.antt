@@ -46,3 +46,4 @@ pub mod Losses
 pub mod Fires
 pub mod Closes
 pub mod StepsKept
+pub mod Places
