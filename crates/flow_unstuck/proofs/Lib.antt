@@ -42,6 +42,7 @@ pub mod KeptClasses
 pub mod ActorsFit
 pub mod Unseen
 pub mod Removing
+pub mod Ones
 pub mod Losses
 pub mod Fires
 pub mod Closes
