@@ -21,7 +21,8 @@ use Rattle.flow_meaning.proofs.Shifts.{cell_waits}
 use Rattle.flow_unstuck.specs.Asking.{HaveSome, OutcomeFits}
 use Rattle.flow_unstuck.specs.Registering.{IsRegistered}
 use Rattle.flow_unstuck.specs.Fitting.{CellTypes, typed_by, AllWaitFor, WaitersAt, ActorAt, ProcessFits}
-use Rattle.flow_unstuck.specs.Alone.{frames_scan, ResultsAlone}
+use Rattle.flow_unstuck.specs.Alone.{frames_scan}
+use Rattle.flow_unstuck.proofs.Ones.{ResultsGone}
 use Rattle.flow_unstuck.specs.Keeping.{Fine}
 use Rattle.flow_unstuck.proofs.Retyped.{outcome_retyped}
 use Rattle.flow_unstuck.proofs.States.{fine_of, fine_turn, FitsBut, dropping_fits}
@@ -100,7 +101,7 @@ module _ (r : RawTree) (types : CellTypes) (k : ℕ) (o : OutcomeTree) (t : Type
   result_set zero b a x y = gone a b x y
   result_set (suc f) b a x y = fine_turn r (λ d. fill k o d) d ys (λ n. fill_fits r types k o (record d { left = n }) ys (FutureType t) t go has (inl refl) fits (lined n))
 
-module _ (r : RawTree) (types : CellTypes) (i : ℕ) (o : OutcomeTree) (ts : List Task) (c : Core) (xs : Numbered Frame) (order : Orderly c) (go : c.halted ≡ None) (top : c.tasks ≡ Close i o ∷ ts) (p : ProcessFits r types c xs) (alone : ResultsAlone c xs) where
+module _ (r : RawTree) (types : CellTypes) (i : ℕ) (o : OutcomeTree) (ts : List Task) (c : Core) (xs : Numbered Frame) (order : Orderly c) (go : c.halted ≡ None) (top : c.tasks ≡ Close i o ∷ ts) (p : ProcessFits r types c xs) (alone : ResultsGone c xs) where
   pub close_fits : (a : Actor r types i (Close i o) ts c xs) → Fine r (close (frames_scan (removed xs i)) i a.entry.result o (record c { tasks = ts })).halted (close (frames_scan (removed xs i)) i a.entry.result o (record c { tasks = ts })) (removed xs i)
   close_fits a =
       fine_turn r (λ d. give_result (frames_scan (removed xs i)) a.entry.result o (writes (end_line i o) d)) (record c { tasks = ts; entries = removed c.entries i }) (removed xs i) by_turns

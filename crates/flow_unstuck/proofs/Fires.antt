@@ -15,7 +15,8 @@ use Rattle.flow_meaning.specs.Orderly.{tasks_of, is_suspended, AllWait, Orderly}
 use Rattle.flow_meaning.specs.Frame.{Frame}
 use Rattle.flow_meaning.proofs.Shifts.{cell_waits}
 use Rattle.flow_unstuck.specs.Fitting.{CellTypes, WaitersAt, AllWaitFor, WaitsFor, ActorAt, PostureFits, TasksFit, ProcessFits}
-use Rattle.flow_unstuck.specs.Alone.{frames_scan, PortsAlone}
+use Rattle.flow_unstuck.specs.Alone.{frames_scan}
+use Rattle.flow_unstuck.proofs.Ones.{PortsGone}
 use Rattle.flow_unstuck.specs.Keeping.{Fine}
 use Rattle.flow_unstuck.proofs.States.{fine_turn, all_but, actor_of}
 use Rattle.flow_unstuck.proofs.CellStates.{cell_there}
@@ -25,7 +26,7 @@ use Rattle.flow_unstuck.proofs.Losses.{lose_fits}
 fewer_tasks : (q a b t d p e f : ℕ) → q + (a + b + (t + d) + p + e + f) ≡ 0 → q + (a + b + d + p + e + f) ≡ 0
 fewer_tasks q a b t d p e f h = omega (arith, h)
 
-popped_alone : (c : Core) (xs : Numbered Frame) (t : Task) (ts : List Task) (n : ℕ) → c.tasks ≡ t ∷ ts → PortsAlone c xs → PortsAlone (record c { tasks = ts; left = n }) xs
+popped_alone : (c : Core) (xs : Numbered Frame) (t : Task) (ts : List Task) (n : ℕ) → c.tasks ≡ t ∷ ts → PortsGone c xs → PortsGone (record c { tasks = ts; left = n }) xs
 popped_alone c xs t ts n top h = record {
   alone = λ port k q. let ps = removed c.ports port in
       fewer_tasks (frames_scan xs PromiseSide k) (in_cells PromiseSide k c.cells) (in_entries PromiseSide k c.entries) (in_task PromiseSide k t) (in_tasks PromiseSide k ts) (in_ports PromiseSide k ps) (in_requests PromiseSide k c.requests)
@@ -40,7 +41,7 @@ suspended_of (Some e) h = (e, refl, same e.suspended h)
     same : (b : Bool) → Some b ≡ Some true → b ≡ true
     same b h = cc
 
-module _ (r : RawTree) (types : CellTypes) (c : Core) (xs : Numbered Frame) (p : ProcessFits r types c xs) (o : Orderly c) (go : c.halted ≡ None) (alone : PortsAlone c xs) where
+module _ (r : RawTree) (types : CellTypes) (c : Core) (xs : Numbered Frame) (p : ProcessFits r types c xs) (o : Orderly c) (go : c.halted ≡ None) (alone : PortsGone c xs) where
   abbrev Ok : Core → Type 0
   Ok d = Fine r d.halted d xs
 

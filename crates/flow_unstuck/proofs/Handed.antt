@@ -4,7 +4,8 @@ use Rattle.std.specs.Prelude.{slice_get}
 use Rattle.std.specs.Option.{option_map}
 use Rattle.std.specs.declared.option.Option.{Option}
 use Rattle.std.specs.declared.option.Option.TheVariants.{None, Some}
-use Rattle.flow_tree.specs.Tree.{TypeTree, ErrorType}
+use Rattle.flow_tree.specs.declared.ty.Ident.{Ident}
+use Rattle.flow_tree.specs.Tree.{TypeTree, ErrorType, ExprTree}
 use Rattle.flow_tree.specs.Decls.{ParamTree, SlotTree, RoutineTree}
 use Rattle.flow_value.specs.Values.{ValueTree, ErrorValue, values_of_list}
 use Rattle.flow_eval.specs.Typed.{HasType, HaveTypes}
@@ -16,7 +17,7 @@ use Rattle.flow_class.specs.Code.{type_at, Fetched, Body, Last, Nothing, fetch, 
 use Rattle.flow_valid.specs.Named.{listed, base_place, expr_places}
 use Rattle.flow_valid.specs.Filling.{same_place, among, reads, dropped, is_error, is_parameter, Comes, begins}
 use Rattle.flow_meaning.specs.Variables.{flat}
-use Rattle.flow_meaning.specs.Frame.{Memory, Frame, read, write, held_in, emptied, blanks, go, lose, with_error}
+use Rattle.flow_meaning.specs.Frame.{assign, Memory, Frame, read, write, held_in, emptied, blanks, go, lose, with_error}
 use Rattle.flow_meaning.specs.Class.{stored, store_at, bound, onward, take_callback, take_at, begun, class_names}
 use Rattle.flow_unstuck.specs.Places.{Filled, HoldsTypes}
 use Rattle.flow_unstuck.specs.Standing.{Reached, FullAt, Stands, StandsWaiting}
@@ -41,6 +42,20 @@ module _ (r : RawTree) (actors : List RoutineTree) (vars : List ParamTree) (type
         first : (b : Bool) → b || false ≡ true → b ≡ true
         first true h = refl
         first false h = h
+
+    -- the result of an effect has a place
+    pub has_place : (u : ValueTree) (t : TypeTree) (path : List Ident) (e : ExprTree) → Stands r.records typed f → fetch f.code f.block f.instr ≡ Body (EffectInstr path e) → Stores r f.code vars (Body (EffectInstr path e)) t → HasType r.records typed u t
+        → assign r.records f.mem path u ≡ None → ⊥
+    has_place u t path e s here at k none =
+        let full = λ (q : Slotted) (h : among (base_place path) q ≡ true).
+        let h2 : among (reads f.code (fetch f.code f.block f.instr)) q ≡ true = subst (λ o. among (reads f.code o) q ≡ true) (sym here) (among_left (base_place path) (expr_places e) q h) in
+        let z = rules.known f.block f.instr q h2 in
+        read_filled f.code f.mem f.block f.instr rules.filled s.full q z.0 z.1 h2 in
+        let a = assigns r.records typed f.code vars rules.places f.mem s.holds path t u at k full in
+        differ none a.is
+      where
+        differ : {A : Type 0} {o : Option A} {x : A} → o ≡ None → o ≡ Some x → ⊥
+        differ a b = cc
 
     pub store_fits : (u : ValueTree) (t : TypeTree) (o : Fetched) → Stands r.records typed f → fetch f.code f.block f.instr ≡ o → Stores r f.code vars o t → HasType r.records typed u t → Onward f.code (store_at (class_names r) u f o)
     store_fits u t (Body (EffectInstr path e)) s here at k =

@@ -42,7 +42,9 @@ pub mod KeptClasses
 pub mod ActorsFit
 pub mod Unseen
 pub mod Removing
+pub mod Ones
 pub mod Losses
 pub mod Fires
 pub mod Closes
 pub mod StepsKept
+pub mod Places

@@ -19,7 +19,8 @@ use Rattle.flow_meaning.specs.Frame.{Frame}
 use Rattle.flow_meaning.proofs.Posture.{each_number, thing_removed_other}
 use Rattle.flow_meaning.proofs.Shifts.{owned}
 use Rattle.flow_unstuck.specs.Fitting.{CellTypes, Exists, CellFits, ProcessFits}
-use Rattle.flow_unstuck.specs.Alone.{frames_scan, PortsAlone}
+use Rattle.flow_unstuck.specs.Alone.{frames_scan}
+use Rattle.flow_unstuck.proofs.Ones.{PortsGone}
 use Rattle.flow_unstuck.specs.Keeping.{Fine}
 use Rattle.flow_unstuck.proofs.States.{fine_of, fine_turn}
 use Rattle.flow_unstuck.proofs.CellStates.{cell_there, IsOfType, fill_fits}
@@ -60,7 +61,7 @@ module _ (r : RawTree) (types : CellTypes) (xs : Numbered Frame) where
   cancel_goes true j x d go = go
   cancel_goes false j x d go = go
 
-  module _ (c : Core) (p : ProcessFits r types c xs) (go : c.halted ≡ None) (up : Rising 0 c.started c.entries) (alone : PortsAlone c xs) where
+  module _ (c : Core) (p : ProcessFits r types c xs) (go : c.halted ≡ None) (up : Rising 0 c.started c.entries) (alone : PortsGone c xs) where
     freed : (k : ℕ) (cell : Cell) (t : TypeTree) → thing c.cells k ≡ Some cell → CellFits r types cell t → Occ (frames_scan xs) PromiseSide k c ≡ 0 → Occ (frames_scan xs) FutureSide k c ≡ 0 → Fine r (free k c).halted (free k c) xs
     freed k cell t at h a b =
         subst (λ x. Fine r (free_cell k x c).halted (free_cell k x c) xs) (sym at) (freed_fits r types k c xs p (unseen k c xs p.registered a b) cell t go at h)

@@ -14,6 +14,7 @@ use Rattle.flow_meaning.proofs.Shifts.{close_of}
 use Rattle.flow_unstuck.specs.Rules.{ClassRules}
 use Rattle.flow_unstuck.specs.Keeping.{FitsSome, IsFine}
 use Rattle.flow_unstuck.specs.Alone.{PortsAlone, ResultsAlone, StepsKeepFitting}
+use Rattle.flow_unstuck.proofs.Ones.{ports_gone, results_gone}
 use Rattle.flow_unstuck.proofs.StepFits.{actor_here}
 use Rattle.flow_unstuck.proofs.ActorsFit.{by_tasks}
 use Rattle.flow_unstuck.proofs.Fires.{drop_fits, fire_fits}
@@ -30,9 +31,9 @@ module _ (r : RawTree) (actors : List RoutineTree) (rules : ClassRules r actors)
   all_tasks (Keep i spot q ∷ ts) e = by_tasks r actors rules s c xs o go p (Keep i spot q ∷ ts) e tt
   all_tasks (Close i v ∷ ts) e =
       let a = actor_here r p.0 i (Close i v) ts c xs o e (close_of i v) p.1 in
-      subst (λ x. IsFine r (Some (close_actor (classes r) i v x (proc (record c { tasks = ts }) xs)))) (sym a.at) (close_fits r p.0 i v ts c xs o go e p.1 results a)
-  all_tasks (Fire k ∷ ts) e = fire_fits r p.0 c xs p.1 o go ports k ts e
-  all_tasks (Drop kind k ∷ ts) e = drop_fits r p.0 c xs p.1 o go ports kind k ts e
+      subst (λ x. IsFine r (Some (close_actor (classes r) i v x (proc (record c { tasks = ts }) xs)))) (sym a.at) (close_fits r p.0 i v ts c xs o go e p.1 (results_gone c xs results) a)
+  all_tasks (Fire k ∷ ts) e = fire_fits r p.0 c xs p.1 o go (ports_gone c xs ports) k ts e
+  all_tasks (Drop kind k ∷ ts) e = drop_fits r p.0 c xs p.1 o go (ports_gone c xs ports) kind k ts e
 
 pub steps_keep : (r : RawTree) (actors : List RoutineTree) → ClassRules r actors → StepsKeepFitting r
 steps_keep r actors rules s p o go f ports results =

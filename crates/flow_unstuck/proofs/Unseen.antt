@@ -25,7 +25,7 @@ zero_first a b e = omega (arith, e)
 pub zero_second : (a b : ℕ) → a + b ≡ 0 → b ≡ 0
 zero_second a b e = omega (arith, e)
 
-abbrev mark : Bool → ℕ
+abbrev pub mark : Bool → ℕ
 mark b = if b then 1 else 0
 
 side_off : (k n : ℕ) → mark (nat_eq k n) ≡ 0 → Off k n

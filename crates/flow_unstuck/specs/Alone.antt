@@ -19,15 +19,15 @@ use Rattle.flow_unstuck.specs.Keeping.{FitsSome, IsFine}
 abbrev pub frames_scan : Numbered Frame → Side → ℕ → ℕ
 frames_scan xs = scan_of (λ s k (f : Frame). occ_memory s k f.mem) xs
 
--- Without a port nothing refers to the promise side of its stream; and a port is there once.
+-- The promise side of a port's stream is referred to once: by the port, which is there once.
 pub record PortsAlone (c : Core) (xs : Numbered Frame) : Type 0 where
-  pub alone : (port k : ℕ) → port_of k c.ports ≡ Some port → Occ (frames_scan xs) PromiseSide k (record c { ports = removed c.ports port }) ≡ 0
+  pub alone : (port k : ℕ) → port_of k c.ports ≡ Some port → Occ (frames_scan xs) PromiseSide k c ≡ 1
   pub once : (port : ℕ) → thing (removed c.ports port) port ≡ None
 
--- Without an actor nothing refers to the promise side of its result; and the value that it ends with doesn't refer to that
--- result, which no value of its type can.
+-- The promise side of the result of an unfinished actor is referred to once: by the actor. And the value that it ends with
+-- doesn't refer to that result, which no value of its type can.
 pub record ResultsAlone (c : Core) (xs : Numbered Frame) : Type 0 where
-  pub alone : (i k : ℕ) (e : Entry) → thing c.entries i ≡ Some e → e.result ≡ Some k → Occ (frames_scan (removed xs i)) PromiseSide k (record c { entries = removed c.entries i }) ≡ 0
+  pub alone : (i k : ℕ) (e : Entry) → thing c.entries i ≡ Some e → e.result ≡ Some k → Occ (frames_scan xs) PromiseSide k c ≡ 1
   pub apart : (i k : ℕ) (e : Entry) (o : OutcomeTree) (ts : List Task) → c.tasks ≡ Close i o ∷ ts → thing c.entries i ≡ Some e → e.result ≡ Some k → count FutureSide k (refs_in (value_in o)) ≡ 0
 
 -- Where what is owned is owned alone, a step keeps a process fitting, and has a meaning.

@@ -10,6 +10,7 @@ use Rattle.flow_meaning.specs.Orderly.{Orderly}
 use Rattle.flow_meaning.specs.Step.{Stepped, step}
 use Rattle.flow_meaning.specs.Frame.{Frame}
 use Rattle.flow_meaning.specs.Class.{classes}
+use Rattle.flow_unstuck.specs.Ending.{NoPlace}
 use Rattle.flow_unstuck.specs.Fitting.{CellTypes, ProcessFits}
 
 -- a process fits for some types of its cells
@@ -40,3 +41,7 @@ abbrev pub ActorsKeepFitting : RawTree → Type 0
 ActorsKeepFitting r =
     (s : Supply) (p : Proc Frame) → Orderly p.core → p.core.halted ≡ None → FitsSome r p.core p.actors → IsOfActor p.core.tasks
     → IsFine r (step (classes r) s p)
+
+-- the result of an effect has a place
+abbrev pub ResultsPlaced : RawTree → Type 0
+ResultsPlaced r = (c : Core) (xs : Numbered Frame) → Orderly c → FitsSome r c xs → NoPlace r c xs → ⊥

@@ -8,7 +8,7 @@ ghost use Rattle.flow_unstuck.specs.Rules.{ClassRules};
 ghost use Rattle.flow_unstuck.specs.Written.{AreWritten, heads, FunctionsKept};
 ghost use Rattle.flow_unstuck.specs.Frames.{FramesAskWhatFits};
 ghost use Rattle.flow_unstuck.specs.Ending.{BurstsEnd};
-ghost use Rattle.flow_unstuck.specs.Keeping.{ActorsKeepFitting};
+ghost use Rattle.flow_unstuck.specs.Keeping.{ActorsKeepFitting, ResultsPlaced};
 ghost use Rattle.flow_unstuck.specs.Alone.{StepsKeepFitting};
 ghost use Rattle.flow_unstuck.specs.Existing.{RunsOrStrays, OneTrace};
 
@@ -49,8 +49,10 @@ pub fn frames_ask_what_fits()
 /// What an actor of valid classes does keeps a process fitting, for some types of its cells, and has a meaning: its next step,
 /// the result of an effect that it stores, an operand that it keeps, a branch that it takes, an error that is thrown where it
 /// stands, and its handler. And each step does, also the end of an actor, a fire and a drop, where what is owned is owned
-/// alone: the promise sides of the streams of ports and of the results of actors.
+/// alone: the promise sides of the streams of ports and of the results of actors. In a process that fits the result of an
+/// effect has a place.
 pub fn steps_keep_fitting()
     ensures actors { (r : RawTree) → IsValid r → AreWritten r → FunctionsKept r → ActorsKeepFitting r }
+    ensures placed { (r : RawTree) → IsValid r → AreWritten r → FunctionsKept r → ResultsPlaced r }
     ensures steps { (r : RawTree) → IsValid r → AreWritten r → FunctionsKept r → StepsKeepFitting r }
 {}
