@@ -36,3 +36,4 @@ pub mod Alone
 pub mod Nobody
 pub mod Once
 pub mod OwnersOnce
+pub mod Lonely
