@@ -37,3 +37,4 @@ pub mod Nobody
 pub mod Once
 pub mod OwnersOnce
 pub mod Lonely
+pub mod LonelyBrought

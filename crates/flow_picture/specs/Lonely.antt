@@ -1,15 +1,19 @@
 -- Nobody else refers to the promise side of what a process made a cell for.
-use Rattle.std.specs.Prelude.{◌≡◌, ◌⊎◌, ℕ, ◌<◌}
+use Rattle.std.specs.Prelude.{◌≡◌, ◌⊎◌, ℕ, ◌<◌, true}
 use Rattle.std.specs.declared.option.Option.TheVariants.{Some}
+use Rattle.flow_value.specs.Values.{ValueTree, OutcomeTree}
 use Rattle.flow_class.specs.Classes.{RawTree}
+use Rattle.flow_references.specs.Named.{Named}
 use Rattle.flow_meaning.specs.Asks.{Supply}
 use Rattle.flow_meaning.specs.Process.{Proc}
 use Rattle.flow_meaning.specs.Orderly.{Orderly, UnlessStopped}
-use Rattle.flow_meaning.specs.Step.{Stepped, step}
+use Rattle.flow_meaning.specs.Step.{Stepped, proc, step}
 use Rattle.flow_meaning.specs.Class.{classes}
-use Rattle.flow_meaning.specs.Deliver.{idle, vanish}
+use Rattle.flow_meaning.specs.Deliver.{idle, vanish, deliver, arrive, boot, stop}
 use Rattle.flow_meaning.specs.Frame.{Frame}
-use Rattle.flow_picture.specs.Alone.{owners_of, Alone}
+use Rattle.flow_picture.specs.Naming.{OutcomeNamed}
+use Rattle.flow_picture.specs.Rested.{has}
+use Rattle.flow_picture.specs.Alone.{spares, owners_of, Alone}
 use Rattle.flow_picture.specs.Keeps.{Tied}
 
 -- Nobody else refers to the promise side of a cell that a process made for something, and nobody to that of a cell that isn't
@@ -30,3 +34,23 @@ IdleLonely = OwnedAlone idle
 
 abbrev pub VanishedLonely : Type 0
 VanishedLonely = (p : Proc Frame) → OwnedAlone (vanish p)
+
+-- What is brought to a process keeps it, where it refers to nothing in the process, and an answer is one to an open request.
+abbrev pub DeliveriesLonely : Type 0
+DeliveriesLonely =
+    (k : ℕ) (o : OutcomeTree) (p : Proc Frame) → Tied p.core → has k p.core.requests ≡ true
+    → ((j : ℕ) → OutcomeNamed (spares j) o) → OwnedAlone p
+    → UnlessStopped (deliver k o p.core).halted (OwnedAlone (proc (deliver k o p.core) p.actors))
+
+abbrev pub ArrivalsLonely : Type 0
+ArrivalsLonely =
+    (k : ℕ) (v : ValueTree) (p : Proc Frame) → Tied p.core → ((j : ℕ) → Named (spares j) v) → OwnedAlone p
+    → UnlessStopped (arrive k v p.core).halted (OwnedAlone (proc (arrive k v p.core) p.actors))
+
+abbrev pub BootsLonely : Type 0
+BootsLonely =
+    (r : RawTree) (me : ℕ) (p : Proc Frame) → Orderly p.core → Tied p.core → OwnedAlone p
+    → UnlessStopped (boot (classes r) me p).core.halted (OwnedAlone (boot (classes r) me p))
+
+abbrev pub StopsLonely : Type 0
+StopsLonely = (p : Proc Frame) → OwnedAlone p → OwnedAlone (proc (stop p.core) p.actors)

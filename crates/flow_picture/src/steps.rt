@@ -12,7 +12,7 @@ ghost use Rattle.flow_picture.specs.Holding as holding;
 ghost use Rattle.flow_picture.specs.Example.{WaitingRests};
 ghost use Rattle.flow_picture.specs.Starting.{IdleRests, VanishedRests};
 ghost use Rattle.flow_picture.specs.Standing as standing;
-ghost use Rattle.flow_picture.specs.Lonely.{StepsLonely, IdleLonely, VanishedLonely};
+ghost use Rattle.flow_picture.specs.Lonely.{StepsLonely, IdleLonely, VanishedLonely, DeliveriesLonely, ArrivalsLonely, BootsLonely, StopsLonely};
 ghost use Rattle.flow_picture.specs.Alone.{OwnersCounted, NobodyElse, NobodyYet, StaysAlone, BornAlone, PortsOnce, RequestsOnce, OneReference};
 ghost use Rattle.flow_picture.specs.Naming.{StepsNamed, AnyMade, DeliveriesNamed, ArrivalsNamed, BootsNamed, StopsNamed};
 
@@ -84,6 +84,10 @@ pub fn owners_stay_alone()
     ensures requests { RequestsOnce }
     ensures one { OneReference }
     ensures steps { StepsLonely }
+    ensures deliveries { DeliveriesLonely }
+    ensures arrivals { ArrivalsLonely }
+    ensures boots { BootsLonely }
+    ensures stops { StopsLonely }
     ensures idle { IdleLonely }
     ensures vanished { VanishedLonely }
 {}
