@@ -83,7 +83,7 @@ module _ (k : ℕ) where
   main_spared None = refl
   main_spared (Some c) = refl
 
-  futures_spared : GivesFutures (spares k)
+  pub futures_spared : GivesFutures (spares k)
   futures_spared = record { single = λ j h. refl; stream = λ j h. refl }
 
 pub owners_counted : law.OwnersCounted

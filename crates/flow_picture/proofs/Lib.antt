@@ -36,3 +36,5 @@ pub mod Alone
 pub mod Nobody
 pub mod Once
 pub mod OwnersOnce
+pub mod Lonely
+pub mod LonelyBrought

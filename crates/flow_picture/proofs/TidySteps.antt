@@ -316,22 +316,29 @@ closed_rise k above n (x ∷ xs) h = by_test (nat_eq k x) (closed_rise k x n xs 
     by_test true g = from above x xs (omega (arith, h.0)) h.2
     by_test false g = (h.0, h.1, g)
 
-pub deliveries_tied : law.DeliveriesTied
-deliveries_tied k o c t =
+pub deliveries_since : (k : ℕ) (o : OutcomeTree) (c : Core) → Tied c → Unless (Tidy (since c)) (deliver k o c)
+deliveries_since k o c t =
     let u = to_tidy c t in
     let d = pushed (Drop kind.Promise k) (record c { requests = closed_request k c.requests }) in
-    unless_map (deliver k o c).halted (to_tied (since c) (deliver k o c) (few_then c t))
-    (after_turn (Tidy (since c)) (fill k o) d c.left (λ n. fill_tidy (since c) k o (record d { left = n }) (u.0, u.1, closed_rise k 0 c.made c.requests u.2, u.3, request_gone (since c) c k u.4)))
+    after_turn (Tidy (since c)) (fill k o) d c.left
+    (λ n. fill_tidy (since c) k o (record d { left = n }) (u.0, u.1, closed_rise k 0 c.made c.requests u.2, u.3, request_gone (since c) c k u.4))
+
+pub deliveries_tied : law.DeliveriesTied
+deliveries_tied k o c t = unless_map (deliver k o c).halted (to_tied (since c) (deliver k o c) (few_then c t)) (deliveries_since k o c t)
+
+pub arrivals_since : (k : ℕ) (v : ValueTree) (c : Core) → Tied c → Unless (Tidy (since c)) (arrive k v c)
+arrivals_since k v c t = after_turn (Tidy (since c)) (fill k (GoodOutcome v)) c c.left (λ n. fill_tidy (since c) k (GoodOutcome v) (record c { left = n }) (to_tidy c t))
 
 pub arrivals_tied : law.ArrivalsTied
-arrivals_tied k v c t =
-    unless_map (arrive k v c).halted (to_tied (since c) (arrive k v c) (few_then c t))
-    (after_turn (Tidy (since c)) (fill k (GoodOutcome v)) c c.left (λ n. fill_tidy (since c) k (GoodOutcome v) (record c { left = n }) (to_tidy c t)))
+arrivals_tied k v c t = unless_map (arrive k v c).halted (to_tied (since c) (arrive k v c) (few_then c t)) (arrivals_since k v c t)
+
+pub boots_since : (class : ℕ) (name : List ℕ) (c : Core) → Orderly c → Tied c → Unless (Tidy (since c)) (boot_core class name c)
+boots_since class name c o t =
+    after_turn (Tidy (since c)) (λ d. record (enrol class name d) { main = Some (suc d.made) }) c c.left
+    (λ n. unless c.halted (enrol_tidy (since c) class name (record c { left = n }) o.numbered (to_tidy c t)))
 
 pub boots_tied : law.BootsTied
-boots_tied class name c o t =
-    unless_map (boot_core class name c).halted (to_tied (since c) (boot_core class name c) (few_then c t))
-    (after_turn (Tidy (since c)) (λ d. record (enrol class name d) { main = Some (suc d.made) }) c c.left (λ n. unless c.halted (enrol_tidy (since c) class name (record c { left = n }) o.numbered (to_tidy c t))))
+boots_tied class name c o t = unless_map (boot_core class name c).halted (to_tied (since c) (boot_core class name c) (few_then c t)) (boots_since class name c o t)
 
 stopped_tied : (m : Option ℕ) (c : Core) → Tied c → Tied (stop_main m c)
 stopped_tied None c t = t

@@ -17,3 +17,4 @@ pub mod Example
 pub mod Holds
 pub mod Naming
 pub mod Alone
+pub mod Lonely

@@ -12,6 +12,7 @@ ghost use Rattle.flow_picture.specs.Holding as holding;
 ghost use Rattle.flow_picture.specs.Example.{WaitingRests};
 ghost use Rattle.flow_picture.specs.Starting.{IdleRests, VanishedRests};
 ghost use Rattle.flow_picture.specs.Standing as standing;
+ghost use Rattle.flow_picture.specs.Lonely.{StepsLonely, IdleLonely, VanishedLonely, DeliveriesLonely, ArrivalsLonely, BootsLonely, StopsLonely};
 ghost use Rattle.flow_picture.specs.Alone.{OwnersCounted, NobodyElse, NobodyYet, StaysAlone, BornAlone, PortsOnce, RequestsOnce, OneReference};
 ghost use Rattle.flow_picture.specs.Naming.{StepsNamed, AnyMade, DeliveriesNamed, ArrivalsNamed, BootsNamed, StopsNamed};
 
@@ -70,9 +71,9 @@ pub fn references_come_from_somewhere()
     ensures stops { StopsNamed }
 {}
 
-/// What a process made a cell for is alone in referring to its promise side: it is so of a cell that is made for an actor, a
-/// timer, a port or the disk, each step keeps it so, and then these alone are counted: once, where the cell is made for one
-/// thing at most. A cell is the stream of one port at most, and of one open request.
+/// What a process made a cell for (the result of an actor, the stream of a port, an open request) is alone in referring to its
+/// promise side: it is so of a new cell, each step keeps it, and then there is one promise reference. A cell is the stream of
+/// one port at most, and of one open request.
 pub fn owners_stay_alone()
     ensures counted { OwnersCounted }
     ensures nobody_else { NobodyElse }
@@ -82,4 +83,11 @@ pub fn owners_stay_alone()
     ensures ports { PortsOnce }
     ensures requests { RequestsOnce }
     ensures one { OneReference }
+    ensures steps { StepsLonely }
+    ensures deliveries { DeliveriesLonely }
+    ensures arrivals { ArrivalsLonely }
+    ensures boots { BootsLonely }
+    ensures stops { StopsLonely }
+    ensures idle { IdleLonely }
+    ensures vanished { VanishedLonely }
 {}

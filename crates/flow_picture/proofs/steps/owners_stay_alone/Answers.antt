@@ -1,6 +1,8 @@
 use Rattle.flow_picture.proofs.Alone.{owners_counted, stays_alone, born_alone}
 use Rattle.flow_picture.proofs.Nobody.{nobody_else, nobody_yet}
 use Rattle.flow_picture.proofs.Once.{ports_once, requests_once, one_reference}
+use Rattle.flow_picture.proofs.Lonely.{steps_lonely, idle_lonely, vanished_lonely}
+use Rattle.flow_picture.proofs.LonelyBrought.{deliveries_lonely, arrivals_lonely, boots_lonely, stops_lonely}
 use Rattle.flow_picture.proofs.steps.owners_stay_alone.Goals as goal
 
 pub returns-clause-counted : goal.returns-clause-counted
@@ -26,3 +28,24 @@ returns-clause-requests c = requests_once
 
 pub returns-clause-one : goal.returns-clause-one
 returns-clause-one c = one_reference
+
+pub returns-clause-steps : goal.returns-clause-steps
+returns-clause-steps c = steps_lonely
+
+pub returns-clause-idle : goal.returns-clause-idle
+returns-clause-idle c = idle_lonely
+
+pub returns-clause-vanished : goal.returns-clause-vanished
+returns-clause-vanished c = vanished_lonely
+
+pub returns-clause-deliveries : goal.returns-clause-deliveries
+returns-clause-deliveries c = deliveries_lonely
+
+pub returns-clause-arrivals : goal.returns-clause-arrivals
+returns-clause-arrivals c = arrivals_lonely
+
+pub returns-clause-boots : goal.returns-clause-boots
+returns-clause-boots c = boots_lonely
+
+pub returns-clause-stops : goal.returns-clause-stops
+returns-clause-stops c = stops_lonely
