@@ -50,3 +50,4 @@ pub mod Closes
 pub mod StepsKept
 pub mod Places
 pub mod Depths
+pub mod Begun
