@@ -51,3 +51,4 @@ pub mod StepsKept
 pub mod Places
 pub mod Depths
 pub mod Begun
+pub mod Brought
