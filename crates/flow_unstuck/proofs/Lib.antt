@@ -42,9 +42,13 @@ pub mod KeptClasses
 pub mod ActorsFit
 pub mod Unseen
 pub mod Removing
+pub mod Aparts
 pub mod Ones
 pub mod Losses
 pub mod Fires
 pub mod Closes
 pub mod StepsKept
 pub mod Places
+pub mod Depths
+pub mod Begun
+pub mod Brought

@@ -96,10 +96,11 @@ ports_gone c xs h = record {
   once = h.once;
 }
 
-pub results_gone : (c : Core) (xs : Numbered Frame) → ResultsAlone c xs → ResultsGone c xs
-results_gone c xs h = record {
+pub results_gone : (c : Core) (xs : Numbered Frame) → ResultsAlone c xs
+    → ((i k : ℕ) (e : Entry) (o : OutcomeTree) (ts : List Task) → c.tasks ≡ Close i o ∷ ts → thing c.entries i ≡ Some e → e.result ≡ Some k → count FutureSide k (refs_in (value_in o)) ≡ 0) → ResultsGone c xs
+results_gone c xs h apart = record {
   alone = λ i k e at own. let s = scan_removed PromiseSide k xs i in let d = entry_removed k c.entries i e at own in
       less_entry (frames_scan xs PromiseSide k) (frames_scan (removed xs i) PromiseSide k) s.0 d.0 (in_cells PromiseSide k c.cells) (in_entries PromiseSide k c.entries) (in_entries PromiseSide k (removed c.entries i)) (in_tasks PromiseSide k c.tasks)
-      (in_ports PromiseSide k c.ports) (in_requests PromiseSide k c.requests) (count_maybe PromiseSide k FutureSide c.main) (h.alone i k e at own) s.1 d.1;
-  apart = h.apart;
+      (in_ports PromiseSide k c.ports) (in_requests PromiseSide k c.requests) (count_maybe PromiseSide k FutureSide c.main) (h i k e at own) s.1 d.1;
+  apart = apart;
 }

@@ -48,7 +48,7 @@ filled_append [] ys = refl
 filled_append (None ∷ xs) ys = filled_append xs ys
 filled_append (Some v ∷ xs) ys = ap (λ l. v ∷ l) (filled_append xs ys)
 
-count_append : (s : Side) (k : ℕ) (xs ys : List Ref) → count s k (xs ++ ys) ≡ count s k xs + count s k ys
+pub count_append : (s : Side) (k : ℕ) (xs ys : List Ref) → count s k (xs ++ ys) ≡ count s k xs + count s k ys
 count_append s k [] ys = omega arith
 count_append s k (x ∷ xs) ys = let h = count_append s k xs ys in omega (arith, h)
 

@@ -1,13 +1,12 @@
 -- What is owned alone: promise sides that nothing but their owner refers to.
-use Rattle.std.specs.Prelude.{◌≡◌, ℕ, List, ◌∷◌}
+use Rattle.std.specs.Prelude.{◌≡◌, ℕ}
 use Rattle.std.specs.declared.option.Option.TheVariants.{None, Some}
-use Rattle.flow_value.specs.Values.{OutcomeTree}
 use Rattle.flow_class.specs.Classes.{RawTree}
 use Rattle.flow_meaning.specs.Numbered.{Numbered, thing, removed}
-use Rattle.flow_meaning.specs.Cells.{Side, PromiseSide, FutureSide}
+use Rattle.flow_meaning.specs.Cells.{Side, PromiseSide}
 use Rattle.flow_meaning.specs.Asks.{Supply}
-use Rattle.flow_meaning.specs.Process.{Task, Close, Entry, Core, Proc}
-use Rattle.flow_meaning.specs.Occ.{refs_in, value_in, count, Occ, scan_of}
+use Rattle.flow_meaning.specs.Process.{Entry, Core, Proc}
+use Rattle.flow_meaning.specs.Occ.{Occ, scan_of}
 use Rattle.flow_meaning.specs.Dropping.{port_of}
 use Rattle.flow_meaning.specs.Orderly.{Orderly}
 use Rattle.flow_meaning.specs.Step.{step}
@@ -24,11 +23,9 @@ pub record PortsAlone (c : Core) (xs : Numbered Frame) : Type 0 where
   pub alone : (port k : ℕ) → port_of k c.ports ≡ Some port → Occ (frames_scan xs) PromiseSide k c ≡ 1
   pub once : (port : ℕ) → thing (removed c.ports port) port ≡ None
 
--- The promise side of the result of an unfinished actor is referred to once: by the actor. And the value that it ends with
--- doesn't refer to that result, which no value of its type can.
-pub record ResultsAlone (c : Core) (xs : Numbered Frame) : Type 0 where
-  pub alone : (i k : ℕ) (e : Entry) → thing c.entries i ≡ Some e → e.result ≡ Some k → Occ (frames_scan xs) PromiseSide k c ≡ 1
-  pub apart : (i k : ℕ) (e : Entry) (o : OutcomeTree) (ts : List Task) → c.tasks ≡ Close i o ∷ ts → thing c.entries i ≡ Some e → e.result ≡ Some k → count FutureSide k (refs_in (value_in o)) ≡ 0
+-- The promise side of the result of an unfinished actor is referred to once: by the actor.
+abbrev pub ResultsAlone : Core → Numbered Frame → Type 0
+ResultsAlone c xs = (i k : ℕ) (e : Entry) → thing c.entries i ≡ Some e → e.result ≡ Some k → Occ (frames_scan xs) PromiseSide k c ≡ 1
 
 -- Where what is owned is owned alone, a step keeps a process fitting, and has a meaning.
 abbrev pub StepsKeepFitting : RawTree → Type 0

@@ -10,5 +10,6 @@ pub mod Registering
 pub mod Fitting
 pub mod Keeping
 pub mod Alone
+pub mod Beginning
 pub mod Frames
 pub mod Written

@@ -10,6 +10,7 @@ ghost use Rattle.flow_unstuck.specs.Frames.{FramesAskWhatFits};
 ghost use Rattle.flow_unstuck.specs.Ending.{BurstsEnd};
 ghost use Rattle.flow_unstuck.specs.Keeping.{ActorsKeepFitting, ResultsPlaced};
 ghost use Rattle.flow_unstuck.specs.Alone.{StepsKeepFitting};
+ghost use Rattle.flow_unstuck.specs.Beginning.{IdleFits, VanishedFits, StoppedFits, ArrivalsFit, DeliveriesFit};
 ghost use Rattle.flow_unstuck.specs.Existing.{RunsOrStrays, OneTrace};
 
 /// The world around a process.
@@ -55,4 +56,14 @@ pub fn steps_keep_fitting()
     ensures actors { (r : RawTree) → IsValid r → AreWritten r → FunctionsKept r → ActorsKeepFitting r }
     ensures placed { (r : RawTree) → IsValid r → AreWritten r → FunctionsKept r → ResultsPlaced r }
     ensures steps { (r : RawTree) → IsValid r → AreWritten r → FunctionsKept r → StepsKeepFitting r }
+{}
+
+/// A process in which nothing is fits, and one that was killed; and one that is stopped, to which a packet comes, or to whose
+/// timer or disk request an answer comes that has the type of what its cell holds, where it did before.
+pub fn beginnings_fit()
+    ensures idle { (r : RawTree) → IdleFits r }
+    ensures vanished { (r : RawTree) → VanishedFits r }
+    ensures stopped { (r : RawTree) → StoppedFits r }
+    ensures arrivals { (r : RawTree) → ArrivalsFit r }
+    ensures deliveries { (r : RawTree) → DeliveriesFit r }
 {}

@@ -12,4 +12,4 @@ pub returns-clause-placed : goal.returns-clause-placed
 returns-clause-placed c = λ r valid written functions. placed r (heads r) (class_rules r valid written functions)
 
 pub returns-clause-steps : goal.returns-clause-steps
-returns-clause-steps c = λ r valid written functions. steps_keep r (heads r) (class_rules r valid written functions)
+returns-clause-steps c = λ r valid written functions. steps_keep r valid (heads r) (class_rules r valid written functions)
