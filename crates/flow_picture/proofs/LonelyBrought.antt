@@ -27,7 +27,7 @@ use Rattle.flow_picture.proofs.OwnersOnce.{OnceSince, since}
 use Rattle.flow_picture.proofs.Tidy.{Tidy}
 use Rattle.flow_picture.proofs.TidySteps.{deliveries_since, arrivals_since, boots_since}
 
--- what a cell is made for now it was made for before, or it wasn't made
+-- an owner of a cell at the end owned it at the begin, or the cell is younger
 older : (c d : Core) → OnceSince (since c) d → (k : ℕ) → (0 < owners_of k d) ⊎ (d.made < k) → (0 < owners_of k c) ⊎ (c.made < k)
 older c d h k asked = by_age (nat_lt c.made k) refl asked
   where

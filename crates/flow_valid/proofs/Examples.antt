@@ -478,7 +478,7 @@ unfolding digits
 case_86 = refl
 
 -- Some (1, None): L8
-case_87 : tested (record { records = ((record { at = first_place; name = (ident (codes "R1")); fields = ((record { ty = IntType; name = (ident (codes "a")) }) ∷ []) }) ∷ (record { at = first_place; name = (ident (codes "R2")); fields = ((record { ty = (NamedType (codes "R1")); name = (ident (codes "a")) }) ∷ []) }) ∷ (record { at = first_place; name = (ident (codes "R3")); fields = ((record { ty = (NamedType (codes "R2")); name = (ident (codes "a")) }) ∷ []) }) ∷ (record { at = first_place; name = (ident (codes "R4")); fields = ((record { ty = (NamedType (codes "R3")); name = (ident (codes "a")) }) ∷ []) }) ∷ (record { at = first_place; name = (ident (codes "R5")); fields = ((record { ty = (NamedType (codes "R4")); name = (ident (codes "a")) }) ∷ []) }) ∷ (record { at = first_place; name = (ident (codes "R6")); fields = ((record { ty = (NamedType (codes "R5")); name = (ident (codes "a")) }) ∷ []) }) ∷ (record { at = first_place; name = (ident (codes "R7")); fields = ((record { ty = (NamedType (codes "R6")); name = (ident (codes "a")) }) ∷ []) }) ∷ (record { at = first_place; name = (ident (codes "R8")); fields = ((record { ty = (NamedType (codes "R7")); name = (ident (codes "a")) }) ∷ []) }) ∷ (record { at = first_place; name = (ident (codes "R9")); fields = ((record { ty = (NamedType (codes "R8")); name = (ident (codes "a")) }) ∷ []) }) ∷ (record { at = first_place; name = (ident (codes "R10")); fields = ((record { ty = (NamedType (codes "R9")); name = (ident (codes "a")) }) ∷ []) }) ∷ (record { at = first_place; name = (ident (codes "R11")); fields = ((record { ty = (NamedType (codes "R10")); name = (ident (codes "a")) }) ∷ []) }) ∷ (record { at = first_place; name = (ident (codes "R12")); fields = ((record { ty = (NamedType (codes "R11")); name = (ident (codes "a")) }) ∷ []) }) ∷ (record { at = first_place; name = (ident (codes "R13")); fields = ((record { ty = (NamedType (codes "R12")); name = (ident (codes "a")) }) ∷ []) }) ∷ (record { at = first_place; name = (ident (codes "R14")); fields = ((record { ty = (NamedType (codes "R13")); name = (ident (codes "a")) }) ∷ []) }) ∷ (record { at = first_place; name = (ident (codes "R15")); fields = ((record { ty = (NamedType (codes "R14")); name = (ident (codes "a")) }) ∷ []) }) ∷ (record { at = first_place; name = (ident (codes "R16")); fields = ((record { ty = (NamedType (codes "R15")); name = (ident (codes "a")) }) ∷ []) }) ∷ (record { at = first_place; name = (ident (codes "R17")); fields = ((record { ty = (NamedType (codes "R16")); name = (ident (codes "a")) }) ∷ []) }) ∷ []); functions = ([]); classes = ((record { name = (codes "main"); returns = VoidType; params = 1; slots = ((record { ty = IntType; name = (codes "p") }) ∷ []); locals = ([]); blocks = ((plain ([]) (ReturnLast VoidExpr)) ∷ []); groups = ([]) }) ∷ []) }) ≡ Some (1, None)
+case_87 : tested (record { records = ((record { at = first_place; name = (ident (codes "Level1")); fields = ((record { ty = IntType; name = (ident (codes "a")) }) ∷ []) }) ∷ (record { at = first_place; name = (ident (codes "Level2")); fields = ((record { ty = (NamedType (codes "Level1")); name = (ident (codes "a")) }) ∷ []) }) ∷ (record { at = first_place; name = (ident (codes "Level3")); fields = ((record { ty = (NamedType (codes "Level2")); name = (ident (codes "a")) }) ∷ []) }) ∷ (record { at = first_place; name = (ident (codes "Level4")); fields = ((record { ty = (NamedType (codes "Level3")); name = (ident (codes "a")) }) ∷ []) }) ∷ (record { at = first_place; name = (ident (codes "Level5")); fields = ((record { ty = (NamedType (codes "Level4")); name = (ident (codes "a")) }) ∷ []) }) ∷ (record { at = first_place; name = (ident (codes "Level6")); fields = ((record { ty = (NamedType (codes "Level5")); name = (ident (codes "a")) }) ∷ []) }) ∷ (record { at = first_place; name = (ident (codes "Level7")); fields = ((record { ty = (NamedType (codes "Level6")); name = (ident (codes "a")) }) ∷ []) }) ∷ (record { at = first_place; name = (ident (codes "Level8")); fields = ((record { ty = (NamedType (codes "Level7")); name = (ident (codes "a")) }) ∷ []) }) ∷ (record { at = first_place; name = (ident (codes "Level9")); fields = ((record { ty = (NamedType (codes "Level8")); name = (ident (codes "a")) }) ∷ []) }) ∷ (record { at = first_place; name = (ident (codes "Level10")); fields = ((record { ty = (NamedType (codes "Level9")); name = (ident (codes "a")) }) ∷ []) }) ∷ (record { at = first_place; name = (ident (codes "Level11")); fields = ((record { ty = (NamedType (codes "Level10")); name = (ident (codes "a")) }) ∷ []) }) ∷ (record { at = first_place; name = (ident (codes "Level12")); fields = ((record { ty = (NamedType (codes "Level11")); name = (ident (codes "a")) }) ∷ []) }) ∷ (record { at = first_place; name = (ident (codes "Level13")); fields = ((record { ty = (NamedType (codes "Level12")); name = (ident (codes "a")) }) ∷ []) }) ∷ (record { at = first_place; name = (ident (codes "Level14")); fields = ((record { ty = (NamedType (codes "Level13")); name = (ident (codes "a")) }) ∷ []) }) ∷ (record { at = first_place; name = (ident (codes "Level15")); fields = ((record { ty = (NamedType (codes "Level14")); name = (ident (codes "a")) }) ∷ []) }) ∷ (record { at = first_place; name = (ident (codes "Level16")); fields = ((record { ty = (NamedType (codes "Level15")); name = (ident (codes "a")) }) ∷ []) }) ∷ (record { at = first_place; name = (ident (codes "Level17")); fields = ((record { ty = (NamedType (codes "Level16")); name = (ident (codes "a")) }) ∷ []) }) ∷ []); functions = ([]); classes = ((record { name = (codes "main"); returns = VoidType; params = 1; slots = ((record { ty = IntType; name = (codes "p") }) ∷ []); locals = ([]); blocks = ((plain ([]) (ReturnLast VoidExpr)) ∷ []); groups = ([]) }) ∷ []) }) ≡ Some (1, None)
 unfolding digits
 case_87 = refl
 
