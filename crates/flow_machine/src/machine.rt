@@ -59,9 +59,8 @@ impl Machine {
         ensures processes { self.new.processes ≡ self.old.processes }
     {
         self.process.begin(now, turns);
-        if let Some(call) = self.process.call_main(classes, self.me)? {
-            ask(&mut self.process, self.processes, call, host)?;
-        }
+        self.process.call_main(classes, self.me)?;
+        ask(&mut self.process, self.processes, host)?;
         burst(&mut self.process, self.processes, classes, host)
     }
 

@@ -1,6 +1,6 @@
 // Call statements: messages, sends, cancelling, and calls of functions.
 
-use crate::call::{Call, Step};
+use crate::call::Call;
 use crate::effects::{int_at, take_text};
 use crate::errors::Fault;
 use crate::process::Process;
@@ -38,23 +38,24 @@ fn sent(method: Method, args: Vec<Value>) -> Result<Outcome, Fault> {
 }
 
 /// A text that is sent to a port of a process.
-fn send_to(actor: ActorId, args: Vec<Value>) -> Result<Step, Fault> {
+fn send_to(actor: ActorId, args: Vec<Value>) -> Result<Call, Fault> {
     let mut args = args;
     let process = int_at(&args, 0)?;
     let port = int_at(&args, 1)?;
     let text = take_text(&mut args, 2)?;
-    Ok(Some(Call::SendTo(actor, process, port, text)))
+    Ok(Call::SendTo(actor, process, port, text))
 }
 
 impl Process {
     // A value is printed.
-    fn print(&mut self, actor: ActorId, args: Vec<Value>) -> Result<Step, Fault> {
+    fn print(&mut self, actor: ActorId, args: Vec<Value>) -> Result<(), Fault> {
         let Some(value) = first(args) else {
             return Err(Fault::Astray);
         };
         let line = print_line(actor, value)?;
         self.heap.push(Task::Run(actor))?;
-        Ok(Some(Call::Line(line)))
+        self.tell(line);
+        Ok(())
     }
 
     /// A call statement of a predefined name.
@@ -63,10 +64,14 @@ impl Process {
         actor: ActorId,
         call: Predefined,
         args: Vec<Value>,
-    ) -> Result<Step, Fault> {
+    ) -> Result<(), Fault> {
         match call {
             Predefined::Trace => self.print(actor, args),
-            Predefined::SendTo => send_to(actor, args),
+            Predefined::SendTo => {
+                let sent = send_to(actor, args)?;
+                self.ask(sent);
+                Ok(())
+            }
             _ => Err(Fault::Astray),
         }
     }
@@ -96,18 +101,16 @@ impl Process {
         kind: Kind,
         cell: CellId,
         outcome: Outcome,
-    ) -> Result<Step, Fault> {
+    ) -> Result<(), Fault> {
         if self.is_complete(kind, cell)? {
-            self.throw(actor, ALREADY_SET)?;
-            return Ok(None);
+            return self.throw(actor, ALREADY_SET);
         }
         if !self.turn() {
-            return Ok(None);
+            return Ok(());
         }
         self.hold_outcome(&outcome)?;
         self.heap.push(Task::Run(actor))?;
-        self.fill(kind, cell, outcome)?;
-        Ok(None)
+        self.fill(kind, cell, outcome)
     }
 
     /// A call statement on a reference.
@@ -118,7 +121,7 @@ impl Process {
         kind: Kind,
         cell: CellId,
         args: Vec<Value>,
-    ) -> Result<Step, Fault> {
+    ) -> Result<(), Fault> {
         match kind {
             Kind::Promise | Kind::PromiseStream => {
                 let outcome = sent(method, args)?;

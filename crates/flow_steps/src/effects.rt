@@ -1,7 +1,7 @@
 // Effects: new cells, calls of actors, and what is asked of the world. A bad argument is an error that is thrown where the
 // actor stands.
 
-use crate::call::{Call, DiskCall, Goal, Step};
+use crate::call::{Call, DiskCall, Goal};
 use crate::errors::Fault;
 use crate::frames::places_of;
 use crate::process::Process;
@@ -103,6 +103,14 @@ fn disk_call(call: Predefined, args: &mut [Value]) -> Result<DiskCall, Fault> {
 }
 
 impl Process {
+    /// A new cell for a kind of reference.
+    pub(crate) fn new_cell(&mut self, kind: Kind) -> Result<CellId, Fault> {
+        match kind {
+            Kind::Promise | Kind::Future => Ok(self.heap.new_result()?),
+            Kind::PromiseStream | Kind::FutureStream => Ok(self.heap.new_stream()?),
+        }
+    }
+
     /// A new cell, and a reference of a kind to it as the result.
     pub(crate) fn gives_new(
         &mut self,
@@ -110,10 +118,7 @@ impl Process {
         goal: Goal,
         kind: Kind,
     ) -> Result<CellId, Fault> {
-        let cell = match kind {
-            Kind::Promise | Kind::Future => self.heap.new_result()?,
-            Kind::PromiseStream | Kind::FutureStream => self.heap.new_stream()?,
-        };
+        let cell = self.new_cell(kind)?;
         self.gives(actor, goal, Value::Ref(kind, cell))?;
         Ok(cell)
     }
@@ -142,7 +147,7 @@ impl Process {
         goal: Goal,
         effect: Effectful,
         args: Vec<Value>,
-    ) -> Result<Step, Fault> {
+    ) -> Result<(), Fault> {
         match effect {
             Effectful::World(call) => self.world_effect(actor, goal, call, args),
             Effectful::Actor(class) => self.start(classes, actor, goal, class, args),
@@ -156,23 +161,25 @@ impl Process {
         goal: Goal,
         call: Predefined,
         args: Vec<Value>,
-    ) -> Result<Step, Fault> {
-        match call {
+    ) -> Result<(), Fault> {
+        let asked = match call {
             Predefined::RandomInt => {
                 let lo = int_at(&args, 0)?;
-                Ok(Some(Call::Draw(actor, goal, lo, int_at(&args, 1)?)))
+                Call::Draw(actor, goal, lo, int_at(&args, 1)?)
             }
-            Predefined::Delay => Ok(Some(Call::Delay(actor, goal, int_at(&args, 0)?))),
-            Predefined::Listen => Ok(Some(Call::Listen(actor, goal, int_at(&args, 0)?))),
+            Predefined::Delay => Call::Delay(actor, goal, int_at(&args, 0)?),
+            Predefined::Listen => Call::Listen(actor, goal, int_at(&args, 0)?),
             Predefined::Never => {
                 self.gives_new(actor, goal, Kind::Future)?;
-                Ok(None)
+                return Ok(());
             }
             _ => {
                 let mut args = args;
-                Ok(Some(Call::Disk(actor, goal, disk_call(call, &mut args)?)))
+                Call::Disk(actor, goal, disk_call(call, &mut args)?)
             }
-        }
+        };
+        self.ask(asked);
+        Ok(())
     }
 
     // The arguments fill the first places of a new frame, and count.
@@ -212,16 +219,17 @@ impl Process {
     }
 
     /// The line of an actor's start.
-    pub(crate) fn start_line(
-        &self,
+    pub(crate) fn tell_start(
+        &mut self,
         classes: &ClassProgram,
         class: u32,
         actor: ActorId,
-    ) -> Result<Step, Fault> {
+    ) -> Result<(), Fault> {
         match classes.class(class) {
             Some(code) => {
                 let name = code.name.copy(self.alloc)?;
-                Ok(Some(Call::Line(Line::Start(actor, name))))
+                self.tell(Line::Start(actor, name));
+                Ok(())
             }
             None => Err(Fault::Astray),
         }
@@ -235,13 +243,13 @@ impl Process {
         goal: Goal,
         class: u32,
         args: Vec<Value>,
-    ) -> Result<Step, Fault> {
+    ) -> Result<(), Fault> {
         if !self.turn() {
-            return Ok(None);
+            return Ok(());
         }
         let (actor, cell) = self.enrol(classes, class, args)?;
         self.gives(caller, goal, Value::Ref(Kind::Future, cell))?;
         self.heap.push(Task::Run(actor))?;
-        self.start_line(classes, class, actor)
+        self.tell_start(classes, class, actor)
     }
 }

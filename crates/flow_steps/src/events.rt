@@ -1,6 +1,5 @@
 // What the world brings to a process at the begin of an event.
 
-use crate::call::Step;
 use crate::effects::class_named;
 use crate::errors::Fault;
 use crate::process::Process;
@@ -12,12 +11,12 @@ use flow_value::value::{Kind, Outcome, Value};
 impl Process {
     /// Calls `main` with the process's number, where no result of `main` is held: this one is from the moment that its cell
     /// is made.
-    pub fn call_main(&mut self, classes: &ClassProgram, me: ProcId) -> Result<Step, Fault> {
+    pub fn call_main(&mut self, classes: &ClassProgram, me: ProcId) -> Result<(), Fault> {
         if self.heap.main().is_some() {
             return Err(Fault::Astray);
         }
         if !self.turn() {
-            return Ok(None);
+            return Ok(());
         }
         let Some(class) = class_named(&classes.raw().classes, b"main") else {
             return Err(Fault::Astray);
@@ -27,7 +26,7 @@ impl Process {
         self.hold(Kind::Future, cell)?;
         self.heap.set_main(Some(cell));
         self.heap.push(Task::Run(actor))?;
-        self.start_line(classes, class, actor)
+        self.tell_start(classes, class, actor)
     }
 
     /// The answer to an open request: its cell is set and fires, and then the request's promise is dropped.

@@ -33,7 +33,7 @@ pub(crate) fn group_of(class: &Class, group: u32) -> Option<&Group> {
 }
 
 /// Whether a value may hold references.
-fn may_refer(value: &Value) -> bool {
+pub(crate) fn may_refer(value: &Value) -> bool {
     matches!(value, Value::Struct(_, _) | Value::Ref(_, _))
 }
 
@@ -69,6 +69,14 @@ fn stand_in(classes: &ClassProgram, actor: ActorId, at: Standing) -> Option<Stan
         block: class.blocks.get(place as usize)?,
         instruction: at.instruction,
     })
+}
+
+/// The number of a place of a class in its frames.
+pub(crate) fn number_of(class: &Class, place: Slotted) -> Result<u32, Fault> {
+    match place_of(slots_of(class), place) {
+        Some(place) => Ok(place),
+        None => Err(Fault::Astray),
+    }
 }
 
 impl Stand<'_> {
@@ -136,27 +144,14 @@ impl Process {
     }
 
     /// Has the frame of an actor go on at its next instruction.
-    pub(crate) fn go_on(&mut self, stand: Stand<'_>) -> Result<(), Fault> {
+    pub(crate) fn go_on(&mut self, stand: &Stand<'_>) -> Result<(), Fault> {
         match stand.instruction.checked_add(1) {
             Some(next) => self.go(stand.actor, stand.place, next),
             None => Err(Fault::Astray),
         }
     }
 
-    /// A place gets a value that counts already, and what it held is dropped.
-    pub(crate) fn replace(
-        &mut self,
-        actor: ActorId,
-        place: u32,
-        value: Value,
-    ) -> Result<(), Fault> {
-        if let Some(old) = self.put(actor, place, Some(value))? {
-            self.heap.push_drops(&old)?;
-        }
-        Ok(())
-    }
-
-    // The part of a place to which a path leads gets a value that counts already, and what stood there is dropped.
+    // The part of a place to which a path leads gets a value that counts already. Gives what stood there.
     fn replace_part(
         &mut self,
         records: &[RecordDecl],
@@ -164,52 +159,44 @@ impl Process {
         place: u32,
         path: &[Ident],
         value: Value,
-    ) -> Result<(), Fault> {
+    ) -> Result<Option<Value>, Fault> {
         let Some(root) = self.put(actor, place, None)? else {
             return Err(Fault::Astray);
         };
-        let Some(old) = read_in(records, &root, path) else {
-            return Err(Fault::Astray);
+        let old = match read_in(records, &root, path) {
+            Some(old) => old.copy(self.alloc)?,
+            None => return Err(Fault::Astray),
         };
-        self.heap.push_drops(old)?;
         let Some(root) = put_in(records, root, path, value) else {
             return Err(Fault::Astray);
         };
         self.put(actor, place, Some(root))?;
-        Ok(())
+        Ok(Some(old))
     }
 
-    /// What a path of a class leads to gets a value that counts already, and what stood there is dropped.
+    /// What a path of a class leads to gets a value that counts already. Gives what stood there.
     pub(crate) fn assign(
         &mut self,
         classes: &ClassProgram,
-        stand: Stand<'_>,
+        stand: &Stand<'_>,
         target: &Target,
         value: Value,
-    ) -> Result<(), Fault> {
+    ) -> Result<Option<Value>, Fault> {
         let Some((first, path)) = target.path.split_first() else {
             return Err(Fault::Astray);
         };
         let Some(place) = place_named(first.name.bytes()) else {
             return Err(Fault::Astray);
         };
-        let place = self.number_of(stand.class, place)?;
+        let place = number_of(stand.class, place)?;
         if path.is_empty() {
-            return self.replace(stand.actor, place, value);
+            return self.put(stand.actor, place, Some(value));
         }
         self.replace_part(&classes.raw().records, stand.actor, place, path, value)
     }
 
-    /// The number of a place of a class in its frames.
-    pub(crate) fn number_of(&self, class: &Class, place: Slotted) -> Result<u32, Fault> {
-        match place_of(slots_of(class), place) {
-            Some(place) => Ok(place),
-            None => Err(Fault::Astray),
-        }
-    }
-
-    // The values with references that leave these locals, each emptied as it is read.
-    fn taken(
+    /// The values with references that leave these locals, each emptied as it is read.
+    pub(crate) fn taken(
         &mut self,
         class: &Class,
         actor: ActorId,
@@ -217,7 +204,7 @@ impl Process {
     ) -> Result<Vec<Value>, Fault> {
         let mut values = Vec::new(self.alloc);
         for local in locals {
-            let place = self.number_of(class, Slotted::Local(*local))?;
+            let place = number_of(class, Slotted::Local(*local))?;
             match self.put(actor, place, None)? {
                 Some(value) if may_refer(&value) => values.push(value)?,
                 _ => (),
@@ -233,7 +220,13 @@ impl Process {
         actor: ActorId,
         locals: &[u32],
     ) -> Result<(), Fault> {
-        let mut values = self.taken(class, actor, locals)?;
+        let values = self.taken(class, actor, locals)?;
+        self.drop_values(values)
+    }
+
+    /// Values that left locals are dropped in order.
+    pub(crate) fn drop_values(&mut self, values: Vec<Value>) -> Result<(), Fault> {
+        let mut values = values;
         while let Some(value) = values.pop() {
             self.heap.push_drops(&value)?;
         }
@@ -287,7 +280,7 @@ impl Process {
         local: u32,
         error: ErrorCode,
     ) -> Result<(), Fault> {
-        let place = self.number_of(class, Slotted::Local(local))?;
+        let place = number_of(class, Slotted::Local(local))?;
         self.put(actor, place, Some(Value::Error(error)))?;
         Ok(())
     }

@@ -1,9 +1,9 @@
 // The step of an actor by its instruction.
 
-use crate::call::{Call, Goal, Step};
+use crate::call::Goal;
 use crate::effects::{Effectful, effect_in};
 use crate::errors::Fault;
-use crate::frames::{Stand, group_of};
+use crate::frames::{Stand, group_of, may_refer, number_of};
 use crate::process::Process;
 use crate::seen::Contents;
 use flow_ast::predefined::{predefined_call, predefined_method};
@@ -21,11 +21,11 @@ use flow_tree::stmt::Target;
 use flow_tree::ty::{Ident, Ty};
 use flow_value::value::{Kind, Outcome, Value};
 
-/// What evaluation came to: a value, or that it stopped the step, with an error that was thrown or with no turn left.
-#[derive(Drop)]
-enum Found<T> {
-    Value(T),
-    Stopped,
+/// How an actor goes on after an instruction: at once with the next one, or by its task, or not at all.
+#[derive(Clone, Copy, PartialEq, Eq, Debug)]
+pub(crate) enum Pace {
+    On,
+    Off,
 }
 
 /// What a new cell of a promise's type is.
@@ -62,38 +62,26 @@ impl Process {
         }
     }
 
-    // What evaluation came to, with these turns left. An error is thrown where the actor stands.
-    fn found<T>(
-        &mut self,
-        actor: ActorId,
-        came_to: Result<T, Halt>,
-        left: u32,
-    ) -> Result<Found<T>, Fault> {
-        self.left = left;
-        match came_to {
-            Ok(value) => Ok(Found::Value(value)),
-            Err(Halt::Thrown(error)) => {
-                self.throw(actor, error)?;
-                Ok(Found::Stopped)
-            }
-            Err(Halt::Spent) => {
-                self.spent = true;
-                Ok(Found::Stopped)
-            }
-            Err(Halt::NoMeaning) => Err(Fault::Astray),
-            Err(Halt::OutOfMemory) => Err(Fault::OutOfMemory),
+    // Evaluation gave no value: an error is thrown where the actor stands, or no turn was left.
+    fn halted(&mut self, actor: ActorId, halt: Halt) -> Result<Pace, Fault> {
+        match halt {
+            Halt::Thrown(error) => self.throw(actor, error)?,
+            Halt::Spent => self.spent = true,
+            Halt::NoMeaning => return Err(Fault::Astray),
+            Halt::OutOfMemory => return Err(Fault::OutOfMemory),
         }
+        Ok(Pace::Off)
     }
 
     // The value of an expression for an actor.
     fn value(
         &mut self,
         classes: &ClassProgram,
-        stand: Stand<'_>,
+        stand: &Stand<'_>,
         expr: &Expr,
-    ) -> Result<Found<Value>, Fault> {
+    ) -> Result<Value, Halt> {
         let mut turns = Turns { left: self.left };
-        let came_to = {
+        let value = {
             let contents = Contents {
                 cells: self.heap.cells(),
             };
@@ -107,18 +95,19 @@ impl Process {
                 &mut turns,
             )
         };
-        self.found(stand.actor, came_to, turns.left)
+        self.left = turns.left;
+        value
     }
 
     // The values of arguments for an actor.
     fn values(
         &mut self,
         classes: &ClassProgram,
-        stand: Stand<'_>,
+        stand: &Stand<'_>,
         args: &[Expr],
-    ) -> Result<Found<Vec<Value>>, Fault> {
+    ) -> Result<Vec<Value>, Halt> {
         let mut turns = Turns { left: self.left };
-        let came_to = {
+        let values = {
             let contents = Contents {
                 cells: self.heap.cells(),
             };
@@ -132,12 +121,24 @@ impl Process {
                 &mut turns,
             )
         };
-        self.found(stand.actor, came_to, turns.left)
+        self.left = turns.left;
+        values
     }
 
-    /// An actor takes its next step, by its instruction.
-    pub(crate) fn run(&mut self, classes: &ClassProgram, actor: ActorId) -> Result<Step, Fault> {
-        let stand = self.stand_of(classes, actor)?;
+    /// An actor takes its next steps, by its instructions, up to one after which other tasks come first.
+    pub(crate) fn run(&mut self, classes: &ClassProgram, actor: ActorId) -> Result<(), Fault> {
+        for _step in 0..u64::MAX {
+            let stand = self.stand_of(classes, actor)?;
+            match self.take_step(classes, &stand)? {
+                Pace::On => (),
+                Pace::Off => return Ok(()),
+            }
+        }
+        Err(Fault::Astray)
+    }
+
+    // An actor takes its next step, by its instruction.
+    fn take_step(&mut self, classes: &ClassProgram, stand: &Stand<'_>) -> Result<Pace, Fault> {
         let block = stand.block;
         if let Some(instr) = block.body.get(stand.instruction as usize) {
             return self.instruction(classes, stand, instr);
@@ -148,12 +149,24 @@ impl Process {
         Err(Fault::Astray)
     }
 
+    /// A value that is left over, if any, is dropped; the actor goes on at once where that leaves nothing to do.
+    pub(crate) fn on_after(&mut self, actor: ActorId, old: Option<Value>) -> Result<Pace, Fault> {
+        match old {
+            Some(old) if may_refer(&old) => {
+                self.heap.push(Task::Run(actor))?;
+                self.heap.push_drops(&old)?;
+                Ok(Pace::Off)
+            }
+            _ => Ok(Pace::On),
+        }
+    }
+
     fn instruction(
         &mut self,
         classes: &ClassProgram,
-        stand: Stand<'_>,
+        stand: &Stand<'_>,
         instr: &Instr,
-    ) -> Result<Step, Fault> {
+    ) -> Result<Pace, Fault> {
         match instr {
             Instr::Set(target, expr) => self.set_path(classes, stand, target, expr),
             Instr::Effect(_, expr) => match effect_in(classes, expr) {
@@ -162,79 +175,87 @@ impl Process {
                 }
                 None => Err(Fault::Astray),
             },
-            Instr::New(place) => self.new_promise(classes, stand, *place),
+            Instr::New(place) => self.new_promise(stand, *place),
             Instr::Act(target, args) => self.act(classes, stand, target, args),
-            Instr::Drop(locals) => {
-                self.go_on(stand)?;
-                self.heap.push(Task::Run(stand.actor))?;
-                self.drop_locals(stand.class, stand.actor, locals)?;
-                Ok(None)
-            }
+            Instr::Drop(locals) => self.empty_locals(stand, locals),
         }
+    }
+
+    // Locals are emptied, and what they held is dropped.
+    fn empty_locals(&mut self, stand: &Stand<'_>, locals: &[u32]) -> Result<Pace, Fault> {
+        self.go_on(stand)?;
+        let values = self.taken(stand.class, stand.actor, locals)?;
+        if values.is_empty() {
+            return Ok(Pace::On);
+        }
+        self.heap.push(Task::Run(stand.actor))?;
+        self.drop_values(values)?;
+        Ok(Pace::Off)
     }
 
     // An assignment: the value is put in place, what stood there is dropped, and the next instruction follows.
     fn set_path(
         &mut self,
         classes: &ClassProgram,
-        stand: Stand<'_>,
+        stand: &Stand<'_>,
         target: &Target,
         expr: &Expr,
-    ) -> Result<Step, Fault> {
-        let Found::Value(value) = self.value(classes, stand, expr)? else {
-            return Ok(None);
+    ) -> Result<Pace, Fault> {
+        let value = match self.value(classes, stand, expr) {
+            Ok(value) => value,
+            Err(halt) => return self.halted(stand.actor, halt),
         };
         self.hold_value(&value)?;
-        self.heap.push(Task::Run(stand.actor))?;
-        self.assign(classes, stand, target, value)?;
+        let old = self.assign(classes, stand, target, value)?;
         self.go_on(stand)?;
-        Ok(None)
+        self.on_after(stand.actor, old)
     }
 
     // An effect, whose result goes into place or among the operands; the frame stays where it is.
     fn ask_effect(
         &mut self,
         classes: &ClassProgram,
-        stand: Stand<'_>,
+        stand: &Stand<'_>,
         goal: Goal,
         effect: Effectful,
         args: &[Expr],
-    ) -> Result<Step, Fault> {
-        match self.values(classes, stand, args)? {
-            Found::Value(args) => self.effect(classes, stand.actor, goal, effect, args),
-            Found::Stopped => Ok(None),
+    ) -> Result<Pace, Fault> {
+        match self.values(classes, stand, args) {
+            Ok(args) => {
+                self.effect(classes, stand.actor, goal, effect, args)?;
+                Ok(Pace::Off)
+            }
+            Err(halt) => self.halted(stand.actor, halt),
         }
     }
 
     // A new cell for a place of a promise's type.
-    fn new_promise(
-        &mut self,
-        classes: &ClassProgram,
-        stand: Stand<'_>,
-        place: Slotted,
-    ) -> Result<Step, Fault> {
-        match type_at(stand.class, place).and_then(promise_kind) {
-            Some(kind) => {
-                self.gives_new(stand.actor, Goal::Stored, kind)?;
-                Ok(None)
-            }
-            None => Err(Fault::Astray),
-        }
+    fn new_promise(&mut self, stand: &Stand<'_>, place: Slotted) -> Result<Pace, Fault> {
+        let Some(kind) = type_at(stand.class, place).and_then(promise_kind) else {
+            return Err(Fault::Astray);
+        };
+        let cell = self.new_cell(kind)?;
+        self.hold(kind, cell)?;
+        let place = number_of(stand.class, place)?;
+        let old = self.put(stand.actor, place, Some(Value::Ref(kind, cell)))?;
+        self.go_on(stand)?;
+        self.on_after(stand.actor, old)
     }
 
     // A call statement, without a base or on what a path leads to.
     fn act(
         &mut self,
         classes: &ClassProgram,
-        stand: Stand<'_>,
+        stand: &Stand<'_>,
         target: &Target,
         args: &[Expr],
-    ) -> Result<Step, Fault> {
+    ) -> Result<Pace, Fault> {
         let Some((last, before)) = target.path.split_last() else {
             return Err(Fault::Astray);
         };
-        let Found::Value(args) = self.values(classes, stand, args)? else {
-            return Ok(None);
+        let args = match self.values(classes, stand, args) {
+            Ok(args) => args,
+            Err(halt) => return self.halted(stand.actor, halt),
         };
         let name = last.name.bytes();
         let Some((first, path)) = before.split_first() else {
@@ -247,14 +268,15 @@ impl Process {
             return Err(Fault::Astray);
         };
         self.go_on(stand)?;
-        self.method_act(stand.actor, method, kind, cell, args)
+        self.method_act(stand.actor, method, kind, cell, args)?;
+        Ok(Pace::Off)
     }
 
     // The reference to which a path of a class leads.
     fn reference_at(
         &self,
         classes: &ClassProgram,
-        stand: Stand<'_>,
+        stand: &Stand<'_>,
         first: &Ident,
         path: &[Ident],
     ) -> Option<(Kind, CellId)> {
@@ -270,13 +292,14 @@ impl Process {
     fn plain_act(
         &mut self,
         classes: &ClassProgram,
-        stand: Stand<'_>,
+        stand: &Stand<'_>,
         name: &[u8],
         args: Vec<Value>,
-    ) -> Result<Step, Fault> {
+    ) -> Result<Pace, Fault> {
         if let Some(call) = predefined_call(name) {
             self.go_on(stand)?;
-            return self.predefined_act(stand.actor, call, args);
+            self.predefined_act(stand.actor, call, args)?;
+            return Ok(Pace::Off);
         }
         let functions = &classes.raw().functions;
         let place = functions
@@ -291,10 +314,10 @@ impl Process {
     fn call_function(
         &mut self,
         classes: &ClassProgram,
-        stand: Stand<'_>,
+        stand: &Stand<'_>,
         function: usize,
         args: Vec<Value>,
-    ) -> Result<Step, Fault> {
+    ) -> Result<Pace, Fault> {
         let mut turns = Turns { left: self.left };
         let came_to = {
             let contents = Contents {
@@ -306,46 +329,41 @@ impl Process {
             }
             run_at::<VarList, Contents>(&setting, CALL_DEPTH, function, args, &mut turns)
         };
-        match self.found(stand.actor, came_to, turns.left)? {
-            Found::Value(_) => {
+        self.left = turns.left;
+        match came_to {
+            Ok(_) => {
                 self.go_on(stand)?;
-                self.run_on(stand.actor)?;
-                Ok(None)
+                Ok(Pace::On)
             }
-            Found::Stopped => Ok(None),
+            Err(halt) => self.halted(stand.actor, halt),
         }
     }
 
     fn last(
         &mut self,
         classes: &ClassProgram,
-        stand: Stand<'_>,
+        stand: &Stand<'_>,
         last: &Last,
-    ) -> Result<Step, Fault> {
+    ) -> Result<Pace, Fault> {
         match last {
             Last::Goto(block) => {
                 self.go(stand.actor, *block, 0)?;
-                self.run_on(stand.actor)?;
-                Ok(None)
+                Ok(Pace::On)
             }
             Last::Pass(block) => {
                 self.go(stand.actor, *block, 0)?;
-                if !self.turn() {
-                    return Ok(None);
-                }
-                self.run_on(stand.actor)?;
-                Ok(None)
+                Ok(if self.turn() { Pace::On } else { Pace::Off })
             }
             Last::Test(expr, yes, no) => self.test(classes, stand, expr, *yes, *no),
             Last::Choose(group) => self.choose(classes, stand, *group),
             Last::Return(expr) => self.finish_with(classes, stand, expr),
-            Last::Throw(expr) => match self.value(classes, stand, expr)? {
-                Found::Value(Value::Error(error)) => {
+            Last::Throw(expr) => match self.value(classes, stand, expr) {
+                Ok(Value::Error(error)) => {
                     self.throw(stand.actor, error)?;
-                    Ok(None)
+                    Ok(Pace::Off)
                 }
-                Found::Value(_) => Err(Fault::Astray),
-                Found::Stopped => Ok(None),
+                Ok(_) => Err(Fault::Astray),
+                Err(halt) => self.halted(stand.actor, halt),
             },
         }
     }
@@ -353,36 +371,36 @@ impl Process {
     fn test(
         &mut self,
         classes: &ClassProgram,
-        stand: Stand<'_>,
+        stand: &Stand<'_>,
         expr: &Expr,
         yes: u32,
         no: u32,
-    ) -> Result<Step, Fault> {
-        let next = match self.value(classes, stand, expr)? {
-            Found::Value(Value::Bool(true)) => yes,
-            Found::Value(Value::Bool(false)) => no,
-            Found::Value(_) => return Err(Fault::Astray),
-            Found::Stopped => return Ok(None),
+    ) -> Result<Pace, Fault> {
+        let next = match self.value(classes, stand, expr) {
+            Ok(Value::Bool(true)) => yes,
+            Ok(Value::Bool(false)) => no,
+            Ok(_) => return Err(Fault::Astray),
+            Err(halt) => return self.halted(stand.actor, halt),
         };
         self.go(stand.actor, next, 0)?;
-        self.run_on(stand.actor)?;
-        Ok(None)
+        Ok(Pace::On)
     }
 
     // The next operand of a wait is asked for; when all are kept, the actor waits.
     fn choose(
         &mut self,
         classes: &ClassProgram,
-        stand: Stand<'_>,
+        stand: &Stand<'_>,
         group: u32,
-    ) -> Result<Step, Fault> {
+    ) -> Result<Pace, Fault> {
         let home = stand.home(classes, group)?;
         let kept = self.operands(stand.actor);
         let Some(branches) = group_of(stand.class, group) else {
             return Err(Fault::Astray);
         };
         let Some(callback) = branches.callbacks.get(kept) else {
-            return self.wait(classes, stand, group);
+            self.wait(classes, stand, group)?;
+            return Ok(Pace::Off);
         };
         let number = home
             .first
@@ -393,22 +411,20 @@ impl Process {
     fn operand(
         &mut self,
         classes: &ClassProgram,
-        stand: Stand<'_>,
+        stand: &Stand<'_>,
         number: u32,
         callback: &Callback,
-    ) -> Result<Step, Fault> {
+    ) -> Result<Pace, Fault> {
         if let Some((effect, args)) = effect_in(classes, &callback.operand) {
             return self.ask_effect(classes, stand, Goal::Kept(number), effect, args);
         }
-        match self.value(classes, stand, &callback.operand)? {
-            Found::Value(Value::Ref(kind, cell)) => {
+        match self.value(classes, stand, &callback.operand) {
+            Ok(Value::Ref(kind, cell)) => {
                 self.hold(kind, cell)?;
-                self.heap.push(Task::Run(stand.actor))?;
-                self.heap.push(Task::Keep(stand.actor, number, cell))?;
-                Ok(None)
+                self.keep_operand(classes, stand, number, cell)
             }
-            Found::Value(_) => Err(Fault::Astray),
-            Found::Stopped => Ok(None),
+            Ok(_) => Err(Fault::Astray),
+            Err(halt) => self.halted(stand.actor, halt),
         }
     }
 
@@ -416,16 +432,17 @@ impl Process {
     fn finish_with(
         &mut self,
         classes: &ClassProgram,
-        stand: Stand<'_>,
+        stand: &Stand<'_>,
         expr: &Expr,
-    ) -> Result<Step, Fault> {
-        let Found::Value(value) = self.value(classes, stand, expr)? else {
-            return Ok(None);
+    ) -> Result<Pace, Fault> {
+        let value = match self.value(classes, stand, expr) {
+            Ok(value) => value,
+            Err(halt) => return self.halted(stand.actor, halt),
         };
         self.hold_value(&value)?;
         let outcome = Box::new(self.alloc, Outcome::Value(value))?;
         self.heap.push(Task::Close(stand.actor, outcome))?;
         self.lose_all(stand.actor)?;
-        Ok(None)
+        Ok(Pace::Off)
     }
 }

@@ -7,9 +7,9 @@ ghost use Rattle.flow_steps.specs.Doing.{departed};
 ghost use Rattle.flow_steps.specs.Drops.{DropsOver};
 
 use crate::branches::{branch_of, group_at};
-use crate::call::{Call, Step};
 use crate::errors::Fault;
-use crate::frames::{Stand, group_of};
+use crate::frames::{Stand, group_of, number_of};
+use crate::next::Pace;
 use crate::process::Process;
 use flow_base::ids::{ActorId, CellId, ErrorCode};
 use flow_cancel::task::Task;
@@ -34,8 +34,8 @@ fn callback_at(class: &Class, group: u32, branch: u32) -> Option<&Callback> {
 }
 
 impl Process {
-    /// Does a task that was the newest, and says what it asks of the world.
-    pub(crate) fn do_task(&mut self, classes: &ClassProgram, task: Task) -> Result<Step, Fault> {
+    /// Does a task that was the newest.
+    pub(crate) fn do_task(&mut self, classes: &ClassProgram, task: Task) -> Result<(), Fault> {
         match task {
             Task::Run(actor) => self.run(classes, actor),
             Task::Give(actor, branch, outcome) => {
@@ -44,12 +44,13 @@ impl Process {
             Task::Throw(actor, error) => self.raise(classes, actor, error),
             Task::Catch(actor, error) => {
                 self.heap.push(Task::Run(actor))?;
-                Ok(Some(Call::Line(Line::Catch(actor, error))))
+                self.tell(Line::Catch(actor, error));
+                Ok(())
             }
             Task::Fire(cell) => self.fire(classes, cell),
             Task::Drop(kind, cell) => {
                 if !self.turn() {
-                    return Ok(None);
+                    return Ok(());
                 }
                 self.lose(kind, cell)
             }
@@ -66,54 +67,56 @@ impl Process {
         actor: ActorId,
         branch: u32,
         outcome: Outcome,
-    ) -> Result<Step, Fault> {
+    ) -> Result<(), Fault> {
         let value = match outcome {
             Outcome::Value(value) => value,
-            Outcome::Error(error) => {
-                self.throw(actor, error)?;
-                return Ok(None);
-            }
+            Outcome::Error(error) => return self.throw(actor, error),
         };
         let stand = self.stand_of(classes, actor)?;
         let group = group_at(stand.block)?;
         let Some(callback) = callback_at(stand.class, group, branch) else {
             return Err(Fault::Astray);
         };
-        self.heap.push(Task::Run(actor))?;
-        self.bind(stand, callback, value)?;
+        let old = self.bind(&stand, callback, value)?;
         self.go(actor, callback.block, 0)?;
-        Ok(None)
+        match self.on_after(actor, old)? {
+            Pace::On => self.run(classes, actor),
+            Pace::Off => Ok(()),
+        }
     }
 
-    // The value of a branch goes into the place of its callback, or is dropped.
-    fn bind(&mut self, stand: Stand<'_>, callback: &Callback, value: Value) -> Result<(), Fault> {
+    // The value of a branch goes into the place of its callback. Gives what is to be dropped: what the place held, or the
+    // value where there is no place.
+    fn bind(
+        &mut self,
+        stand: &Stand<'_>,
+        callback: &Callback,
+        value: Value,
+    ) -> Result<Option<Value>, Fault> {
         match callback.into {
             Some(place) => {
-                let place = self.number_of(stand.class, place)?;
-                self.replace(stand.actor, place, value)
+                let place = number_of(stand.class, place)?;
+                self.put(stand.actor, place, Some(value))
             }
-            None => Ok(self.heap.push_drops(&value)?),
+            None => Ok(Some(value)),
         }
     }
 
     // The result of an effect goes into the place of the instruction.
-    fn store(
-        &mut self,
-        classes: &ClassProgram,
-        actor: ActorId,
-        value: Value,
-    ) -> Result<Step, Fault> {
+    fn store(&mut self, classes: &ClassProgram, actor: ActorId, value: Value) -> Result<(), Fault> {
         let stand = self.stand_of(classes, actor)?;
-        match stand.block.body.get(stand.instruction as usize) {
-            Some(Instr::Effect(target, _)) => self.assign(classes, stand, target, value)?,
+        let old = match stand.block.body.get(stand.instruction as usize) {
+            Some(Instr::Effect(target, _)) => self.assign(classes, &stand, target, value)?,
             Some(Instr::New(place)) => {
-                let place = self.number_of(stand.class, *place)?;
-                self.replace(actor, place, value)?;
+                let place = number_of(stand.class, *place)?;
+                self.put(actor, place, Some(value))?
             }
             _ => return Err(Fault::Astray),
+        };
+        if let Some(old) = old {
+            self.heap.push_drops(&old)?;
         }
-        self.go_on(stand)?;
-        Ok(None)
+        self.go_on(&stand)
     }
 
     // The line; then the operands that are kept are dropped in order, and the values that leave the variables; then the
@@ -123,10 +126,10 @@ impl Process {
         classes: &ClassProgram,
         actor: ActorId,
         error: ErrorCode,
-    ) -> Result<Step, Fault> {
+    ) -> Result<(), Fault> {
         let stand = self.stand_of(classes, actor)?;
         match &stand.block.catcher {
-            Some(catcher) => self.caught(stand, catcher, error)?,
+            Some(catcher) => self.caught(&stand, catcher, error)?,
             None => {
                 let outcome = Box::new(self.alloc, Outcome::Error(error))?;
                 self.heap.push(Task::Close(actor, outcome))?;
@@ -134,12 +137,13 @@ impl Process {
                 self.leave(actor)?;
             }
         }
-        Ok(Some(Call::Line(Line::Throw(actor, error))))
+        self.tell(Line::Throw(actor, error));
+        Ok(())
     }
 
     fn caught(
         &mut self,
-        stand: Stand<'_>,
+        stand: &Stand<'_>,
         catcher: &Catcher,
         error: ErrorCode,
     ) -> Result<(), Fault> {
@@ -192,7 +196,7 @@ impl Process {
 
     // The oldest waiter takes its branch, and the fire goes on after it. It ends, without a turn, where no waiter is left
     // or, on a stream, neither element nor end.
-    fn fire(&mut self, classes: &ClassProgram, cell: CellId) -> Result<Step, Fault> {
+    fn fire(&mut self, classes: &ClassProgram, cell: CellId) -> Result<(), Fault> {
         let Some(kind) = self.kind_at(cell) else {
             return Err(Fault::Astray);
         };
@@ -201,18 +205,18 @@ impl Process {
         };
         self.heap.push(Task::Fire(cell))?;
         let stand = self.stand_of(classes, waiter.actor)?;
-        let branch = branch_of(classes, stand, waiter.callback)?;
-        self.take(stand, branch, cell)
+        let branch = branch_of(classes, &stand, waiter.callback)?;
+        self.take(&stand, branch, cell)
     }
 
     // The actor is gone: a turn and the line; then its result is set, where a future refers to it, and otherwise the cell
     // goes and the value is dropped.
-    fn close(&mut self, actor: ActorId, outcome: Outcome) -> Result<Step, Fault> {
+    fn close(&mut self, actor: ActorId, outcome: Outcome) -> Result<(), Fault> {
         let result = self.forget(actor)?;
         if !self.turn() {
-            return Ok(None);
+            return Ok(());
         }
-        let line = Call::Line(end_line(actor, &outcome));
+        let line = end_line(actor, &outcome);
         match result {
             Some(cell) if self.futures(cell) > 0 => self.set_result(cell, outcome)?,
             Some(cell) => {
@@ -221,7 +225,8 @@ impl Process {
             }
             None => self.drop_outcome(&outcome)?,
         }
-        Ok(Some(line))
+        self.tell(line);
+        Ok(())
     }
 
     // The frame of an actor is closed, and its result is told.
