@@ -294,6 +294,25 @@ impl Heap {
         Ok(actor)
     }
 
+    /// The same, but the first places of the actor's frame hold these.
+    pub fn start_holding(
+        &mut self,
+        class: u32,
+        places: u32,
+        filled: Vec<Option<Value>>,
+        cell: Option<CellId>,
+    ) -> Result<ActorId, NoMemory>
+        requires { may_start cell self.old ≡ true }
+    {
+        let actor = ActorId(self.next_actor()?);
+        self.actors.add(actor, cell)?;
+        self.frames.enter_holding(actor, class, places, filled)?;
+        if let Some(cell) = cell {
+            self.cells.hold(cell, Side::Promise);
+        }
+        Ok(actor)
+    }
+
     /// Whether an actor is unfinished.
     pub fn unfinished(&self, actor: ActorId) -> bool
         ensures { result ≡ is_some (thing self.now.actors.things actor.0) }

@@ -11,6 +11,7 @@ pub mod locals;
 mod operators;
 mod predefined;
 mod records;
+pub mod resolved;
 mod statements;
 pub mod stop;
 pub mod variables;

@@ -32,7 +32,7 @@ fn truth(b: Option<bool>) -> Result<Value, Halt>
     }
 }
 
-fn compared(op: Op, order: Ordering) -> Option<bool>
+pub fn compared(op: Op, order: Ordering) -> Option<bool>
     ensures { result ≡ compared op order }
 {
     match op {
@@ -56,7 +56,7 @@ fn equated(op: Op, same: bool) -> Option<bool>
     }
 }
 
-fn on_ints(op: Op, a: i64, b: i64) -> Result<Value, Halt>
+pub fn on_ints(op: Op, a: i64, b: i64) -> Result<Value, Halt>
     ensures { Answers (on_ints op a b) result }
 {
     match op {

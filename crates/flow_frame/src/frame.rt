@@ -93,6 +93,24 @@ impl<T> Frame<T> {
         }
     }
 
+    /// A frame that begins, whose first places hold these.
+    pub(crate) fn holding(class: u32, places: u32, filled: Vec<Option<T>>, callbacks: Vec<Held>) -> Frame<T> {
+        Frame {
+            class,
+            state: 0,
+            block: 0,
+            instruction: 0,
+            places,
+            filled,
+            callbacks,
+        }
+    }
+
+    /// What its places hold, those behind the last one nothing.
+    pub(crate) fn filled(&self) -> &[Option<T>] {
+        &self.filled
+    }
+
     #[tactic(auto, using(crate::proofs::Padded::at_padded, crate::proofs::Padded::length_padded))]
     /// What a place holds.
     pub(crate) fn place(&self, place: u32) -> Option<&T>

@@ -60,6 +60,30 @@ impl<T> Frames<T> {
             .insert(actor.0, Frame::new(self.alloc, class, places))
     }
 
+    /// The same, but the first places of the frame hold these.
+    pub fn enter_holding(
+        &mut self,
+        actor: ActorId,
+        class: u32,
+        places: u32,
+        filled: Vec<Option<T>>,
+    ) -> Result<(), NoMemory>
+    where
+        T: Drop,
+        requires { self.old.greatest < actor.0 }
+    {
+        self.frames
+            .insert(actor.0, Frame::holding(class, places, filled, Vec::new(self.alloc)))
+    }
+
+    /// What the places of the frame of an actor hold, those behind the last one nothing: none where it has no frame.
+    pub fn places_held(&self, actor: ActorId) -> &[Option<T>] {
+        match self.frames.get(actor.0) {
+            Some(frame) => frame.filled(),
+            None => &[],
+        }
+    }
+
     /// Whether an actor has a frame.
     pub fn contains(&self, actor: ActorId) -> bool
         ensures { result ≡ is_some (thing self.now.things actor.0) }

@@ -8,7 +8,7 @@ use crate::judged::{judged, process, time_after, width};
 use flow_base::errors::{BAD_ARGUMENT, OUT_OF_RANGE, PORT_IN_USE};
 use flow_base::ids::{ActorId, CellId};
 use flow_base::text::Text;
-use flow_class::program::ClassProgram;
+use flow_code::program::Code;
 use flow_steps::call::{Call, DiskCall, Goal};
 use flow_steps::process::{Next, Process};
 use flow_value::value::Value;
@@ -171,7 +171,7 @@ pub(crate) fn ask<H: Host>(
 pub(crate) fn burst<H: Host>(
     process: &mut Process,
     processes: u8,
-    classes: &ClassProgram,
+    code: &Code,
     host: &mut H,
 ) -> Result<Burst, RunFault>
     requires { H.processes (H.kept host.old) ≡ processes }
@@ -179,7 +179,7 @@ pub(crate) fn burst<H: Host>(
     ensures kept { H.kept host.new ≡ H.kept host.old }
 {
     for _step in 0..u64::MAX {
-        match process.run_tasks(classes)? {
+        match process.run_tasks(code)? {
             Next::Rested => return Ok(Burst::Rested),
             Next::Spent => return Ok(Burst::Spent),
             Next::Asks => ask(process, processes, host)?,

@@ -4,7 +4,7 @@ use crate::call::Call;
 use crate::effects::{int_at, take_text};
 use crate::errors::Fault;
 use crate::process::Process;
-use flow_ast::predefined::{Method, Predefined, predefined_call, predefined_method};
+use flow_ast::predefined::{Method, Predefined};
 use flow_base::errors::ALREADY_SET;
 use flow_base::ids::{ActorId, CellId};
 use flow_cancel::task::Task;
@@ -29,8 +29,8 @@ fn print_line(actor: ActorId, value: Value) -> Result<Line, Fault> {
 }
 
 /// What a method sends: `send` a value, `sendError` an error.
-fn sent(method: Method, args: Vec<Value>) -> Result<Outcome, Fault> {
-    match (method, first(args)) {
+fn sent(method: Method, arg: Option<Value>) -> Result<Outcome, Fault> {
+    match (method, arg) {
         (Method::Send, Some(value)) => Ok(Outcome::Value(value)),
         (Method::SendError, Some(Value::Error(error))) => Ok(Outcome::Error(error)),
         _ => Err(Fault::Astray),
@@ -120,11 +120,11 @@ impl Process {
         method: Method,
         kind: Kind,
         cell: CellId,
-        args: Vec<Value>,
+        arg: Option<Value>,
     ) -> Result<(), Fault> {
         match kind {
             Kind::Promise | Kind::PromiseStream => {
-                let outcome = sent(method, args)?;
+                let outcome = sent(method, arg)?;
                 self.send_into(actor, kind, cell, outcome)
             }
             Kind::Future if method == Method::Cancel => {

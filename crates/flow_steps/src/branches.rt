@@ -11,14 +11,14 @@ use flow_base::errors::{OPERATION_CANCELLED, SECOND_WAITER};
 use flow_base::ids::{ActorId, CellId};
 use flow_cancel::task::Task;
 use flow_cell::waiter::Waiter;
-use flow_class::class::{Block, Last};
-use flow_class::program::ClassProgram;
+use flow_code::class::{Block, Last};
+use flow_code::program::Code;
 use flow_frame::held::Held;
 use flow_stream::head::{Head, Wait};
 use flow_trace::line::Line;
 use flow_value::value::{Kind, Outcome};
 
-/// The group of the wait that ends a block.
+/// The number of the group of the wait that ends a block.
 pub(crate) fn group_at(block: &Block) -> Result<u32, Fault> {
     match &block.last {
         Last::Choose(group) => Ok(*group),
@@ -27,14 +27,12 @@ pub(crate) fn group_at(block: &Block) -> Result<u32, Fault> {
 }
 
 /// The number of a branch in its group, from its number through the class.
-pub(crate) fn branch_of(
-    classes: &ClassProgram,
-    stand: &Stand<'_>,
-    callback: u32,
-) -> Result<u32, Fault> {
-    let group = group_at(stand.block)?;
-    let home = stand.home(classes, group)?;
-    match callback.checked_sub(home.first) {
+pub(crate) fn branch_of(stand: &Stand<'_>, callback: u32) -> Result<u32, Fault> {
+    let number = group_at(stand.block)?;
+    let Some(group) = stand.class.group(number) else {
+        return Err(Fault::Astray);
+    };
+    match callback.checked_sub(group.first) {
         Some(branch) => Ok(branch),
         None => Err(Fault::Astray),
     }
@@ -110,7 +108,6 @@ impl Process {
     /// operand that is ready is taken; otherwise the actor goes on.
     pub(crate) fn keep_operand(
         &mut self,
-        classes: &ClassProgram,
         stand: &Stand<'_>,
         callback: u32,
         cell: CellId,
@@ -129,7 +126,7 @@ impl Process {
         if !self.is_ready(cell) {
             return Ok(Pace::On);
         }
-        let branch = branch_of(classes, stand, callback)?;
+        let branch = branch_of(stand, callback)?;
         self.take(stand, branch, cell)?;
         Ok(Pace::Off)
     }
@@ -137,15 +134,15 @@ impl Process {
     /// The result of an effect is kept as an operand, and the actor, whose task is next, goes on.
     pub(crate) fn keep(
         &mut self,
-        classes: &ClassProgram,
+        code: &Code,
         actor: ActorId,
         callback: u32,
         cell: CellId,
     ) -> Result<(), Fault> {
         self.pop_run(actor)?;
-        let stand = self.stand_of(classes, actor)?;
-        match self.keep_operand(classes, &stand, callback, cell)? {
-            Pace::On => self.run(classes, actor),
+        let stand = self.stand_of(code, actor)?;
+        match self.keep_operand(&stand, callback, cell)? {
+            Pace::On => self.run(code, actor),
             Pace::Off => Ok(()),
         }
     }
@@ -230,15 +227,10 @@ impl Process {
 
     /// All operands are kept. The first that is ready is taken. Otherwise the actor waits for all of them, and its locals
     /// are dropped; where a stream refuses, that is thrown.
-    pub(crate) fn wait(
-        &mut self,
-        classes: &ClassProgram,
-        stand: &Stand<'_>,
-        group: u32,
-    ) -> Result<(), Fault> {
+    pub(crate) fn wait(&mut self, stand: &Stand<'_>, group: u32) -> Result<(), Fault> {
         let actor = stand.actor;
         if let Some(held) = self.first_ready(actor) {
-            let branch = branch_of(classes, stand, held.callback)?;
+            let branch = branch_of(stand, held.callback)?;
             return self.take(stand, branch, held.cell);
         }
         if !self.register_all(actor)? {

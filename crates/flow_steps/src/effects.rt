@@ -3,67 +3,17 @@
 
 use crate::call::{Call, DiskCall, Goal};
 use crate::errors::Fault;
-use crate::frames::places_of;
+use crate::next::Pace;
 use crate::process::Process;
-use flow_ast::predefined::{Predefined, predefined_call};
+use flow_ast::predefined::Predefined;
 use flow_base::ids::{ActorId, CellId};
 use flow_base::text::Text;
 use flow_cancel::task::Task;
-use flow_class::class::Class;
-use flow_class::program::ClassProgram;
+use flow_code::class::Effect;
+use flow_code::program::Code;
+use flow_resolved::expr::Resolved;
 use flow_trace::line::Line;
-use flow_tree::expr::Expr;
 use flow_value::value::{Kind, Value};
-
-/// A call that has an effect: a predefined one, or that of the class at a place.
-#[derive(Clone, Copy, PartialEq, Eq, Debug)]
-pub(crate) enum Effectful {
-    World(Predefined),
-    Actor(u32),
-}
-
-/// Whether a predefined call has an effect and gives a value.
-fn is_effect(call: Predefined) -> bool {
-    matches!(
-        call,
-        Predefined::RandomInt
-            | Predefined::Delay
-            | Predefined::Never
-            | Predefined::Listen
-            | Predefined::ReadFile
-            | Predefined::WriteFile
-            | Predefined::SyncFile
-            | Predefined::FileSize
-    )
-}
-
-/// The place of the first class of a name.
-pub(crate) fn class_named(classes: &[Class], name: &[u8]) -> Option<u32> {
-    for (place, class) in classes.iter().enumerate() {
-        if class.name.bytes() == name {
-            return u32::try_from(place).ok();
-        }
-    }
-    None
-}
-
-/// The effect that an expression is, with its arguments.
-pub(crate) fn effect_in<'a>(
-    classes: &ClassProgram,
-    expr: &'a Expr,
-) -> Option<(Effectful, &'a [Expr])> {
-    let Expr::Call(name, args) = expr else {
-        return None;
-    };
-    match predefined_call(name.name.bytes()) {
-        Some(call) if is_effect(call) => Some((Effectful::World(call), args)),
-        Some(_) => None,
-        None => {
-            let place = class_named(&classes.raw().classes, name.name.bytes())?;
-            Some((Effectful::Actor(place), args))
-        }
-    }
-}
 
 /// The number that an argument is.
 pub(crate) fn int_at(args: &[Value], place: usize) -> Result<i64, Fault> {
@@ -139,18 +89,24 @@ impl Process {
         Ok(cell)
     }
 
-    /// An effect of an actor, with its arguments.
+    /// An effect of an actor.
     pub(crate) fn effect(
         &mut self,
-        classes: &ClassProgram,
+        code: &Code,
         actor: ActorId,
         goal: Goal,
-        effect: Effectful,
-        args: Vec<Value>,
-    ) -> Result<(), Fault> {
+        effect: Effect,
+        args: &[Resolved],
+    ) -> Result<Pace, Fault> {
         match effect {
-            Effectful::World(call) => self.world_effect(actor, goal, call, args),
-            Effectful::Actor(class) => self.start(classes, actor, goal, class, args),
+            Effect::World(call) => match self.values(code, actor, args) {
+                Ok(args) => {
+                    self.world_effect(actor, goal, call, args)?;
+                    Ok(Pace::Off)
+                }
+                Err(halt) => self.halted(actor, halt),
+            },
+            Effect::Actor(class) => self.start(code, actor, goal, class, args),
         }
     }
 
@@ -182,52 +138,50 @@ impl Process {
         Ok(())
     }
 
-    // The arguments fill the first places of a new frame, and count.
-    fn fill_params(&mut self, actor: ActorId, args: Vec<Value>) -> Result<(), Fault> {
-        let mut place: u32 = 0;
-        for arg in args {
-            self.hold_value(&arg)?;
-            self.put(actor, place, Some(arg))?;
-            place = place.saturating_add(1);
+    // Values in places count.
+    fn hold_values(&mut self, values: &[Option<Value>]) -> Result<(), Fault> {
+        for value in values {
+            if let Some(value) = value {
+                self.hold_value(value)?;
+            }
         }
         Ok(())
     }
 
-    /// An actor of the class at a place is made: its result, its number and its frame.
+    /// An actor of the class at a place is made, whose first places hold these: its result, its number and its frame.
     pub(crate) fn enrol(
         &mut self,
-        classes: &ClassProgram,
-        class: u32,
-        args: Vec<Value>,
+        code: &Code,
+        number: u32,
+        args: Vec<Option<Value>>,
     ) -> Result<(ActorId, CellId), Fault> {
-        let Some(code) = classes.class(class) else {
+        let Some(class) = code.class(number) else {
             return Err(Fault::Astray);
         };
-        let Some(places) = places_of(code) else {
-            return Err(Fault::Astray);
-        };
-        if args.len() != code.params as usize {
+        if args.len() != class.params as usize {
             return Err(Fault::Astray);
         }
         let cell = self.heap.new_result()?;
         if !self.heap.may_start(Some(cell)) {
             return Err(Fault::Astray);
         }
-        let actor = self.heap.start(class, places, Some(cell))?;
-        self.fill_params(actor, args)?;
+        self.hold_values(&args)?;
+        let actor = self
+            .heap
+            .start_holding(number, class.places, args, Some(cell))?;
         Ok((actor, cell))
     }
 
     /// The line of an actor's start.
     pub(crate) fn tell_start(
         &mut self,
-        classes: &ClassProgram,
+        code: &Code,
         class: u32,
         actor: ActorId,
     ) -> Result<(), Fault> {
-        match classes.class(class) {
-            Some(code) => {
-                let name = code.name.copy(self.alloc)?;
+        match code.class(class) {
+            Some(class) => {
+                let name = class.name.copy(self.alloc)?;
                 self.tell(Line::Start(actor, name));
                 Ok(())
             }
@@ -238,18 +192,26 @@ impl Process {
     // The call of an actor: a turn, and the new actor runs; its result is then stored or kept, and the caller goes on.
     fn start(
         &mut self,
-        classes: &ClassProgram,
+        code: &Code,
         caller: ActorId,
         goal: Goal,
-        class: u32,
-        args: Vec<Value>,
-    ) -> Result<(), Fault> {
+        number: u32,
+        args: &[Resolved],
+    ) -> Result<Pace, Fault> {
+        let Some(class) = code.class(number) else {
+            return Err(Fault::Astray);
+        };
+        let args = match self.place_values(code, caller, args, class.places) {
+            Ok(args) => args,
+            Err(halt) => return self.halted(caller, halt),
+        };
         if !self.turn() {
-            return Ok(());
+            return Ok(Pace::Off);
         }
-        let (actor, cell) = self.enrol(classes, class, args)?;
+        let (actor, cell) = self.enrol(code, number, args)?;
         self.gives(caller, goal, Value::Ref(Kind::Future, cell))?;
         self.heap.push(Task::Run(actor))?;
-        self.tell_start(classes, class, actor)
+        self.tell_start(code, number, actor)?;
+        Ok(Pace::Off)
     }
 }

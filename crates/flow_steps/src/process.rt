@@ -7,7 +7,7 @@ use crate::call::Call;
 use crate::errors::Fault;
 use flow_base::memory::NoMemory;
 use flow_cancel::heap::Heap;
-use flow_class::program::ClassProgram;
+use flow_code::program::Code;
 use flow_trace::line::Line;
 use std::alloc::Global;
 
@@ -93,7 +93,7 @@ impl Process {
 
     /// Does the newest task, and again, until a step asks something of the world, a turn was wanted in vain, or no task is
     /// left.
-    pub fn run_tasks(&mut self, classes: &ClassProgram) -> Result<Next, Fault> {
+    pub fn run_tasks(&mut self, code: &Code) -> Result<Next, Fault> {
         for _step in 0..u64::MAX {
             if self.spent {
                 return Ok(Next::Spent);
@@ -101,7 +101,7 @@ impl Process {
             let Some(task) = self.heap.next_task() else {
                 return Ok(Next::Rested);
             };
-            self.do_task(classes, task)?;
+            self.do_task(code, task)?;
             if self.asked.is_some() {
                 return Ok(Next::Asks);
             }
