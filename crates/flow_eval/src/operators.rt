@@ -82,7 +82,7 @@ fn joined(alloc: Global, s: &Text, t: &Text) -> Result<Value, Halt>
     let mut bytes = Vec::with_capacity(alloc, first.len() + second.len())?;
     bytes.extend_from_slice(first)?;
     bytes.extend_from_slice(second)?;
-    Ok(Value::Text(Text::new(alloc, &bytes)?))
+    Ok(Value::text(alloc, Text::new(alloc, &bytes)?)?)
 }
 
 fn on_texts(alloc: Global, op: Op, s: &Text, t: &Text) -> Result<Value, Halt>
@@ -122,7 +122,7 @@ pub fn operated(alloc: Global, op: Op, left: &Value, right: &Value) -> Result<Va
             | Value::Text(_)
             | Value::Void
             | Value::Error(_)
-            | Value::Struct(_, _)
+            | Value::Struct(_)
             | Value::Ref(_, _) => Err(Halt::NoMeaning),
         },
         Value::Text(s) => match right {
@@ -131,7 +131,7 @@ pub fn operated(alloc: Global, op: Op, left: &Value, right: &Value) -> Result<Va
             | Value::Bool(_)
             | Value::Void
             | Value::Error(_)
-            | Value::Struct(_, _)
+            | Value::Struct(_)
             | Value::Ref(_, _) => Err(Halt::NoMeaning),
         },
         Value::Bool(a) => match right {
@@ -140,10 +140,10 @@ pub fn operated(alloc: Global, op: Op, left: &Value, right: &Value) -> Result<Va
             | Value::Text(_)
             | Value::Void
             | Value::Error(_)
-            | Value::Struct(_, _)
+            | Value::Struct(_)
             | Value::Ref(_, _) => Err(Halt::NoMeaning),
         },
-        Value::Void | Value::Error(_) | Value::Struct(_, _) | Value::Ref(_, _) => {
+        Value::Void | Value::Error(_) | Value::Struct(_) | Value::Ref(_, _) => {
             Err(Halt::NoMeaning)
         }
     }

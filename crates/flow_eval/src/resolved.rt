@@ -33,7 +33,7 @@ fn held(places: &[Option<Value>], place: u32) -> Option<&Value> {
 /// A field of a record value, where it has one with a name of this number.
 pub fn field<'a>(fields: &FieldNames, value: &'a Value, field: u32) -> Option<&'a Value> {
     match value {
-        Value::Struct(id, values) => values.get(fields.place(*id, field)?),
+        Value::Struct(record) => record.fields.get(fields.place(record.id, field)?),
         _ => None,
     }
 }
@@ -82,7 +82,7 @@ pub fn evaluate_resolved<'a, C: CellView>(
 ) -> Result<Value, Halt> {
     match expr {
         Resolved::Int(n) => Ok(Value::Int(*n)),
-        Resolved::Text(text) => Ok(Value::Text(text.copy(sight.setting.alloc)?)),
+        Resolved::Text(text) => Ok(Value::text(sight.setting.alloc, text.copy(sight.setting.alloc)?)?),
         Resolved::Bool(b) => Ok(Value::Bool(*b)),
         Resolved::VoidValue => Ok(Value::Void),
         Resolved::Place(place) => copied(sight, held(sight.places, *place)),
@@ -90,7 +90,10 @@ pub fn evaluate_resolved<'a, C: CellView>(
             let args = evaluate_args(sight, args, turns)?;
             call_answer(sight.setting.alloc, *call, sight.setting.time, &args)
         }
-        Resolved::Record(id, args) => Ok(Value::Struct(*id, evaluate_args(sight, args, turns)?)),
+        Resolved::Record(id, args) => {
+            let fields = evaluate_args(sight, args, turns)?;
+            Ok(Value::record(sight.setting.alloc, *id, fields)?)
+        }
         Resolved::Function(function, args) => {
             let args = evaluate_args(sight, args, turns)?;
             let function = *function as usize;

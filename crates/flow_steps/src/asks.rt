@@ -9,7 +9,8 @@ use flow_base::errors::ALREADY_SET;
 use flow_base::ids::{ActorId, CellId};
 use flow_cancel::task::Task;
 use flow_trace::line::Line;
-use flow_value::value::{Kind, Outcome, Value};
+use flow_value::value::{Kind, Outcome, Value, own_text};
+use std::alloc::Global;
 
 /// Takes the first argument out of the arguments.
 fn first(args: Vec<Value>) -> Option<Value> {
@@ -17,12 +18,12 @@ fn first(args: Vec<Value>) -> Option<Value> {
 }
 
 /// The line of a printed value.
-fn print_line(actor: ActorId, value: Value) -> Result<Line, Fault> {
+fn print_line(alloc: Global, actor: ActorId, value: Value) -> Result<Line, Fault> {
     match value {
         Value::Int(n) => Ok(Line::PrintInt(actor, n)),
         Value::Bool(b) => Ok(Line::PrintBool(actor, b)),
-        Value::Text(text) => Ok(Line::PrintText(actor, text)),
-        Value::Void | Value::Error(_) | Value::Struct(_, _) | Value::Ref(_, _) => {
+        Value::Text(text) => Ok(Line::PrintText(actor, own_text(alloc, text)?)),
+        Value::Void | Value::Error(_) | Value::Struct(_) | Value::Ref(_, _) => {
             Err(Fault::Astray)
         }
     }
@@ -38,11 +39,11 @@ fn sent(method: Method, arg: Option<Value>) -> Result<Outcome, Fault> {
 }
 
 /// A text that is sent to a port of a process.
-fn send_to(actor: ActorId, args: Vec<Value>) -> Result<Call, Fault> {
+fn send_to(alloc: Global, actor: ActorId, args: Vec<Value>) -> Result<Call, Fault> {
     let mut args = args;
     let process = int_at(&args, 0)?;
     let port = int_at(&args, 1)?;
-    let text = take_text(&mut args, 2)?;
+    let text = take_text(alloc, &mut args, 2)?;
     Ok(Call::SendTo(actor, process, port, text))
 }
 
@@ -52,7 +53,7 @@ impl Process {
         let Some(value) = first(args) else {
             return Err(Fault::Astray);
         };
-        let line = print_line(actor, value)?;
+        let line = print_line(self.alloc, actor, value)?;
         self.heap.push(Task::Run(actor))?;
         self.tell(line);
         Ok(())
@@ -68,7 +69,7 @@ impl Process {
         match call {
             Predefined::Trace => self.print(actor, args),
             Predefined::SendTo => {
-                let sent = send_to(actor, args)?;
+                let sent = send_to(self.alloc, actor, args)?;
                 self.ask(sent);
                 Ok(())
             }

@@ -13,7 +13,8 @@ use flow_code::class::Effect;
 use flow_code::program::Code;
 use flow_resolved::expr::Resolved;
 use flow_trace::line::Line;
-use flow_value::value::{Kind, Value};
+use flow_value::value::{Kind, Value, own_text};
+use std::alloc::Global;
 
 /// The number that an argument is.
 pub(crate) fn int_at(args: &[Value], place: usize) -> Result<i64, Fault> {
@@ -24,10 +25,14 @@ pub(crate) fn int_at(args: &[Value], place: usize) -> Result<i64, Fault> {
 }
 
 /// Takes the text that an argument is out of the arguments.
-pub(crate) fn take_text(args: &mut [Value], place: usize) -> Result<Text, Fault> {
+pub(crate) fn take_text(
+    alloc: Global,
+    args: &mut [Value],
+    place: usize,
+) -> Result<Text, Fault> {
     match args.get_mut(place) {
         Some(arg) => match std::mem::replace(arg, Value::Void) {
-            Value::Text(text) => Ok(text),
+            Value::Text(text) => Ok(own_text(alloc, text)?),
             _ => Err(Fault::Astray),
         },
         None => Err(Fault::Astray),
@@ -35,8 +40,12 @@ pub(crate) fn take_text(args: &mut [Value], place: usize) -> Result<Text, Fault>
 }
 
 /// The request to a disk that a predefined call makes.
-fn disk_call(call: Predefined, args: &mut [Value]) -> Result<DiskCall, Fault> {
-    let file = take_text(args, 0)?;
+fn disk_call(
+    alloc: Global,
+    call: Predefined,
+    args: &mut [Value],
+) -> Result<DiskCall, Fault> {
+    let file = take_text(alloc, args, 0)?;
     match call {
         Predefined::ReadFile => {
             let offset = int_at(args, 1)?;
@@ -44,7 +53,7 @@ fn disk_call(call: Predefined, args: &mut [Value]) -> Result<DiskCall, Fault> {
         }
         Predefined::WriteFile => {
             let offset = int_at(args, 1)?;
-            Ok(DiskCall::Write(file, offset, take_text(args, 2)?))
+            Ok(DiskCall::Write(file, offset, take_text(alloc, args, 2)?))
         }
         Predefined::SyncFile => Ok(DiskCall::Sync(file)),
         Predefined::FileSize => Ok(DiskCall::Size(file)),
@@ -131,7 +140,7 @@ impl Process {
             }
             _ => {
                 let mut args = args;
-                Call::Disk(actor, goal, disk_call(call, &mut args)?)
+                Call::Disk(actor, goal, disk_call(self.alloc, call, &mut args)?)
             }
         };
         self.ask(asked);

@@ -15,7 +15,7 @@ use std::mem;
 
 /// Whether a value may hold references.
 pub(crate) fn may_refer(value: &Value) -> bool {
-    matches!(value, Value::Struct(_, _) | Value::Ref(_, _))
+    matches!(value, Value::Struct(_) | Value::Ref(_, _))
 }
 
 /// Where an actor stands: its class, and the block and the instruction; where it waits, the block of the wait.
@@ -55,9 +55,9 @@ fn exchange(fields: &FieldNames, root: &mut Value, path: &[u32], value: Value) -
         return Some(mem::replace(root, value));
     };
     match root {
-        Value::Struct(id, values) => {
-            let place = fields.place(*id, *name)?;
-            exchange(fields, values.get_mut(place)?, rest, value)
+        Value::Struct(record) => {
+            let place = fields.place(record.id, *name)?;
+            exchange(fields, record.fields.get_mut(place)?, rest, value)
         }
         _ => None,
     }

@@ -85,8 +85,8 @@ impl Process {
     /// A value is stored: its references count.
     pub(crate) fn hold_value(&mut self, value: &Value) -> Result<(), Fault> {
         match value {
-            Value::Struct(_, fields) => {
-                for field in fields {
+            Value::Struct(record) => {
+                for field in &record.fields {
                     self.hold_value(field)?;
                 }
                 Ok(())

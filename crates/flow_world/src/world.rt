@@ -386,7 +386,7 @@ impl World {
             cell,
         )?;
         put(out, &line)?;
-        self.runs(p, Deed::Delivers(cell, disk_outcome(reply)), out)
+        self.runs(p, Deed::Delivers(cell, disk_outcome(self.alloc, reply)?), out)
     }
 
     /// A process does what follows of a deed.
@@ -487,18 +487,18 @@ fn packet_value(alloc: Global, packet: Packet) -> Result<Value, NoMemory> {
     let mut fields = Vec::new(alloc);
     fields.push(Value::Int(i64::from(packet.from.0)))?;
     fields.push(Value::Int(i64::from(packet.port)))?;
-    fields.push(Value::Text(packet.text))?;
-    Ok(Value::Struct(RecordId::Packet, fields))
+    fields.push(Value::text(alloc, packet.text)?)?;
+    Value::record(alloc, RecordId::Packet, fields)
 }
 
 /// What a cell gets of an answer of a disk.
-fn disk_outcome(reply: DiskReply) -> Outcome {
-    match reply {
-        DiskReply::Text(text) => Outcome::Value(Value::Text(text)),
+fn disk_outcome(alloc: Global, reply: DiskReply) -> Result<Outcome, NoMemory> {
+    Ok(match reply {
+        DiskReply::Text(text) => Outcome::Value(Value::text(alloc, text)?),
         DiskReply::Done => Outcome::Value(Value::Void),
         DiskReply::Size(size) => Outcome::Value(Value::Int(i64::from(size))),
         DiskReply::Failed => Outcome::Error(DISK_FAILED),
-    }
+    })
 }
 
 /// The line of an answer of a disk.
