@@ -374,8 +374,7 @@ impl Heap {
         requires { IsSome (thing self.old.frames.things actor.0) }
         ensures { OnOk result (self.new ≡ withdrawn actor.0 self.old) }
     {
-        let mut callbacks = self.frames.take_callbacks(actor);
-        while let Some(held) = callbacks.pop() {
+        while let Some(held) = self.frames.pop_callback(actor) {
             self.leave(actor, held)?;
         }
         Ok(())

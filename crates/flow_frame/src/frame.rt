@@ -67,7 +67,6 @@ fn cut<T: Drop>(filled: &mut Vec<Option<T>>)
     while let Some(None) = filled.last() {
         filled.pop();
     }
-    filled.shrink_to_fit();
 }
 
 // Whether the first so many of these are empty.
@@ -249,6 +248,11 @@ impl<T> Frame<T> {
         ensures rest { self.new ≡ record self.old { callbacks = [] } }
     {
         mem::replace(&mut self.callbacks, Vec::new(alloc))
+    }
+
+    /// Takes the last callback, if there is one.
+    pub(crate) fn pop_callback(&mut self) -> Option<Held> {
+        self.callbacks.pop()
     }
 
     /// Takes the first callback, if there is one.

@@ -265,6 +265,13 @@ impl<T> Frames<T> {
         self.frames.get_mut(actor.0).take_callbacks(alloc)
     }
 
+    /// Takes the last callback of a frame: `None` where there is none.
+    pub fn pop_callback(&mut self, actor: ActorId) -> Option<Held>
+        requires { IsSome (thing self.old.things actor.0) }
+    {
+        self.frames.get_mut(actor.0).pop_callback()
+    }
+
     /// Takes the first callback of a frame: `None` where there is none.
     pub fn take_callback(&mut self, actor: ActorId) -> Option<Held>
         requires { IsSome (thing self.old.things actor.0) }
