@@ -137,7 +137,7 @@ pub fn put_in(records: &[RecordDecl], base: Value, path: &[Ident], value: Value)
 #[tactic(auto, using(crate::proofs::Lookups::value_past))]
 fn put_field(
     records: &[RecordDecl],
-    mut record: Box<Record>,
+    mut record: Box<Record<Value>>,
     name: &[u8],
     rest: &[Ident],
     value: Value,

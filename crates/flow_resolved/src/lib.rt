@@ -2,6 +2,7 @@
 //! that no text is compared while a run goes.
 #![tactic(auto)]
 
+pub mod evaluate;
 pub mod expr;
 pub mod names;
 pub mod resolve;

@@ -1,5 +1,8 @@
 // The names of a program's records, functions and fields, by number.
 
+ghost use Rattle.std.specs.Prelude.{◌≡◌, position, nat_eq, nat_lt, Some, None, if◌then◌else◌};
+ghost use Rattle.flow_resolved.specs.View.{place_in, places_in};
+
 use flow_ast::decl::{FunctionDecl, RecordDecl};
 use flow_ast::typing::is_packet;
 use flow_base::memory::NoMemory;
@@ -130,21 +133,39 @@ impl<'a> Names<'a> {
     }
 }
 
+fn number_place(numbers: &[u32], number: u32) -> Option<usize>
+    ensures { result ≡ position (λ n. nat_eq n number) numbers.now }
+{
+    numbers.iter().position(|other| *other == number)
+}
+
+#[tactic(auto, using(crate::proofs::Places::place_there, crate::proofs::Places::place_past))]
+fn declared_place(records: &[Vec<u32>], k: usize, number: u32) -> Option<usize>
+    ensures { result ≡ place_in records.now k number }
+{
+    if k >= records.len() {
+        return None;
+    }
+    number_place(&records[k], number)
+}
+
+fn packet_place(number: u32) -> Option<usize>
+    ensures { result ≡ (if nat_lt number 3 then Some number else None) }
+{
+    if number < 3 {
+        return Some(number as usize);
+    }
+    None
+}
+
 impl FieldNames {
     /// The place of a field in a record, where it has one with a name of this number.
-    pub fn place(&self, id: RecordId, field: u32) -> Option<usize> {
+    pub fn place(&self, id: RecordId, number: u32) -> Option<usize>
+        ensures { result ≡ places_in self.now id number }
+    {
         match id {
-            RecordId::Packet => {
-                if field < 3 {
-                    Some(field as usize)
-                } else {
-                    None
-                }
-            }
-            RecordId::Declared(k) => {
-                let fields = self.records.get(k)?;
-                fields.iter().position(|other| *other == field)
-            }
+            RecordId::Packet => packet_place(number),
+            RecordId::Declared(k) => declared_place(&self.records, k, number),
         }
     }
 }

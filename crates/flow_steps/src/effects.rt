@@ -25,11 +25,7 @@ pub(crate) fn int_at(args: &[Value], place: usize) -> Result<i64, Fault> {
 }
 
 /// Takes the text that an argument is out of the arguments.
-pub(crate) fn take_text(
-    alloc: Global,
-    args: &mut [Value],
-    place: usize,
-) -> Result<Text, Fault> {
+pub(crate) fn take_text(alloc: Global, args: &mut [Value], place: usize) -> Result<Text, Fault> {
     match args.get_mut(place) {
         Some(arg) => match std::mem::replace(arg, Value::Void) {
             Value::Text(text) => Ok(own_text(alloc, text)?),
@@ -40,11 +36,7 @@ pub(crate) fn take_text(
 }
 
 /// The request to a disk that a predefined call makes.
-fn disk_call(
-    alloc: Global,
-    call: Predefined,
-    args: &mut [Value],
-) -> Result<DiskCall, Fault> {
+fn disk_call(alloc: Global, call: Predefined, args: &mut [Value]) -> Result<DiskCall, Fault> {
     let file = take_text(alloc, args, 0)?;
     match call {
         Predefined::ReadFile => {

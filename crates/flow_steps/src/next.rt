@@ -11,11 +11,11 @@ use flow_cancel::task::Task;
 use flow_code::class::{Act, Aim, Branch, Effect, Instruction, Last, Operand};
 use flow_code::program::Code;
 use flow_eval::evaluate::{Setting, Turns, run_at};
-use flow_eval::resolved::{
-    Sight, evaluate_args, evaluate_places, evaluate_resolved, evaluate_truth, field,
-};
 use flow_eval::stop::Halt;
 use flow_eval::variables::VarList;
+use flow_resolved::evaluate::{
+    Sight, evaluate_args, evaluate_places, evaluate_resolved, evaluate_truth, field,
+};
 use flow_resolved::expr::Resolved;
 use flow_resolved::names::FieldNames;
 use flow_tree::limits::CALL_DEPTH;

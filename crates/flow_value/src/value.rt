@@ -28,16 +28,14 @@ pub enum RecordId {
     Declared(usize),
 }
 
-/// A record's value: which record it is of, and its fields in order.
-#[cycle(value)]
+/// A record: which one it is, and its fields in order.
 #[derive(Drop, Debug)]
-pub struct Record {
+pub struct Record<V> {
     pub id: RecordId,
-    pub fields: Vec<Value>,
+    pub fields: Vec<V>,
 }
 
 /// A value. A text is shared by its copies, and a record stands in a box, so that a value is small; a reference names a cell.
-#[cycle(value)]
 #[derive(Drop, Debug)]
 pub enum Value {
     Int(i64),
@@ -45,7 +43,7 @@ pub enum Value {
     Text(Rc<Text>),
     Void,
     Error(ErrorCode),
-    Struct(Box<Record>),
+    Struct(Box<Record<Value>>),
     Ref(Kind, CellId),
 }
 

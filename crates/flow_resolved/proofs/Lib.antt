@@ -1,0 +1,5 @@
+pub mod Alike
+pub mod Args
+pub mod Known
+pub mod Places
+pub mod Weights

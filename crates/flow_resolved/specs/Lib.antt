@@ -1,0 +1,5 @@
+pub mod Evaluation
+pub mod Resolving
+pub mod Tree
+pub mod Truth
+pub mod View
