@@ -139,22 +139,22 @@ impl Process {
         Ok(())
     }
 
-    // Values in places count.
-    fn hold_values(&mut self, values: &[Option<Value>]) -> Result<(), Fault> {
-        for value in values {
-            if let Some(value) = value {
-                self.hold_value(value)?;
-            }
+    // Arguments count, and fill the first of so many places.
+    fn fill_places(&mut self, args: Vec<Value>, places: u32) -> Result<Vec<Option<Value>>, Fault> {
+        let mut filled = Vec::with_capacity(self.alloc, places as usize)?;
+        for arg in args {
+            self.hold_value(&arg)?;
+            filled.push(Some(arg))?;
         }
-        Ok(())
+        Ok(filled)
     }
 
-    /// An actor of the class at a place is made, whose first places hold these: its result, its number and its frame.
+    /// An actor of the class at a place is made, with these arguments: its result, its number and its frame.
     pub(crate) fn enrol(
         &mut self,
         code: &Code,
         number: u32,
-        args: Vec<Option<Value>>,
+        args: Vec<Value>,
     ) -> Result<(ActorId, CellId), Fault> {
         let Some(class) = code.class(number) else {
             return Err(Fault::Astray);
@@ -166,10 +166,10 @@ impl Process {
         if !self.heap.may_start(Some(cell)) {
             return Err(Fault::Astray);
         }
-        self.hold_values(&args)?;
+        let filled = self.fill_places(args, class.places)?;
         let actor = self
             .heap
-            .start_holding(number, class.places, args, Some(cell))?;
+            .start_holding(number, class.places, filled, Some(cell))?;
         Ok((actor, cell))
     }
 
@@ -199,10 +199,7 @@ impl Process {
         number: u32,
         args: &[Resolved],
     ) -> Result<Pace, Fault> {
-        let Some(class) = code.class(number) else {
-            return Err(Fault::Astray);
-        };
-        let args = match self.place_values(code, caller, args, class.places) {
+        let args = match self.values(code, caller, args) {
             Ok(args) => args,
             Err(halt) => return self.halted(caller, halt),
         };

@@ -20,7 +20,7 @@ impl Process {
         let Some(class) = code.main() else {
             return Err(Fault::Astray);
         };
-        let args = vec![in self.alloc; Some(Value::Int(i64::from(me.0)))]?;
+        let args = vec![in self.alloc; Value::Int(i64::from(me.0))]?;
         let (actor, cell) = self.enrol(code, class, args)?;
         self.hold(Kind::Future, cell)?;
         self.heap.set_main(Some(cell));

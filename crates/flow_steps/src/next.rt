@@ -13,9 +13,7 @@ use flow_code::program::Code;
 use flow_eval::evaluate::{Setting, Turns, run_at};
 use flow_eval::stop::Halt;
 use flow_eval::variables::VarList;
-use flow_resolved::evaluate::{
-    Sight, evaluate_args, evaluate_places, evaluate_resolved, evaluate_truth, field,
-};
+use flow_resolved::evaluate::{Sight, evaluate_args, evaluate_resolved, evaluate_truth, field};
 use flow_resolved::expr::Resolved;
 use flow_resolved::names::FieldNames;
 use flow_tree::limits::CALL_DEPTH;
@@ -126,29 +124,6 @@ impl Process {
             places: self.heap.frames().places_held(actor),
         };
         let values = evaluate_args(&sight, args, &mut turns);
-        self.left = turns.left;
-        values
-    }
-
-    /// The values of arguments for an actor, as they fill the first of so many places.
-    pub(crate) fn place_values(
-        &mut self,
-        code: &Code,
-        actor: ActorId,
-        args: &[Resolved],
-        room: u32,
-    ) -> Result<Vec<Option<Value>>, Halt> {
-        let mut turns = Turns { left: self.left };
-        let contents = Contents {
-            cells: self.heap.cells(),
-        };
-        let setting = self.setting(code, &contents);
-        let sight = Sight {
-            setting: &setting,
-            fields: code.fields(),
-            places: self.heap.frames().places_held(actor),
-        };
-        let values = evaluate_places(&sight, args, room as usize, &mut turns);
         self.left = turns.left;
         values
     }
