@@ -18,7 +18,7 @@ use Rattle.flow_eval.specs.Records.{record_id, field_place, field, field_answer,
 use Rattle.flow_eval.specs.Eval.{Setting, Runner, Res, Done, Fails, Spent, Meaningless, then, at_once, more_args, found, variable, or_then, and_then, truth_of, both, second, method_called, function_called, declared_called, called, eval, eval_all}
 use Rattle.flow_resolved.specs.Tree.{Node, Nodes}
 use Rattle.flow_resolved.specs.Evaluation.{Sight, numbered_field, field_by, value_at, values_at}
-use Rattle.flow_resolved.specs.Resolving.{Naming, function_at, place_node, variable_node, function_node, declared_node, call_node, resolved, resolved_all, place_by, IsNumbering, held_by, AreSeen, SameMeaning, ResolvedAlike}
+use Rattle.flow_resolved.specs.Resolving.{Naming, place_node, variable_node, function_node, declared_node, call_node, resolved, resolved_all, place_by, IsNumbering, AreRecords, AreFunctions, held_by, AreSeen, SameMeaning, ResolvedAlike}
 
 then_same : {A B : Type 0} (r q : Res A) (go to : A → ℕ → Res B) → r ≡ q → ((x : A) (left : ℕ) → go x left ≡ to x left) → then r go ≡ then q to
 then_same (Done x left) q go to e same = same x left ∙ ap (λ q. then q to) e
@@ -55,17 +55,6 @@ second_same Mul v go to left same = ap (both Mul v) (same left)
 second_same Div v go to left same = ap (both Div v) (same left)
 second_same Rem v go to left same = ap (both Rem v) (same left)
 
--- the first function of a name is the one at its place
-found_chosen : (b : Bool) (f : RoutineTree) (fs : List RoutineTree) (o : Option RoutineTree) (k : Option ℕ) → o ≡ routine_at fs k
-    → cond b (Some f) o ≡ routine_at (f ∷ fs) (cond b (Some 0) (option_map suc k))
-found_chosen true f fs o k e = refl
-found_chosen false f fs o None e = e
-found_chosen false f fs o (Some n) e = e
-
-function_found : (fs : List RoutineTree) (x : List ℕ) → routine_named fs x ≡ routine_at fs (function_at fs x)
-function_found [] x = refl
-function_found (f ∷ fs) x = found_chosen (bytes_eq f.name.name x) f fs (routine_named fs x) (function_at fs x) (function_found fs x)
-
 -- a field by the number of its name is the field of its name
 field_same : (places : RecordId → ℕ → Option ℕ) (rs : List RecordTree) (x : List ℕ) (o : Option ℕ) (v : ValueTree)
     → ((r : RecordId) → place_by places r o ≡ field_place rs r x) → field_by places v o ≡ field rs v x
@@ -95,8 +84,8 @@ variable_same s look x None o left e = place_same s o left ∙ ap (λ v. at_once
 variable_same s look x (Some n) o left e = refl
 
 module _ (n : Naming) (s : Sight) (look : List ℕ → Option ValueTree)
-    (records : n.records ≡ s.setting.records) (functions : n.functions ≡ s.setting.functions)
-    (fields : IsNumbering n.records n.field s.places) (seen : AreSeen look n.place s.held) where
+    (records : AreRecords s.setting.records n.record_of) (functions : AreFunctions s.setting.functions n.function)
+    (fields : IsNumbering s.setting.records n.field s.places) (seen : AreSeen look n.place s.held) where
   -- a call whose arguments are known
   function_same : (f : List ℕ) (k : Option ℕ) (xs : Nodes) (left : ℕ) → routine_named s.setting.functions f ≡ routine_at s.setting.functions k
       → value_at s (function_node k xs) left ≡ then (values_at s xs left) (λ vs left. function_called s.setting s.run (routine_named s.setting.functions f) vs left)
@@ -114,14 +103,8 @@ module _ (n : Naming) (s : Sight) (look : List ℕ → Option ValueTree)
   call_same f None r k xs left d e = declared_same f r k xs left e ∙ ap (λ r. then (values_at s xs left) (λ vs left. declared_called s.setting s.run r f vs left)) d
   call_same f (Some p) r k xs left d e = refl
 
-  the_function : (f : List ℕ) → routine_named s.setting.functions f ≡ routine_at s.setting.functions (function_at n.functions f)
-  the_function f = subst (λ fs. routine_named s.setting.functions f ≡ routine_at s.setting.functions (function_at fs f)) (sym functions) (function_found s.setting.functions f)
-
-  the_record : (f : List ℕ) → record_id n.records f ≡ record_id s.setting.records f
-  the_record f = ap (λ rs. record_id rs f) records
-
   the_field : (x : List ℕ) (v : ValueTree) → field_by s.places v (n.field x) ≡ field s.setting.records v x
-  the_field x v = field_same s.places s.setting.records x (n.field x) v (λ r. fields r x ∙ ap (λ rs. field_place rs r x) records)
+  the_field x v = field_same s.places s.setting.records x (n.field x) v (λ r. fields r x)
 
   mutual
     same : (e : ExprTree) (left : ℕ) → value_at s (resolved n e) left ≡ eval s.setting s.run look e left
@@ -131,7 +114,7 @@ module _ (n : Naming) (s : Sight) (look : List ℕ → Option ValueTree)
     same VoidExpr left = refl
     same (VarExpr x) left = variable_same s look x.name (named constant_names x.name) (n.place x.name) left (seen x.name)
     same (CallExpr f xs) left =
-        call_same f.name (named call_names f.name) (record_id n.records f.name) (function_at n.functions f.name) (resolved_all n xs) left (the_record f.name) (the_function f.name)
+        call_same f.name (named call_names f.name) (n.record_of f.name) (n.function f.name) (resolved_all n xs) left (records f.name) (functions f.name)
         ∙ ap (λ r. then r (λ vs left. called s.setting s.run (named call_names f.name) f.name vs left)) (same_all xs left)
     same (FieldExpr e x) left = then_same _ _ _ _ (same e left) (λ v left. ap (λ o. at_once (field_answer o) left) (the_field x.name v))
     same (MethodExpr e m xs) left =

@@ -1,5 +1,6 @@
 pub mod Alike
 pub mod Args
 pub mod Known
+pub mod Maps
 pub mod Places
 pub mod Weights

@@ -1,4 +1,5 @@
 pub mod Evaluation
+pub mod Named
 pub mod Resolving
 pub mod Tree
 pub mod Truth

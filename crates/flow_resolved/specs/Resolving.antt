@@ -1,7 +1,5 @@
 -- What the names of an expression are resolved to, and that this changes nothing of what it means.
-use Rattle.std.specs.Prelude.{◌≡◌, ℕ, suc, pos, List, [], ◌∷◌, if◌then◌else◌}
-use Rattle.std.specs.Option.{option_map}
-use Rattle.std.specs.Str.{bytes_eq}
+use Rattle.std.specs.Prelude.{◌≡◌, ℕ, pos, List}
 use Rattle.std.specs.declared.option.Option.{Option}
 use Rattle.std.specs.declared.option.Option.TheVariants.{None, Some}
 use Rattle.flow_tree.specs.Tree.{ExprTree, ExprTrees, IntExpr, TextExpr, BoolExpr, VoidExpr, VarExpr, CallExpr, FieldExpr, MethodExpr, NotExpr, NegExpr, BinaryExpr, ParenExpr, NoExprs, MoreExprs}
@@ -11,21 +9,18 @@ use Rattle.flow_ast.specs.TypingNames.{named, call_names, method_names, constant
 use Rattle.flow_value.specs.declared.value.RecordId.{RecordId}
 use Rattle.flow_value.specs.Values.{ValueTree}
 use Rattle.flow_eval.specs.Records.{record_id, field_place}
-use Rattle.flow_eval.specs.Eval.{eval, Res}
+use Rattle.flow_ast.specs.Typing.{routine_named}
+use Rattle.flow_eval.specs.Functions.{routine_at}
+use Rattle.flow_eval.specs.Eval.{eval}
 use Rattle.flow_resolved.specs.Tree.{Node, Nodes, IntNode, TextNode, BoolNode, VoidNode, PlaceNode, CallNode, RecordNode, FunctionNode, UnknownNode, FieldNode, MethodNode, NotNode, NegNode, BinaryNode, NothingNode, NoNodes, MoreNodes}
 use Rattle.flow_resolved.specs.Evaluation.{Sight, value_at}
 
--- the names of a program: its records and functions, the number of each field's name, and the places of an actor by name
+-- what names stand for: records, the places of functions, the numbers of the names of fields, and the places of an actor
 pub record Naming : Type 0 where
-  pub records : List RecordTree
-  pub functions : List RoutineTree
+  pub record_of : List ℕ → Option RecordId
+  pub function : List ℕ → Option ℕ
   pub field : List ℕ → Option ℕ
   pub place : List ℕ → Option ℕ
-
--- the place of the first function of a name
-abbrev pub function_at : List RoutineTree → List ℕ → Option ℕ
-function_at [] x = None
-function_at (f ∷ fs) x = if bytes_eq f.name.name x then Some 0 else option_map suc (function_at fs x)
 
 -- a constant, or else a place
 abbrev pub place_node : Option ℕ → Node
@@ -57,7 +52,7 @@ module _ (n : Naming) where
     resolved (BoolExpr b) = BoolNode b
     resolved VoidExpr = VoidNode
     resolved (VarExpr x) = variable_node (named constant_names x.name) (n.place x.name)
-    resolved (CallExpr f xs) = call_node (named call_names f.name) (record_id n.records f.name) (function_at n.functions f.name) (resolved_all xs)
+    resolved (CallExpr f xs) = call_node (named call_names f.name) (n.record_of f.name) (n.function f.name) (resolved_all xs)
     resolved (FieldExpr e x) = FieldNode (resolved e) (n.field x.name)
     resolved (MethodExpr e m xs) = MethodNode (resolved e) (named method_names m.name) (resolved_all xs)
     resolved (NotExpr e) = NotNode (resolved e)
@@ -90,11 +85,18 @@ AreSeen look place held = (x : List ℕ) → look x ≡ held_by held (place x)
 pub record SameMeaning (n : Naming) (s : Sight) (look : List ℕ → Option ValueTree) : Type 0 where
   pub same : (e : ExprTree) (left : ℕ) → value_at s (resolved n e) left ≡ eval s.setting s.run look e left
 
+-- records and functions are those of these names, the first of several
+abbrev pub AreRecords : List RecordTree → (List ℕ → Option RecordId) → Type 0
+AreRecords rs record_of = (x : List ℕ) → record_of x ≡ record_id rs x
+
+abbrev pub AreFunctions : List RoutineTree → (List ℕ → Option ℕ) → Type 0
+AreFunctions fs function = (x : List ℕ) → routine_named fs x ≡ routine_at fs (function x)
+
 abbrev pub ResolvedAlike : Type 0
 ResolvedAlike =
     (n : Naming) (s : Sight) (look : List ℕ → Option ValueTree)
-    → n.records ≡ s.setting.records
-    → n.functions ≡ s.setting.functions
-    → IsNumbering n.records n.field s.places
+    → AreRecords s.setting.records n.record_of
+    → AreFunctions s.setting.functions n.function
+    → IsNumbering s.setting.records n.field s.places
     → AreSeen look n.place s.held
     → SameMeaning n s look

@@ -58,7 +58,7 @@ fn value_in(values: &[Value], k: usize) -> Option<&Value>
 }
 
 /// A field of a record, where it has one with a name of this number.
-fn record_field<'a>(fields: &FieldNames, of: &'a Record<Value>, name: u32) -> Option<&'a Value>
+fn record_field<'a>(fields: &FieldNames, of: &'a Record<Value>, name: usize) -> Option<&'a Value>
     ensures { option_map value_of (option_copied result) ≡ at_place (values_of of.now.fields.items) (places_in fields.now of.now.id name) }
 {
     match fields.place(of.id, name) {
@@ -69,7 +69,7 @@ fn record_field<'a>(fields: &FieldNames, of: &'a Record<Value>, name: u32) -> Op
 
 #[tactic(auto, using(crate::proofs::Known::struct_seen))]
 /// A field of a record value, where it has one with a name of this number.
-pub fn field<'a>(fields: &FieldNames, value: &'a Value, name: u32) -> Option<&'a Value>
+pub fn field<'a>(fields: &FieldNames, value: &'a Value, name: usize) -> Option<&'a Value>
     ensures { option_map value_of (option_copied result) ≡ numbered_field (places_in fields.now) (value_of value.now) name }
 {
     match value {
@@ -102,7 +102,7 @@ fn seen<'a, C: CellView>(sight: &Sight<'a, C>, expr: &Resolved) -> Option<&'a Va
 fn seen_field<'a, C: CellView>(
     sight: &Sight<'a, C>,
     of: &Resolved,
-    name: Option<u32>,
+    name: Option<usize>,
 ) -> Option<&'a Value>
     ensures { IfSome result (λ v. (left : ℕ) → value_at (sight_of C.content sight.now) (FieldNode (node_of of.now) name) left ≡ Done (value_of v.now) left) }
 {
@@ -142,7 +142,7 @@ fn field_value(
     alloc: Global,
     fields: &FieldNames,
     base: &Value,
-    name: Option<u32>,
+    name: Option<usize>,
 ) -> Result<Value, Halt>
     ensures { Answers (field_answer (field_by (places_in fields.now) (value_of base.now) name)) result }
 {
@@ -180,14 +180,13 @@ fn as_truth(value: &Value) -> Result<Value, Halt>
 
 fn call_function<C: CellView>(
     setting: &Setting<C>,
-    function: u32,
+    function: usize,
     args: Vec<Value>,
     turns: &mut Turns,
 ) -> Result<Value, Halt>
     ensures gives { Gives (function_called (setting_of C.content setting.now) (run_function (setting_of C.content setting.now) CALL_DEPTH) (slice_get (map function_of setting.now.functions.now) function) (map value_of args.items) turns.old.left) result turns.new.left }
     ensures fewer { turns.new.left ≤ turns.old.left }
 {
-    let function = function as usize;
     if function >= setting.functions.len() {
         return Err(Halt::NoMeaning);
     }
@@ -241,7 +240,7 @@ pub fn evaluate_resolved<C: CellView>(
 fn evaluate_field<C: CellView>(
     sight: &Sight<C>,
     of: &Resolved,
-    name: Option<u32>,
+    name: Option<usize>,
     turns: &mut Turns,
 ) -> Result<Value, Halt>
     ensures gives { Gives (then (value_at (sight_of C.content sight.now) (node_of of.now) turns.old.left) (λ v l. at_once (field_answer (field_by (places_in sight.now.fields.now) v name)) l)) result turns.new.left }

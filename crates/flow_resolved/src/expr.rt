@@ -20,11 +20,11 @@ pub enum Resolved {
     /// A record made of its fields.
     Record(RecordId, Vec<Resolved>),
     /// A call of the plain function at a place in the list of the program's functions, from 0.
-    Function(u32, Vec<Resolved>),
+    Function(usize, Vec<Resolved>),
     /// A call by a name that nothing has: its arguments are evaluated, and mean nothing.
     Unknown(Vec<Resolved>),
     /// A field by the number of its name; none where no record has such a field.
-    Field(Box<Resolved>, Option<u32>),
+    Field(Box<Resolved>, Option<usize>),
     /// A method of a value; none where the name is no method's.
     Method(Box<Resolved>, Option<Method>, Vec<Resolved>),
     Not(Box<Resolved>),

@@ -1,107 +1,159 @@
 // The names of a program's records, functions and fields, by number.
 
-ghost use Rattle.std.specs.Prelude.{◌≡◌, position, nat_eq, nat_lt, Some, None, if◌then◌else◌};
+ghost use Rattle.std.specs.Prelude.{◌≡◌, ℕ, List, map, position, nat_eq, nat_lt, Some, None, IfOk, OnOk, if◌then◌else◌};
+ghost use Rattle.std.specs.Str.{bytes_eq};
+ghost use Rattle.flow_tree.specs.DeclView.{record_of, function_of, param_of};
+ghost use Rattle.flow_resolved.specs.Named.{at_name, key_at, first_from, or_else, Keeps, IsNamed, AreNamed, AllNamed, record_at, name_of_record, name_of_function, naming_of};
+ghost use Rattle.flow_ast.specs.Typing.{packet_fields};
+ghost use Rattle.flow_resolved.specs.Resolving.{AreRecords, AreFunctions, IsNumbering};
 ghost use Rattle.flow_resolved.specs.View.{place_in, places_in};
 
 use flow_ast::decl::{FunctionDecl, RecordDecl};
 use flow_ast::typing::is_packet;
 use flow_base::memory::NoMemory;
 use flow_value::value::RecordId;
+use indexmap::{IndexMap, IndexSet};
 use std::alloc::Global;
-use std::collections::HashMap;
 
-/// The names of a program, each with the number of the first that has it.
+/// The names of a program's records and functions, each with the place of the first that has it, and those of fields, each
+/// with its number.
 #[derive(Drop)]
 pub struct Names<'a> {
     pub alloc: Global,
-    records: HashMap<&'a [u8], usize>,
-    functions: HashMap<&'a [u8], u32>,
-    fields: HashMap<&'a [u8], u32>,
+    records: IndexMap<&'a [u8], usize>,
+    functions: IndexMap<&'a [u8], usize>,
+    fields: IndexSet<&'a [u8]>,
 }
 
 /// The fields of a program's records, by the numbers of their names. Those of `Packet` are `from`, `port` and `text`, with the
 /// numbers 0, 1 and 2.
 #[derive(Drop, Debug)]
 pub struct FieldNames {
-    records: Vec<Vec<u32>>,
+    records: Vec<Vec<usize>>,
 }
 
-/// The number of a name, which is the next one where it has none yet.
-fn number<'a>(
-    numbers: &mut HashMap<&'a [u8], u32>,
+/// The place that is noted of a name.
+fn noted(places: &IndexMap<&[u8], usize>, name: &[u8]) -> Option<usize>
+    ensures { result ≡ at_name places.now name.now }
+{
+    places.get(name).copied()
+}
+
+#[tactic(auto, using(crate::proofs::Maps::noted_there, crate::proofs::Maps::noted_new))]
+/// Notes the place of a name, unless one is noted already.
+fn note<'a>(
+    places: &mut IndexMap<&'a [u8], usize>,
     name: &'a [u8],
-    next: u32,
-) -> Result<u32, NoMemory> {
-    if let Some(number) = numbers.get(&name) {
-        return Ok(*number);
+    place: usize,
+) -> Result<(), NoMemory>
+    ensures { OnOk result ((x : List ℕ) → at_name places.new x ≡ or_else (at_name places.old x) (if bytes_eq x name.now then Some place else None)) }
+{
+    if noted(places, name).is_some() {
+        return Ok(());
     }
-    numbers.insert(name, next)?;
-    Ok(next)
+    places.insert(name, place)?;
+    Ok(())
+}
+
+/// The place of the first record of each name.
+#[tactic(auto, using(crate::proofs::Maps::first_step, crate::proofs::Maps::first_end))]
+fn first_records<'a>(
+    alloc: Global,
+    records: &'a [RecordDecl],
+) -> Result<IndexMap<&'a [u8], usize>, NoMemory>
+    ensures { IfOk result (λ m. (x : List ℕ) → at_name m x ≡ first_from 0 (map name_of_record records.now) x) }
+{
+    let mut places = IndexMap::new(alloc);
+    for (place, record) in records.iter().enumerate() {
+        note(&mut places, record.name.name.bytes(), place)?;
+    }
+    Ok(places)
+}
+
+/// The place of the first function of each name.
+#[tactic(auto, using(crate::proofs::Maps::first_step, crate::proofs::Maps::first_end))]
+fn first_functions<'a>(
+    alloc: Global,
+    functions: &'a [FunctionDecl],
+) -> Result<IndexMap<&'a [u8], usize>, NoMemory>
+    ensures { IfOk result (λ m. (x : List ℕ) → at_name m x ≡ first_from 0 (map name_of_function functions.now) x) }
+{
+    let mut places = IndexMap::new(alloc);
+    for (place, function) in functions.iter().enumerate() {
+        note(&mut places, function.name.name.bytes(), place)?;
+    }
+    Ok(places)
+}
+
+/// The number of the name of a field, the next one where it has none yet.
+fn number<'a>(names: &mut IndexSet<&'a [u8]>, name: &'a [u8]) -> Result<usize, NoMemory>
+    ensures named { IfOk result (λ n. IsNamed names.new.keys n name.now) }
+    ensures kept { OnOk result (Keeps names.old.keys names.new.keys) }
+{
+    let (number, _is_new) = names.insert_full(name)?;
+    Ok(number)
 }
 
 /// The numbers of the names of a record's fields.
-fn numbered<'a>(
+fn number_fields<'a>(
     alloc: Global,
-    numbers: &mut HashMap<&'a [u8], u32>,
+    names: &mut IndexSet<&'a [u8]>,
     record: &'a RecordDecl,
-) -> Result<Vec<u32>, NoMemory> {
-    let mut fields = Vec::new(alloc);
+) -> Result<Vec<usize>, NoMemory>
+    ensures named { IfOk result (λ v. AreNamed names.new.keys v.items (map param_of record.now.fields.items)) }
+    ensures kept { OnOk result (Keeps names.old.keys names.new.keys) }
+{
+    let mut numbers = Vec::new(alloc);
     for field in &record.fields {
-        let next = u32::try_from(numbers.len()).unwrap_or(u32::MAX);
-        fields.push(number(numbers, field.name.name.bytes(), next)?)?;
+        numbers.push(number(names, field.name.name.bytes())?)?;
     }
-    Ok(fields)
+    Ok(numbers)
 }
 
-/// The first record of each name.
-fn records_named<'a>(
+/// The numbers of the names of the fields of records.
+fn number_records<'a>(
     alloc: Global,
+    names: &mut IndexSet<&'a [u8]>,
     records: &'a [RecordDecl],
-) -> Result<HashMap<&'a [u8], usize>, NoMemory> {
-    let mut named: HashMap<&'a [u8], usize> = HashMap::new(alloc);
-    for (place, record) in records.iter().enumerate() {
-        let name = record.name.name.bytes();
-        if !named.contains_key(&name) {
-            named.insert(name, place)?;
-        }
+) -> Result<Vec<Vec<usize>>, NoMemory>
+    ensures named { IfOk result (λ v. AllNamed names.new.keys v.items (map record_of records.now)) }
+    ensures kept { OnOk result (Keeps names.old.keys names.new.keys) }
+{
+    let mut numbers = Vec::new(alloc);
+    for record in records {
+        numbers.push(number_fields(alloc, names, record)?)?;
     }
-    Ok(named)
+    Ok(numbers)
 }
 
-/// The first function of each name.
-fn functions_named<'a>(
-    alloc: Global,
-    functions: &'a [FunctionDecl],
-) -> Result<HashMap<&'a [u8], u32>, NoMemory> {
-    let mut named: HashMap<&'a [u8], u32> = HashMap::new(alloc);
-    for (place, function) in functions.iter().enumerate() {
-        let name = function.name.name.bytes();
-        if !named.contains_key(&name) {
-            named.insert(name, u32::try_from(place).unwrap_or(u32::MAX))?;
-        }
-    }
-    Ok(named)
+/// The names of the fields of a packet.
+fn packet_names<'a>(alloc: Global) -> Result<IndexSet<&'a [u8]>, NoMemory>
+    ensures { IfOk result (λ s. map (λ k. k.now) s.keys ≡ map (λ f. f.0) packet_fields) }
+{
+    let mut names = IndexSet::new(alloc);
+    names.insert(b"from".as_slice())?;
+    names.insert(b"port".as_slice())?;
+    names.insert(b"text".as_slice())?;
+    Ok(names)
 }
 
 impl<'a> Names<'a> {
-    /// The names of these records and functions, and the fields of the records.
+    /// The names of these records and functions, and the fields of the records by number.
     pub fn new(
         alloc: Global,
         records: &'a [RecordDecl],
         functions: &'a [FunctionDecl],
-    ) -> Result<(Names<'a>, FieldNames), NoMemory> {
-        let mut fields: HashMap<&'a [u8], u32> = HashMap::new(alloc);
-        fields.insert(b"from".as_slice(), 0)?;
-        fields.insert(b"port".as_slice(), 1)?;
-        fields.insert(b"text".as_slice(), 2)?;
-        let mut of_records = Vec::new(alloc);
-        for record in records {
-            of_records.push(numbered(alloc, &mut fields, record)?)?;
-        }
+    ) -> Result<(Names<'a>, FieldNames), NoMemory>
+        ensures records { IfOk result (λ r. AreRecords (map record_of records.now) (naming_of r.0 (λ _. None)).record_of) }
+        ensures functions { IfOk result (λ r. AreFunctions (map function_of functions.now) (naming_of r.0 (λ _. None)).function) }
+        ensures fields { IfOk result (λ r. IsNumbering (map record_of records.now) (naming_of r.0 (λ _. None)).field (places_in r.1)) }
+    {
+        let mut fields = packet_names(alloc)?;
+        let of_records = number_records(alloc, &mut fields, records)?;
         let names = Names {
             alloc,
-            records: records_named(alloc, records)?,
-            functions: functions_named(alloc, functions)?,
+            records: first_records(alloc, records)?,
+            functions: first_functions(alloc, functions)?,
             fields,
         };
         Ok((
@@ -113,34 +165,41 @@ impl<'a> Names<'a> {
     }
 
     /// The record of a name, the predefined one first.
-    pub fn record(&self, name: &[u8]) -> Option<RecordId> {
+    pub fn record(&self, name: &[u8]) -> Option<RecordId>
+        ensures { result ≡ record_at (at_name self.now.records name.now) name.now }
+    {
         if is_packet(name) {
             return Some(RecordId::Packet);
         }
-        self.records
-            .get(&name)
-            .map(|place| RecordId::Declared(*place))
+        match noted(&self.records, name) {
+            Some(place) => Some(RecordId::Declared(place)),
+            None => None,
+        }
     }
 
-    /// The function of a name.
-    pub fn function(&self, name: &[u8]) -> Option<u32> {
-        self.functions.get(&name).copied()
+    /// The place of the function of a name.
+    pub fn function(&self, name: &[u8]) -> Option<usize>
+        ensures { result ≡ at_name self.now.functions name.now }
+    {
+        noted(&self.functions, name)
     }
 
     /// The number of a field's name.
-    pub fn field(&self, name: &[u8]) -> Option<u32> {
-        self.fields.get(&name).copied()
+    pub fn field(&self, name: &[u8]) -> Option<usize>
+        ensures { result ≡ key_at self.now.fields.keys name.now }
+    {
+        self.fields.get_index_of(name)
     }
 }
 
-fn number_place(numbers: &[u32], number: u32) -> Option<usize>
+fn number_place(numbers: &[usize], number: usize) -> Option<usize>
     ensures { result ≡ position (λ n. nat_eq n number) numbers.now }
 {
     numbers.iter().position(|other| *other == number)
 }
 
 #[tactic(auto, using(crate::proofs::Places::place_there, crate::proofs::Places::place_past))]
-fn declared_place(records: &[Vec<u32>], k: usize, number: u32) -> Option<usize>
+fn declared_place(records: &[Vec<usize>], k: usize, number: usize) -> Option<usize>
     ensures { result ≡ place_in records.now k number }
 {
     if k >= records.len() {
@@ -149,18 +208,18 @@ fn declared_place(records: &[Vec<u32>], k: usize, number: u32) -> Option<usize>
     number_place(&records[k], number)
 }
 
-fn packet_place(number: u32) -> Option<usize>
+fn packet_place(number: usize) -> Option<usize>
     ensures { result ≡ (if nat_lt number 3 then Some number else None) }
 {
     if number < 3 {
-        return Some(number as usize);
+        return Some(number);
     }
     None
 }
 
 impl FieldNames {
     /// The place of a field in a record, where it has one with a name of this number.
-    pub fn place(&self, id: RecordId, number: u32) -> Option<usize>
+    pub fn place(&self, id: RecordId, number: usize) -> Option<usize>
         ensures { result ≡ places_in self.now id number }
     {
         match id {

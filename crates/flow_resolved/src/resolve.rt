@@ -1,5 +1,12 @@
 // Resolving expressions.
 
+ghost use Rattle.std.specs.Prelude.{◌≡◌, ℕ, List, Option, None, IfOk, map};
+ghost use Rattle.flow_tree.specs.View.{expr_of, exprs_of};
+ghost use Rattle.flow_ast.specs.TypingNames.{named, call_names, constant_names};
+ghost use Rattle.flow_resolved.specs.Named.{naming_of};
+ghost use Rattle.flow_resolved.specs.Resolving.{variable_node, call_node, resolved, resolved_all};
+ghost use Rattle.flow_resolved.specs.View.{node_of, nodes_of};
+
 use crate::expr::Resolved;
 use crate::names::Names;
 use flow_ast::predefined::{predefined_call, predefined_constant, predefined_method};
@@ -9,10 +16,16 @@ use flow_tree::expr::Expr;
 /// Places by their names.
 pub trait NamedPlaces {
     /// The number of the place of a name.
-    fn place(&self, name: &[u8]) -> Option<u32>;
+    ghost place_of: { Self → List ℕ → Option ℕ };
+
+    /// The number of the place of a name, where it is one.
+    fn place(&self, name: &[u8]) -> Option<u32>
+        ensures { result ≡ place_of self.now name.now };
 }
 
-fn variable<P: NamedPlaces>(places: &P, name: &[u8]) -> Resolved {
+fn variable<P: NamedPlaces>(places: &P, name: &[u8]) -> Resolved
+    ensures { node_of result ≡ variable_node (named constant_names name.now) (P.place_of places.now name.now) }
+{
     if let Some(n) = predefined_constant(name) {
         return Resolved::Int(i64::from(n));
     }
@@ -22,7 +35,9 @@ fn variable<P: NamedPlaces>(places: &P, name: &[u8]) -> Resolved {
     }
 }
 
-fn called(names: &Names<'_>, name: &[u8], args: Vec<Resolved>) -> Resolved {
+fn called(names: &Names<'_>, name: &[u8], args: Vec<Resolved>) -> Resolved
+    ensures { node_of result ≡ call_node (named call_names name.now) ((naming_of names.now (λ _. None)).record_of name.now) ((naming_of names.now (λ _. None)).function name.now) (nodes_of args.items) }
+{
     if let Some(call) = predefined_call(name) {
         return Resolved::Call(call, args);
     }
@@ -35,7 +50,9 @@ fn called(names: &Names<'_>, name: &[u8], args: Vec<Resolved>) -> Resolved {
     }
 }
 
-fn boxed(names: &Names<'_>, expr: Resolved) -> Result<Box<Resolved>, NoMemory> {
+fn boxed(names: &Names<'_>, expr: Resolved) -> Result<Box<Resolved>, NoMemory>
+    ensures { IfOk result (λ b. b.value ≡ expr) }
+{
     Ok(Box::new(names.alloc, expr)?)
 }
 
@@ -45,7 +62,9 @@ pub fn resolve<P: NamedPlaces>(
     names: &Names<'_>,
     places: &P,
     expr: &Expr,
-) -> Result<Resolved, NoMemory> {
+) -> Result<Resolved, NoMemory>
+    ensures { IfOk result (λ r. node_of r ≡ resolved (naming_of names.now (P.place_of places.now)) (expr_of expr.now)) }
+{
     match expr {
         Expr::Int(n) => Ok(Resolved::Int(*n)),
         Expr::Text(text) => Ok(Resolved::Text(text.copy(names.alloc)?)),
@@ -82,7 +101,9 @@ pub fn resolve_all<P: NamedPlaces>(
     names: &Names<'_>,
     places: &P,
     exprs: &[Expr],
-) -> Result<Vec<Resolved>, NoMemory> {
+) -> Result<Vec<Resolved>, NoMemory>
+    ensures { IfOk result (λ v. map node_of v.items ≡ map (λ e. resolved (naming_of names.now (P.place_of places.now)) (expr_of e)) exprs.now) }
+{
     let mut resolved = Vec::new(names.alloc);
     for expr in exprs {
         resolved.push(resolve(names, places, expr)?)?;

@@ -1,8 +1,8 @@
 // Values.
 
 ghost use Rattle.std.specs.Prelude.{◌≡◌, ◌++◌, IfOk, OnOk, map};
-ghost use Rattle.flow_value.specs.Values.{refs_of};
-ghost use Rattle.flow_value.specs.View.{value_of, outcome_of, ref_of};
+ghost use Rattle.flow_value.specs.Values.{RecordValue, TextValue, refs_of};
+ghost use Rattle.flow_value.specs.View.{value_of, values_of, outcome_of, ref_of};
 
 use flow_base::ids::{CellId, ErrorCode};
 use flow_base::memory::NoMemory;
@@ -77,12 +77,16 @@ impl Value {
     }
 
     /// The value of a record with these fields.
-    pub fn record(alloc: Global, id: RecordId, fields: Vec<Value>) -> Result<Value, NoMemory> {
+    pub fn record(alloc: Global, id: RecordId, fields: Vec<Value>) -> Result<Value, NoMemory>
+        ensures { IfOk result (λ v. value_of v ≡ RecordValue id (values_of fields.items)) }
+    {
         Ok(Value::Struct(Box::new(alloc, Record { id, fields })?))
     }
 
     /// The value of a text.
-    pub fn text(alloc: Global, text: Text) -> Result<Value, NoMemory> {
+    pub fn text(alloc: Global, text: Text) -> Result<Value, NoMemory>
+        ensures { IfOk result (λ v. value_of v ≡ TextValue text) }
+    {
         Ok(Value::Text(Rc::new(alloc, text)?))
     }
 
@@ -117,7 +121,9 @@ impl Value {
 }
 
 /// The text of a value, as one that is not shared.
-pub fn own_text(alloc: Global, text: Rc<Text>) -> Result<Text, NoMemory> {
+pub fn own_text(alloc: Global, text: Rc<Text>) -> Result<Text, NoMemory>
+    ensures { IfOk result (λ t. t ≡ text.value) }
+{
     match Rc::try_unwrap(text) {
         Ok(text) => Ok(text),
         Err(text) => text.as_ref().copy(alloc),
@@ -142,7 +148,11 @@ mod tests {
     use std::test::Fail;
 
     fn record(alloc: Global, fields: [Value; 2]) -> Result<Value, NoMemory> {
-        Value::record(alloc, RecordId::Declared(3), Vec::from_array(alloc, fields)?)
+        Value::record(
+            alloc,
+            RecordId::Declared(3),
+            Vec::from_array(alloc, fields)?,
+        )
     }
 
     #[test]
