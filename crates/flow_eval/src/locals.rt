@@ -95,12 +95,18 @@ pub fn read_path<'a>(records: &[RecordDecl], vars: &'a [Var], path: &[Ident]) ->
 }
 
 #[tactic(auto, using(crate::proofs::Lookups::values_set))]
-fn put_at(mut fields: Vec<Value>, k: usize, value: Value) -> Vec<Value>
-    requires { k < length fields.items }
-    ensures { values_of result.items ≡ value_put (values_of fields.items) k (value_of value) }
+fn put_at(fields: &mut Vec<Value>, k: usize, value: Value)
+    requires { k < length fields.old.items }
+    ensures { values_of fields.new.items ≡ value_put (values_of fields.old.items) k (value_of value) }
 {
     fields[k] = value;
-    fields
+}
+
+// A record as a value.
+fn record_value(of: Box<Record<Value>>) -> Value
+    ensures { value_of result ≡ RecordValue of.value.id (values_of of.value.fields.items) }
+{
+    Value::Struct(of)
 }
 
 // Takes a field out, and leaves a place that is yet to be filled.
@@ -137,25 +143,25 @@ pub fn put_in(records: &[RecordDecl], base: Value, path: &[Ident], value: Value)
 #[tactic(auto, using(crate::proofs::Lookups::value_past))]
 fn put_field(
     records: &[RecordDecl],
-    mut record: Box<Record<Value>>,
+    mut of: Box<Record<Value>>,
     name: &[u8],
     rest: &[Ident],
     value: Value,
 ) -> Option<Value>
-    ensures { option_map value_of result ≡ put_at (RecordValue record.value.id (values_of record.value.fields.items)) (field_place (map record_of records.now) record.value.id name.now) (put_in (map record_of records.now) (at_place (values_of record.value.fields.items) (field_place (map record_of records.now) record.value.id name.now)) rest.now (value_of value)) }
+    ensures { option_map value_of result ≡ put_at (RecordValue of.value.id (values_of of.value.fields.items)) (field_place (map record_of records.now) of.value.id name.now) (put_in (map record_of records.now) (at_place (values_of of.value.fields.items) (field_place (map record_of records.now) of.value.id name.now)) rest.now (value_of value)) }
 {
-    let Some(k) = field_place(records, record.id, name) else {
+    let Some(k) = field_place(records, of.id, name) else {
         return None;
     };
-    if k >= record.fields.len() {
+    if k >= of.fields.len() {
         return None;
     }
-    let part = take_at(&mut record.fields, k);
+    let part = take_at(&mut of.fields, k);
     let Some(part) = put_in(records, part, rest, value) else {
         return None;
     };
-    record.fields[k] = part;
-    Some(Value::Struct(record))
+    put_at(&mut of.fields, k, part);
+    Some(record_value(of))
 }
 
 fn put_var(records: &[RecordDecl], var: &mut Var, path: &[Ident], value: Value) -> bool
