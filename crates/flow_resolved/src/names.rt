@@ -95,22 +95,24 @@ fn number<'a>(names: &mut IndexSet<&'a [u8]>, name: &'a [u8]) -> Result<usize, N
 }
 
 /// The numbers of the names of a record's fields.
+#[tactic(auto, using(crate::proofs::Fields::fields_step, crate::proofs::Fields::fields_end, crate::proofs::Fields::keeps_self, crate::proofs::Fields::keeps_then))]
 fn number_fields<'a>(
     alloc: Global,
     names: &mut IndexSet<&'a [u8]>,
-    record: &'a RecordDecl,
+    of: &'a RecordDecl,
 ) -> Result<Vec<usize>, NoMemory>
-    ensures named { IfOk result (λ v. AreNamed names.new.keys v.items (map param_of record.now.fields.items)) }
+    ensures named { IfOk result (λ v. AreNamed names.new.keys v.items (map param_of of.now.fields.items)) }
     ensures kept { OnOk result (Keeps names.old.keys names.new.keys) }
 {
     let mut numbers = Vec::new(alloc);
-    for field in &record.fields {
+    for field in &of.fields {
         numbers.push(number(names, field.name.name.bytes())?)?;
     }
     Ok(numbers)
 }
 
 /// The numbers of the names of the fields of records.
+#[tactic(auto, using(crate::proofs::Fields::records_step, crate::proofs::Fields::records_end, crate::proofs::Fields::keeps_self, crate::proofs::Fields::keeps_then))]
 fn number_records<'a>(
     alloc: Global,
     names: &mut IndexSet<&'a [u8]>,

@@ -5,6 +5,6 @@ use Rattle.flow_resolved.proofs.names.number_fields.Given as goal
 
 abbrev pub invariant-loop-field : goal.invariant-loop-field
 invariant-loop-field l = record {
-  named : AreNamed l.names.keys l.numbers.items (map param_of (take l.field-index l.record.fields.items));
+  named : AreNamed l.names.keys l.numbers.items (map param_of (take l.field-index l.of.fields.items));
   kept : Keeps l.initial.names.keys l.names.keys;
 }
