@@ -3,6 +3,7 @@ pub mod Args
 pub mod Fields
 pub mod Known
 pub mod Maps
+pub mod Numbering
 pub mod Places
 pub mod Resolves
 pub mod Weights

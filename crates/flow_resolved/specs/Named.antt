@@ -61,14 +61,17 @@ naming_of n place = record {
 abbrev pub IsNamed : List (Bor (List ℕ)) → ℕ → List ℕ → Type 0
 IsNamed ks n x = (k : Bor (List ℕ)) × (slice_get ks n ≡ Some k) × (k.now ≡ x)
 
-abbrev pub AreNamed : List (Bor (List ℕ)) → List ℕ → List ParamTree → Type 0
-AreNamed ks [] [] = Unit {0}
-AreNamed ks [] (p ∷ ps) = ⊥
-AreNamed ks (n ∷ ns) [] = ⊥
-AreNamed ks (n ∷ ns) (p ∷ ps) = IsNamed ks n p.name.name × AreNamed ks ns ps
+abbrev pub AreNamed : {A : Type 0} → (A → List ℕ) → List (Bor (List ℕ)) → List ℕ → List A → Type 0
+AreNamed f ks [] [] = Unit {0}
+AreNamed f ks [] (p ∷ ps) = ⊥
+AreNamed f ks (n ∷ ns) [] = ⊥
+AreNamed f ks (n ∷ ns) (p ∷ ps) = IsNamed ks n (f p) × AreNamed f ks ns ps
+
+abbrev pub param_name : ParamTree → List ℕ
+param_name p = p.name.name
 
 abbrev pub AllNamed : List (Bor (List ℕ)) → List (Vec ℕ Global) → List RecordTree → Type 0
 AllNamed ks [] [] = Unit {0}
 AllNamed ks [] (r ∷ rs) = ⊥
 AllNamed ks (v ∷ vs) [] = ⊥
-AllNamed ks (v ∷ vs) (r ∷ rs) = AreNamed ks v.items r.fields × AllNamed ks vs rs
+AllNamed ks (v ∷ vs) (r ∷ rs) = AreNamed param_name ks v.items r.fields × AllNamed ks vs rs

@@ -3,7 +3,7 @@
 ghost use Rattle.std.specs.Prelude.{◌≡◌, ℕ, List, map, position, nat_eq, nat_lt, Some, None, IfOk, OnOk, if◌then◌else◌};
 ghost use Rattle.std.specs.Str.{bytes_eq};
 ghost use Rattle.flow_tree.specs.DeclView.{record_of, function_of, param_of};
-ghost use Rattle.flow_resolved.specs.Named.{at_name, key_at, first_from, or_else, Keeps, IsNamed, AreNamed, AllNamed, record_at, name_of_record, name_of_function, naming_of};
+ghost use Rattle.flow_resolved.specs.Named.{at_name, key_at, first_from, or_else, Keeps, IsNamed, AreNamed, AllNamed, param_name, record_at, name_of_record, name_of_function, naming_of};
 ghost use Rattle.flow_ast.specs.Typing.{packet_fields};
 ghost use Rattle.flow_resolved.specs.Resolving.{AreRecords, AreFunctions, IsNumbering};
 ghost use Rattle.flow_resolved.specs.View.{place_in, places_in};
@@ -101,7 +101,7 @@ fn number_fields<'a>(
     names: &mut IndexSet<&'a [u8]>,
     of: &'a RecordDecl,
 ) -> Result<Vec<usize>, NoMemory>
-    ensures named { IfOk result (λ v. AreNamed names.new.keys v.items (map param_of of.now.fields.items)) }
+    ensures named { IfOk result (λ v. AreNamed param_name names.new.keys v.items (map param_of of.now.fields.items)) }
     ensures kept { OnOk result (Keeps names.old.keys names.new.keys) }
 {
     let mut numbers = Vec::new(alloc);
@@ -152,6 +152,8 @@ impl<'a> Names<'a> {
     {
         let mut fields = packet_names(alloc)?;
         let of_records = number_records(alloc, &mut fields, records)?;
+        // No effect at run time. The proof reads from this count that the names differ.
+        let _count = fields.len();
         let names = Names {
             alloc,
             records: first_records(alloc, records)?,

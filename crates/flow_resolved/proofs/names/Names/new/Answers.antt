@@ -1,0 +1,9 @@
+use Rattle.flow_resolved.specs.Named.{at_name}
+use Rattle.flow_resolved.proofs.Numbering.{records_named, functions_named}
+use Rattle.flow_resolved.proofs.names.Names.new.Goals as goal
+
+pub returns-clause-records : goal.returns-clause-records
+returns-clause-records c = λ x. records_named c.args.records.now (at_name c.in_ok-first_records.field-0 x) x (c.in_ok-first_records.ensures x)
+
+pub returns-clause-functions : goal.returns-clause-functions
+returns-clause-functions c = λ x. functions_named c.args.functions.now (at_name c.in_ok-first_functions.field-0 x) x (c.in_ok-first_functions.ensures x)
