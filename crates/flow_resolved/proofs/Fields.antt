@@ -25,7 +25,7 @@ keeps_then ks ls ms p q = λ n k h. q n k (p n k h)
 named_kept : (ks ls : List Key) (n : ℕ) (x : List ℕ) → Keeps ks ls → IsNamed ks n x → IsNamed ls n x
 named_kept ks ls n x kept h = (h.0, kept n h.0 h.1, h.2)
 
-are_kept : (ks ls : List Key) (ns : List ℕ) (ps : List ParamTree) → Keeps ks ls → AreNamed param_name ks ns ps → AreNamed param_name ls ns ps
+pub are_kept : (ks ls : List Key) (ns : List ℕ) (ps : List ParamTree) → Keeps ks ls → AreNamed param_name ks ns ps → AreNamed param_name ls ns ps
 are_kept ks ls [] [] kept h = tt
 are_kept ks ls [] (p ∷ ps) kept h = absurd h
 are_kept ks ls (n ∷ ns) [] kept h = absurd h

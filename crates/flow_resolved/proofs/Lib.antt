@@ -1,6 +1,7 @@
 pub mod Alike
 pub mod Args
 pub mod Fields
+pub mod Keys
 pub mod Known
 pub mod Maps
 pub mod Numbering

@@ -1,6 +1,6 @@
 -- The first of each name, and fields by the numbers of their names, are what the texts say.
 use Rattle.std.proofs.Common.{◌≡◌, ℕ, zero, suc, ◌+◌, ◌<◌, ◌≤◌, Bool, true, false, cond, ltb, List, [], ◌∷◌, length, map, find, position, slice_get, nat_eq, nat_lt, if◌then◌else◌, refl, ap, sym, subst, ◌∙◌, arith}
-use Rattle.std.proofs.lemmas.Bool.{false≢true}
+use Rattle.std.proofs.lemmas.Bool.{false≢true, ltb-false}
 use Rattle.std.proofs.lemmas.Cmp.{nat_list_eq_equiv}
 use Rattle.std.proofs.lemmas.List.Folds.{find_at}
 use Rattle.std.proofs.lemmas.Option.{slice_get_past}
@@ -30,7 +30,9 @@ from_place f x k [] = refl
 from_place f x k (r ∷ rs) = ap (λ b. if b then Some k else first_from (suc k) (map f rs) x) (bytes_sym x (f r)) ∙ grind (arith, from_place f x (suc k) rs)
 
 pub first_at : {A : Type 0} (f : A → List ℕ) (x : List ℕ) (rs : List A) → first_from 0 (map f rs) x ≡ position (λ r. bytes_eq (f r) x) rs
-first_at f x rs = from_place f x 0 rs
+first_at f x rs =
+    let none : 0 + position_or_len (λ r. bytes_eq (f r) x) rs ≡ position_or_len (λ r. bytes_eq (f r) x) rs = omega arith in
+    from_place f x 0 rs ∙ ap (λ n. cond (ltb (position_or_len (λ r. bytes_eq (f r) x) rs) (length rs)) (Some n) None) none
 
 pub records_named : (rs : List RecordDecl) (o : Option ℕ) (x : List ℕ) → o ≡ first_from 0 (map name_of_record rs) x → record_at o x ≡ record_id (map record_of rs) x
 records_named rs o x e =
@@ -46,7 +48,7 @@ length_mapped f (x ∷ xs) = ap suc (length_mapped f xs)
 
 at_place_or_none : (fs : List RoutineTree) (n : ℕ) (b : Bool) → ltb n (length fs) ≡ b → slice_get fs n ≡ routine_at fs (cond b (Some n) None)
 at_place_or_none fs n true e = refl
-at_place_or_none fs n false e = let past : length fs ≤ n = omega (arith, e) in slice_get_past fs n past
+at_place_or_none fs n false e = slice_get_past fs n (ltb-false n (length fs) e)
 
 pub functions_named : (fs : List FunctionDecl) (o : Option ℕ) (x : List ℕ) → o ≡ first_from 0 (map name_of_function fs) x → routine_named (map function_of fs) x ≡ routine_at (map function_of fs) o
 functions_named fs o x e =

@@ -4,5 +4,6 @@
 
 pub mod evaluate;
 pub mod expr;
+pub mod laws;
 pub mod names;
 pub mod resolve;
