@@ -9,7 +9,7 @@ use flow_value::value::Kind;
 #[derive(Drop, Debug)]
 pub struct Aim {
     pub place: u32,
-    pub path: Vec<u32>,
+    pub path: Vec<usize>,
 }
 
 /// What has an effect: a predefined call, or a call of the class at a place in the list of classes.
@@ -23,7 +23,7 @@ pub enum Effect {
 #[derive(Clone, Copy, PartialEq, Eq, Debug)]
 pub enum Act {
     World(Predefined),
-    Function(u32),
+    Function(usize),
 }
 
 /// An instruction.

@@ -1,5 +1,8 @@
 // How classes are coded.
 
+ghost use Rattle.std.specs.Prelude.{◌≡◌};
+ghost use Rattle.flow_code.specs.Places.{place_of, place_in};
+
 use crate::class::{
     Act, Aim, Block, Branch, Catcher, Class, Effect, Group, Instruction, Last, Operand,
 };
@@ -85,14 +88,21 @@ fn type_at(class: &text::Class, place: Slotted) -> Option<&Ty> {
 }
 
 impl<'n, 'a> NamedPlaces for Coder<'n, 'a> {
+    ghost place_of = { λ c x. place_in c.slots x };
+
     fn place(&self, name: &[u8]) -> Option<u32> {
-        self.number(place_named(name)?)
+        match place_named(name) {
+            Some(place) => self.number(place),
+            None => None,
+        }
     }
 }
 
 impl<'n, 'a> Coder<'n, 'a> {
     // The number of a place in its frame: the locals come behind the slots.
-    fn number(&self, place: Slotted) -> Option<u32> {
+    fn number(&self, place: Slotted) -> Option<u32>
+        ensures { result ≡ place_of self.now.slots place }
+    {
         match place {
             Slotted::Slot(n) => { if n < self.slots { Some(n) } else { None } }
             Slotted::Local(n) => self.slots.checked_add(n),

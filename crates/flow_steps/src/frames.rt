@@ -50,7 +50,7 @@ fn stand_in(code: &Code, actor: ActorId, at: Standing) -> Option<Stand<'_>> {
 }
 
 /// Exchanges the part of a value to which the fields with names of these numbers lead, if they do. Gives what stood there.
-fn exchange(fields: &FieldNames, root: &mut Value, path: &[u32], value: Value) -> Option<Value> {
+fn exchange(fields: &FieldNames, root: &mut Value, path: &[usize], value: Value) -> Option<Value> {
     let Some((name, rest)) = path.split_first() else {
         return Some(mem::replace(root, value));
     };

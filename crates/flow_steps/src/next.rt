@@ -27,7 +27,7 @@ pub(crate) enum Pace {
 }
 
 /// The part of a value to which fields with names of these numbers lead.
-fn part<'a>(fields: &FieldNames, value: &'a Value, path: &[u32]) -> Option<&'a Value> {
+fn part<'a>(fields: &FieldNames, value: &'a Value, path: &[usize]) -> Option<&'a Value> {
     let mut part = value;
     for name in path {
         let Some(inner) = field(fields, part, *name) else {
@@ -282,10 +282,9 @@ impl Process {
         &mut self,
         code: &Code,
         stand: &Stand<'_>,
-        function: u32,
+        function: usize,
         args: Vec<Value>,
     ) -> Result<Pace, Fault> {
-        let function = function as usize;
         let mut turns = Turns { left: self.left };
         let came_to = {
             let contents = Contents {
