@@ -374,9 +374,11 @@ impl Heap {
         requires { IsSome (thing self.old.frames.things actor.0) }
         ensures { OnOk result (self.new ≡ withdrawn actor.0 self.old) }
     {
-        while let Some(held) = self.frames.pop_callback(actor) {
+        let mut callbacks = self.frames.take_callbacks(actor);
+        while let Some(held) = callbacks.pop() {
             self.leave(actor, held)?;
         }
+        self.frames.keep_room(actor, callbacks);
         Ok(())
     }
 

@@ -2,7 +2,7 @@
 
 ghost use Rattle.std.specs.Prelude.{◌≡◌, ℕ, ◌<◌, ◌≤◌, length, OnOk, OnErr, IfOk, option_copied, slice_index_or, None, [], is_none, take};
 ghost use Rattle.std.specs.List.{list_all};
-ghost use Rattle.flow_frame.specs.Frames.{padded, fresh, in_state, with_place, with_callback, first_held, other_held, all_empty, standing_of, held_at};
+ghost use Rattle.flow_frame.specs.Frames.{padded, fresh, holding, in_state, with_place, with_callback, first_held, other_held, all_empty, standing_of, held_at};
 
 use crate::held::Held;
 use crate::standing::Standing;
@@ -14,7 +14,7 @@ use std::mem;
 /// How many places get room at once.
 const ROOM: usize = 8;
 
-/// A frame. Only the places up to the last filled one, or a few more, stand in memory.
+/// A frame. Only the places up to the last one that was filled, or a few more, stand in memory.
 #[derive(Drop)]
 pub(crate) struct Frame<T> {
     class: u32,
@@ -60,7 +60,8 @@ fn reach<T: Drop>(filled: &mut Vec<Option<T>>, place: usize, places: usize) -> R
 }
 
 #[tactic(auto, using(crate::proofs::Padded::more_padded))]
-// Gives up the room behind the last filled place.
+// Takes the empty places behind the last filled one off. Their room stays, since the actor fills some of them again when it
+// goes on.
 fn cut<T: Drop>(filled: &mut Vec<Option<T>>)
     ensures same { (places : ℕ) → padded places filled.new.items ≡ padded places filled.old.items }
 {
@@ -92,8 +93,15 @@ impl<T> Frame<T> {
         }
     }
 
-    /// A frame that begins, whose first places hold these.
-    pub(crate) fn holding(class: u32, places: u32, filled: Vec<Option<T>>, callbacks: Vec<Held>) -> Frame<T> {
+    /// A frame that begins, of whose places the first hold these.
+    pub(crate) fn holding(
+        alloc: Global,
+        class: u32,
+        places: u32,
+        filled: Vec<Option<T>>,
+    ) -> Frame<T>
+        ensures { result ≡ holding class places filled.items }
+    {
         Frame {
             class,
             state: 0,
@@ -101,12 +109,15 @@ impl<T> Frame<T> {
             instruction: 0,
             places,
             filled,
-            callbacks,
+            callbacks: Vec::new(alloc),
         }
     }
 
-    /// What its places hold, those behind the last one nothing.
-    pub(crate) fn filled(&self) -> &[Option<T>] {
+    #[tactic(auto, using(crate::proofs::Padded::length_padded))]
+    /// What its first places hold; those behind hold nothing.
+    pub(crate) fn filled(&self) -> &[Option<T>]
+        ensures { padded (length self.now.places) result.now ≡ self.now.places }
+    {
         &self.filled
     }
 
@@ -192,8 +203,7 @@ impl<T> Frame<T> {
         self.state
     }
 
-    /// Puts it into a state. In one other than 0 it stands at block 0 and instruction 0, and gives up the room
-    /// behind its last filled place.
+    /// Puts it into a state. In one other than 0 it stands at block 0 and instruction 0.
     pub(crate) fn set_state(&mut self, state: u32)
     where
         T: Drop,
@@ -250,9 +260,13 @@ impl<T> Frame<T> {
         mem::replace(&mut self.callbacks, Vec::new(alloc))
     }
 
-    /// Takes the last callback, if there is one.
-    pub(crate) fn pop_callback(&mut self) -> Option<Held> {
-        self.callbacks.pop()
+    /// Keeps room for callbacks, where it has none and this holds none.
+    pub(crate) fn keep_room(&mut self, room: Vec<Held>)
+        ensures { self.new ≡ self.old }
+    {
+        if self.callbacks.is_empty() && room.is_empty() {
+            self.callbacks = room;
+        }
     }
 
     /// Takes the first callback, if there is one.
