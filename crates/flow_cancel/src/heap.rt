@@ -7,7 +7,7 @@ ghost use Rattle.flow_value.specs.View.{value_of};
 ghost use Rattle.flow_value.specs.Values.{refs_of};
 ghost use Rattle.flow_numbered.specs.Numbered.{thing, with_thing};
 ghost use Rattle.flow_cell.specs.Cells.{count_of};
-ghost use Rattle.flow_cancel.specs.Heap.{no_heap, pushed, next_cell, next_actor, with_result, with_stream, owner, may_start, started, may_finish, finished, cleared, has_number, with_number, without_number, side_of};
+ghost use Rattle.flow_cancel.specs.Heap.{no_heap, pushed, next_cell, next_actor, with_result, with_stream, owner, may_start, started, started_holding, may_finish, finished, cleared, has_number, with_number, without_number, side_of};
 ghost use Rattle.flow_cancel.specs.Dropping.{drops, refs_in, dropping, dropped, may_drop, cancel_owner};
 ghost use Rattle.flow_cancel.specs.Leaving.{kind_at, is_waiter, left_cells, leave_stream_at, leave_cell_at, leave_one, withdrawn, suspended, cancelled};
 ghost use Rattle.flow_cancel.specs.Lending.{LendsCells, LendsStreams, LendsFrames};
@@ -303,6 +303,8 @@ impl Heap {
         cell: Option<CellId>,
     ) -> Result<ActorId, NoMemory>
         requires { may_start cell self.old ≡ true }
+        ensures number { IfOk result (λ a. a.0 ≡ next_actor self.old) }
+        ensures started { OnOk result (self.new ≡ started_holding class places filled.items cell self.old) }
     {
         let actor = ActorId(self.next_actor()?);
         self.actors.add(actor, cell)?;

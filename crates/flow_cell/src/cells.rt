@@ -8,7 +8,7 @@ ghost use Rattle.flow_cell.specs.Waiting.{has_waiter, waits_at, without_newest};
 
 use crate::cell::Cell;
 use crate::counts::{Loss, References, Side};
-use crate::queue::{Spot, Waiting, find, join, leave, waiter_from};
+use crate::queue::{Spot, Waiting, join, leave, waiter_from};
 use crate::waiter::Waiter;
 use flow_base::ids::CellId;
 use flow_base::memory::NoMemory;
@@ -150,10 +150,7 @@ impl<T> Cells<T> {
     pub fn waits(&self, cell: CellId, waiter: Waiter) -> bool
         ensures { result ≡ waits_at (thing self.now.things cell.0) waiter }
     {
-        match self.cells.get(cell.0) {
-            Some(entry) => find(&self.links, &entry.waiting, Spot::new(cell, waiter)).is_some(),
-            None => false,
-        }
+        self.newest.contains_key(&Spot::new(cell, waiter))
     }
 
     /// Removes a waiter that waits at a cell, in constant time; the newest, where it waits there more than once.

@@ -25,8 +25,8 @@ pub enum Loss {
 /// How many references of each side of a cell count.
 #[derive(Clone, Copy)]
 pub struct References {
-    promises: u64,
-    futures: u64,
+    promises: u128,
+    futures: u128,
 }
 
 impl Model for References {
@@ -55,8 +55,8 @@ impl References {
         ensures { result ≡ count_of side self }
     {
         match side {
-            Side::Promise => u128::from(self.promises),
-            Side::Future => u128::from(self.futures),
+            Side::Promise => self.promises,
+            Side::Future => self.futures,
         }
     }
 

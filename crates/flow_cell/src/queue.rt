@@ -60,21 +60,13 @@ pub(crate) fn join(
     ensures ends_stay { OnErr result (ends.new ≡ ends.old) }
     ensures newest_stays { OnErr result ((s : Spot) → hash.get same_spot newest.new s ≡ hash.get same_spot newest.old s) }
 {
-    let older = find(links, ends, spot);
-    push_last(links, ends, Waiting { spot, older })
-}
-
-/// The key of the newest link of a waiter.
-pub(crate) fn find(links: &Slab<Link<Waiting>>, ends: &Ends, spot: Spot) -> Option<usize> {
-    let mut key = ends.first?;
-    for _ in 0..ends.length {
-        let link = links.get(key)?;
-        if link.item.spot == spot {
-            return Some(key);
-        }
-        key = link.after?;
+    newest.reserve(1)?;
+    let older = newest.get(&spot).copied();
+    let key = push_last(links, ends, Waiting { spot, older })?;
+    match newest.insert(spot, key) {
+        Ok(_) => Ok(key),
+        Err(_) => unreachable!(),
     }
-    None
 }
 
 // Notes the newest link of a waiter, or that there is none.
@@ -109,9 +101,9 @@ pub(crate) fn leave(
     ensures newest { ForSome (hash.get same_spot newest.old spot) (λ key. ForSome (get links.old key) (λ l. (s : Spot)
         → hash.get same_spot newest.new s ≡ (if same_spot spot s then l.item.older else hash.get same_spot newest.old s))) }
 {
-    if let Some(key) = find(links, ends, spot) {
-        unlink(links, ends, key);
-    }
+    let key = *newest.get(&spot).unwrap();
+    let waiting = unlink(links, ends, key);
+    note(newest, spot, waiting.older);
 }
 
 impl Waiting {
