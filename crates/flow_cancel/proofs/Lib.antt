@@ -2,4 +2,3 @@ pub mod Told
 pub mod Drops
 pub mod Puts
 pub mod Losses
-pub mod Frames

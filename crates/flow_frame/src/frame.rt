@@ -113,11 +113,16 @@ impl<T> Frame<T> {
         }
     }
 
-    #[tactic(auto, using(crate::proofs::Padded::length_padded))]
+    #[tactic(auto, using(crate::proofs::Padded::length_padded, crate::proofs::Padded::front_padded, crate::proofs::Padded::front_short))]
     /// What its first places hold; those behind hold nothing.
     pub(crate) fn filled(&self) -> &[Option<T>]
-        ensures { padded (length self.now.places) result.now ≡ self.now.places }
+        ensures places { padded (length self.now.places) result.now ≡ self.now.places }
+        ensures count { length result.now ≤ length self.now.places }
     {
+        let places = self.places as usize;
+        if self.filled.len() > places {
+            return &self.filled[..places];
+        }
         &self.filled
     }
 

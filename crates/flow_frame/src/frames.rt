@@ -272,12 +272,13 @@ impl<T> Frames<T> {
     }
 
     #[tactic(auto, using(flow_numbered::proofs::Things::with_same))]
-    /// Has a frame that has no callback keep room for some.
+    /// Has a frame that has no callback keep room for some. Nothing happens where there is no such frame.
     pub fn keep_room(&mut self, actor: ActorId, room: Vec<Held>)
-        requires { IsSome (thing self.old.things actor.0) }
         ensures { self.new ≡ self.old }
     {
-        self.frames.get_mut(actor.0).keep_room(room);
+        if self.frames.contains(actor.0) {
+            self.frames.get_mut(actor.0).keep_room(room);
+        }
     }
 
     /// Takes the first callback of a frame: `None` where there is none.
