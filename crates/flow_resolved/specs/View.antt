@@ -61,8 +61,8 @@ held_in places n = option_map value_of (slice_index_or places n None)
 
 abbrev pub sight_of : {C : Type 0} → (C → ℕ → Option OutcomeTree) → code.Sight C → Sight
 sight_of content s = record {
-  setting = setting_of content s.setting.now;
-  run = run_function (setting_of content s.setting.now) CALL_DEPTH;
+  setting = setting_of content s.setting;
+  run = run_function (setting_of content s.setting) CALL_DEPTH;
   places = places_in s.fields.now;
   held = held_in s.places.now;
 }

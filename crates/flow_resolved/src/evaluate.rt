@@ -35,7 +35,7 @@ use std::alloc::Global;
 /// places of its frame hold, those behind the last one nothing.
 #[derive(Drop)]
 pub struct Sight<'a, C> {
-    pub setting: &'a Setting<'a, C>,
+    pub setting: Setting<'a, C>,
     pub fields: &'a FieldNames,
     pub places: &'a [Option<Value>],
 }
@@ -220,7 +220,7 @@ pub fn evaluate_resolved<C: CellView>(
         }
         Resolved::Function(function, args) => {
             let args = evaluate_args(sight, args, turns)?;
-            call_function(sight.setting, *function, args, turns)
+            call_function(&sight.setting, *function, args, turns)
         }
         Resolved::Unknown(args) => {
             let _args = evaluate_args(sight, args, turns)?;
@@ -262,7 +262,7 @@ fn evaluate_call<C: CellView>(
     args: &[Resolved],
     turns: &mut Turns,
 ) -> Result<Value, Halt>
-    ensures gives { Gives (then (value_at (sight_of C.content sight.now) (node_of of.now) turns.old.left) (λ v l. then (values_at (sight_of C.content sight.now) (nodes_of args.now) l) (λ vs l. at_once (method_called (C.content sight.now.setting.now.view.now) method v vs) l))) result turns.new.left }
+    ensures gives { Gives (then (value_at (sight_of C.content sight.now) (node_of of.now) turns.old.left) (λ v l. then (values_at (sight_of C.content sight.now) (nodes_of args.now) l) (λ vs l. at_once (method_called (C.content sight.now.setting.view.now) method v vs) l))) result turns.new.left }
     ensures fewer { turns.new.left ≤ turns.old.left }
 {
     if let Some(base) = seen(sight, of) {
@@ -281,11 +281,11 @@ fn evaluate_method<C: CellView>(
     args: &[Resolved],
     turns: &mut Turns,
 ) -> Result<Value, Halt>
-    ensures gives { Gives (then (values_at (sight_of C.content sight.now) (nodes_of args.now) turns.old.left) (λ vs l. at_once (method_called (C.content sight.now.setting.now.view.now) method (value_of base.now) vs) l)) result turns.new.left }
+    ensures gives { Gives (then (values_at (sight_of C.content sight.now) (nodes_of args.now) turns.old.left) (λ vs l. at_once (method_called (C.content sight.now.setting.view.now) method (value_of base.now) vs) l)) result turns.new.left }
     ensures fewer { turns.new.left ≤ turns.old.left }
 {
     let args = evaluate_args(sight, args, turns)?;
-    call_method(sight.setting, method, base, &args)
+    call_method(&sight.setting, method, base, &args)
 }
 
 /// A sign between two operands.

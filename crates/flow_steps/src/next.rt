@@ -70,16 +70,17 @@ impl Process {
         expr: &Resolved,
     ) -> Result<Value, Halt> {
         let mut turns = Turns { left: self.left };
-        let contents = Contents {
-            cells: self.heap.cells(),
+        let value = {
+            let contents = Contents {
+                cells: self.heap.cells(),
+            };
+            let sight = Sight {
+                setting: self.setting(code, &contents),
+                fields: code.fields(),
+                places: self.heap.frames().places_held(actor),
+            };
+            evaluate_resolved(&sight, expr, &mut turns)
         };
-        let setting = self.setting(code, &contents);
-        let sight = Sight {
-            setting: &setting,
-            fields: code.fields(),
-            places: self.heap.frames().places_held(actor),
-        };
-        let value = evaluate_resolved(&sight, expr, &mut turns);
         self.left = turns.left;
         value
     }
@@ -92,16 +93,17 @@ impl Process {
         expr: &Resolved,
     ) -> Result<bool, Halt> {
         let mut turns = Turns { left: self.left };
-        let contents = Contents {
-            cells: self.heap.cells(),
+        let value = {
+            let contents = Contents {
+                cells: self.heap.cells(),
+            };
+            let sight = Sight {
+                setting: self.setting(code, &contents),
+                fields: code.fields(),
+                places: self.heap.frames().places_held(actor),
+            };
+            evaluate_truth(&sight, expr, &mut turns)
         };
-        let setting = self.setting(code, &contents);
-        let sight = Sight {
-            setting: &setting,
-            fields: code.fields(),
-            places: self.heap.frames().places_held(actor),
-        };
-        let value = evaluate_truth(&sight, expr, &mut turns);
         self.left = turns.left;
         value
     }
@@ -114,16 +116,17 @@ impl Process {
         args: &[Resolved],
     ) -> Result<Vec<Value>, Halt> {
         let mut turns = Turns { left: self.left };
-        let contents = Contents {
-            cells: self.heap.cells(),
+        let values = {
+            let contents = Contents {
+                cells: self.heap.cells(),
+            };
+            let sight = Sight {
+                setting: self.setting(code, &contents),
+                fields: code.fields(),
+                places: self.heap.frames().places_held(actor),
+            };
+            evaluate_args(&sight, args, &mut turns)
         };
-        let setting = self.setting(code, &contents);
-        let sight = Sight {
-            setting: &setting,
-            fields: code.fields(),
-            places: self.heap.frames().places_held(actor),
-        };
-        let values = evaluate_args(&sight, args, &mut turns);
         self.left = turns.left;
         values
     }

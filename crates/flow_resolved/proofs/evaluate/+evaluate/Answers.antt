@@ -29,5 +29,5 @@ evaluate_field-returns-in-Some-clause-gives g t c =
 pub evaluate_call-returns-in-Some-clause-gives : goal.evaluate_call-returns-in-Some-clause-gives
 evaluate_call-returns-in-Some-clause-gives g t c =
     known_gives (sight_of g.C.CellView.content c.args.sight.now) (node_of c.args.of.now) (value_of c.in-Some.base.now)
-    (λ v l. then (values_at (sight_of g.C.CellView.content c.args.sight.now) (nodes_of c.args.args.now) l) (λ vs l. at_once (method_called (g.C.CellView.content c.args.sight.now.setting.now.view.now) c.args.method v vs) l))
+    (λ v l. then (values_at (sight_of g.C.CellView.content c.args.sight.now) (nodes_of c.args.args.now) l) (λ vs l. at_once (method_called (g.C.CellView.content c.args.sight.now.setting.view.now) c.args.method v vs) l))
     c.evaluate_method.result c.args.turns.now.left c.evaluate_method.new.turns.left c.in-Some.ensures c.evaluate_method.ensures.gives
