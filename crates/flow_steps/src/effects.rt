@@ -163,10 +163,10 @@ impl Process {
             return Err(Fault::Astray);
         }
         let cell = self.heap.new_result()?;
+        let filled = self.fill_places(args, class.places)?;
         if !self.heap.may_start(Some(cell)) {
             return Err(Fault::Astray);
         }
-        let filled = self.fill_places(args, class.places)?;
         let actor = self
             .heap
             .start_holding(number, class.places, filled, Some(cell))?;
