@@ -19,7 +19,7 @@ use Rattle.flow_cell.specs.declared.counts.Side.{Side}
 use Rattle.flow_cell.specs.declared.counts.Side.TheVariants.{Promise, Future}
 use Rattle.flow_cell.specs.Cells.{CellTree, Counts, unset, held}
 use Rattle.flow_stream.specs.Streams.{StreamTree, empty}
-use Rattle.flow_frame.specs.Frames.{FrameTree, fresh, all_empty}
+use Rattle.flow_frame.specs.Frames.{FrameTree, fresh, holding, all_empty}
 use Rattle.flow_cancel.specs.declared.actors.Note.{Note}
 use Rattle.flow_cancel.specs.declared.task.Task.{Task}
 
@@ -143,6 +143,14 @@ abbrev pub started : (class places : ℕ) → Option CellId → HeapTree → Hea
 started class places result h = record h {
   cells = promised_in result h.cells;
   frames = with_new h.frames (next_actor h) (fresh class places);
+  actors = with_new h.actors (next_actor h) (new_note result);
+}
+
+-- the same, but the first places of its frame hold these
+abbrev pub started_holding : (class places : ℕ) → List (Option Value) → Option CellId → HeapTree → HeapTree
+started_holding class places xs result h = record h {
+  cells = promised_in result h.cells;
+  frames = with_new h.frames (next_actor h) (holding class places xs);
   actors = with_new h.actors (next_actor h) (new_note result);
 }
 

@@ -23,7 +23,8 @@ pub(crate) fn push_drops(tasks: &mut VecDeque<Task>, value: &Value) -> Result<()
     ensures { OnOk result (tasks.new.items ≡ drops (refs_of (value_of value.now)) tasks.old.items) }
 {
     match value {
-        Value::Struct(_, fields) => {
+        Value::Struct(record) => {
+            let fields = &record.fields;
             for field in fields.iter().rev() {
                 push_drops(tasks, field)?;
             }

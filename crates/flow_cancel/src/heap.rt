@@ -7,7 +7,7 @@ ghost use Rattle.flow_value.specs.View.{value_of};
 ghost use Rattle.flow_value.specs.Values.{refs_of};
 ghost use Rattle.flow_numbered.specs.Numbered.{thing, with_thing};
 ghost use Rattle.flow_cell.specs.Cells.{count_of};
-ghost use Rattle.flow_cancel.specs.Heap.{no_heap, pushed, next_cell, next_actor, with_result, with_stream, owner, may_start, started, may_finish, finished, cleared, has_number, with_number, without_number, side_of};
+ghost use Rattle.flow_cancel.specs.Heap.{no_heap, pushed, next_cell, next_actor, with_result, with_stream, owner, may_start, started, started_holding, may_finish, finished, cleared, has_number, with_number, without_number, side_of};
 ghost use Rattle.flow_cancel.specs.Dropping.{drops, refs_in, dropping, dropped, may_drop, cancel_owner};
 ghost use Rattle.flow_cancel.specs.Leaving.{kind_at, is_waiter, left_cells, leave_stream_at, leave_cell_at, leave_one, withdrawn, suspended, cancelled};
 ghost use Rattle.flow_cancel.specs.Lending.{LendsCells, LendsStreams, LendsFrames};
@@ -294,6 +294,27 @@ impl Heap {
         Ok(actor)
     }
 
+    /// The same, but the first places of the actor's frame hold these.
+    pub fn start_holding(
+        &mut self,
+        class: u32,
+        places: u32,
+        filled: Vec<Option<Value>>,
+        cell: Option<CellId>,
+    ) -> Result<ActorId, NoMemory>
+        requires { may_start cell self.old ≡ true }
+        ensures number { IfOk result (λ a. a.0 ≡ next_actor self.old) }
+        ensures started { OnOk result (self.new ≡ started_holding class places filled.items cell self.old) }
+    {
+        let actor = ActorId(self.next_actor()?);
+        self.actors.add(actor, cell)?;
+        self.frames.enter_holding(actor, class, places, filled)?;
+        if let Some(cell) = cell {
+            self.cells.hold(cell, Side::Promise);
+        }
+        Ok(actor)
+    }
+
     /// Whether an actor is unfinished.
     pub fn unfinished(&self, actor: ActorId) -> bool
         ensures { result ≡ is_some (thing self.now.actors.things actor.0) }
@@ -359,6 +380,7 @@ impl Heap {
         while let Some(held) = callbacks.pop() {
             self.leave(actor, held)?;
         }
+        self.frames.keep_room(actor, callbacks);
         Ok(())
     }
 

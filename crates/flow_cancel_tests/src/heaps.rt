@@ -23,7 +23,7 @@ fn the_first_reference_is_dropped_first(rt: HostRuntime) -> Result<(), NoMemory>
         Value::Ref(Kind::Promise, CellId(8)),
     ];
     let fields = Vec::from_array(rt.alloc(), fields)?;
-    heap.push_drops(&Value::Struct(RecordId::Declared(0), fields))?;
+    heap.push_drops(&Value::record(rt.alloc(), RecordId::Declared(0), fields)?)?;
     assert!(rt; matches!(&heap.next_task(), Some(Task::Drop(Kind::Future, _))));
     assert!(rt; matches!(&heap.next_task(), Some(Task::Drop(Kind::Promise, _))));
     Ok(())

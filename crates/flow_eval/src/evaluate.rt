@@ -132,7 +132,7 @@ pub fn evaluate<V: Variables, C: CellView>(
 {
     match expr {
         Expr::Int(n) => Ok(Value::Int(*n)),
-        Expr::Text(text) => Ok(Value::Text(text.copy(setting.alloc)?)),
+        Expr::Text(text) => Ok(Value::text(setting.alloc, text.copy(setting.alloc)?)?),
         Expr::Bool(b) => Ok(Value::Bool(*b)),
         Expr::VoidValue => Ok(Value::Void),
         Expr::Var(name) => variable(setting.alloc, vars, name.name.bytes()),
@@ -236,7 +236,7 @@ fn call_named<V: Variables, C: CellView>(
         return call_answer(setting.alloc, call, setting.time, &args);
     }
     if let Some(id) = record_id(setting.records, name) {
-        return Ok(Value::Struct(id, args));
+        return Ok(Value::record(setting.alloc, id, args)?);
     }
     call_function::<V, C>(setting, nest, name, args, turns)
 }

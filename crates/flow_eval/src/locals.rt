@@ -22,7 +22,7 @@ use flow_ast::ty::{Ident, Ty};
 use flow_base::memory::NoMemory;
 use flow_base::name::Name;
 use flow_base::text::Text;
-use flow_value::value::{RecordId, Value};
+use flow_value::value::{Record, Value};
 use std::alloc::Global;
 use std::mem;
 
@@ -62,7 +62,7 @@ pub fn default_value(alloc: Global, ty: &Ty) -> Result<Value, Halt>
     match ty {
         Ty::Int => Ok(Value::Int(0)),
         Ty::Bool => Ok(Value::Bool(false)),
-        Ty::Str => Ok(Value::Text(Text::new(alloc, b"")?)),
+        Ty::Str => Ok(Value::text(alloc, Text::new(alloc, b"")?)?),
         _ => Err(Halt::NoMeaning),
     }
 }
@@ -95,12 +95,18 @@ pub fn read_path<'a>(records: &[RecordDecl], vars: &'a [Var], path: &[Ident]) ->
 }
 
 #[tactic(auto, using(crate::proofs::Lookups::values_set))]
-fn put_at(mut fields: Vec<Value>, k: usize, value: Value) -> Vec<Value>
-    requires { k < length fields.items }
-    ensures { values_of result.items ≡ value_put (values_of fields.items) k (value_of value) }
+fn put_at(fields: &mut Vec<Value>, k: usize, value: Value)
+    requires { k < length fields.old.items }
+    ensures { values_of fields.new.items ≡ value_put (values_of fields.old.items) k (value_of value) }
 {
     fields[k] = value;
-    fields
+}
+
+// A record as a value.
+fn record_value(of: Box<Record<Value>>) -> Value
+    ensures { value_of result ≡ RecordValue of.value.id (values_of of.value.fields.items) }
+{
+    Value::Struct(of)
 }
 
 // Takes a field out, and leaves a place that is yet to be filled.
@@ -123,9 +129,7 @@ pub fn put_in(records: &[RecordDecl], base: Value, path: &[Ident], value: Value)
         return Some(value);
     };
     match base {
-        Value::Struct(id, fields) => {
-            put_field(records, id, fields, name.name.bytes(), rest, value)
-        }
+        Value::Struct(record) => put_field(records, record, name.name.bytes(), rest, value),
         Value::Int(_)
         | Value::Bool(_)
         | Value::Text(_)
@@ -139,25 +143,25 @@ pub fn put_in(records: &[RecordDecl], base: Value, path: &[Ident], value: Value)
 #[tactic(auto, using(crate::proofs::Lookups::value_past))]
 fn put_field(
     records: &[RecordDecl],
-    id: RecordId,
-    mut fields: Vec<Value>,
+    mut of: Box<Record<Value>>,
     name: &[u8],
     rest: &[Ident],
     value: Value,
 ) -> Option<Value>
-    ensures { option_map value_of result ≡ put_at (RecordValue id (values_of fields.items)) (field_place (map record_of records.now) id name.now) (put_in (map record_of records.now) (at_place (values_of fields.items) (field_place (map record_of records.now) id name.now)) rest.now (value_of value)) }
+    ensures { option_map value_of result ≡ put_at (RecordValue of.value.id (values_of of.value.fields.items)) (field_place (map record_of records.now) of.value.id name.now) (put_in (map record_of records.now) (at_place (values_of of.value.fields.items) (field_place (map record_of records.now) of.value.id name.now)) rest.now (value_of value)) }
 {
-    let Some(k) = field_place(records, id, name) else {
+    let Some(k) = field_place(records, of.id, name) else {
         return None;
     };
-    if k >= fields.len() {
+    if k >= of.fields.len() {
         return None;
     }
-    let part = take_at(&mut fields, k);
+    let part = take_at(&mut of.fields, k);
     let Some(part) = put_in(records, part, rest, value) else {
         return None;
     };
-    Some(Value::Struct(id, put_at(fields, k, part)))
+    put_at(&mut of.fields, k, part);
+    Some(record_value(of))
 }
 
 fn put_var(records: &[RecordDecl], var: &mut Var, path: &[Ident], value: Value) -> bool

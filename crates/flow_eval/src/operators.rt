@@ -32,7 +32,7 @@ fn truth(b: Option<bool>) -> Result<Value, Halt>
     }
 }
 
-fn compared(op: Op, order: Ordering) -> Option<bool>
+pub fn compared(op: Op, order: Ordering) -> Option<bool>
     ensures { result ≡ compared op order }
 {
     match op {
@@ -56,7 +56,7 @@ fn equated(op: Op, same: bool) -> Option<bool>
     }
 }
 
-fn on_ints(op: Op, a: i64, b: i64) -> Result<Value, Halt>
+pub fn on_ints(op: Op, a: i64, b: i64) -> Result<Value, Halt>
     ensures { Answers (on_ints op a b) result }
 {
     match op {
@@ -82,7 +82,7 @@ fn joined(alloc: Global, s: &Text, t: &Text) -> Result<Value, Halt>
     let mut bytes = Vec::with_capacity(alloc, first.len() + second.len())?;
     bytes.extend_from_slice(first)?;
     bytes.extend_from_slice(second)?;
-    Ok(Value::Text(Text::new(alloc, &bytes)?))
+    Ok(Value::text(alloc, Text::new(alloc, &bytes)?)?)
 }
 
 fn on_texts(alloc: Global, op: Op, s: &Text, t: &Text) -> Result<Value, Halt>
@@ -122,7 +122,7 @@ pub fn operated(alloc: Global, op: Op, left: &Value, right: &Value) -> Result<Va
             | Value::Text(_)
             | Value::Void
             | Value::Error(_)
-            | Value::Struct(_, _)
+            | Value::Struct(_)
             | Value::Ref(_, _) => Err(Halt::NoMeaning),
         },
         Value::Text(s) => match right {
@@ -131,7 +131,7 @@ pub fn operated(alloc: Global, op: Op, left: &Value, right: &Value) -> Result<Va
             | Value::Bool(_)
             | Value::Void
             | Value::Error(_)
-            | Value::Struct(_, _)
+            | Value::Struct(_)
             | Value::Ref(_, _) => Err(Halt::NoMeaning),
         },
         Value::Bool(a) => match right {
@@ -140,10 +140,10 @@ pub fn operated(alloc: Global, op: Op, left: &Value, right: &Value) -> Result<Va
             | Value::Text(_)
             | Value::Void
             | Value::Error(_)
-            | Value::Struct(_, _)
+            | Value::Struct(_)
             | Value::Ref(_, _) => Err(Halt::NoMeaning),
         },
-        Value::Void | Value::Error(_) | Value::Struct(_, _) | Value::Ref(_, _) => {
+        Value::Void | Value::Error(_) | Value::Struct(_) | Value::Ref(_, _) => {
             Err(Halt::NoMeaning)
         }
     }

@@ -132,7 +132,7 @@ fn decimal(alloc: Global, n: i64) -> Result<Value, Halt>
     ensures { Answers (to_string (Some n)) result }
 {
     let text = format!(in alloc; "{n}")?;
-    Ok(Value::Text(Text::new(alloc, text.as_bytes())?))
+    Ok(Value::text(alloc, Text::new(alloc, text.as_bytes())?)?)
 }
 
 fn to_string(alloc: Global, n: Option<i64>) -> Result<Value, Halt>
@@ -192,7 +192,7 @@ fn clipped(alloc: Global, text: &Text, from: i64, count: i64) -> Result<Value, H
     }
     let rest = &bytes[from as usize..];
     let part = &rest[..rest.len().min(count as usize)];
-    Ok(Value::Text(Text::new(alloc, part)?))
+    Ok(Value::text(alloc, Text::new(alloc, part)?)?)
 }
 
 fn text_method(alloc: Global, method: Method, text: &Text, args: &[Value]) -> Result<Value, Halt>
@@ -314,8 +314,6 @@ pub fn method_answer<C: CellView>(
         Value::Error(code) => error_method(method, *code),
         Value::Text(text) => text_method(alloc, method, text, args),
         Value::Ref(kind, cell) => reference_method(alloc, view, method, *kind, *cell),
-        Value::Int(_) | Value::Bool(_) | Value::Void | Value::Struct(_, _) => {
-            Err(Halt::NoMeaning)
-        }
+        Value::Int(_) | Value::Bool(_) | Value::Void | Value::Struct(_) => { Err(Halt::NoMeaning) }
     }
 }

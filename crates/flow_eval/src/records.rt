@@ -92,8 +92,8 @@ pub fn field<'a>(records: &[RecordDecl], value: &'a Value, name: &[u8]) -> Optio
     ensures { option_map value_of (option_copied result) ≡ field (map record_of records.now) (value_of value.now) name.now }
 {
     match value {
-        Value::Struct(id, fields) => match field_place(records, *id, name) {
-            Some(k) => value_in(fields, k),
+        Value::Struct(record) => match field_place(records, record.id, name) {
+            Some(k) => value_in(&record.fields, k),
             None => None,
         },
         Value::Int(_)

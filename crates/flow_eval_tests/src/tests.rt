@@ -599,7 +599,7 @@ fn texts_records_and_single_operands(rt: HostRuntime) -> Result<(), Fail> {
     for _ in 0..Text::LIMIT {
         bytes.push(b'a')?;
     }
-    let vars = one_var(alloc, b"t", Value::Text(text(alloc, &bytes)?))?;
+    let vars = one_var(alloc, b"t", Value::text(alloc, text(alloc, &bytes)?)?)?;
     let fits = binary(
         alloc,
         Op::Add,

@@ -55,3 +55,17 @@ module _ {T : Type 0} where
   empty_padded (suc n) [] = none_padded n [] refl
   empty_padded (suc n) (None ∷ xs) = empty_padded n xs
   empty_padded (suc n) (Some v ∷ xs) = refl
+
+  -- no more of them than there are places
+  pub front_padded : (n : ℕ) (xs : List (Option T)) → padded n (take n xs) ≡ padded n xs
+  front_padded zero xs = refl
+  front_padded (suc n) [] = refl
+  front_padded (suc n) (x ∷ xs) = ap (λ r. x ∷ r) (front_padded n xs)
+
+  short : (n : ℕ) (xs : List (Option T)) → length (take n xs) ≤ n
+  short zero xs = omega arith
+  short (suc n) [] = omega arith
+  short (suc n) (x ∷ xs) = omega (arith, short n xs)
+
+  pub front_short : (n : ℕ) (xs ys : List (Option T)) → length (take n xs) ≤ length (padded n ys)
+  front_short n xs ys = omega (arith, short n xs, length_padded n ys)

@@ -1,5 +1,5 @@
 -- Frames as plain data.
-use Rattle.std.specs.Prelude.{ℕ, zero, suc, nat_lt, Bool, true, false, List, [], ◌∷◌, ◌++◌, length, slice_index_or, slice_set, if◌then◌else◌, refl}
+use Rattle.std.specs.Prelude.{◌≡◌, ◌≤◌, ℕ, zero, suc, nat_lt, Bool, true, false, List, [], ◌∷◌, ◌++◌, length, slice_index_or, slice_set, if◌then◌else◌, refl}
 use Rattle.std.specs.declared.option.Option.{Option}
 use Rattle.std.specs.declared.option.Option.TheVariants.{None, Some}
 use Rattle.std.specs.Coded.{Coded, code_by, coded×, coded_ℕ, coded_list, coded_option}
@@ -49,6 +49,15 @@ module _ {T : Type 0} where
   abbrev pub fresh : (class places : ℕ) → FrameTree T
   fresh class places =
       record { class = class; state = 0; block = 0; instruction = 0; places = padded places []; callbacks = [] }
+
+  -- a frame that begins, of whose places the first hold these
+  abbrev pub holding : (class places : ℕ) → List (Option T) → FrameTree T
+  holding class places xs = record (fresh class places) { places = padded places xs }
+
+  -- these are what the first places of a frame hold, if there is one
+  abbrev pub IsFilled : Option (FrameTree T) → List (Option T) → Type 0
+  IsFilled None xs = xs ≡ []
+  IsFilled (Some f) xs = (padded (length f.places) xs ≡ f.places) × (length xs ≤ length f.places)
 
   -- In a state other than 0 the actor waits, and stands at no instruction.
   abbrev pub in_state : ℕ → FrameTree T → FrameTree T

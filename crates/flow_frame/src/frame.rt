@@ -2,7 +2,7 @@
 
 ghost use Rattle.std.specs.Prelude.{◌≡◌, ℕ, ◌<◌, ◌≤◌, length, OnOk, OnErr, IfOk, option_copied, slice_index_or, None, [], is_none, take};
 ghost use Rattle.std.specs.List.{list_all};
-ghost use Rattle.flow_frame.specs.Frames.{padded, fresh, in_state, with_place, with_callback, first_held, other_held, all_empty, standing_of, held_at};
+ghost use Rattle.flow_frame.specs.Frames.{padded, fresh, holding, in_state, with_place, with_callback, first_held, other_held, all_empty, standing_of, held_at};
 
 use crate::held::Held;
 use crate::standing::Standing;
@@ -14,7 +14,7 @@ use std::mem;
 /// How many places get room at once.
 const ROOM: usize = 8;
 
-/// A frame. Only the places up to the last filled one, or a few more, stand in memory.
+/// A frame. Only the places up to the last one that was filled, or a few more, stand in memory.
 #[derive(Drop)]
 pub(crate) struct Frame<T> {
     class: u32,
@@ -60,14 +60,14 @@ fn reach<T: Drop>(filled: &mut Vec<Option<T>>, place: usize, places: usize) -> R
 }
 
 #[tactic(auto, using(crate::proofs::Padded::more_padded))]
-// Gives up the room behind the last filled place.
+// Takes the empty places behind the last filled one off. Their room stays, since the actor fills some of them again when it
+// goes on.
 fn cut<T: Drop>(filled: &mut Vec<Option<T>>)
     ensures same { (places : ℕ) → padded places filled.new.items ≡ padded places filled.old.items }
 {
     while let Some(None) = filled.last() {
         filled.pop();
     }
-    filled.shrink_to_fit();
 }
 
 // Whether the first so many of these are empty.
@@ -91,6 +91,39 @@ impl<T> Frame<T> {
             filled: Vec::new(alloc),
             callbacks: Vec::new(alloc),
         }
+    }
+
+    /// A frame that begins, of whose places the first hold these.
+    pub(crate) fn holding(
+        alloc: Global,
+        class: u32,
+        places: u32,
+        filled: Vec<Option<T>>,
+    ) -> Frame<T>
+        ensures { result ≡ holding class places filled.items }
+    {
+        Frame {
+            class,
+            state: 0,
+            block: 0,
+            instruction: 0,
+            places,
+            filled,
+            callbacks: Vec::new(alloc),
+        }
+    }
+
+    #[tactic(auto, using(crate::proofs::Padded::length_padded, crate::proofs::Padded::front_padded, crate::proofs::Padded::front_short))]
+    /// What its first places hold; those behind hold nothing.
+    pub(crate) fn filled(&self) -> &[Option<T>]
+        ensures places { padded (length self.now.places) result.now ≡ self.now.places }
+        ensures count { length result.now ≤ length self.now.places }
+    {
+        let places = self.places as usize;
+        if self.filled.len() > places {
+            return &self.filled[..places];
+        }
+        &self.filled
     }
 
     #[tactic(auto, using(crate::proofs::Padded::at_padded, crate::proofs::Padded::length_padded))]
@@ -175,8 +208,7 @@ impl<T> Frame<T> {
         self.state
     }
 
-    /// Puts it into a state. In one other than 0 it stands at block 0 and instruction 0, and gives up the room
-    /// behind its last filled place.
+    /// Puts it into a state. In one other than 0 it stands at block 0 and instruction 0.
     pub(crate) fn set_state(&mut self, state: u32)
     where
         T: Drop,
@@ -231,6 +263,15 @@ impl<T> Frame<T> {
         ensures rest { self.new ≡ record self.old { callbacks = [] } }
     {
         mem::replace(&mut self.callbacks, Vec::new(alloc))
+    }
+
+    /// Keeps room for callbacks, where it has none and this holds none.
+    pub(crate) fn keep_room(&mut self, room: Vec<Held>)
+        ensures { self.new ≡ self.old }
+    {
+        if self.callbacks.is_empty() && room.is_empty() {
+            self.callbacks = room;
+        }
     }
 
     /// Takes the first callback, if there is one.

@@ -3,7 +3,7 @@
 ghost use Rattle.std.specs.Prelude.{◌≡◌, ◌<◌, length, IsSome, is_some, OnOk, OnErr, IfOk, option_copied, option_map, slice_index_or, Some, None, true, []};
 ghost use Rattle.std.specs.Option.{ForSome};
 ghost use Rattle.flow_numbered.specs.Numbered.{thing, added, removed, next_above, with_thing};
-ghost use Rattle.flow_frame.specs.Frames.{fresh, in_state, with_place, with_callback, first_held, other_held, all_empty, standing_of, held_in};
+ghost use Rattle.flow_frame.specs.Frames.{fresh, holding, IsFilled, in_state, with_place, with_callback, first_held, other_held, all_empty, standing_of, held_in};
 
 use crate::frame::Frame;
 use crate::held::Held;
@@ -58,6 +58,37 @@ impl<T> Frames<T> {
     {
         self.frames
             .insert(actor.0, Frame::new(self.alloc, class, places))
+    }
+
+    /// The same, but the first places of the frame hold these.
+    pub fn enter_holding(
+        &mut self,
+        actor: ActorId,
+        class: u32,
+        places: u32,
+        filled: Vec<Option<T>>,
+    ) -> Result<(), NoMemory>
+    where
+        T: Drop,
+        requires { self.old.greatest < actor.0 }
+        ensures ok { OnOk result (self.new ≡ record {
+          things = added self.old.things actor.0 (holding class places filled.items);
+          greatest = actor.0;
+        }) }
+        ensures err { OnErr result (self.new ≡ self.old) }
+    {
+        self.frames
+            .insert(actor.0, Frame::holding(self.alloc, class, places, filled))
+    }
+
+    /// What the first places of the frame of an actor hold; those behind hold nothing. Empty where it has no frame.
+    pub fn places_held(&self, actor: ActorId) -> &[Option<T>]
+        ensures { IsFilled (thing self.now.things actor.0) result.now }
+    {
+        match self.frames.get(actor.0) {
+            Some(frame) => frame.filled(),
+            None => &[],
+        }
     }
 
     /// Whether an actor has a frame.
@@ -173,8 +204,7 @@ impl<T> Frames<T> {
         self.frame(actor).state()
     }
 
-    /// Puts a frame into a state. In one other than 0 it stands at block 0 and instruction 0, and gives up the room
-    /// behind its last filled place.
+    /// Puts a frame into a state. In one other than 0 it stands at block 0 and instruction 0.
     pub fn set_state(&mut self, actor: ActorId, state: u32)
     where
         T: Drop,
@@ -239,6 +269,16 @@ impl<T> Frames<T> {
     {
         let alloc = self.alloc;
         self.frames.get_mut(actor.0).take_callbacks(alloc)
+    }
+
+    #[tactic(auto, using(flow_numbered::proofs::Things::with_same))]
+    /// Has a frame that has no callback keep room for some. Nothing happens where there is no such frame.
+    pub fn keep_room(&mut self, actor: ActorId, room: Vec<Held>)
+        ensures { self.new ≡ self.old }
+    {
+        if self.frames.contains(actor.0) {
+            self.frames.get_mut(actor.0).keep_room(room);
+        }
     }
 
     /// Takes the first callback of a frame: `None` where there is none.

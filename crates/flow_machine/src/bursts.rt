@@ -8,7 +8,7 @@ use crate::judged::{judged, process, time_after, width};
 use flow_base::errors::{BAD_ARGUMENT, OUT_OF_RANGE, PORT_IN_USE};
 use flow_base::ids::{ActorId, CellId};
 use flow_base::text::Text;
-use flow_class::program::ClassProgram;
+use flow_code::program::Code;
 use flow_steps::call::{Call, DiskCall, Goal};
 use flow_steps::process::{Next, Process};
 use flow_value::value::Value;
@@ -120,8 +120,8 @@ fn send_to<H: Host>(
     Ok(())
 }
 
-/// Asks the world what a step of a process, of so many, asks of it.
-pub(crate) fn ask<H: Host>(
+// Asks the world for something other than a line.
+fn ask_other<H: Host>(
     process: &mut Process,
     processes: u8,
     call: Call,
@@ -150,12 +150,28 @@ pub(crate) fn ask<H: Host>(
     }
 }
 
+/// Asks the world what the last step of a process, of so many, asks of it, if anything.
+pub(crate) fn ask<H: Host>(
+    process: &mut Process,
+    processes: u8,
+    host: &mut H,
+) -> Result<(), RunFault>
+    requires { H.processes (H.kept host.old) ≡ processes }
+    ensures cause { RunCause (H.faults host.old) (H.faults host.new) result }
+    ensures kept { H.kept host.new ≡ H.kept host.old }
+{
+    match process.take_asked() {
+        Some(call) => ask_other(process, processes, call, host),
+        None => Ok(()),
+    }
+}
+
 #[tactic(auto, using(crate::proofs::Causes::cause_before))]
 /// Steps of a process, of so many, until no task is left, or a turn is needed and none is left.
 pub(crate) fn burst<H: Host>(
     process: &mut Process,
     processes: u8,
-    classes: &ClassProgram,
+    code: &Code,
     host: &mut H,
 ) -> Result<Burst, RunFault>
     requires { H.processes (H.kept host.old) ≡ processes }
@@ -163,11 +179,10 @@ pub(crate) fn burst<H: Host>(
     ensures kept { H.kept host.new ≡ H.kept host.old }
 {
     for _step in 0..u64::MAX {
-        match process.step(classes)? {
+        match process.run_tasks(code)? {
             Next::Rested => return Ok(Burst::Rested),
             Next::Spent => return Ok(Burst::Spent),
-            Next::Asks(call) => ask(process, processes, call, host)?,
-            Next::Goes => (),
+            Next::Asks => ask(process, processes, host)?,
         }
     }
     Err(RunFault::Astray)

@@ -7,7 +7,7 @@ use crate::bursts::{ask, burst};
 use crate::host::{Burst, Host, RunFault};
 use flow_base::ids::{CellId, ProcId};
 use flow_base::memory::NoMemory;
-use flow_class::program::ClassProgram;
+use flow_code::program::Code;
 use flow_steps::process::Process;
 use flow_steps::views::{CallbackView, FrameView};
 use flow_value::value::{Outcome, Value};
@@ -48,7 +48,7 @@ impl Machine {
     /// where a result of `main` is held already, or where the classes lead to where no valid class comes.
     pub fn start_main<H: Host>(
         &mut self,
-        classes: &ClassProgram,
+        code: &Code,
         now: u64,
         turns: u32,
         host: &mut H,
@@ -59,16 +59,15 @@ impl Machine {
         ensures processes { self.new.processes ≡ self.old.processes }
     {
         self.process.begin(now, turns);
-        if let Some(call) = self.process.call_main(classes, self.me)? {
-            ask(&mut self.process, self.processes, call, host)?;
-        }
-        burst(&mut self.process, self.processes, classes, host)
+        self.process.call_main(code, self.me)?;
+        ask(&mut self.process, self.processes, host)?;
+        burst(&mut self.process, self.processes, code, host)
     }
 
     /// Brings the answer to an open request: its cell is set and fires, and then the request's promise is dropped.
     pub fn deliver<H: Host>(
         &mut self,
-        classes: &ClassProgram,
+        code: &Code,
         cell: CellId,
         outcome: Outcome,
         now: u64,
@@ -82,13 +81,13 @@ impl Machine {
     {
         self.process.begin(now, turns);
         self.process.answer(cell, outcome)?;
-        burst(&mut self.process, self.processes, classes, host)
+        burst(&mut self.process, self.processes, code, host)
     }
 
     /// Brings an element to a port's stream, which fires.
     pub fn arrive<H: Host>(
         &mut self,
-        classes: &ClassProgram,
+        code: &Code,
         cell: CellId,
         item: Value,
         now: u64,
@@ -102,13 +101,13 @@ impl Machine {
     {
         self.process.begin(now, turns);
         self.process.bring(cell, item)?;
-        burst(&mut self.process, self.processes, classes, host)
+        burst(&mut self.process, self.processes, code, host)
     }
 
     /// Drops the hold on the result of `main`, if there is one.
     pub fn stop<H: Host>(
         &mut self,
-        classes: &ClassProgram,
+        code: &Code,
         now: u64,
         turns: u32,
         host: &mut H,
@@ -120,7 +119,7 @@ impl Machine {
     {
         self.process.begin(now, turns);
         self.process.drop_main()?;
-        burst(&mut self.process, self.processes, classes, host)
+        burst(&mut self.process, self.processes, code, host)
     }
 
     /// A loss of power: everything goes but the numbers given so far.

@@ -6,6 +6,7 @@ use flow_base::place::Place;
 use flow_base::text::Text;
 use flow_class::class::{Block, Callback, Class, Group, Last, RawClasses};
 use flow_class::program::ClassProgram;
+use flow_code::program::Code;
 use flow_machine::host::{Burst, Host, RunFault};
 use flow_machine::machine::Machine;
 use flow_simdisk::DiskAsk;
@@ -74,11 +75,7 @@ impl Host for Lines {
 }
 
 // A program of one class, `main`, which has a local for its number.
-fn program(
-    alloc: Global,
-    blocks: Vec<Block>,
-    groups: Vec<Group>,
-) -> Result<ClassProgram, NoMemory> {
+fn program(alloc: Global, blocks: Vec<Block>, groups: Vec<Group>) -> Result<Code, NoMemory> {
     let class = Class {
         name: Name::new(alloc, b"main")?,
         returns: Ty::Void,
@@ -93,7 +90,7 @@ fn program(
         functions: Vec::new(alloc),
         classes: vec![in alloc; class]?,
     };
-    ClassProgram::unjudged(alloc, raw)
+    Code::new(alloc, ClassProgram::unjudged(alloc, raw)?)
 }
 
 fn block(alloc: Global, last: Last) -> Block {
@@ -105,13 +102,13 @@ fn block(alloc: Global, last: Last) -> Block {
 }
 
 // `main` returns at once.
-fn returning(alloc: Global) -> Result<ClassProgram, NoMemory> {
+fn returning(alloc: Global) -> Result<Code, NoMemory> {
     let block = block(alloc, Last::Return(Expr::VoidValue));
     program(alloc, vec![in alloc; block]?, Vec::new(alloc))
 }
 
 // `main` waits for a delay of five ticks, and returns.
-fn delaying(alloc: Global) -> Result<ClassProgram, NoMemory> {
+fn delaying(alloc: Global) -> Result<Code, NoMemory> {
     let name = Ident {
         name: Name::new(alloc, b"delay")?,
         at: Place {

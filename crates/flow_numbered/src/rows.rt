@@ -21,13 +21,26 @@ fn is_at<V>(rows: &[Row<V>], place: usize, number: u64) -> bool
     }
 }
 
-/// The place of the row with a number, if there is one. It is looked for near another place first.
+// Where a number stands if none is missing between the first one and it.
+fn without_gaps<V>(rows: &[Row<V>], number: u64) -> usize {
+    match rows.first() {
+        Some(row) => number.saturating_sub(row.number) as usize,
+        None => 0,
+    }
+}
+
+/// The place of the row with a number, if there is one. It is looked for near another place first, and then where it stands
+/// if no number is missing.
 pub(crate) fn place_of<V>(rows: &[Row<V>], near: usize, number: u64) -> Option<usize>
     requires { Rise rows.now }
     ensures { result ≡ place_in rows.now number }
 {
     if is_at(rows, near, number) {
         return Some(near);
+    }
+    let place = without_gaps(rows, number);
+    if is_at(rows, place, number) {
+        return Some(place);
     }
     search(rows, number)
 }

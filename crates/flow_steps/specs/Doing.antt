@@ -1,5 +1,10 @@
 -- What a process does to its own state.
 use Rattle.std.specs.Prelude.{ℕ, ◌-◌, nat_lt, false, true, if◌then◌else◌}
+use Rattle.std.specs.declared.option.Option.TheVariants.{Some}
+use Rattle.flow_trace.specs.declared.line.Line.{Line}
+use Rattle.flow_trace.specs.declared.line.Line.TheVariants.{Cancel}
+use Rattle.flow_steps.specs.declared.call.Call.{Call}
+use Rattle.flow_steps.specs.declared.call.Call.TheVariants as call
 use Rattle.flow_cancel.specs.declared.task.Task.{Task}
 use Rattle.flow_cancel.specs.Heap.{pushed, cleared}
 use Rattle.flow_cancel.specs.Leaving.{withdrawn, cancelled}
@@ -25,6 +30,13 @@ doing t p = record p { heap = pushed t p.heap }
 abbrev pub departed : (actor : ℕ) → Process → Process
 departed i p = record p { heap = withdrawn i p.heap }
 
--- an actor is marked as cancelled, and leaves its wait if it is suspended
+-- the step asks this of the world, or that a line be written
+abbrev pub asking : Call → Process → Process
+asking c p = record p { asked = Some c }
+
+abbrev pub telling : Line → Process → Process
+telling l p = asking (call.Line l) p
+
+-- an actor is marked as cancelled, and leaves its wait if it is suspended; the line is asked for
 abbrev pub stopped : (actor : ℕ) → Process → Process
-stopped i p = record p { heap = cancelled i p.heap }
+stopped i p = telling (Cancel (record { 0 = i })) (record p { heap = cancelled i p.heap })

@@ -10,17 +10,6 @@ use Rattle.flow_value.specs.View.{value_of, outcome_of}
 use Rattle.flow_numbered.specs.Numbered.{Store, thing}
 use Rattle.flow_cell.specs.Cells.{CellTree}
 use Rattle.flow_frame.specs.Frames.{FrameTree, held_in}
-use Rattle.flow_class.specs.declared.class.Slotted.{Slotted}
-use Rattle.flow_class.specs.declared.class.Slotted.TheVariants.{Slot, Local}
-use Rattle.flow_class.specs.Places.{place_named, small_place}
-
--- the number of a place in its frame: the locals come behind the slots
-abbrev pub place_of : (slots : ℕ) → Slotted → Option ℕ
-place_of slots (Slot n) = if nat_lt n slots then Some n else None
-place_of slots (Local n) = if nat_lt (slots + n) (2 ^ 32) then Some (slots + n) else None
-
-abbrev pub place_in : (slots : ℕ) → List ℕ → Option ℕ
-place_in slots name = option_and_then (place_of slots) (small_place (place_named name))
 
 -- what a variable of an actor holds
 abbrev pub value_in : Store (FrameTree Value) → (actor : ℕ) → Option ℕ → Option ValueTree

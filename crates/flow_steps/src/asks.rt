@@ -1,15 +1,16 @@
 // Call statements: messages, sends, cancelling, and calls of functions.
 
-use crate::call::{Call, Step};
+use crate::call::Call;
 use crate::effects::{int_at, take_text};
 use crate::errors::Fault;
 use crate::process::Process;
-use flow_ast::predefined::{Method, Predefined, predefined_call, predefined_method};
+use flow_ast::predefined::{Method, Predefined};
 use flow_base::errors::ALREADY_SET;
 use flow_base::ids::{ActorId, CellId};
 use flow_cancel::task::Task;
 use flow_trace::line::Line;
-use flow_value::value::{Kind, Outcome, Value};
+use flow_value::value::{Kind, Outcome, Value, own_text};
+use std::alloc::Global;
 
 /// Takes the first argument out of the arguments.
 fn first(args: Vec<Value>) -> Option<Value> {
@@ -17,20 +18,20 @@ fn first(args: Vec<Value>) -> Option<Value> {
 }
 
 /// The line of a printed value.
-fn print_line(actor: ActorId, value: Value) -> Result<Line, Fault> {
+fn print_line(alloc: Global, actor: ActorId, value: Value) -> Result<Line, Fault> {
     match value {
         Value::Int(n) => Ok(Line::PrintInt(actor, n)),
         Value::Bool(b) => Ok(Line::PrintBool(actor, b)),
-        Value::Text(text) => Ok(Line::PrintText(actor, text)),
-        Value::Void | Value::Error(_) | Value::Struct(_, _) | Value::Ref(_, _) => {
+        Value::Text(text) => Ok(Line::PrintText(actor, own_text(alloc, text)?)),
+        Value::Void | Value::Error(_) | Value::Struct(_) | Value::Ref(_, _) => {
             Err(Fault::Astray)
         }
     }
 }
 
 /// What a method sends: `send` a value, `sendError` an error.
-fn sent(method: Method, args: Vec<Value>) -> Result<Outcome, Fault> {
-    match (method, first(args)) {
+fn sent(method: Method, arg: Option<Value>) -> Result<Outcome, Fault> {
+    match (method, arg) {
         (Method::Send, Some(value)) => Ok(Outcome::Value(value)),
         (Method::SendError, Some(Value::Error(error))) => Ok(Outcome::Error(error)),
         _ => Err(Fault::Astray),
@@ -38,23 +39,24 @@ fn sent(method: Method, args: Vec<Value>) -> Result<Outcome, Fault> {
 }
 
 /// A text that is sent to a port of a process.
-fn send_to(actor: ActorId, args: Vec<Value>) -> Result<Step, Fault> {
+fn send_to(alloc: Global, actor: ActorId, args: Vec<Value>) -> Result<Call, Fault> {
     let mut args = args;
     let process = int_at(&args, 0)?;
     let port = int_at(&args, 1)?;
-    let text = take_text(&mut args, 2)?;
-    Ok(Some(Call::SendTo(actor, process, port, text)))
+    let text = take_text(alloc, &mut args, 2)?;
+    Ok(Call::SendTo(actor, process, port, text))
 }
 
 impl Process {
     // A value is printed.
-    fn print(&mut self, actor: ActorId, args: Vec<Value>) -> Result<Step, Fault> {
+    fn print(&mut self, actor: ActorId, args: Vec<Value>) -> Result<(), Fault> {
         let Some(value) = first(args) else {
             return Err(Fault::Astray);
         };
-        let line = print_line(actor, value)?;
+        let line = print_line(self.alloc, actor, value)?;
         self.heap.push(Task::Run(actor))?;
-        Ok(Some(Call::Line(line)))
+        self.tell(line);
+        Ok(())
     }
 
     /// A call statement of a predefined name.
@@ -63,10 +65,14 @@ impl Process {
         actor: ActorId,
         call: Predefined,
         args: Vec<Value>,
-    ) -> Result<Step, Fault> {
+    ) -> Result<(), Fault> {
         match call {
             Predefined::Trace => self.print(actor, args),
-            Predefined::SendTo => send_to(actor, args),
+            Predefined::SendTo => {
+                let sent = send_to(self.alloc, actor, args)?;
+                self.ask(sent);
+                Ok(())
+            }
             _ => Err(Fault::Astray),
         }
     }
@@ -96,18 +102,16 @@ impl Process {
         kind: Kind,
         cell: CellId,
         outcome: Outcome,
-    ) -> Result<Step, Fault> {
+    ) -> Result<(), Fault> {
         if self.is_complete(kind, cell)? {
-            self.throw(actor, ALREADY_SET)?;
-            return Ok(None);
+            return self.throw(actor, ALREADY_SET);
         }
         if !self.turn() {
-            return Ok(None);
+            return Ok(());
         }
         self.hold_outcome(&outcome)?;
         self.heap.push(Task::Run(actor))?;
-        self.fill(kind, cell, outcome)?;
-        Ok(None)
+        self.fill(kind, cell, outcome)
     }
 
     /// A call statement on a reference.
@@ -117,11 +121,11 @@ impl Process {
         method: Method,
         kind: Kind,
         cell: CellId,
-        args: Vec<Value>,
-    ) -> Result<Step, Fault> {
+        arg: Option<Value>,
+    ) -> Result<(), Fault> {
         match kind {
             Kind::Promise | Kind::PromiseStream => {
-                let outcome = sent(method, args)?;
+                let outcome = sent(method, arg)?;
                 self.send_into(actor, kind, cell, outcome)
             }
             Kind::Future if method == Method::Cancel => {

@@ -3,22 +3,22 @@
 ghost use Rattle.std.specs.Prelude.{◌∷◌, OnOk};
 ghost use Rattle.flow_steps.specs.Drops.{DropsOver};
 
-use crate::call::{Call, Step};
 use crate::errors::Fault;
 use crate::frames::Stand;
+use crate::next::Pace;
 use crate::process::Process;
 use flow_base::errors::{OPERATION_CANCELLED, SECOND_WAITER};
 use flow_base::ids::{ActorId, CellId};
 use flow_cancel::task::Task;
 use flow_cell::waiter::Waiter;
-use flow_class::class::{Block, Last};
-use flow_class::program::ClassProgram;
+use flow_code::class::{Block, Last};
+use flow_code::program::Code;
 use flow_frame::held::Held;
 use flow_stream::head::{Head, Wait};
 use flow_trace::line::Line;
 use flow_value::value::{Kind, Outcome};
 
-/// The group of the wait that ends a block.
+/// The number of the group of the wait that ends a block.
 pub(crate) fn group_at(block: &Block) -> Result<u32, Fault> {
     match &block.last {
         Last::Choose(group) => Ok(*group),
@@ -27,14 +27,12 @@ pub(crate) fn group_at(block: &Block) -> Result<u32, Fault> {
 }
 
 /// The number of a branch in its group, from its number through the class.
-pub(crate) fn branch_of(
-    classes: &ClassProgram,
-    stand: Stand<'_>,
-    callback: u32,
-) -> Result<u32, Fault> {
-    let group = group_at(stand.block)?;
-    let home = stand.home(classes, group)?;
-    match callback.checked_sub(home.first) {
+pub(crate) fn branch_of(stand: &Stand<'_>, callback: u32) -> Result<u32, Fault> {
+    let number = group_at(stand.block)?;
+    let Some(group) = stand.class.group(number) else {
+        return Err(Fault::Astray);
+    };
+    match callback.checked_sub(group.first) {
         Some(branch) => Ok(branch),
         None => Err(Fault::Astray),
     }
@@ -76,7 +74,7 @@ impl Process {
     }
 
     /// An actor leaves its wait for a task: its operands are dropped, then its locals, and then the task comes.
-    pub(crate) fn leave_for(&mut self, stand: Stand<'_>, task: Task) -> Result<(), Fault>
+    pub(crate) fn leave_for(&mut self, stand: &Stand<'_>, task: Task) -> Result<(), Fault>
         ensures { OnOk result (DropsOver (task ∷ self.old.heap.tasks) self.new.heap.tasks) }
     {
         let actor = stand.actor;
@@ -91,48 +89,62 @@ impl Process {
     /// A branch, numbered from 0 in its group, takes what its cell gives: a turn, the line; then the actor leaves its wait.
     pub(crate) fn take(
         &mut self,
-        stand: Stand<'_>,
+        stand: &Stand<'_>,
         branch: u32,
         cell: CellId,
-    ) -> Result<Step, Fault> {
+    ) -> Result<(), Fault> {
         if !self.turn() {
-            return Ok(None);
+            return Ok(());
         }
         let actor = stand.actor;
         let group = group_at(stand.block)?;
         let outcome = Box::new(self.alloc, self.taken_from(cell)?)?;
         self.leave_for(stand, Task::Give(actor, branch, outcome))?;
-        Ok(Some(Call::Line(Line::Take(actor, group, branch))))
+        self.tell(Line::Take(actor, group, branch));
+        Ok(())
     }
 
     /// An operand that counts already is kept. A marked actor then leaves its wait and is thrown that it was cancelled; an
     /// operand that is ready is taken; otherwise the actor goes on.
-    pub(crate) fn keep(
+    pub(crate) fn keep_operand(
         &mut self,
-        classes: &ClassProgram,
-        actor: ActorId,
+        stand: &Stand<'_>,
         callback: u32,
         cell: CellId,
-    ) -> Result<Step, Fault> {
+    ) -> Result<Pace, Fault> {
+        let actor = stand.actor;
         if !self.heap.unfinished(actor) || !self.heap.frames().contains(actor) {
             return Err(Fault::Astray);
         }
         let held = Held { callback, cell };
         self.heap.frames_mut().add_callback(actor, held)?;
         if self.heap.marked(actor) {
-            self.pop_run(actor)?;
-            let stand = self.stand_of(classes, actor)?;
             let thrown = Task::Throw(actor, OPERATION_CANCELLED);
             self.leave_for(stand, thrown)?;
-            return Ok(None);
+            return Ok(Pace::Off);
         }
         if !self.is_ready(cell) {
-            return Ok(None);
+            return Ok(Pace::On);
         }
+        let branch = branch_of(stand, callback)?;
+        self.take(stand, branch, cell)?;
+        Ok(Pace::Off)
+    }
+
+    /// The result of an effect is kept as an operand, and the actor, whose task is next, goes on.
+    pub(crate) fn keep(
+        &mut self,
+        code: &Code,
+        actor: ActorId,
+        callback: u32,
+        cell: CellId,
+    ) -> Result<(), Fault> {
         self.pop_run(actor)?;
-        let stand = self.stand_of(classes, actor)?;
-        let branch = branch_of(classes, stand, callback)?;
-        self.take(stand, branch, cell)
+        let stand = self.stand_of(code, actor)?;
+        match self.keep_operand(&stand, callback, cell)? {
+            Pace::On => self.run(code, actor),
+            Pace::Off => Ok(()),
+        }
     }
 
     // Takes the actor's own task off the stack.
@@ -215,24 +227,19 @@ impl Process {
 
     /// All operands are kept. The first that is ready is taken. Otherwise the actor waits for all of them, and its locals
     /// are dropped; where a stream refuses, that is thrown.
-    pub(crate) fn wait(
-        &mut self,
-        classes: &ClassProgram,
-        stand: Stand<'_>,
-        group: u32,
-    ) -> Result<Step, Fault> {
+    pub(crate) fn wait(&mut self, stand: &Stand<'_>, group: u32) -> Result<(), Fault> {
         let actor = stand.actor;
         if let Some(held) = self.first_ready(actor) {
-            let branch = branch_of(classes, stand, held.callback)?;
+            let branch = branch_of(stand, held.callback)?;
             return self.take(stand, branch, held.cell);
         }
         if !self.register_all(actor)? {
             let thrown = Task::Throw(actor, SECOND_WAITER);
-            self.leave_for(stand, thrown)?;
-            return Ok(None);
+            return self.leave_for(stand, thrown);
         }
         self.lose_locals(stand.class, actor)?;
         self.suspend(actor, group)?;
-        Ok(Some(Call::Line(Line::Wait(actor, group))))
+        self.tell(Line::Wait(actor, group));
+        Ok(())
     }
 }

@@ -40,6 +40,3 @@ pub enum Call {
     /// A port's stream is gone.
     Unlisten(CellId),
 }
-
-/// What a step asks of the world, if anything.
-pub type Step = Option<Call>;

@@ -1,69 +1,20 @@
 // Effects: new cells, calls of actors, and what is asked of the world. A bad argument is an error that is thrown where the
 // actor stands.
 
-use crate::call::{Call, DiskCall, Goal, Step};
+use crate::call::{Call, DiskCall, Goal};
 use crate::errors::Fault;
-use crate::frames::places_of;
+use crate::next::Pace;
 use crate::process::Process;
-use flow_ast::predefined::{Predefined, predefined_call};
+use flow_ast::predefined::Predefined;
 use flow_base::ids::{ActorId, CellId};
 use flow_base::text::Text;
 use flow_cancel::task::Task;
-use flow_class::class::Class;
-use flow_class::program::ClassProgram;
+use flow_code::class::Effect;
+use flow_code::program::Code;
+use flow_resolved::expr::Resolved;
 use flow_trace::line::Line;
-use flow_tree::expr::Expr;
-use flow_value::value::{Kind, Value};
-
-/// A call that has an effect: a predefined one, or that of the class at a place.
-#[derive(Clone, Copy, PartialEq, Eq, Debug)]
-pub(crate) enum Effectful {
-    World(Predefined),
-    Actor(u32),
-}
-
-/// Whether a predefined call has an effect and gives a value.
-fn is_effect(call: Predefined) -> bool {
-    matches!(
-        call,
-        Predefined::RandomInt
-            | Predefined::Delay
-            | Predefined::Never
-            | Predefined::Listen
-            | Predefined::ReadFile
-            | Predefined::WriteFile
-            | Predefined::SyncFile
-            | Predefined::FileSize
-    )
-}
-
-/// The place of the first class of a name.
-pub(crate) fn class_named(classes: &[Class], name: &[u8]) -> Option<u32> {
-    for (place, class) in classes.iter().enumerate() {
-        if class.name.bytes() == name {
-            return u32::try_from(place).ok();
-        }
-    }
-    None
-}
-
-/// The effect that an expression is, with its arguments.
-pub(crate) fn effect_in<'a>(
-    classes: &ClassProgram,
-    expr: &'a Expr,
-) -> Option<(Effectful, &'a [Expr])> {
-    let Expr::Call(name, args) = expr else {
-        return None;
-    };
-    match predefined_call(name.name.bytes()) {
-        Some(call) if is_effect(call) => Some((Effectful::World(call), args)),
-        Some(_) => None,
-        None => {
-            let place = class_named(&classes.raw().classes, name.name.bytes())?;
-            Some((Effectful::Actor(place), args))
-        }
-    }
-}
+use flow_value::value::{Kind, Value, own_text};
+use std::alloc::Global;
 
 /// The number that an argument is.
 pub(crate) fn int_at(args: &[Value], place: usize) -> Result<i64, Fault> {
@@ -74,10 +25,10 @@ pub(crate) fn int_at(args: &[Value], place: usize) -> Result<i64, Fault> {
 }
 
 /// Takes the text that an argument is out of the arguments.
-pub(crate) fn take_text(args: &mut [Value], place: usize) -> Result<Text, Fault> {
+pub(crate) fn take_text(alloc: Global, args: &mut [Value], place: usize) -> Result<Text, Fault> {
     match args.get_mut(place) {
         Some(arg) => match std::mem::replace(arg, Value::Void) {
-            Value::Text(text) => Ok(text),
+            Value::Text(text) => Ok(own_text(alloc, text)?),
             _ => Err(Fault::Astray),
         },
         None => Err(Fault::Astray),
@@ -85,8 +36,8 @@ pub(crate) fn take_text(args: &mut [Value], place: usize) -> Result<Text, Fault>
 }
 
 /// The request to a disk that a predefined call makes.
-fn disk_call(call: Predefined, args: &mut [Value]) -> Result<DiskCall, Fault> {
-    let file = take_text(args, 0)?;
+fn disk_call(alloc: Global, call: Predefined, args: &mut [Value]) -> Result<DiskCall, Fault> {
+    let file = take_text(alloc, args, 0)?;
     match call {
         Predefined::ReadFile => {
             let offset = int_at(args, 1)?;
@@ -94,7 +45,7 @@ fn disk_call(call: Predefined, args: &mut [Value]) -> Result<DiskCall, Fault> {
         }
         Predefined::WriteFile => {
             let offset = int_at(args, 1)?;
-            Ok(DiskCall::Write(file, offset, take_text(args, 2)?))
+            Ok(DiskCall::Write(file, offset, take_text(alloc, args, 2)?))
         }
         Predefined::SyncFile => Ok(DiskCall::Sync(file)),
         Predefined::FileSize => Ok(DiskCall::Size(file)),
@@ -103,6 +54,14 @@ fn disk_call(call: Predefined, args: &mut [Value]) -> Result<DiskCall, Fault> {
 }
 
 impl Process {
+    /// A new cell for a kind of reference.
+    pub(crate) fn new_cell(&mut self, kind: Kind) -> Result<CellId, Fault> {
+        match kind {
+            Kind::Promise | Kind::Future => Ok(self.heap.new_result()?),
+            Kind::PromiseStream | Kind::FutureStream => Ok(self.heap.new_stream()?),
+        }
+    }
+
     /// A new cell, and a reference of a kind to it as the result.
     pub(crate) fn gives_new(
         &mut self,
@@ -110,10 +69,7 @@ impl Process {
         goal: Goal,
         kind: Kind,
     ) -> Result<CellId, Fault> {
-        let cell = match kind {
-            Kind::Promise | Kind::Future => self.heap.new_result()?,
-            Kind::PromiseStream | Kind::FutureStream => self.heap.new_stream()?,
-        };
+        let cell = self.new_cell(kind)?;
         self.gives(actor, goal, Value::Ref(kind, cell))?;
         Ok(cell)
     }
@@ -134,18 +90,24 @@ impl Process {
         Ok(cell)
     }
 
-    /// An effect of an actor, with its arguments.
+    /// An effect of an actor.
     pub(crate) fn effect(
         &mut self,
-        classes: &ClassProgram,
+        code: &Code,
         actor: ActorId,
         goal: Goal,
-        effect: Effectful,
-        args: Vec<Value>,
-    ) -> Result<Step, Fault> {
+        effect: Effect,
+        args: &[Resolved],
+    ) -> Result<Pace, Fault> {
         match effect {
-            Effectful::World(call) => self.world_effect(actor, goal, call, args),
-            Effectful::Actor(class) => self.start(classes, actor, goal, class, args),
+            Effect::World(call) => match self.values(code, actor, args) {
+                Ok(args) => {
+                    self.world_effect(actor, goal, call, args)?;
+                    Ok(Pace::Off)
+                }
+                Err(halt) => self.halted(actor, halt),
+            },
+            Effect::Actor(class) => self.start(code, actor, goal, class, args),
         }
     }
 
@@ -156,72 +118,73 @@ impl Process {
         goal: Goal,
         call: Predefined,
         args: Vec<Value>,
-    ) -> Result<Step, Fault> {
-        match call {
+    ) -> Result<(), Fault> {
+        let asked = match call {
             Predefined::RandomInt => {
                 let lo = int_at(&args, 0)?;
-                Ok(Some(Call::Draw(actor, goal, lo, int_at(&args, 1)?)))
+                Call::Draw(actor, goal, lo, int_at(&args, 1)?)
             }
-            Predefined::Delay => Ok(Some(Call::Delay(actor, goal, int_at(&args, 0)?))),
-            Predefined::Listen => Ok(Some(Call::Listen(actor, goal, int_at(&args, 0)?))),
+            Predefined::Delay => Call::Delay(actor, goal, int_at(&args, 0)?),
+            Predefined::Listen => Call::Listen(actor, goal, int_at(&args, 0)?),
             Predefined::Never => {
                 self.gives_new(actor, goal, Kind::Future)?;
-                Ok(None)
+                return Ok(());
             }
             _ => {
                 let mut args = args;
-                Ok(Some(Call::Disk(actor, goal, disk_call(call, &mut args)?)))
+                Call::Disk(actor, goal, disk_call(self.alloc, call, &mut args)?)
             }
-        }
-    }
-
-    // The arguments fill the first places of a new frame, and count.
-    fn fill_params(&mut self, actor: ActorId, args: Vec<Value>) -> Result<(), Fault> {
-        let mut place: u32 = 0;
-        for arg in args {
-            self.hold_value(&arg)?;
-            self.put(actor, place, Some(arg))?;
-            place = place.saturating_add(1);
-        }
+        };
+        self.ask(asked);
         Ok(())
     }
 
-    /// An actor of the class at a place is made: its result, its number and its frame.
+    // Arguments count, and fill the first of so many places.
+    fn fill_places(&mut self, args: Vec<Value>, places: u32) -> Result<Vec<Option<Value>>, Fault> {
+        let mut filled = Vec::with_capacity(self.alloc, places as usize)?;
+        for arg in args {
+            self.hold_value(&arg)?;
+            filled.push(Some(arg))?;
+        }
+        Ok(filled)
+    }
+
+    /// An actor of the class at a place is made, with these arguments: its result, its number and its frame.
     pub(crate) fn enrol(
         &mut self,
-        classes: &ClassProgram,
-        class: u32,
+        code: &Code,
+        number: u32,
         args: Vec<Value>,
     ) -> Result<(ActorId, CellId), Fault> {
-        let Some(code) = classes.class(class) else {
+        let Some(class) = code.class(number) else {
             return Err(Fault::Astray);
         };
-        let Some(places) = places_of(code) else {
-            return Err(Fault::Astray);
-        };
-        if args.len() != code.params as usize {
+        if args.len() != class.params as usize {
             return Err(Fault::Astray);
         }
         let cell = self.heap.new_result()?;
+        let filled = self.fill_places(args, class.places)?;
         if !self.heap.may_start(Some(cell)) {
             return Err(Fault::Astray);
         }
-        let actor = self.heap.start(class, places, Some(cell))?;
-        self.fill_params(actor, args)?;
+        let actor = self
+            .heap
+            .start_holding(number, class.places, filled, Some(cell))?;
         Ok((actor, cell))
     }
 
     /// The line of an actor's start.
-    pub(crate) fn start_line(
-        &self,
-        classes: &ClassProgram,
+    pub(crate) fn tell_start(
+        &mut self,
+        code: &Code,
         class: u32,
         actor: ActorId,
-    ) -> Result<Step, Fault> {
-        match classes.class(class) {
-            Some(code) => {
-                let name = code.name.copy(self.alloc)?;
-                Ok(Some(Call::Line(Line::Start(actor, name))))
+    ) -> Result<(), Fault> {
+        match code.class(class) {
+            Some(class) => {
+                let name = class.name.copy(self.alloc)?;
+                self.tell(Line::Start(actor, name));
+                Ok(())
             }
             None => Err(Fault::Astray),
         }
@@ -230,18 +193,23 @@ impl Process {
     // The call of an actor: a turn, and the new actor runs; its result is then stored or kept, and the caller goes on.
     fn start(
         &mut self,
-        classes: &ClassProgram,
+        code: &Code,
         caller: ActorId,
         goal: Goal,
-        class: u32,
-        args: Vec<Value>,
-    ) -> Result<Step, Fault> {
+        number: u32,
+        args: &[Resolved],
+    ) -> Result<Pace, Fault> {
+        let args = match self.values(code, caller, args) {
+            Ok(args) => args,
+            Err(halt) => return self.halted(caller, halt),
+        };
         if !self.turn() {
-            return Ok(None);
+            return Ok(Pace::Off);
         }
-        let (actor, cell) = self.enrol(classes, class, args)?;
+        let (actor, cell) = self.enrol(code, number, args)?;
         self.gives(caller, goal, Value::Ref(Kind::Future, cell))?;
         self.heap.push(Task::Run(actor))?;
-        self.start_line(classes, class, actor)
+        self.tell_start(code, number, actor)?;
+        Ok(Pace::Off)
     }
 }

@@ -1,33 +1,31 @@
 // What the world brings to a process at the begin of an event.
 
-use crate::call::Step;
-use crate::effects::class_named;
 use crate::errors::Fault;
 use crate::process::Process;
 use flow_base::ids::{CellId, ProcId};
 use flow_cancel::task::Task;
-use flow_class::program::ClassProgram;
+use flow_code::program::Code;
 use flow_value::value::{Kind, Outcome, Value};
 
 impl Process {
     /// Calls `main` with the process's number, where no result of `main` is held: this one is from the moment that its cell
     /// is made.
-    pub fn call_main(&mut self, classes: &ClassProgram, me: ProcId) -> Result<Step, Fault> {
+    pub fn call_main(&mut self, code: &Code, me: ProcId) -> Result<(), Fault> {
         if self.heap.main().is_some() {
             return Err(Fault::Astray);
         }
         if !self.turn() {
-            return Ok(None);
+            return Ok(());
         }
-        let Some(class) = class_named(&classes.raw().classes, b"main") else {
+        let Some(class) = code.main() else {
             return Err(Fault::Astray);
         };
         let args = vec![in self.alloc; Value::Int(i64::from(me.0))]?;
-        let (actor, cell) = self.enrol(classes, class, args)?;
+        let (actor, cell) = self.enrol(code, class, args)?;
         self.hold(Kind::Future, cell)?;
         self.heap.set_main(Some(cell));
         self.heap.push(Task::Run(actor))?;
-        self.start_line(classes, class, actor)
+        self.tell_start(code, class, actor)
     }
 
     /// The answer to an open request: its cell is set and fires, and then the request's promise is dropped.

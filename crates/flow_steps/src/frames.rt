@@ -5,44 +5,23 @@ ghost use Rattle.flow_steps.specs.Drops.{DropsOver};
 
 use crate::errors::Fault;
 use crate::process::Process;
-use crate::seen::{Places, place_of};
-use flow_base::ids::{ActorId, ErrorCode};
-use flow_class::class::{Block, Class, Group, Slotted};
-use flow_class::places::place_named;
-use flow_class::program::{ClassProgram, Home};
-use flow_eval::locals::{put_in, read_in};
+use flow_base::ids::ActorId;
+use flow_code::class::{Aim, Block, Class};
+use flow_code::program::Code;
 use flow_frame::standing::Standing;
-use flow_tree::decl::RecordDecl;
-use flow_tree::stmt::Target;
-use flow_tree::ty::Ident;
+use flow_resolved::names::FieldNames;
 use flow_value::value::Value;
-
-/// How many of the places of a class are slots.
-pub(crate) fn slots_of(class: &Class) -> u32 {
-    u32::try_from(class.slots.len()).unwrap_or(u32::MAX)
-}
-
-/// How many places a class has.
-pub(crate) fn places_of(class: &Class) -> Option<u32> {
-    slots_of(class).checked_add(u32::try_from(class.locals.len()).ok()?)
-}
-
-/// The branches of a group of a class, numbered from 1.
-pub(crate) fn group_of(class: &Class, group: u32) -> Option<&Group> {
-    class.groups.get((group as usize).checked_sub(1)?)
-}
+use std::mem;
 
 /// Whether a value may hold references.
-fn may_refer(value: &Value) -> bool {
-    matches!(value, Value::Struct(_, _) | Value::Ref(_, _))
+pub(crate) fn may_refer(value: &Value) -> bool {
+    matches!(value, Value::Struct(_) | Value::Ref(_, _))
 }
 
-/// Where an actor stands: the number of its class and the class, and the block and the instruction; where it waits, the
-/// block of the wait.
+/// Where an actor stands: its class, and the block and the instruction; where it waits, the block of the wait.
 #[derive(Clone, Copy)]
 pub(crate) struct Stand<'a> {
     pub(crate) actor: ActorId,
-    pub(crate) number: u32,
     pub(crate) class: &'a Class,
     pub(crate) place: u32,
     pub(crate) block: &'a Block,
@@ -50,20 +29,19 @@ pub(crate) struct Stand<'a> {
 }
 
 /// The number of the block in which a frame stands; where its actor waits, that of the wait.
-fn block_number(classes: &ClassProgram, at: Standing) -> Option<u32> {
+fn block_number(class: &Class, at: Standing) -> Option<u32> {
     if at.state == 0 {
         return Some(at.block);
     }
-    Some(classes.home(at.class, at.state)?.block)
+    Some(class.group(at.state)?.block)
 }
 
 /// Where the frame of an actor stands in its class.
-fn stand_in(classes: &ClassProgram, actor: ActorId, at: Standing) -> Option<Stand<'_>> {
-    let class = classes.class(at.class)?;
-    let place = block_number(classes, at)?;
+fn stand_in(code: &Code, actor: ActorId, at: Standing) -> Option<Stand<'_>> {
+    let class = code.class(at.class)?;
+    let place = block_number(class, at)?;
     Some(Stand {
         actor,
-        number: at.class,
         class,
         place,
         block: class.blocks.get(place as usize)?,
@@ -71,38 +49,29 @@ fn stand_in(classes: &ClassProgram, actor: ActorId, at: Standing) -> Option<Stan
     })
 }
 
-impl Stand<'_> {
-    /// Where the wait of a group of its class is.
-    pub(crate) fn home(&self, classes: &ClassProgram, group: u32) -> Result<Home, Fault> {
-        match classes.home(self.number, group) {
-            Some(home) => Ok(home),
-            None => Err(Fault::Astray),
+/// Exchanges the part of a value to which the fields with names of these numbers lead, if they do. Gives what stood there.
+fn exchange(fields: &FieldNames, root: &mut Value, path: &[usize], value: Value) -> Option<Value> {
+    let Some((name, rest)) = path.split_first() else {
+        return Some(mem::replace(root, value));
+    };
+    match root {
+        Value::Struct(record) => {
+            let place = fields.place(record.id, *name)?;
+            exchange(fields, record.fields.get_mut(place)?, rest, value)
         }
+        _ => None,
     }
 }
 
 impl Process {
     /// Where an actor that has a frame stands.
-    pub(crate) fn stand_of<'a>(
-        &self,
-        classes: &'a ClassProgram,
-        actor: ActorId,
-    ) -> Result<Stand<'a>, Fault> {
+    pub(crate) fn stand_of<'a>(&self, code: &'a Code, actor: ActorId) -> Result<Stand<'a>, Fault> {
         let Some(at) = self.heap.frames().standing(actor) else {
             return Err(Fault::Astray);
         };
-        match stand_in(classes, actor, at) {
+        match stand_in(code, actor, at) {
             Some(stand) => Ok(stand),
             None => Err(Fault::Astray),
-        }
-    }
-
-    /// The variables of an actor of a class.
-    pub(crate) fn variables(&self, class: &Class, actor: ActorId) -> Places<'_> {
-        Places {
-            frames: self.heap.frames(),
-            actor,
-            slots: slots_of(class),
         }
     }
 
@@ -136,89 +105,51 @@ impl Process {
     }
 
     /// Has the frame of an actor go on at its next instruction.
-    pub(crate) fn go_on(&mut self, stand: Stand<'_>) -> Result<(), Fault> {
+    pub(crate) fn go_on(&mut self, stand: &Stand<'_>) -> Result<(), Fault> {
         match stand.instruction.checked_add(1) {
             Some(next) => self.go(stand.actor, stand.place, next),
             None => Err(Fault::Astray),
         }
     }
 
-    /// A place gets a value that counts already, and what it held is dropped.
-    pub(crate) fn replace(
+    // The part of a place at which an actor aims gets a value that counts already. Gives what stood there.
+    fn put_part(
         &mut self,
+        fields: &FieldNames,
         actor: ActorId,
-        place: u32,
+        aim: &Aim,
         value: Value,
-    ) -> Result<(), Fault> {
-        if let Some(old) = self.put(actor, place, Some(value))? {
-            self.heap.push_drops(&old)?;
-        }
-        Ok(())
+    ) -> Result<Option<Value>, Fault> {
+        let Some(root) = self.put(actor, aim.place, None)? else {
+            return Err(Fault::Astray);
+        };
+        let mut root = root;
+        let Some(old) = exchange(fields, &mut root, &aim.path, value) else {
+            return Err(Fault::Astray);
+        };
+        self.put(actor, aim.place, Some(root))?;
+        Ok(Some(old))
     }
 
-    // The part of a place to which a path leads gets a value that counts already, and what stood there is dropped.
-    fn replace_part(
-        &mut self,
-        records: &[RecordDecl],
-        actor: ActorId,
-        place: u32,
-        path: &[Ident],
-        value: Value,
-    ) -> Result<(), Fault> {
-        let Some(root) = self.put(actor, place, None)? else {
-            return Err(Fault::Astray);
-        };
-        let Some(old) = read_in(records, &root, path) else {
-            return Err(Fault::Astray);
-        };
-        self.heap.push_drops(old)?;
-        let Some(root) = put_in(records, root, path, value) else {
-            return Err(Fault::Astray);
-        };
-        self.put(actor, place, Some(root))?;
-        Ok(())
-    }
-
-    /// What a path of a class leads to gets a value that counts already, and what stood there is dropped.
+    /// Where an actor aims gets a value that counts already. Gives what stood there.
     pub(crate) fn assign(
         &mut self,
-        classes: &ClassProgram,
-        stand: Stand<'_>,
-        target: &Target,
-        value: Value,
-    ) -> Result<(), Fault> {
-        let Some((first, path)) = target.path.split_first() else {
-            return Err(Fault::Astray);
-        };
-        let Some(place) = place_named(first.name.bytes()) else {
-            return Err(Fault::Astray);
-        };
-        let place = self.number_of(stand.class, place)?;
-        if path.is_empty() {
-            return self.replace(stand.actor, place, value);
-        }
-        self.replace_part(&classes.raw().records, stand.actor, place, path, value)
-    }
-
-    /// The number of a place of a class in its frames.
-    pub(crate) fn number_of(&self, class: &Class, place: Slotted) -> Result<u32, Fault> {
-        match place_of(slots_of(class), place) {
-            Some(place) => Ok(place),
-            None => Err(Fault::Astray),
-        }
-    }
-
-    // The values with references that leave these locals, each emptied as it is read.
-    fn taken(
-        &mut self,
-        class: &Class,
+        code: &Code,
         actor: ActorId,
-        locals: &[u32],
-    ) -> Result<Vec<Value>, Fault> {
+        aim: &Aim,
+        value: Value,
+    ) -> Result<Option<Value>, Fault> {
+        if aim.path.is_empty() {
+            return self.put(actor, aim.place, Some(value));
+        }
+        self.put_part(code.fields(), actor, aim, value)
+    }
+
+    /// The values with references that leave these places, each emptied as it is read.
+    pub(crate) fn taken(&mut self, actor: ActorId, places: &[u32]) -> Result<Vec<Value>, Fault> {
         let mut values = Vec::new(self.alloc);
-        for local in locals {
-            let place = self.number_of(class, Slotted::Local(*local))?;
-            match self.put(actor, place, None)? {
+        for place in places {
+            match self.put(actor, *place, None)? {
                 Some(value) if may_refer(&value) => values.push(value)?,
                 _ => (),
             }
@@ -226,14 +157,9 @@ impl Process {
         Ok(values)
     }
 
-    /// These locals are emptied, and what they held is dropped in order.
-    pub(crate) fn drop_locals(
-        &mut self,
-        class: &Class,
-        actor: ActorId,
-        locals: &[u32],
-    ) -> Result<(), Fault> {
-        let mut values = self.taken(class, actor, locals)?;
+    /// Values that left places are dropped, the last one first.
+    pub(crate) fn drop_values(&mut self, values: Vec<Value>) -> Result<(), Fault> {
+        let mut values = values;
         while let Some(value) = values.pop() {
             self.heap.push_drops(&value)?;
         }
@@ -261,7 +187,9 @@ impl Process {
         if !self.heap.frames().contains(actor) {
             return Err(Fault::Astray);
         }
-        for place in first..self.heap.frames().places(actor) {
+        let count = self.heap.frames().places_held(actor).len();
+        let last = u32::try_from(count).unwrap_or(u32::MAX);
+        for place in first..last {
             self.empty(actor, place)?;
         }
         Ok(())
@@ -271,24 +199,11 @@ impl Process {
     pub(crate) fn lose_locals(&mut self, class: &Class, actor: ActorId) -> Result<(), Fault>
         ensures { OnOk result (DropsOver self.old.heap.tasks self.new.heap.tasks) }
     {
-        self.empty_from(actor, slots_of(class))
+        self.empty_from(actor, class.slots)
     }
 
     /// All places are emptied, and what they held is dropped, by falling number, the locals before the slots.
     pub(crate) fn lose_all(&mut self, actor: ActorId) -> Result<(), Fault> {
         self.empty_from(actor, 0)
-    }
-
-    /// A local gets an error.
-    pub(crate) fn put_error(
-        &mut self,
-        class: &Class,
-        actor: ActorId,
-        local: u32,
-        error: ErrorCode,
-    ) -> Result<(), Fault> {
-        let place = self.number_of(class, Slotted::Local(local))?;
-        self.put(actor, place, Some(Value::Error(error)))?;
-        Ok(())
     }
 }

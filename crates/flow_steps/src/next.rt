@@ -1,58 +1,47 @@
 // The step of an actor by its instruction.
 
-use crate::call::{Call, Goal, Step};
-use crate::effects::{Effectful, effect_in};
+use crate::call::Goal;
 use crate::errors::Fault;
-use crate::frames::{Stand, group_of};
+use crate::frames::{Stand, may_refer};
 use crate::process::Process;
 use crate::seen::Contents;
-use flow_ast::predefined::{predefined_call, predefined_method};
-use flow_base::ids::{ActorId, CellId, ErrorCode};
+use flow_ast::predefined::Method;
+use flow_base::ids::{ActorId, CellId};
 use flow_cancel::task::Task;
-use flow_class::class::{Callback, Class, Instr, Last, Slotted};
-use flow_class::program::ClassProgram;
-use flow_eval::evaluate::{Setting, Turns, evaluate, evaluate_all, run_at};
-use flow_eval::locals::read_in;
+use flow_code::class::{Act, Aim, Branch, Effect, Instruction, Last, Operand};
+use flow_code::program::Code;
+use flow_eval::evaluate::{Setting, Turns, run_at};
 use flow_eval::stop::Halt;
-use flow_eval::variables::{VarList, Variables, Vars};
-use flow_tree::expr::Expr;
+use flow_eval::variables::VarList;
+use flow_resolved::evaluate::{Sight, evaluate_args, evaluate_resolved, evaluate_truth, field};
+use flow_resolved::expr::Resolved;
+use flow_resolved::names::FieldNames;
 use flow_tree::limits::CALL_DEPTH;
-use flow_tree::stmt::Target;
-use flow_tree::ty::{Ident, Ty};
 use flow_value::value::{Kind, Outcome, Value};
 
-/// What evaluation came to: a value, or that it stopped the step, with an error that was thrown or with no turn left.
-#[derive(Drop)]
-enum Found<T> {
-    Value(T),
-    Stopped,
+/// How an actor goes on after an instruction: at once with the next one, or by its task, or not at all.
+#[derive(Clone, Copy, PartialEq, Eq, Debug)]
+pub(crate) enum Pace {
+    On,
+    Off,
 }
 
-/// What a new cell of a promise's type is.
-fn promise_kind(ty: &Ty) -> Option<Kind> {
-    match ty {
-        Ty::Promise(_) => Some(Kind::Promise),
-        Ty::PromiseStream(_) => Some(Kind::PromiseStream),
-        _ => None,
+/// The part of a value to which fields with names of these numbers lead.
+fn part<'a>(fields: &FieldNames, value: &'a Value, path: &[usize]) -> Option<&'a Value> {
+    let mut part = value;
+    for name in path {
+        let Some(inner) = field(fields, part, *name) else {
+            return None;
+        };
+        part = inner;
     }
-}
-
-/// The type of a place of a class.
-fn type_at(class: &Class, place: Slotted) -> Option<&Ty> {
-    match place {
-        Slotted::Slot(n) => Some(&class.slots.get(n as usize)?.ty),
-        Slotted::Local(n) => class.locals.get(n as usize),
-    }
+    Some(part)
 }
 
 impl Process {
     // What stays the same while an expression is evaluated.
-    fn setting<'a>(
-        &self,
-        classes: &'a ClassProgram,
-        contents: &'a Contents<'a>,
-    ) -> Setting<'a, Contents<'a>> {
-        let raw = classes.raw();
+    fn setting<'a>(&self, code: &'a Code, contents: &'a Contents<'a>) -> Setting<'a, Contents<'a>> {
+        let raw = code.program().raw();
         Setting {
             alloc: self.alloc,
             records: &raw.records,
@@ -62,370 +51,359 @@ impl Process {
         }
     }
 
-    // What evaluation came to, with these turns left. An error is thrown where the actor stands.
-    fn found<T>(
+    /// Evaluation gave no value: an error is thrown where the actor stands, or no turn was left.
+    pub(crate) fn halted(&mut self, actor: ActorId, halt: Halt) -> Result<Pace, Fault> {
+        match halt {
+            Halt::Thrown(error) => self.throw(actor, error)?,
+            Halt::Spent => self.spent = true,
+            Halt::NoMeaning => return Err(Fault::Astray),
+            Halt::OutOfMemory => return Err(Fault::OutOfMemory),
+        }
+        Ok(Pace::Off)
+    }
+
+    /// The value of an expression for an actor.
+    pub(crate) fn value(
         &mut self,
+        code: &Code,
         actor: ActorId,
-        came_to: Result<T, Halt>,
-        left: u32,
-    ) -> Result<Found<T>, Fault> {
-        self.left = left;
-        match came_to {
-            Ok(value) => Ok(Found::Value(value)),
-            Err(Halt::Thrown(error)) => {
-                self.throw(actor, error)?;
-                Ok(Found::Stopped)
-            }
-            Err(Halt::Spent) => {
-                self.spent = true;
-                Ok(Found::Stopped)
-            }
-            Err(Halt::NoMeaning) => Err(Fault::Astray),
-            Err(Halt::OutOfMemory) => Err(Fault::OutOfMemory),
-        }
-    }
-
-    // The value of an expression for an actor.
-    fn value(
-        &mut self,
-        classes: &ClassProgram,
-        stand: Stand<'_>,
-        expr: &Expr,
-    ) -> Result<Found<Value>, Fault> {
+        expr: &Resolved,
+    ) -> Result<Value, Halt> {
         let mut turns = Turns { left: self.left };
-        let came_to = {
+        let value = {
             let contents = Contents {
                 cells: self.heap.cells(),
             };
-            let places = self.variables(stand.class, stand.actor);
-            let setting = self.setting(classes, &contents);
-            evaluate(
-                &setting,
-                CALL_DEPTH,
-                &Vars::Outer(&places),
-                expr,
-                &mut turns,
-            )
+            let sight = Sight {
+                setting: self.setting(code, &contents),
+                fields: code.fields(),
+                places: self.heap.frames().places_held(actor),
+            };
+            evaluate_resolved(&sight, expr, &mut turns)
         };
-        self.found(stand.actor, came_to, turns.left)
+        self.left = turns.left;
+        value
     }
 
-    // The values of arguments for an actor.
-    fn values(
+    /// The truth value of an expression for an actor.
+    pub(crate) fn truth(
         &mut self,
-        classes: &ClassProgram,
-        stand: Stand<'_>,
-        args: &[Expr],
-    ) -> Result<Found<Vec<Value>>, Fault> {
+        code: &Code,
+        actor: ActorId,
+        expr: &Resolved,
+    ) -> Result<bool, Halt> {
         let mut turns = Turns { left: self.left };
-        let came_to = {
+        let value = {
             let contents = Contents {
                 cells: self.heap.cells(),
             };
-            let places = self.variables(stand.class, stand.actor);
-            let setting = self.setting(classes, &contents);
-            evaluate_all(
-                &setting,
-                CALL_DEPTH,
-                &Vars::Outer(&places),
-                args,
-                &mut turns,
-            )
+            let sight = Sight {
+                setting: self.setting(code, &contents),
+                fields: code.fields(),
+                places: self.heap.frames().places_held(actor),
+            };
+            evaluate_truth(&sight, expr, &mut turns)
         };
-        self.found(stand.actor, came_to, turns.left)
+        self.left = turns.left;
+        value
     }
 
-    /// An actor takes its next step, by its instruction.
-    pub(crate) fn run(&mut self, classes: &ClassProgram, actor: ActorId) -> Result<Step, Fault> {
-        let stand = self.stand_of(classes, actor)?;
-        let block = stand.block;
-        if let Some(instr) = block.body.get(stand.instruction as usize) {
-            return self.instruction(classes, stand, instr);
-        }
-        if stand.instruction as usize == block.body.len() {
-            return self.last(classes, stand, &block.last);
+    /// The values of arguments for an actor.
+    pub(crate) fn values(
+        &mut self,
+        code: &Code,
+        actor: ActorId,
+        args: &[Resolved],
+    ) -> Result<Vec<Value>, Halt> {
+        let mut turns = Turns { left: self.left };
+        let values = {
+            let contents = Contents {
+                cells: self.heap.cells(),
+            };
+            let sight = Sight {
+                setting: self.setting(code, &contents),
+                fields: code.fields(),
+                places: self.heap.frames().places_held(actor),
+            };
+            evaluate_args(&sight, args, &mut turns)
+        };
+        self.left = turns.left;
+        values
+    }
+
+    /// An actor takes its next steps, by its instructions, up to one after which other tasks come first.
+    pub(crate) fn run(&mut self, code: &Code, actor: ActorId) -> Result<(), Fault> {
+        for _step in 0..u64::MAX {
+            let stand = self.stand_of(code, actor)?;
+            match self.take_step(code, &stand)? {
+                Pace::On => (),
+                Pace::Off => return Ok(()),
+            }
         }
         Err(Fault::Astray)
     }
 
+    // An actor takes its next step, by its instruction.
+    fn take_step(&mut self, code: &Code, stand: &Stand<'_>) -> Result<Pace, Fault> {
+        let block = stand.block;
+        if let Some(instruction) = block.body.get(stand.instruction as usize) {
+            return self.instruction(code, stand, instruction);
+        }
+        if stand.instruction as usize == block.body.len() {
+            return self.last(code, stand, &block.last);
+        }
+        Err(Fault::Astray)
+    }
+
+    /// A value that is left over, if any, is dropped; the actor goes on at once where that leaves nothing to do.
+    pub(crate) fn on_after(&mut self, actor: ActorId, old: Option<Value>) -> Result<Pace, Fault> {
+        match old {
+            Some(old) if may_refer(&old) => {
+                self.heap.push(Task::Run(actor))?;
+                self.heap.push_drops(&old)?;
+                Ok(Pace::Off)
+            }
+            _ => Ok(Pace::On),
+        }
+    }
+
     fn instruction(
         &mut self,
-        classes: &ClassProgram,
-        stand: Stand<'_>,
-        instr: &Instr,
-    ) -> Result<Step, Fault> {
-        match instr {
-            Instr::Set(target, expr) => self.set_path(classes, stand, target, expr),
-            Instr::Effect(_, expr) => match effect_in(classes, expr) {
-                Some((effect, args)) => {
-                    self.ask_effect(classes, stand, Goal::Stored, effect, args)
-                }
-                None => Err(Fault::Astray),
-            },
-            Instr::New(place) => self.new_promise(classes, stand, *place),
-            Instr::Act(target, args) => self.act(classes, stand, target, args),
-            Instr::Drop(locals) => {
-                self.go_on(stand)?;
-                self.heap.push(Task::Run(stand.actor))?;
-                self.drop_locals(stand.class, stand.actor, locals)?;
-                Ok(None)
+        code: &Code,
+        stand: &Stand<'_>,
+        instruction: &Instruction,
+    ) -> Result<Pace, Fault> {
+        match instruction {
+            Instruction::Set(aim, expr) => self.set_aim(code, stand, aim, expr),
+            Instruction::Effect(_, effect, args) => {
+                self.effect(code, stand.actor, Goal::Stored, *effect, args)
             }
+            Instruction::New(place, kind) => self.new_promise(stand, *place, *kind),
+            Instruction::Act(act, args) => self.act(code, stand, *act, args),
+            Instruction::Method(aim, method, args) => self.method(code, stand, aim, *method, args),
+            Instruction::Drop(places) => self.empty_places(stand, places),
+            Instruction::Invalid => Err(Fault::Astray),
         }
+    }
+
+    // Places are emptied, and what they held is dropped.
+    fn empty_places(&mut self, stand: &Stand<'_>, places: &[u32]) -> Result<Pace, Fault> {
+        self.go_on(stand)?;
+        let values = self.taken(stand.actor, places)?;
+        if values.is_empty() {
+            return Ok(Pace::On);
+        }
+        self.heap.push(Task::Run(stand.actor))?;
+        self.drop_values(values)?;
+        Ok(Pace::Off)
     }
 
     // An assignment: the value is put in place, what stood there is dropped, and the next instruction follows.
-    fn set_path(
+    fn set_aim(
         &mut self,
-        classes: &ClassProgram,
-        stand: Stand<'_>,
-        target: &Target,
-        expr: &Expr,
-    ) -> Result<Step, Fault> {
-        let Found::Value(value) = self.value(classes, stand, expr)? else {
-            return Ok(None);
+        code: &Code,
+        stand: &Stand<'_>,
+        aim: &Aim,
+        expr: &Resolved,
+    ) -> Result<Pace, Fault> {
+        let value = match self.value(code, stand.actor, expr) {
+            Ok(value) => value,
+            Err(halt) => return self.halted(stand.actor, halt),
         };
         self.hold_value(&value)?;
-        self.heap.push(Task::Run(stand.actor))?;
-        self.assign(classes, stand, target, value)?;
+        let old = self.assign(code, stand.actor, aim, value)?;
         self.go_on(stand)?;
-        Ok(None)
-    }
-
-    // An effect, whose result goes into place or among the operands; the frame stays where it is.
-    fn ask_effect(
-        &mut self,
-        classes: &ClassProgram,
-        stand: Stand<'_>,
-        goal: Goal,
-        effect: Effectful,
-        args: &[Expr],
-    ) -> Result<Step, Fault> {
-        match self.values(classes, stand, args)? {
-            Found::Value(args) => self.effect(classes, stand.actor, goal, effect, args),
-            Found::Stopped => Ok(None),
-        }
+        self.on_after(stand.actor, old)
     }
 
     // A new cell for a place of a promise's type.
-    fn new_promise(
+    fn new_promise(&mut self, stand: &Stand<'_>, place: u32, kind: Kind) -> Result<Pace, Fault> {
+        let cell = self.new_cell(kind)?;
+        self.hold(kind, cell)?;
+        let old = self.put(stand.actor, place, Some(Value::Ref(kind, cell)))?;
+        self.go_on(stand)?;
+        self.on_after(stand.actor, old)
+    }
+
+    // A call statement without a base: a predefined one, or a function of the program, whose value is forgotten.
+    fn act(
         &mut self,
-        classes: &ClassProgram,
-        stand: Stand<'_>,
-        place: Slotted,
-    ) -> Result<Step, Fault> {
-        match type_at(stand.class, place).and_then(promise_kind) {
-            Some(kind) => {
-                self.gives_new(stand.actor, Goal::Stored, kind)?;
-                Ok(None)
+        code: &Code,
+        stand: &Stand<'_>,
+        act: Act,
+        args: &[Resolved],
+    ) -> Result<Pace, Fault> {
+        let args = match self.values(code, stand.actor, args) {
+            Ok(args) => args,
+            Err(halt) => return self.halted(stand.actor, halt),
+        };
+        match act {
+            Act::World(call) => {
+                self.go_on(stand)?;
+                self.predefined_act(stand.actor, call, args)?;
+                Ok(Pace::Off)
             }
-            None => Err(Fault::Astray),
+            Act::Function(function) => self.call_function(code, stand, function, args),
         }
     }
 
-    // A call statement, without a base or on what a path leads to.
-    fn act(
+    // A method of the reference at which an actor aims.
+    fn method(
         &mut self,
-        classes: &ClassProgram,
-        stand: Stand<'_>,
-        target: &Target,
-        args: &[Expr],
-    ) -> Result<Step, Fault> {
-        let Some((last, before)) = target.path.split_last() else {
-            return Err(Fault::Astray);
+        code: &Code,
+        stand: &Stand<'_>,
+        aim: &Aim,
+        method: Method,
+        args: &[Resolved],
+    ) -> Result<Pace, Fault> {
+        let sent = match args {
+            [] => None,
+            [arg] => match self.value(code, stand.actor, arg) {
+                Ok(value) => Some(value),
+                Err(halt) => return self.halted(stand.actor, halt),
+            },
+            _ => return Err(Fault::Astray),
         };
-        let Found::Value(args) = self.values(classes, stand, args)? else {
-            return Ok(None);
-        };
-        let name = last.name.bytes();
-        let Some((first, path)) = before.split_first() else {
-            return self.plain_act(classes, stand, name, args);
-        };
-        let Some((kind, cell)) = self.reference_at(classes, stand, first, path) else {
-            return Err(Fault::Astray);
-        };
-        let Some(method) = predefined_method(name) else {
+        let Some((kind, cell)) = self.reference_at(code, stand.actor, aim) else {
             return Err(Fault::Astray);
         };
         self.go_on(stand)?;
-        self.method_act(stand.actor, method, kind, cell, args)
+        self.method_act(stand.actor, method, kind, cell, sent)?;
+        Ok(Pace::Off)
     }
 
-    // The reference to which a path of a class leads.
-    fn reference_at(
-        &self,
-        classes: &ClassProgram,
-        stand: Stand<'_>,
-        first: &Ident,
-        path: &[Ident],
-    ) -> Option<(Kind, CellId)> {
-        let places = self.variables(stand.class, stand.actor);
-        let root = places.value(first.name.bytes())?;
-        match read_in(&classes.raw().records, root, path)? {
+    // The reference at which an actor aims.
+    fn reference_at(&self, code: &Code, actor: ActorId, aim: &Aim) -> Option<(Kind, CellId)> {
+        let root = self.heap.frames().held(actor, aim.place)?;
+        match part(code.fields(), root, &aim.path)? {
             Value::Ref(kind, cell) => Some((*kind, *cell)),
             _ => None,
         }
     }
 
-    // A call statement without a base: a predefined one, or a function of the program, whose value is forgotten.
-    fn plain_act(
-        &mut self,
-        classes: &ClassProgram,
-        stand: Stand<'_>,
-        name: &[u8],
-        args: Vec<Value>,
-    ) -> Result<Step, Fault> {
-        if let Some(call) = predefined_call(name) {
-            self.go_on(stand)?;
-            return self.predefined_act(stand.actor, call, args);
-        }
-        let functions = &classes.raw().functions;
-        let place = functions
-            .iter()
-            .position(|function| function.name.name.bytes() == name);
-        match place {
-            Some(place) => self.call_function(classes, stand, place, args),
-            None => Err(Fault::Astray),
-        }
-    }
-
     fn call_function(
         &mut self,
-        classes: &ClassProgram,
-        stand: Stand<'_>,
+        code: &Code,
+        stand: &Stand<'_>,
         function: usize,
         args: Vec<Value>,
-    ) -> Result<Step, Fault> {
+    ) -> Result<Pace, Fault> {
         let mut turns = Turns { left: self.left };
         let came_to = {
             let contents = Contents {
                 cells: self.heap.cells(),
             };
-            let setting = self.setting(classes, &contents);
+            let setting = self.setting(code, &contents);
             if function >= setting.functions.len() {
                 return Err(Fault::Astray);
             }
             run_at::<VarList, Contents>(&setting, CALL_DEPTH, function, args, &mut turns)
         };
-        match self.found(stand.actor, came_to, turns.left)? {
-            Found::Value(_) => {
+        self.left = turns.left;
+        match came_to {
+            Ok(_) => {
                 self.go_on(stand)?;
-                self.run_on(stand.actor)?;
-                Ok(None)
+                Ok(Pace::On)
             }
-            Found::Stopped => Ok(None),
+            Err(halt) => self.halted(stand.actor, halt),
         }
     }
 
-    fn last(
-        &mut self,
-        classes: &ClassProgram,
-        stand: Stand<'_>,
-        last: &Last,
-    ) -> Result<Step, Fault> {
+    fn last(&mut self, code: &Code, stand: &Stand<'_>, last: &Last) -> Result<Pace, Fault> {
         match last {
             Last::Goto(block) => {
                 self.go(stand.actor, *block, 0)?;
-                self.run_on(stand.actor)?;
-                Ok(None)
+                Ok(Pace::On)
             }
             Last::Pass(block) => {
                 self.go(stand.actor, *block, 0)?;
-                if !self.turn() {
-                    return Ok(None);
-                }
-                self.run_on(stand.actor)?;
-                Ok(None)
+                Ok(if self.turn() { Pace::On } else { Pace::Off })
             }
-            Last::Test(expr, yes, no) => self.test(classes, stand, expr, *yes, *no),
-            Last::Choose(group) => self.choose(classes, stand, *group),
-            Last::Return(expr) => self.finish_with(classes, stand, expr),
-            Last::Throw(expr) => match self.value(classes, stand, expr)? {
-                Found::Value(Value::Error(error)) => {
+            Last::Test(expr, yes, no) => self.test(code, stand, expr, *yes, *no),
+            Last::Choose(group) => self.choose(code, stand, *group),
+            Last::Return(expr) => self.finish_with(code, stand, expr),
+            Last::Throw(expr) => match self.value(code, stand.actor, expr) {
+                Ok(Value::Error(error)) => {
                     self.throw(stand.actor, error)?;
-                    Ok(None)
+                    Ok(Pace::Off)
                 }
-                Found::Value(_) => Err(Fault::Astray),
-                Found::Stopped => Ok(None),
+                Ok(_) => Err(Fault::Astray),
+                Err(halt) => self.halted(stand.actor, halt),
             },
         }
     }
 
     fn test(
         &mut self,
-        classes: &ClassProgram,
-        stand: Stand<'_>,
-        expr: &Expr,
+        code: &Code,
+        stand: &Stand<'_>,
+        expr: &Resolved,
         yes: u32,
         no: u32,
-    ) -> Result<Step, Fault> {
-        let next = match self.value(classes, stand, expr)? {
-            Found::Value(Value::Bool(true)) => yes,
-            Found::Value(Value::Bool(false)) => no,
-            Found::Value(_) => return Err(Fault::Astray),
-            Found::Stopped => return Ok(None),
+    ) -> Result<Pace, Fault> {
+        let next = match self.truth(code, stand.actor, expr) {
+            Ok(true) => yes,
+            Ok(false) => no,
+            Err(halt) => return self.halted(stand.actor, halt),
         };
         self.go(stand.actor, next, 0)?;
-        self.run_on(stand.actor)?;
-        Ok(None)
+        Ok(Pace::On)
     }
 
     // The next operand of a wait is asked for; when all are kept, the actor waits.
-    fn choose(
-        &mut self,
-        classes: &ClassProgram,
-        stand: Stand<'_>,
-        group: u32,
-    ) -> Result<Step, Fault> {
-        let home = stand.home(classes, group)?;
-        let kept = self.operands(stand.actor);
-        let Some(branches) = group_of(stand.class, group) else {
+    fn choose(&mut self, code: &Code, stand: &Stand<'_>, number: u32) -> Result<Pace, Fault> {
+        let Some(group) = stand.class.group(number) else {
             return Err(Fault::Astray);
         };
-        let Some(callback) = branches.callbacks.get(kept) else {
-            return self.wait(classes, stand, group);
+        let kept = self.operands(stand.actor);
+        let Some(branch) = group.branches.get(kept) else {
+            self.wait(stand, number)?;
+            return Ok(Pace::Off);
         };
-        let number = home
+        let number = group
             .first
             .saturating_add(u32::try_from(kept).unwrap_or(u32::MAX));
-        self.operand(classes, stand, number, callback)
+        self.operand(code, stand, number, branch)
     }
 
     fn operand(
         &mut self,
-        classes: &ClassProgram,
-        stand: Stand<'_>,
+        code: &Code,
+        stand: &Stand<'_>,
         number: u32,
-        callback: &Callback,
-    ) -> Result<Step, Fault> {
-        if let Some((effect, args)) = effect_in(classes, &callback.operand) {
-            return self.ask_effect(classes, stand, Goal::Kept(number), effect, args);
-        }
-        match self.value(classes, stand, &callback.operand)? {
-            Found::Value(Value::Ref(kind, cell)) => {
-                self.hold(kind, cell)?;
-                self.heap.push(Task::Run(stand.actor))?;
-                self.heap.push(Task::Keep(stand.actor, number, cell))?;
-                Ok(None)
+        branch: &Branch,
+    ) -> Result<Pace, Fault> {
+        let expr = match &branch.operand {
+            Operand::Value(expr) => expr,
+            Operand::Effect(effect, args) => {
+                return self.effect(code, stand.actor, Goal::Kept(number), *effect, args);
             }
-            Found::Value(_) => Err(Fault::Astray),
-            Found::Stopped => Ok(None),
+        };
+        match self.value(code, stand.actor, expr) {
+            Ok(Value::Ref(kind, cell)) => {
+                self.hold(kind, cell)?;
+                self.keep_operand(stand, number, cell)
+            }
+            Ok(_) => Err(Fault::Astray),
+            Err(halt) => self.halted(stand.actor, halt),
         }
     }
 
     // The actor ends with a value; everything leaves its variables.
     fn finish_with(
         &mut self,
-        classes: &ClassProgram,
-        stand: Stand<'_>,
-        expr: &Expr,
-    ) -> Result<Step, Fault> {
-        let Found::Value(value) = self.value(classes, stand, expr)? else {
-            return Ok(None);
+        code: &Code,
+        stand: &Stand<'_>,
+        expr: &Resolved,
+    ) -> Result<Pace, Fault> {
+        let value = match self.value(code, stand.actor, expr) {
+            Ok(value) => value,
+            Err(halt) => return self.halted(stand.actor, halt),
         };
         self.hold_value(&value)?;
         let outcome = Box::new(self.alloc, Outcome::Value(value))?;
         self.heap.push(Task::Close(stand.actor, outcome))?;
         self.lose_all(stand.actor)?;
-        Ok(None)
+        Ok(Pace::Off)
     }
 }

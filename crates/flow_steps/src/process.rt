@@ -1,17 +1,18 @@
 // A process while it runs.
 
 ghost use Rattle.std.specs.Prelude.{◌≡◌, is_some};
-ghost use Rattle.flow_steps.specs.Doing.{begun, vanished};
+ghost use Rattle.flow_steps.specs.Doing.{begun, vanished, asking, telling};
 
 use crate::call::Call;
 use crate::errors::Fault;
 use flow_base::memory::NoMemory;
 use flow_cancel::heap::Heap;
-use flow_class::program::ClassProgram;
+use flow_code::program::Code;
+use flow_trace::line::Line;
 use std::alloc::Global;
 
-/// The heap of a process, and of the event in progress the time in ticks, the turns that are left, and whether one was
-/// needed when none was left.
+/// The heap of a process, and of the event in progress the time in ticks, the turns that are left, whether one was needed
+/// when none was left, and what the step that was done last asks of the world.
 #[derive(Drop)]
 pub struct Process {
     pub(crate) alloc: Global,
@@ -19,6 +20,7 @@ pub struct Process {
     pub(crate) time: u64,
     pub(crate) left: u32,
     pub(crate) spent: bool,
+    pub(crate) asked: Option<Call>,
 }
 
 impl Process {
@@ -30,6 +32,7 @@ impl Process {
             time: 0,
             left: 0,
             spent: false,
+            asked: None,
         })
     }
 
@@ -64,27 +67,53 @@ impl Process {
         self.heap.main().is_some()
     }
 
-    /// Does the newest task, where there is one and no turn was wanted in vain.
-    pub fn step(&mut self, classes: &ClassProgram) -> Result<Next, Fault> {
-        if self.spent {
-            return Ok(Next::Spent);
+    /// A step asks this of the world.
+    pub(crate) fn ask(&mut self, call: Call)
+        ensures { self.new ≡ asking call self.old }
+    {
+        self.asked = Some(call);
+    }
+
+    /// A step asks for a line.
+    pub(crate) fn tell(&mut self, line: Line)
+        ensures { self.new ≡ telling line self.old }
+    {
+        self.asked = Some(Call::Line(line));
+    }
+
+    /// What the step that was done last asks of the world, if anything.
+    pub fn asked(&self) -> Option<&Call> {
+        self.asked.as_ref()
+    }
+
+    /// Hands over what the step that was done last asks of the world, if anything.
+    pub fn take_asked(&mut self) -> Option<Call> {
+        self.asked.take()
+    }
+
+    /// Does the newest task, and again, until a step asks something of the world, a turn was wanted in vain, or no task is
+    /// left.
+    pub fn run_tasks(&mut self, code: &Code) -> Result<Next, Fault> {
+        for _step in 0..u64::MAX {
+            if self.spent {
+                return Ok(Next::Spent);
+            }
+            let Some(task) = self.heap.next_task() else {
+                return Ok(Next::Rested);
+            };
+            self.do_task(code, task)?;
+            if self.asked.is_some() {
+                return Ok(Next::Asks);
+            }
         }
-        let Some(task) = self.heap.next_task() else {
-            return Ok(Next::Rested);
-        };
-        match self.do_task(classes, task)? {
-            Some(call) => Ok(Next::Asks(call)),
-            None => Ok(Next::Goes),
-        }
+        Err(Fault::Astray)
     }
 }
 
-/// How a burst goes on: no task is left; a turn was needed and none was left; a step asks this of the world; or a step
-/// asked for nothing.
-#[derive(Drop)]
+/// How a burst goes on: no task is left; a turn was needed and none was left; or a step asks something of the world.
+#[derive(Clone, Copy, PartialEq, Eq, Debug)]
 pub enum Next {
     Rested,
     Spent,
-    Asks(Call),
-    Goes,
+    Asks,
 }

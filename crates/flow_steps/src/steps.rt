@@ -7,16 +7,16 @@ ghost use Rattle.flow_steps.specs.Doing.{departed};
 ghost use Rattle.flow_steps.specs.Drops.{DropsOver};
 
 use crate::branches::{branch_of, group_at};
-use crate::call::{Call, Step};
 use crate::errors::Fault;
-use crate::frames::{Stand, group_of};
+use crate::frames::Stand;
+use crate::next::Pace;
 use crate::process::Process;
 use flow_base::ids::{ActorId, CellId, ErrorCode};
 use flow_cancel::task::Task;
 use flow_cell::counts::Side;
 use flow_cell::waiter::Waiter;
-use flow_class::class::{Callback, Catcher, Class, Instr};
-use flow_class::program::ClassProgram;
+use flow_code::class::{Branch, Catcher, Class, Instruction};
+use flow_code::program::Code;
 use flow_trace::line::Line;
 use flow_value::value::{Kind, Outcome, Value};
 
@@ -28,33 +28,34 @@ fn end_line(actor: ActorId, outcome: &Outcome) -> Line {
     }
 }
 
-/// The callback of a branch of a group.
-fn callback_at(class: &Class, group: u32, branch: u32) -> Option<&Callback> {
-    group_of(class, group)?.callbacks.get(branch as usize)
+/// The branch of a group.
+fn branch_at(class: &Class, group: u32, branch: u32) -> Option<&Branch> {
+    class.group(group)?.branches.get(branch as usize)
 }
 
 impl Process {
-    /// Does a task that was the newest, and says what it asks of the world.
-    pub(crate) fn do_task(&mut self, classes: &ClassProgram, task: Task) -> Result<Step, Fault> {
+    /// Does a task that was the newest.
+    pub(crate) fn do_task(&mut self, code: &Code, task: Task) -> Result<(), Fault> {
         match task {
-            Task::Run(actor) => self.run(classes, actor),
+            Task::Run(actor) => self.run(code, actor),
             Task::Give(actor, branch, outcome) => {
-                self.give(classes, actor, branch, Box::into_inner(outcome))
+                self.give(code, actor, branch, Box::into_inner(outcome))
             }
-            Task::Throw(actor, error) => self.raise(classes, actor, error),
+            Task::Throw(actor, error) => self.raise(code, actor, error),
             Task::Catch(actor, error) => {
                 self.heap.push(Task::Run(actor))?;
-                Ok(Some(Call::Line(Line::Catch(actor, error))))
+                self.tell(Line::Catch(actor, error));
+                Ok(())
             }
-            Task::Fire(cell) => self.fire(classes, cell),
+            Task::Fire(cell) => self.fire(code, cell),
             Task::Drop(kind, cell) => {
                 if !self.turn() {
-                    return Ok(None);
+                    return Ok(());
                 }
                 self.lose(kind, cell)
             }
-            Task::Store(actor, value) => self.store(classes, actor, Box::into_inner(value)),
-            Task::Keep(actor, callback, cell) => self.keep(classes, actor, callback, cell),
+            Task::Store(actor, value) => self.store(code, actor, Box::into_inner(value)),
+            Task::Keep(actor, callback, cell) => self.keep(code, actor, callback, cell),
             Task::Close(actor, outcome) => self.close(actor, Box::into_inner(outcome)),
         }
     }
@@ -62,71 +63,61 @@ impl Process {
     // A branch was taken: its value goes to it, and an error is thrown.
     fn give(
         &mut self,
-        classes: &ClassProgram,
+        code: &Code,
         actor: ActorId,
         branch: u32,
         outcome: Outcome,
-    ) -> Result<Step, Fault> {
+    ) -> Result<(), Fault> {
         let value = match outcome {
             Outcome::Value(value) => value,
-            Outcome::Error(error) => {
-                self.throw(actor, error)?;
-                return Ok(None);
-            }
+            Outcome::Error(error) => return self.throw(actor, error),
         };
-        let stand = self.stand_of(classes, actor)?;
+        let stand = self.stand_of(code, actor)?;
         let group = group_at(stand.block)?;
-        let Some(callback) = callback_at(stand.class, group, branch) else {
+        let Some(branch) = branch_at(stand.class, group, branch) else {
             return Err(Fault::Astray);
         };
-        self.heap.push(Task::Run(actor))?;
-        self.bind(stand, callback, value)?;
-        self.go(actor, callback.block, 0)?;
-        Ok(None)
+        let old = self.bind(actor, branch, value)?;
+        self.go(actor, branch.block, 0)?;
+        match self.on_after(actor, old)? {
+            Pace::On => self.run(code, actor),
+            Pace::Off => Ok(()),
+        }
     }
 
-    // The value of a branch goes into the place of its callback, or is dropped.
-    fn bind(&mut self, stand: Stand<'_>, callback: &Callback, value: Value) -> Result<(), Fault> {
-        match callback.into {
-            Some(place) => {
-                let place = self.number_of(stand.class, place)?;
-                self.replace(stand.actor, place, value)
-            }
-            None => Ok(self.heap.push_drops(&value)?),
+    // The value of a branch goes into its place. Gives what is to be dropped: what the place held, or the value where there is
+    // no place.
+    fn bind(
+        &mut self,
+        actor: ActorId,
+        branch: &Branch,
+        value: Value,
+    ) -> Result<Option<Value>, Fault> {
+        match branch.into {
+            Some(place) => self.put(actor, place, Some(value)),
+            None => Ok(Some(value)),
         }
     }
 
     // The result of an effect goes into the place of the instruction.
-    fn store(
-        &mut self,
-        classes: &ClassProgram,
-        actor: ActorId,
-        value: Value,
-    ) -> Result<Step, Fault> {
-        let stand = self.stand_of(classes, actor)?;
-        match stand.block.body.get(stand.instruction as usize) {
-            Some(Instr::Effect(target, _)) => self.assign(classes, stand, target, value)?,
-            Some(Instr::New(place)) => {
-                let place = self.number_of(stand.class, *place)?;
-                self.replace(actor, place, value)?;
-            }
+    fn store(&mut self, code: &Code, actor: ActorId, value: Value) -> Result<(), Fault> {
+        let stand = self.stand_of(code, actor)?;
+        let old = match stand.block.body.get(stand.instruction as usize) {
+            Some(Instruction::Effect(aim, _, _)) => self.assign(code, actor, aim, value)?,
             _ => return Err(Fault::Astray),
+        };
+        if let Some(old) = old {
+            self.heap.push_drops(&old)?;
         }
-        self.go_on(stand)?;
-        Ok(None)
+        self.go_on(&stand)
     }
 
     // The line; then the operands that are kept are dropped in order, and the values that leave the variables; then the
     // handler begins, or the actor ends.
-    fn raise(
-        &mut self,
-        classes: &ClassProgram,
-        actor: ActorId,
-        error: ErrorCode,
-    ) -> Result<Step, Fault> {
-        let stand = self.stand_of(classes, actor)?;
+    fn raise(&mut self, code: &Code, actor: ActorId, error: ErrorCode) -> Result<(), Fault> {
+        let stand = self.stand_of(code, actor)?;
         match &stand.block.catcher {
-            Some(catcher) => self.caught(stand, catcher, error)?,
+            Some(catcher) => self.caught(&stand, catcher, error)?,
             None => {
                 let outcome = Box::new(self.alloc, Outcome::Error(error))?;
                 self.heap.push(Task::Close(actor, outcome))?;
@@ -134,21 +125,22 @@ impl Process {
                 self.leave(actor)?;
             }
         }
-        Ok(Some(Call::Line(Line::Throw(actor, error))))
+        self.tell(Line::Throw(actor, error));
+        Ok(())
     }
 
     fn caught(
         &mut self,
-        stand: Stand<'_>,
+        stand: &Stand<'_>,
         catcher: &Catcher,
         error: ErrorCode,
     ) -> Result<(), Fault> {
         let actor = stand.actor;
-        let class = stand.class;
         self.heap.push(Task::Catch(actor, error))?;
-        self.drop_locals(class, actor, &catcher.drops)?;
-        if let Some(local) = catcher.error {
-            self.put_error(class, actor, local, error)?;
+        let values = self.taken(actor, &catcher.drops)?;
+        self.drop_values(values)?;
+        if let Some(place) = catcher.error {
+            self.put(actor, place, Some(Value::Error(error)))?;
         }
         self.leave(actor)?;
         self.go(actor, catcher.block, 0)
@@ -192,7 +184,7 @@ impl Process {
 
     // The oldest waiter takes its branch, and the fire goes on after it. It ends, without a turn, where no waiter is left
     // or, on a stream, neither element nor end.
-    fn fire(&mut self, classes: &ClassProgram, cell: CellId) -> Result<Step, Fault> {
+    fn fire(&mut self, code: &Code, cell: CellId) -> Result<(), Fault> {
         let Some(kind) = self.kind_at(cell) else {
             return Err(Fault::Astray);
         };
@@ -200,19 +192,19 @@ impl Process {
             return self.lose(kind, cell);
         };
         self.heap.push(Task::Fire(cell))?;
-        let stand = self.stand_of(classes, waiter.actor)?;
-        let branch = branch_of(classes, stand, waiter.callback)?;
-        self.take(stand, branch, cell)
+        let stand = self.stand_of(code, waiter.actor)?;
+        let branch = branch_of(&stand, waiter.callback)?;
+        self.take(&stand, branch, cell)
     }
 
     // The actor is gone: a turn and the line; then its result is set, where a future refers to it, and otherwise the cell
     // goes and the value is dropped.
-    fn close(&mut self, actor: ActorId, outcome: Outcome) -> Result<Step, Fault> {
+    fn close(&mut self, actor: ActorId, outcome: Outcome) -> Result<(), Fault> {
         let result = self.forget(actor)?;
         if !self.turn() {
-            return Ok(None);
+            return Ok(());
         }
-        let line = Call::Line(end_line(actor, &outcome));
+        let line = end_line(actor, &outcome);
         match result {
             Some(cell) if self.futures(cell) > 0 => self.set_result(cell, outcome)?,
             Some(cell) => {
@@ -221,7 +213,8 @@ impl Process {
             }
             None => self.drop_outcome(&outcome)?,
         }
-        Ok(Some(line))
+        self.tell(line);
+        Ok(())
     }
 
     // The frame of an actor is closed, and its result is told.

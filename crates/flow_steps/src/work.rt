@@ -4,7 +4,7 @@ ghost use Rattle.std.specs.Prelude.{◌≡◌, nat_lt, OnOk};
 ghost use Rattle.flow_cancel.specs.declared.task.Task.TheVariants.{Run, Throw};
 ghost use Rattle.flow_steps.specs.Doing.{turned, doing, stopped};
 
-use crate::call::{Call, Goal, Step};
+use crate::call::{Call, Goal};
 use crate::errors::Fault;
 use crate::process::Process;
 use flow_base::errors::BROKEN_PROMISE;
@@ -85,8 +85,8 @@ impl Process {
     /// A value is stored: its references count.
     pub(crate) fn hold_value(&mut self, value: &Value) -> Result<(), Fault> {
         match value {
-            Value::Struct(_, fields) => {
-                for field in fields {
+            Value::Struct(record) => {
+                for field in &record.fields {
                     self.hold_value(field)?;
                 }
                 Ok(())
@@ -184,45 +184,50 @@ impl Process {
     }
 
     /// A reference counts no more, and what that leads to is done.
-    pub(crate) fn lose(&mut self, kind: Kind, cell: CellId) -> Result<Step, Fault> {
+    pub(crate) fn lose(&mut self, kind: Kind, cell: CellId) -> Result<(), Fault> {
         if !self.heap.may_drop(kind, cell) {
             return Err(Fault::Astray);
         }
         match self.heap.drop_ref(kind, cell)? {
-            Dropped::Nothing | Dropped::Freed => Ok(None),
+            Dropped::Nothing | Dropped::Freed => Ok(()),
             Dropped::Broken => self.break_cell(kind, cell),
             Dropped::Cancel(actor) => self.cancel(actor),
-            Dropped::PortFreed => Ok(Some(Call::Unlisten(cell))),
+            Dropped::PortFreed => {
+                self.ask(Call::Unlisten(cell));
+                Ok(())
+            }
         }
     }
 
     // A cell is broken: a turn, the line, and the error of a broken promise.
-    fn break_cell(&mut self, kind: Kind, cell: CellId) -> Result<Step, Fault> {
+    fn break_cell(&mut self, kind: Kind, cell: CellId) -> Result<(), Fault> {
         if !self.turn() {
-            return Ok(None);
+            return Ok(());
         }
         self.fill(kind, cell, Outcome::Error(BROKEN_PROMISE))?;
-        Ok(Some(Call::Line(Line::Broken(cell))))
+        self.tell(Line::Broken(cell));
+        Ok(())
     }
 
     /// An unfinished and unmarked actor is cancelled.
-    pub(crate) fn cancel(&mut self, actor: ActorId) -> Result<Step, Fault>
+    pub(crate) fn cancel(&mut self, actor: ActorId) -> Result<(), Fault>
         ensures { OnOk result (self.new ≡ stopped actor.0 self.old) }
     {
         if !self.heap.unfinished(actor) || !self.heap.frames().contains(actor) {
             return Err(Fault::Astray);
         }
         self.heap.cancel(actor)?;
-        Ok(Some(Call::Line(Line::Cancel(actor))))
+        self.tell(Line::Cancel(actor));
+        Ok(())
     }
 
     /// The unfinished and unmarked actor whose result a cell is, if there is one, is cancelled.
-    pub(crate) fn cancel_owner(&mut self, cell: CellId) -> Result<Step, Fault> {
+    pub(crate) fn cancel_owner(&mut self, cell: CellId) -> Result<(), Fault> {
         let Some(actor) = self.heap.owner(cell) else {
-            return Ok(None);
+            return Ok(());
         };
         if !self.heap.unfinished(actor) || self.heap.marked(actor) {
-            return Ok(None);
+            return Ok(());
         }
         self.cancel(actor)
     }

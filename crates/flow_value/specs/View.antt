@@ -13,10 +13,10 @@ use Rattle.flow_value.specs.Values.{ValueTree, ValueTrees, IntValue, BoolValue, 
 abbrev pub value_step : Value-F ValueTree → ValueTree
 value_step (Int n) = IntValue n
 value_step (Bool b) = BoolValue b
-value_step (Text t) = TextValue t
+value_step (Text t) = TextValue t.value
 value_step Void = VoidValue
 value_step (Error e) = ErrorValue e.0
-value_step (Struct r vs) = RecordValue r (values_of_list vs.items)
+value_step (Struct r) = RecordValue r.value.id (values_of_list r.value.fields.items)
 value_step (Ref k c) = RefValue k c.0
 
 abbrev pub value_of : Value → ValueTree

@@ -1,13 +1,14 @@
 // Values.
 
 ghost use Rattle.std.specs.Prelude.{◌≡◌, ◌++◌, IfOk, OnOk, map};
-ghost use Rattle.flow_value.specs.Values.{refs_of};
-ghost use Rattle.flow_value.specs.View.{value_of, outcome_of, ref_of};
+ghost use Rattle.flow_value.specs.Values.{RecordValue, TextValue, refs_of};
+ghost use Rattle.flow_value.specs.View.{value_of, values_of, outcome_of, ref_of};
 
 use flow_base::ids::{CellId, ErrorCode};
 use flow_base::memory::NoMemory;
 use flow_base::text::Text;
 use std::alloc::Global;
+use std::rc::Rc;
 
 /// What a reference is: the promise side or the future side of a cell that takes a single result, or
 /// of a stream.
@@ -27,15 +28,22 @@ pub enum RecordId {
     Declared(usize),
 }
 
-/// A value. A record has its fields in order; a reference names a cell.
+/// A record: which one it is, and its fields in order.
+#[derive(Drop, Debug)]
+pub struct Record<V> {
+    pub id: RecordId,
+    pub fields: Vec<V>,
+}
+
+/// A value. A text is shared by its copies, and a record stands in a box, so that a value is small; a reference names a cell.
 #[derive(Drop, Debug)]
 pub enum Value {
     Int(i64),
     Bool(bool),
-    Text(Text),
+    Text(Rc<Text>),
     Void,
     Error(ErrorCode),
-    Struct(RecordId, Vec<Value>),
+    Struct(Box<Record<Value>>),
     Ref(Kind, CellId),
 }
 
@@ -54,18 +62,32 @@ impl Value {
         match self {
             Value::Int(n) => Ok(Value::Int(*n)),
             Value::Bool(b) => Ok(Value::Bool(*b)),
-            Value::Text(text) => Ok(Value::Text(text.copy(alloc)?)),
+            Value::Text(text) => Ok(Value::Text(text.clone()?)),
             Value::Void => Ok(Value::Void),
             Value::Error(code) => Ok(Value::Error(*code)),
-            Value::Struct(record, fields) => {
-                let mut copies = Vec::new(alloc);
-                for field in fields {
+            Value::Struct(record) => {
+                let mut copies = Vec::with_capacity(alloc, record.fields.len())?;
+                for field in &record.fields {
                     copies.push(field.copy(alloc)?)?;
                 }
-                Ok(Value::Struct(*record, copies))
+                Value::record(alloc, record.id, copies)
             }
             Value::Ref(kind, cell) => Ok(Value::Ref(*kind, *cell)),
         }
+    }
+
+    /// The value of a record with these fields.
+    pub fn record(alloc: Global, id: RecordId, fields: Vec<Value>) -> Result<Value, NoMemory>
+        ensures { IfOk result (λ v. value_of v ≡ RecordValue id (values_of fields.items)) }
+    {
+        Ok(Value::Struct(Box::new(alloc, Record { id, fields })?))
+    }
+
+    /// The value of a text.
+    pub fn text(alloc: Global, text: Text) -> Result<Value, NoMemory>
+        ensures { IfOk result (λ v. value_of v ≡ TextValue text) }
+    {
+        Ok(Value::Text(Rc::new(alloc, text)?))
     }
 
     /// Its references, in the order of its fields: kind and cell.
@@ -81,8 +103,8 @@ impl Value {
         ensures { OnOk result (map ref_of found.new.items ≡ map ref_of found.old.items ++ refs_of (value_of self.now)) }
     {
         match self {
-            Value::Struct(_, fields) => {
-                for field in fields {
+            Value::Struct(record) => {
+                for field in &record.fields {
                     field.add_refs(found)?;
                 }
                 Ok(())
@@ -95,6 +117,16 @@ impl Value {
                 Ok(())
             }
         }
+    }
+}
+
+/// The text of a value, as one that is not shared.
+pub fn own_text(alloc: Global, text: Rc<Text>) -> Result<Text, NoMemory>
+    ensures { IfOk result (λ t. t ≡ text.value) }
+{
+    match Rc::try_unwrap(text) {
+        Ok(text) => Ok(text),
+        Err(text) => text.as_ref().copy(alloc),
     }
 }
 
@@ -116,7 +148,11 @@ mod tests {
     use std::test::Fail;
 
     fn record(alloc: Global, fields: [Value; 2]) -> Result<Value, NoMemory> {
-        Ok(Value::Struct(RecordId::Declared(3), Vec::from_array(alloc, fields)?))
+        Value::record(
+            alloc,
+            RecordId::Declared(3),
+            Vec::from_array(alloc, fields)?,
+        )
     }
 
     #[test]
@@ -126,7 +162,7 @@ mod tests {
             alloc,
             [
                 Value::Ref(Kind::Future, CellId(7)),
-                Value::Text(Text::new(alloc, b"abc")?),
+                Value::text(alloc, Text::new(alloc, b"abc")?)?,
             ],
         )?;
         let outer = record(alloc, [inner, Value::Ref(Kind::PromiseStream, CellId(2))])?;

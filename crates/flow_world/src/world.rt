@@ -18,6 +18,7 @@ use flow_base::ids::{CellId, ProcId};
 use flow_base::memory::NoMemory;
 use flow_base::text::Text;
 use flow_class::program::ClassProgram;
+use flow_code::program::Code;
 use flow_draw::Draws;
 use flow_machine::host::{Burst, Host, RunFault};
 use flow_machine::machine::Machine;
@@ -44,7 +45,7 @@ struct Process {
 #[derive(Drop)]
 pub struct World {
     alloc: Global,
-    classes: ClassProgram,
+    code: Code,
     processes: Vec<Process>,
     outside: Outside,
     script: Script,
@@ -109,7 +110,7 @@ impl World {
         };
         Ok(World {
             alloc,
-            classes,
+            code: Code::new(alloc, classes)?,
             processes,
             outside,
             script: Script::new(world.script)?,
@@ -122,7 +123,7 @@ impl World {
 
     /// The classes that run in it.
     pub fn classes(&self) -> &ClassProgram {
-        &self.classes
+        self.code.program()
     }
 
     /// How many processes there are.
@@ -385,7 +386,7 @@ impl World {
             cell,
         )?;
         put(out, &line)?;
-        self.runs(p, Deed::Delivers(cell, disk_outcome(reply)), out)
+        self.runs(p, Deed::Delivers(cell, disk_outcome(self.alloc, reply)?), out)
     }
 
     /// A process does what follows of a deed.
@@ -417,7 +418,7 @@ impl World {
         let burst = does(
             deed,
             &mut process.machine,
-            &self.classes,
+            &self.code,
             now,
             self.turns,
             &mut around,
@@ -464,7 +465,7 @@ impl World {
 fn does<H: Host>(
     deed: Deed,
     machine: &mut Machine,
-    classes: &ClassProgram,
+    code: &Code,
     now: u64,
     turns: u32,
     host: &mut H,
@@ -474,10 +475,10 @@ fn does<H: Host>(
     ensures kept { H.kept host.new ≡ H.kept host.old }
 {
     match deed {
-        Deed::Boots => machine.start_main(classes, now, turns, host),
-        Deed::Stops => machine.stop(classes, now, turns, host),
-        Deed::Delivers(cell, outcome) => machine.deliver(classes, cell, outcome, now, turns, host),
-        Deed::Brings(cell, item) => machine.arrive(classes, cell, item, now, turns, host),
+        Deed::Boots => machine.start_main(code, now, turns, host),
+        Deed::Stops => machine.stop(code, now, turns, host),
+        Deed::Delivers(cell, outcome) => machine.deliver(code, cell, outcome, now, turns, host),
+        Deed::Brings(cell, item) => machine.arrive(code, cell, item, now, turns, host),
     }
 }
 
@@ -486,18 +487,18 @@ fn packet_value(alloc: Global, packet: Packet) -> Result<Value, NoMemory> {
     let mut fields = Vec::new(alloc);
     fields.push(Value::Int(i64::from(packet.from.0)))?;
     fields.push(Value::Int(i64::from(packet.port)))?;
-    fields.push(Value::Text(packet.text))?;
-    Ok(Value::Struct(RecordId::Packet, fields))
+    fields.push(Value::text(alloc, packet.text)?)?;
+    Value::record(alloc, RecordId::Packet, fields)
 }
 
 /// What a cell gets of an answer of a disk.
-fn disk_outcome(reply: DiskReply) -> Outcome {
-    match reply {
-        DiskReply::Text(text) => Outcome::Value(Value::Text(text)),
+fn disk_outcome(alloc: Global, reply: DiskReply) -> Result<Outcome, NoMemory> {
+    Ok(match reply {
+        DiskReply::Text(text) => Outcome::Value(Value::text(alloc, text)?),
         DiskReply::Done => Outcome::Value(Value::Void),
         DiskReply::Size(size) => Outcome::Value(Value::Int(i64::from(size))),
         DiskReply::Failed => Outcome::Error(DISK_FAILED),
-    }
+    })
 }
 
 /// The line of an answer of a disk.

@@ -1,0 +1,10 @@
+pub mod Alike
+pub mod Args
+pub mod Fields
+pub mod Keys
+pub mod Known
+pub mod Maps
+pub mod Numbering
+pub mod Places
+pub mod Resolves
+pub mod Weights
