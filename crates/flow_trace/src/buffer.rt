@@ -68,8 +68,9 @@ impl LineBuf {
         requires { length self.old + length word.now ≤ 262238 }
         ensures { self.new ≡ self.old ++ word.now }
     {
-        for byte in word {
-            self.push(*byte);
+        match self.bytes.extend_from_slice(word) {
+            Ok(()) => {}
+            Err(_) => unreachable!(),
         }
     }
 
