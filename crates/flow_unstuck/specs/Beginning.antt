@@ -25,15 +25,16 @@ VanishedFits r = (p : Proc Frame) → Holds r (vanish p)
 
 -- a process that is stopped
 abbrev pub StoppedFits : RawTree → Type 0
-StoppedFits r = (c : Core) (xs : Numbered Frame) → FitsSome r c xs → FitsSome r (stop c) xs
+StoppedFits r = (types : CellTypes) (c : Core) (xs : Numbered Frame) → ProcessFits r types c xs → ProcessFits r types (stop c) xs
 
 -- A packet that comes to a port, and what a timer or the disk answers where it has the type of what its cell holds.
 abbrev pub ArrivalsFit : RawTree → Type 0
 ArrivalsFit r =
-    (c : Core) (xs : Numbered Frame) (port k from at : ℕ) (text : List ℕ) → FitsSome r c xs → c.halted ≡ None → thing c.ports port ≡ Some k
-    → Fine r (arrive k (packet from at text) c).halted (arrive k (packet from at text) c) xs
+    (types : CellTypes) (c : Core) (xs : Numbered Frame) (port k from at : ℕ) (text : List ℕ) → ProcessFits r types c xs → c.halted ≡ None
+    → thing c.ports port ≡ Some k
+    → Fine r types (arrive k (packet from at text) c).halted (arrive k (packet from at text) c) xs
 
 abbrev pub DeliveriesFit : RawTree → Type 0
 DeliveriesFit r =
     (types : CellTypes) (c : Core) (xs : Numbered Frame) (k : ℕ) (o : OutcomeTree) (u : TypeTree) → ProcessFits r types c xs → c.halted ≡ None
-    → types k ≡ Some (FutureType u) → OutcomeFits r.records (typed_by types) o u → Fine r (deliver k o c).halted (deliver k o c) xs
+    → types k ≡ Some (FutureType u) → OutcomeFits r.records (typed_by types) o u → Fine r types (deliver k o c).halted (deliver k o c) xs
