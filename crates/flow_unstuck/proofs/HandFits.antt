@@ -214,4 +214,4 @@ module _ (r : RawTree) (types : CellTypes) where
           let q : FitsBut r types i d xs = record { cells = p.cells; waiting = p.waiting; actors = p.actors; work = p.work; ports = p.ports; main = p.main; requests = p.requests; numbered = p.numbered; framed = p.framed; registered = p.registered } in
           subst (λ o. Fine r types (give i b en vs o d).halted (give i b en vs o d) xs) (sym got.1)
           (fine_same r types c.halted (leave_for i en vs (Give i b got.0) d) xs go (leave_state r types i en e0 vs (Give i b got.0) d xs f q entry fr (give_of i b got.0) (operands_exist r types f 0 en.operands ops) some
-                (λ ts. doing_actor (running en) f cls (Give i b got.0 ∷ ts) owner refl (code, given, refl))))
+          (λ ts. doing_actor (running en) f cls (Give i b got.0 ∷ ts) owner refl (code, given, refl))))

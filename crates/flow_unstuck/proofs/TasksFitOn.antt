@@ -91,7 +91,7 @@ module _ (r : RawTree) (actors : List RoutineTree) (rules : ClassRules r actors)
           let z = (classes r).take b u f in
           subst (λ x. Fits_after (give (classes r) i b (GoodOutcome u) x (proc popped_core xs))) (sym a.stands)
           (fine_same r types c.halted (dropping_values z.0 (pushed (Run i) popped_core)) (put xs i z.1) go (dropping_fits r types z.0 (pushed (Run i) popped_core) (put xs i z.1) out.1
-                (goes_by r types i (Run i) popped_core (put xs i z.1) a.entry z.1 a.class (put_hand (Give i b (GoodOutcome u)) a z.1) (run_of i) (λ us. (out.2 ∙ a.doing.0, out.0, no_operands z.1 a.entry a.doing.2)))))
+          (goes_by r types i (Run i) popped_core (put xs i z.1) a.entry z.1 a.class (put_hand (Give i b (GoodOutcome u)) a z.1) (run_of i) (λ us. (out.2 ∙ a.doing.0, out.0, no_operands z.1 a.entry a.doing.2)))))
 
   pub store_keeps : (v : ValueTree) → c.tasks ≡ Store i v ∷ ts → Fits_after (store (classes r) i v (thing xs i) (proc popped_core xs))
   store_keeps v top =
@@ -144,7 +144,7 @@ module _ (r : RawTree) (actors : List RoutineTree) (rules : ClassRules r actors)
           let k = writes (throw_line i err) popped_core in
           let rest : FitsBut r types i k (put xs i g) = record { cells = b.cells; waiting = b.waiting; actors = b.actors; work = b.work; ports = b.ports; main = b.main; requests = b.requests; numbered = b.numbered; framed = b.framed; registered = b.registered } in
           fine_same r types c.halted (leave_for i a.entry vs t k) (put xs i g) go (leave_state r types i a.entry a.entry vs t k (put xs i g) g rest a.at h.frame own (operands_exist r types a.frame 0 a.entry.operands a.doing.2) some
-                (λ us. doing_actor r types (running a.entry) g a.class (t ∷ us) (record { is = a.owner.is; result = a.owner.result; owns = a.owner.owns; gives = a.owner.gives }) refl (d us)))
+          (λ us. doing_actor r types (running a.entry) g a.class (t ∷ us) (record { is = a.owner.is; result = a.owner.result; owns = a.owner.owns; gives = a.owner.gives }) refl (d us)))
 
       caught : (a : Actor r types i (Throw i err) ts c xs) (x : CatcherTree) → catcher_at a.frame.code a.frame.block ≡ Some x → Standing r types a.frame ⊎ Waiting r types a.frame
           → Onward r actors (class_vars a.frame.code) (typed_by types) a.frame.code ((raised err a.frame (Some x)).0.values, (raised err a.frame (Some x)).1)
@@ -219,9 +219,9 @@ module _ (r : RawTree) (actors : List RoutineTree) (rules : ClassRules r actors)
             registered = λ j n. entry_registered i j c.entries c.cells e n (b.registered j n);
           } in
           fine_same r types c.halted d xs go (put_back r types i d xs rest
-                (actor_at r types e a.frame (thing (put c.entries i e) i) (thing xs i) (tasks_of i ts) (thing_put c.entries i a.entry e a.at) a.stands
-                (subst (ActorFits r types e a.frame) (sym pop.rest) (doing_actor r types e a.frame a.class (Run i ∷ []) (record { is = a.owner.is; result = a.owner.result; owns = a.owner.owns; gives = a.owner.gives }) a.awake a.doing)))
-                (awake_registered i (put c.entries i e) c.cells e (thing_put c.entries i a.entry e a.at) a.awake))
+          (actor_at r types e a.frame (thing (put c.entries i e) i) (thing xs i) (tasks_of i ts) (thing_put c.entries i a.entry e a.at) a.stands
+          (subst (ActorFits r types e a.frame) (sym pop.rest) (doing_actor r types e a.frame a.class (Run i ∷ []) (record { is = a.owner.is; result = a.owner.result; owns = a.owner.owns; gives = a.owner.gives }) a.awake a.doing)))
+          (awake_registered i (put c.entries i e) c.cells e (thing_put c.entries i a.entry e a.at) a.awake))
       by_verdict a Cancelled ready =
           let g = (lose a.frame).1 in
           let e = with_operand spot q a.entry in
@@ -229,7 +229,7 @@ module _ (r : RawTree) (actors : List RoutineTree) (rules : ClassRules r actors)
           let t = Throw i operation_cancelled in
           let k = record popped_core { tasks = below ts } in
           fine_same r types c.halted (leave_for i e (lose a.frame).0 t k) (put xs i g) go (leave_state r types i e a.entry (lose a.frame).0 t k (put xs i g) g (stepless a g) a.at (thing_put xs i a.frame g a.stands) (throw_of i operation_cancelled) (operands_exist r types a.frame 0 e.operands a.doing.2) z.1
-                (λ us. doing_actor r types (running e) g a.class (t ∷ us) (record { is = a.owner.is; result = a.owner.result; owns = a.owner.owns; gives = a.owner.gives }) refl (a.doing.0, inr z.0, tt)))
+          (λ us. doing_actor r types (running e) g a.class (t ∷ us) (record { is = a.owner.is; result = a.owner.result; owns = a.owner.owns; gives = a.owner.gives }) refl (a.doing.0, inr z.0, tt)))
       by_verdict a Ready ready =
           let g = (lose a.frame).1 in
           let e = with_operand spot q a.entry in

@@ -122,7 +122,7 @@ module _ (r : RawTree) (i : ℕ) (xs : Numbered Frame) (e : Entry) (g : Frame) (
   suspend_fits spot vs Missing k go h s o some ok keep now = absurd ok
   suspend_fits spot vs Refused k go h s o some ok keep now =
       fine_same r types k.halted (leave_for i (at_spot spot e) vs (Throw i second_waiter) k) xs go (leave_state r types i (at_spot spot e) e vs (Throw i second_waiter) k xs g h.rest h.entry h.frame (throw_of i second_waiter) (operands_exist r types g 0 e.operands o) some
-            (λ ts. doing_actor r types (running (at_spot spot e)) g c (Throw i second_waiter ∷ ts) (record { is = h.owner.is; result = h.owner.result; owns = h.owner.owns; gives = h.owner.gives }) refl (code, inr s, tt)))
+      (λ ts. doing_actor r types (running (at_spot spot e)) g c (Throw i second_waiter ∷ ts) (record { is = h.owner.is; result = h.owner.result; owns = h.owner.owns; gives = h.owner.gives }) refl (code, inr s, tt)))
   suspend_fits spot vs (Registered cells) k go h s o some ok keep now =
       let asleep = record (at_spot spot e) { suspended = true } in
       let d = record (writes (wait_line i spot.group) k) { cells = cells; entries = put k.entries i asleep } in
@@ -179,7 +179,7 @@ module _ (r : RawTree) (i : ℕ) (xs : Numbered Frame) (e : Entry) (g : Frame) (
   react_fits s (Operand spot q) k go h up f o none no_start no_end =
       let zero_plus : 0 + length e.operands ≡ length e.operands = omega arith in
       fine_same r types k.halted (pushed (Keep i spot q) (pushed (Run i) k)) xs go (goes_by_two r types i (Keep i spot q) k xs e g c h (keep_of i spot q)
-            (λ ts. (code, f.0, operands_more r types g 0 e.operands q f.1.0 o (subst (λ m. NextOperand g m f.1.0) (sym zero_plus) f.1.1) f.1.2)))
+      (λ ts. (code, f.0, operands_more r types g 0 e.operands q f.1.0 o (subst (λ m. NextOperand g m f.1.0) (sym zero_plus) f.1.1) f.1.2)))
   react_fits s (Waits spot vs) k go h up f o none no_start no_end = wait_fits spot vs k go h f.0 o f.1
   react_fits s (Sends n v) k go h up f o none no_start no_end = send_in_fits r i xs e g c code types n v k go h f.0 o f.1
   react_fits s (Cancels n) k go h up f o none no_start no_end =

@@ -31,6 +31,6 @@ ResultsAlone c xs = (i k : ℕ) (e : Entry) → thing c.entries i ≡ Some e →
 -- Where what is owned is owned alone, a step keeps a process fitting, and has a meaning.
 abbrev pub StepsKeepFitting : RawTree → Type 0
 StepsKeepFitting r =
-    (s : Supply) (types : CellTypes) (p : Proc Frame) → Orderly p.core → p.core.halted ≡ None → ProcessFits r types p.core p.actors → PortsAlone p.core p.actors
-    → ResultsAlone p.core p.actors
+    (s : Supply) (types : CellTypes) (p : Proc Frame) → Orderly p.core → p.core.halted ≡ None
+    → ProcessFits r types p.core p.actors → PortsAlone p.core p.actors → ResultsAlone p.core p.actors
     → IsFine r types (step (classes r) s p)

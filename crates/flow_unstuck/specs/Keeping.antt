@@ -5,7 +5,7 @@ use Rattle.std.specs.declared.option.Option.TheVariants.{None, Some}
 use Rattle.flow_tree.specs.Tree.{TypeTree, VoidType, FutureType}
 use Rattle.flow_class.specs.Classes.{RawTree}
 use Rattle.flow_meaning.specs.Numbered.{Numbered}
-use Rattle.flow_meaning.specs.Asks.{Request, Drew, Timer, Packet, Disks, Supply}
+use Rattle.flow_meaning.specs.Asks.{Request, Timer, Disks, Supply}
 use Rattle.flow_meaning.specs.Process.{Task, Close, Fire, Drop, Halt, Spent, NoMeaning, Core, Proc}
 use Rattle.flow_meaning.specs.Orderly.{Orderly}
 use Rattle.flow_meaning.specs.Step.{Stepped, step}
@@ -22,7 +22,8 @@ FitsSome r c xs = (types : CellTypes) × ProcessFits r types c xs
 -- these cells have the types that they had
 abbrev pub StillTyped : (before after : CellTypes) → List ℕ → Type 0
 StillTyped before after [] = Unit {0}
-StillTyped before after (k ∷ ks) = ((t : TypeTree) → before k ≡ Some t → after k ≡ Some t) × StillTyped before after ks
+StillTyped before after (k ∷ ks) =
+    ((t : TypeTree) → before k ≡ Some t → after k ≡ Some t) × StillTyped before after ks
 
 -- a cell that the world is to set is of what the world answers
 abbrev pub AskFits : CellTypes → Option Request → Type 0
@@ -32,7 +33,8 @@ AskFits types q = Unit {0}
 
 -- a process fits for types that the cells of open requests had before, and what it asks of the world fits
 abbrev pub FitsStill : RawTree → (before : CellTypes) → Option Request → Core → Numbered Frame → Type 0
-FitsStill r before q c xs = (types : CellTypes) × ProcessFits r types c xs × StillTyped before types c.requests × AskFits types q
+FitsStill r before q c xs =
+    (types : CellTypes) × ProcessFits r types c xs × StillTyped before types c.requests × AskFits types q
 
 -- so it is, or the event was stopped for want of turns; but never for want of meaning
 abbrev pub FineAsking : RawTree → (before : CellTypes) → Option Request → Option Halt → Core → Numbered Frame → Type 0
@@ -59,7 +61,8 @@ IsOfActor (t ∷ ts) = Unit {0}
 -- that is thrown where it stands, and its handler: each keeps a process fitting, and has a meaning.
 abbrev pub ActorsKeepFitting : RawTree → Type 0
 ActorsKeepFitting r =
-    (s : Supply) (types : CellTypes) (p : Proc Frame) → Orderly p.core → p.core.halted ≡ None → ProcessFits r types p.core p.actors → IsOfActor p.core.tasks
+    (s : Supply) (types : CellTypes) (p : Proc Frame) → Orderly p.core → p.core.halted ≡ None
+    → ProcessFits r types p.core p.actors → IsOfActor p.core.tasks
     → IsFine r types (step (classes r) s p)
 
 -- the result of an effect has a place
