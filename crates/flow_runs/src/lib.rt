@@ -1,0 +1,3 @@
+//! Runs of valid classes and of sound programs: in each world there is one. The definitions stand in `specs/`; the functions of
+//! this crate have empty bodies: the contract of each is a law about them.
+#![tactic(auto)]
