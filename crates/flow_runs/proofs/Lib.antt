@@ -1,3 +1,5 @@
 pub mod Requests
 pub mod Owned
 pub mod Dues
+pub mod Named
+pub mod Served
