@@ -3,3 +3,4 @@ pub mod Owned
 pub mod Dues
 pub mod Named
 pub mod Served
+pub mod Living

@@ -115,7 +115,7 @@ asked_brought types (Timer cell time) w m a h = all_placed (λ (e : Pending What
 asked_brought types (Packet q port text) w m a h = let v = record w { sent = suc w.sent } in sent_brought types (fate_in v q) v v.sent q port text m h
 asked_brought types (Disks cell call) w m a h = all_placed (λ (e : Pending What). Brings m types e.what) _ w.events.pending (λ e. a) h
 
-abbrev more_due : Request → ℕ → ℕ
+abbrev pub more_due : Request → ℕ → ℕ
 more_due q k = in_requests PromiseSide k (asked (Some q))
 
 one_more : (m n k cell : ℕ) (x : Pending What) (es : List (Pending What)) → sets m k x.what ≡ nat_eq m n && nat_eq k cell → due m k (placed x es) ≤ due m k es + (one PromiseSide k PromiseSide cell + 0)
