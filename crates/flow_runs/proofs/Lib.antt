@@ -4,3 +4,6 @@ pub mod Dues
 pub mod Named
 pub mod Served
 pub mod Living
+pub mod Starting
+pub mod Worlds
+pub mod Events

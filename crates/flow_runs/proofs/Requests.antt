@@ -25,10 +25,10 @@ use Rattle.flow_meaning.specs.Step.{proc, Stepped, view, start, enrol, scanned, 
 use Rattle.flow_runs.specs.Due.{asked}
 
 -- the open requests stay
-abbrev Same : Core → Core → Type 0
+abbrev pub Same : Core → Core → Type 0
 Same c d = d.requests ≡ c.requests
 
-turn_same : (f : Core → Core) (c : Core) → ((n : ℕ) → Same c (f (record c { left = n }))) → Same c (turn c f)
+pub turn_same : (f : Core → Core) (c : Core) → ((n : ℕ) → Same c (f (record c { left = n }))) → Same c (turn c f)
 turn_same f c h = by_left c.left
   where
     by_left : (l : ℕ) → Same c (turn_of l c f)
@@ -39,7 +39,7 @@ fill_cell_same : (k : ℕ) (o : OutcomeTree) (x : Option Cell) (c : Core) → Sa
 fill_cell_same k o None c = refl
 fill_cell_same k o (Some cell) c = refl
 
-fill_same : (k : ℕ) (o : OutcomeTree) (c : Core) → Same c (fill k o c)
+pub fill_same : (k : ℕ) (o : OutcomeTree) (c : Core) → Same c (fill k o c)
 fill_same k o c = fill_cell_same k o (thing c.cells k) c
 
 free_cell_same : (k : ℕ) (x : Option Cell) (c : Core) → Same c (free_cell k x c)
