@@ -38,7 +38,7 @@ use Rattle.flow_runs.specs.Due.{sets, Brings}
 use Rattle.flow_runs.specs.Among.{FitsAmong, RestsAmong, AllRest, EventNames, LineNames, WorldFits}
 use Rattle.flow_runs.proofs.Dues.{own_sets, all_filtered}
 use Rattle.flow_runs.proofs.Named.{Names, step_named}
-use Rattle.flow_runs.proofs.Served.{Fewer, fewer_same, fewer_tail, fewer_left, fewer_on, SameSide, after_ask, asked_side, asked_others, asked_events}
+use Rattle.flow_runs.proofs.Served.{Fewer, fewer_same, fewer_tail, fewer_left, fewer_on, fits_fewer, SameSide, after_ask, asked_side, asked_others, asked_events}
 use Rattle.flow_runs.proofs.Living.{Meant, meant_map, NowFits, advanced_fits}
 use Rattle.flow_runs.proofs.Starting.{ready_fits, unchanged, boots, stops, arrives, kills, answers, reply_fits, reply_plain}
 use Rattle.flow_runs.proofs.Worlds.{rests_at, OthersRest, others_of, others_fewer, set_rest, set_length, all_in_place, NextIn, next_in, order_process}
@@ -164,3 +164,124 @@ module _ (r : RawTree) (valid : IsValid r) (actors : List RoutineTree) (rules : 
     by_order (DiskFail p n) is i =
         let a = ready w p in
         record { own = unchanged r valid actors rules p w.out.events.pending a refl (at_process w p h is); around = same_around p _ is refl refl refl refl }
+
+  -- a pending event
+  module _ (w : World Frame) (h : WorldFits r w) (e : Pending What) (left : List (Pending What)) (is_next : w.out.events.pending ≡ e ∷ left) where
+    abbrev count : ℕ
+    count = w.out.file.processes
+
+    abbrev n : ℕ
+    n = process_in e.what
+
+    abbrev gone : Outside
+    gone = counted e.time n (with_left w.out left)
+
+    abbrev a : Place Frame
+    a = ready w n
+
+    all_events : AllByRecursion (EventNames count) (e ∷ left)
+    all_events = subst (AllByRecursion (EventNames count)) is_next h.events
+
+    fits_all : FitsAmong r n (e ∷ left) a.proc
+    fits_all = subst (λ es. FitsAmong r n es a.proc) is_next (at_process w n h all_events.0)
+
+    fits_left : FitsAmong r n left a.proc
+    fits_left = fits_fewer r n (e ∷ left) left a.proc (fewer_tail n e left) fits_all
+
+    others_fewer_left : (m : ℕ) → Fewer m w.out.events.pending left
+    others_fewer_left m = subst (λ es. Fewer m es left) (sym is_next) (fewer_tail m e left)
+
+    left_around : (v : Outside) → v.active ≡ n → v.file ≡ w.out.file → v.events.pending ≡ left → v.script ≡ w.out.script → Around r w.places count n v
+    left_around v active same pending script =
+        around_start w n v h all_events.0 active same (λ m o. subst (Fewer m w.out.events.pending) (sym pending) (others_fewer_left m))
+        (subst (AllByRecursion (EventNames count)) (sym pending) all_events.1) (subst (AllByRecursion (LineNames count)) (sym script) h.script)
+
+  -- by what happens
+  module _ (w : World Frame) (h : WorldFits r w) (t number : ℕ) (left : List (Pending What)) where
+    abbrev pending : What → Pending What
+    pending x = record { time = t; number = number; what = x }
+
+    abbrev happens : What → Begun Frame
+    happens x = happened (classes r) x (ready w (process_in x)) (counted t (process_in x) (with_left w.out left))
+
+    packet_begins : (m from to port : ℕ) (text : List ℕ) (e : w.out.events.pending ≡ pending (Arrives m from to port text) ∷ left) (l : Option ℕ) → listener (ready w to) port ≡ l
+        → (let b = arrived m from port text (ready w to) (counted t to (with_left w.out left)) l in InNow b.place → BeginsGood w to b)
+    packet_begins m from to port text e None q i =
+        let x = pending (Arrives m from to port text) in
+        record { own = unchanged r valid actors rules to left (ready w to) refl (fits_left w h x left e); around = left_around w h x left e (counted t to (with_left w.out left)) refl refl refl refl }
+    packet_begins m from to port text e (Some k) q i =
+        let x = pending (Arrives m from to port text) in
+        record { own = arrives r valid actors rules to left (ready w to) refl (fits_left w h x left e) from port k text q i; around = left_around w h x left e (counted t to (with_left w.out left)) refl refl refl refl }
+
+    by_what : (x : What) → w.out.events.pending ≡ pending x ∷ left → InNow (happens x).place → BeginsGood w (process_in x) (happens x)
+    by_what (Boots p) e i =
+        let x = pending (Boots p) in
+        let a = ready w p in
+        record { own = boots r valid actors rules p left a refl (fits_left w h x left e) a.proc.core.main i; around = left_around w h x left e (counted t p (with_left w.out left)) refl refl refl refl }
+    by_what (Rings p k) e i =
+        let x = pending (Rings p k) in
+        let a = ready w p in
+        let f = fits_all w h x left e in
+        record {
+          own = answers r valid actors rules p x left a refl f k (GoodOutcome VoidValue) VoidType (λ j. ap (λ b. b && nat_eq j k) (same_number p)) (own_sets p k) (f.brought.0 refl) refl (λ j. tt) i;
+          around = left_around w h x left e _ refl refl refl refl;
+        }
+    by_what (Arrives m from to port text) e i = packet_begins m from to port text e (listener (ready w to) port) refl i
+    by_what (Answers p k call) e i =
+        let x = pending (Answers p k call) in
+        let a = ready w p in
+        let f = fits_all w h x left e in
+        let d = disk_of (counted t p (with_left w.out left)) p in
+        record {
+          own = answers r valid actors rules p x left a refl f k (disk_outcome (served call d.fails d.files).1) (Rattle.flow_unstuck.specs.Asking.reply_type call) (λ j. ap (λ b. b && nat_eq j k) (same_number p)) (own_sets p k) (f.brought.0 refl)
+              (reply_fits r f.types call d.fails d.files) (λ j. reply_plain j call d.fails d.files) i;
+          around = left_around w h x left e _ refl refl refl refl;
+        }
+
+  -- any event
+  record Begun_well (w : World Frame) (b : Begun Frame) : Type 0 where
+    process : ℕ
+    good : BeginsGood w process b
+
+  in_now : (w : World Frame) (b : Begun Frame) → WorldFits r w → begun_by (classes r) w (next_of w.out) ≡ Some b → InNow b.place
+  in_now w b h g = begun_begins r (next_of w.out) w b (all_in_place r w.places 0 w.out.events.pending h.places) g
+
+  event_begins : (w : World Frame) (b : Begun Frame) → WorldFits r w → begun_by (classes r) w (next_of w.out) ≡ Some b → Begun_well w b
+  event_begins w b h g = by_next (next_of w.out) g (next_in w.out.file.processes w.out h.script) (in_now w b h g)
+    where
+      by_next : (x : Next) → begun_by (classes r) w x ≡ Some b → NextIn w.out.file.processes w.out.events.pending x → InNow b.place → Begun_well w b
+      by_next Nothing e k i = absurd (no_thing e)
+      by_next (Script t o left) e k i =
+          let s = k.script t o left refl in
+          let q = same_of e in
+          record { process = process_of o; good = subst (BeginsGood w (process_of o)) q (by_order w h t left s.1 o (order_process w.out.file.processes o s.0) (subst (λ (z : Begun Frame). InNow z.place) (sym q) i)) }
+      by_next (Event p left) e k i =
+          let q = same_of e in
+          record { process = process_in p.what; good = subst (BeginsGood w (process_in p.what)) q (by_what w h p.time p.number left p.what (k.event p left refl) (subst (λ (z : Begun Frame). InNow z.place) (sym q) i)) }
+
+  -- the world after it
+  pub event_kept : (w : World Frame) (b : Begun Frame) (l : Live Outside Frame) → WorldFits r w → begun_by (classes r) w (next_of w.out) ≡ Some b → Burst (classes r) host (before b) l → l.proc.core.halted ≡ None → WorldFits r (after w b l)
+  event_kept w b l h g q go =
+      let start = event_begins w b h g in
+      let count = w.out.file.processes in
+      let n = start.process in
+      let end = burst_good w.places count n (before b) l q start.good in
+      let f : FitsAmong r n l.out.events.pending l.proc = subst (λ x. Meant x (FitsAmong r n l.out.events.pending l.proc)) go end.own in
+      let order = unless_map b.place.proc.core.halted (λ (p : InPlace r b.place.proc.core b.place.proc.actors). p.orderly) (in_now w b h g) in
+      let rest : AtRest l.proc.core = subst (λ x. UnlessStopped x (AtRest l.proc.core)) go (burst_at_rest (classes r) host (before b) l order q) in
+      let a : Place Frame = record { up = b.place.up; proc = l.proc } in
+      let x = end.around in
+      let zero_plus : 0 + l.out.active ≡ l.out.active = omega arith in
+      let here : RestsAmong r l.out.active l.out.events.pending a = subst (λ m. RestsAmong r m l.out.events.pending a) (sym x.active) (rest, f) in
+      record {
+        places = set_rest r w.places 0 l.out.active l.out.active l.out.events.pending a zero_plus (subst (λ m. OthersRest r 0 m l.out.events.pending w.places) (sym x.active) x.others) here;
+        count = set_length r w.places l.out.active a ∙ h.count ∙ sym x.processes;
+        events = subst (λ m. AllByRecursion (EventNames m) l.out.events.pending) (sym x.processes) x.events;
+        script = subst (λ m. AllByRecursion (LineNames m) l.out.script) (sym x.processes) x.script;
+      }
+
+  pub never_strays : (w : World Frame) → WorldFits r w → Strays r w → ⊥
+  never_strays w h (now b l e g reach astray) =
+      let start = event_begins w b h g in
+      not_astray w.places w.out.file.processes start.process l (reached_good w.places w.out.file.processes start.process (before b) l reach start.good) astray
+  never_strays w h (later b l e g q go more) = never_strays (after w b l) (event_kept w b l h g q go) more

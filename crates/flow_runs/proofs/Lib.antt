@@ -7,3 +7,4 @@ pub mod Living
 pub mod Starting
 pub mod Worlds
 pub mod Events
+pub mod Runs

@@ -108,14 +108,14 @@ all_gone p types (x ∷ xs) = by_test (is_of p x.what) refl (all_gone p types xs
     by_test false q h = (brings_gone p types x.what q, h)
 
 -- what the disk answers has its type, and refers to nothing
-reply_fits : (r : RawTree) (types : CellTypes) (call : DiskCall ℕ) (fails : ℕ) (fs : List (List ℕ × File)) → OutcomeFits r.records (typed_by types) (disk_outcome (served call fails fs).1) (reply_type call)
+pub reply_fits : (r : RawTree) (types : CellTypes) (call : DiskCall ℕ) (fails : ℕ) (fs : List (List ℕ × File)) → OutcomeFits r.records (typed_by types) (disk_outcome (served call fails fs).1) (reply_type call)
 reply_fits r types call (suc n) fs = tt
 reply_fits r types (ReadCall x offset count) zero fs = refl
 reply_fits r types (WriteCall x offset bytes) zero fs = refl
 reply_fits r types (SyncCall x) zero fs = refl
 reply_fits r types (SizeCall x) zero fs = refl
 
-reply_plain : (j : ℕ) (call : DiskCall ℕ) (fails : ℕ) (fs : List (List ℕ × File)) → OutcomeNamed (spares j) (disk_outcome (served call fails fs).1)
+pub reply_plain : (j : ℕ) (call : DiskCall ℕ) (fails : ℕ) (fs : List (List ℕ × File)) → OutcomeNamed (spares j) (disk_outcome (served call fails fs).1)
 reply_plain j call (suc n) fs = tt
 reply_plain j (ReadCall x offset count) zero fs = tt
 reply_plain j (WriteCall x offset bytes) zero fs = tt

@@ -17,7 +17,7 @@ use Rattle.flow_unstuck.specs.Existing.{Strays}
 use Rattle.flow_runs.specs.Among.{WorldFits}
 
 -- valid classes, as the grammar of class text has them, whose places have numbers that can be written
-pub record AreSound (r : RawTree) : Type 0 where
+pub record AreValid (r : RawTree) : Type 0 where
   pub valid : IsValid r
   pub written : AreWritten r
   pub functions : FunctionsWritten r
