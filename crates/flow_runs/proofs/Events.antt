@@ -1,11 +1,10 @@
 -- Whole events keep a world fitting, and come to nothing that has no meaning.
-use Rattle.std.proofs.Common.{◌≡◌, ◌⊎◌, inl, inr, ℕ, ◌+◌, ◌<◌, ◌≤◌, nat_eq, true, false, List, [], ◌∷◌, length, refl, sym, ap, subst, ◌∙◌, arith}
-use Rattle.std.specs.Prelude.{◌&&◌, slice_index_or, slice_set}
+use Rattle.std.proofs.Common.{◌≡◌, inl, inr, ℕ, ◌+◌, ◌<◌, nat_eq, false, List, ◌∷◌, length, refl, sym, ap, subst, ◌∙◌, arith}
+use Rattle.std.specs.Prelude.{◌&&◌, slice_index_or}
 use Rattle.std.specs.List.{AllByRecursion}
 use Rattle.std.specs.declared.option.Option.{Option}
 use Rattle.std.specs.declared.option.Option.TheVariants.{None, Some}
 use Rattle.flow_timers.specs.Pending.{Pending}
-use Rattle.flow_trace.specs.declared.line.Line.{Line}
 use Rattle.flow_worldfile.specs.declared.directive.Order.{Order}
 use Rattle.flow_worldfile.specs.declared.directive.Order.TheVariants.{Kill, Stop, Boot, Cut, Heal, DiskFail}
 use Rattle.flow_tree.specs.Tree.{VoidType}
@@ -14,13 +13,13 @@ use Rattle.flow_value.specs.Values.{VoidValue, GoodOutcome}
 use Rattle.flow_simdisk.specs.Disk.{served}
 use Rattle.flow_class.specs.Classes.{RawTree}
 use Rattle.flow_valid.specs.Validity.{IsValid}
-use Rattle.flow_meaning.specs.Process.{Halt, Spent, NoMeaning, Proc}
+use Rattle.flow_meaning.specs.Process.{Halt}
 use Rattle.flow_meaning.specs.Orderly.{UnlessStopped}
 use Rattle.flow_meaning.specs.Law.{AtRest}
 use Rattle.flow_meaning.specs.Burst.{Live, Burst, rests, steps, serve, advanced, advance}
 use Rattle.flow_meaning.specs.Step.{Stepped, step}
 use Rattle.flow_meaning.specs.Outside.{What, Boots, Rings, Arrives, Answers, Outside, host}
-use Rattle.flow_meaning.specs.World.{Place, World, Begun, Next, Nothing, Script, Event, next_of, booted, ordered, arrived, listener, happened, process_of, process_in, ready, counted, with_left, begun_by, ending, disk_of, disk_outcome}
+use Rattle.flow_meaning.specs.World.{Place, World, Begun, Next, Nothing, Script, Event, next_of, ordered, arrived, listener, happened, process_of, process_in, ready, counted, with_left, begun_by, disk_of, disk_outcome}
 use Rattle.flow_meaning.specs.Runs.{before, after}
 use Rattle.flow_meaning.specs.Frame.{Frame}
 use Rattle.flow_meaning.specs.Class.{classes}
@@ -31,15 +30,14 @@ use Rattle.flow_unstuck.specs.Rules.{ClassRules}
 use Rattle.flow_unstuck.specs.Ending.{LeadOn, InPlace, Reaches, here, onward}
 use Rattle.flow_unstuck.specs.Existing.{Astray, Strays, now, later}
 use Rattle.flow_unstuck.specs.Alone.{StepsKeepFitting}
-use Rattle.flow_unstuck.proofs.Ending.{InPlaceNow, stopped}
+use Rattle.flow_unstuck.proofs.Ending.{stopped}
 use Rattle.flow_unstuck.proofs.Beginnings.{begun_begins}
 use Rattle.flow_unstuck.proofs.Places.{placed}
-use Rattle.flow_runs.specs.Due.{sets, Brings}
-use Rattle.flow_runs.specs.Among.{FitsAmong, RestsAmong, AllRest, EventNames, LineNames, WorldFits}
+use Rattle.flow_runs.specs.Among.{FitsAmong, RestsAmong, EventNames, LineNames, WorldFits}
 use Rattle.flow_runs.proofs.Dues.{own_sets, all_filtered}
 use Rattle.flow_runs.proofs.Named.{Names, step_named}
-use Rattle.flow_runs.proofs.Served.{Fewer, fewer_same, fewer_tail, fewer_left, fewer_on, fits_fewer, SameSide, after_ask, asked_side, asked_others, asked_events}
-use Rattle.flow_runs.proofs.Living.{Meant, meant_map, NowFits, advanced_fits}
+use Rattle.flow_runs.proofs.Served.{Fewer, fewer_same, fewer_tail, fewer_left, fits_fewer, after_ask, asked_side, asked_others, asked_events}
+use Rattle.flow_runs.proofs.Living.{Meant, NowFits, advanced_fits}
 use Rattle.flow_runs.proofs.Starting.{ready_fits, unchanged, boots, stops, arrives, kills, answers, reply_fits, reply_plain}
 use Rattle.flow_runs.proofs.Worlds.{rests_at, OthersRest, others_of, others_fewer, set_rest, set_length, all_in_place, NextIn, next_in, order_process}
 

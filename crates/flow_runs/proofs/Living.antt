@@ -1,16 +1,14 @@
 -- A process in its event: each step keeps that it fits among the pending events, and has a meaning.
-use Rattle.std.proofs.Common.{◌≡◌, ℕ, ◌+◌, ◌<◌, ◌≤◌, List, [], ◌∷◌, ◌++◌, refl, sym, ap, subst, arith}
+use Rattle.std.proofs.Common.{◌≡◌, ℕ, ◌+◌, ◌≤◌, List, ◌++◌, refl, sym, ap, subst, arith}
 use Rattle.std.specs.declared.option.Option.{Option}
 use Rattle.std.specs.declared.option.Option.TheVariants.{None, Some}
 use Rattle.flow_timers.specs.Pending.{Pending}
 use Rattle.flow_trace.specs.declared.line.Line.{Line}
-use Rattle.flow_tree.specs.Tree.{TypeTree}
 use Rattle.flow_class.specs.Classes.{RawTree}
-use Rattle.flow_valid.specs.Validity.{IsValid}
 use Rattle.flow_meaning.specs.Numbered.{Numbered}
 use Rattle.flow_meaning.specs.Cells.{PromiseSide}
 use Rattle.flow_meaning.specs.Asks.{Request}
-use Rattle.flow_meaning.specs.Process.{Halt, Spent, NoMeaning, Core, Proc}
+use Rattle.flow_meaning.specs.Process.{Halt, Spent, NoMeaning, Core}
 use Rattle.flow_meaning.specs.Occ.{in_requests}
 use Rattle.flow_meaning.specs.Orderly.{UnlessStopped}
 use Rattle.flow_meaning.specs.Burst.{Live, add_lines, serve, advanced, advance}

@@ -1,13 +1,13 @@
 -- A step sends packets to processes of its world alone.
 use Rattle.std.proofs.Common.{◌≡◌, ℕ, ◌<◌, Bool, true, false, List, [], ◌∷◌, length, if◌then◌else◌, refl, subst, arith}
-use Rattle.std.specs.Prelude.{ℤ, pos, int_le, nat_lt, nat_le, ◌&&◌, ◌+◌, ◌^◌, ◌-ℤ◌}
+use Rattle.std.specs.Prelude.{pos, int_le, nat_lt, nat_le, ◌&&◌, ◌+◌, ◌^◌, ◌-ℤ◌}
 use Rattle.std.specs.declared.option.Option.{Option}
 use Rattle.std.specs.declared.option.Option.TheVariants.{None, Some}
 use Rattle.flow_value.specs.Values.{ValueTree, OutcomeTree, GoodOutcome, BadOutcome}
 use Rattle.flow_eval.specs.Predefined.{natural}
 use Rattle.flow_meaning.specs.Numbered.{thing}
-use Rattle.flow_meaning.specs.Cells.{Ref, is_ready}
-use Rattle.flow_meaning.specs.Asks.{DiskCall, Spot, Effect, Make, Start, Draw, Delay, Never, Listen, Disk, Goal, Act, Goes, Pass, Drops, Effects, Operand, Waits, Sends, Cancels, Prints, SendsTo, Returns, Throws, RunsOut, Stuck, Ask, Request, Drew, Timer, Packet, Disks, Supply}
+use Rattle.flow_meaning.specs.Cells.{Ref}
+use Rattle.flow_meaning.specs.Asks.{DiskCall, Spot, Effect, Make, Start, Draw, Delay, Never, Listen, Disk, Goal, Act, Goes, Pass, Drops, Effects, Operand, Waits, Sends, Cancels, Prints, SendsTo, Returns, Throws, RunsOut, Stuck, Ask, Request, Packet, Supply}
 use Rattle.flow_meaning.specs.Process.{Task, Run, Give, Throw, Catch, Store, Keep, Close, Fire, Drop, Entry, Halt, Core, Proc, Engine}
 use Rattle.flow_meaning.specs.Work.{is_ready_at}
 use Rattle.flow_meaning.specs.Effects.{Reaction, between, is_port, open_port, judged, ask_disk, effect}

@@ -1,7 +1,7 @@
 -- The open requests of a process after a step: those before it, and the one for whose cell the world was asked.
 use Rattle.std.proofs.Common.{◌≡◌, ℕ, zero, suc, Bool, true, false, List, [], ◌∷◌, ◌++◌, length, if◌then◌else◌, refl, sym, subst, ◌∙◌}
 use Rattle.std.proofs.lemmas.List.{append-nil}
-use Rattle.std.specs.Prelude.{ℤ, pos, int_le, nat_lt, nat_le, ◌&&◌, ◌+◌, ◌^◌, ◌-ℤ◌}
+use Rattle.std.specs.Prelude.{pos, int_le, nat_lt, nat_le, ◌&&◌, ◌+◌, ◌^◌, ◌-ℤ◌}
 use Rattle.std.specs.declared.option.Option.{Option}
 use Rattle.std.specs.declared.option.Option.TheVariants.{None, Some}
 use Rattle.flow_value.specs.declared.value.Kind.{Kind}
@@ -10,15 +10,15 @@ use Rattle.flow_draw.specs.Words.{scaled}
 use Rattle.flow_value.specs.Values.{ValueTree, IntValue, RefValue, OutcomeTree, GoodOutcome, BadOutcome}
 use Rattle.flow_trace.specs.declared.line.Line.{Line}
 use Rattle.flow_eval.specs.Predefined.{natural}
-use Rattle.flow_meaning.specs.Numbered.{Numbered, thing, added, put, removed}
+use Rattle.flow_meaning.specs.Numbered.{thing, added, put, removed}
 use Rattle.flow_meaning.specs.Cells.{Side, FutureSide, side_of, Ref, Waiter, Cell, is_complete, is_ready, waiters, taken, Single, Stream}
-use Rattle.flow_meaning.specs.Asks.{DiskCall, Spot, Effect, Make, Start, Draw, Delay, Never, Listen, Disk, Goal, Act, Goes, Pass, Drops, Effects, Operand, Waits, Sends, Cancels, Prints, SendsTo, Returns, Throws, RunsOut, Stuck, Ask, Request, Supply}
+use Rattle.flow_meaning.specs.Asks.{DiskCall, Spot, Effect, Make, Start, Draw, Delay, Never, Listen, Disk, Goal, Act, Goes, Pass, Drops, Effects, Operand, Waits, Sends, Cancels, Prints, SendsTo, Returns, Throws, RunsOut, Stuck, Ask, Supply}
 use Rattle.flow_meaning.specs.Process.{Task, Run, Give, Throw, Catch, Store, Keep, Close, Fire, Drop, Entry, Halt, Core, Proc, Raised, Engine}
-use Rattle.flow_meaning.specs.Occ.{Scan, Occ, scan_of}
-use Rattle.flow_meaning.specs.Work.{turn_of, turn, fill_cell, fill, free_cell, free, give, take_from, take_branch, register, Registration, Registered, Refused, Missing, first_ready, owner, cancel_by, cancel, cancel_owner, new_cell, pushed, writes, is_ready_at}
-use Rattle.flow_meaning.specs.Effects.{Reaction, result_task, push_result, gives_open, gives_new, empty_cell, between, draw, delay, is_port, open_port, listen, judged, ask_disk, effect, send_to}
+use Rattle.flow_meaning.specs.Occ.{Scan, scan_of}
+use Rattle.flow_meaning.specs.Work.{turn_of, turn, fill_cell, fill, free_cell, free, give, take_branch, Registration, Registered, Refused, Missing, owner, cancel_by, cancel, cancel_owner, new_cell, pushed, writes, is_ready_at}
+use Rattle.flow_meaning.specs.Effects.{Reaction, result_task, push_result, gives_open, gives_new, empty_cell, between, is_port, open_port, judged, ask_disk, effect}
 use Rattle.flow_meaning.specs.React.{send_by, send_in, print, suspend, wait_by, wait, at_spot, react}
-use Rattle.flow_meaning.specs.Dropping.{Loss, Kept, Freed, Broken, Orphan, Unheard, loss, port_of, suffer, break_cell, lose_cell, lose_ref, drop, fire_to, fire_at, fire_cell, fire, set_result, give_result, close}
+use Rattle.flow_meaning.specs.Dropping.{Loss, Kept, Freed, Broken, Orphan, Unheard, suffer, lose_cell, lose_ref, fire_to, fire_at, fire_cell, fire, set_result, give_result}
 use Rattle.flow_meaning.specs.Lines.{print_line, end_line}
 use Rattle.flow_meaning.specs.Step as steps
 use Rattle.flow_meaning.specs.Step.{proc, Stepped, view, start, enrol, scanned, popped, answer_effect, answer, run_next, run, throw_core, throw_with, Verdict, GoesOn, Cancelled, Ready, verdict, with_operand, below, leave_kept, lost, keep_by, keep, close_actor, do_task, step_tasks, step_if, step}

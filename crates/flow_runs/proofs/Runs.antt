@@ -1,12 +1,10 @@
 -- In each world in range valid classes have one trace.
-use Rattle.std.proofs.Common.{◌≡◌, ◌⊎◌, inl, inr, List, [], ◌∷◌, refl, sym, subst}
+use Rattle.std.proofs.Common.{◌⊎◌, inl, inr, List, sym, subst}
 use Rattle.std.specs.List.{AllByRecursion}
-use Rattle.std.specs.declared.option.Option.TheVariants.{None, Some}
 use Rattle.flow_trace.specs.declared.line.Line.{Line}
-use Rattle.flow_worldfile.specs.Worlds as file
 use Rattle.flow_class.specs.Classes.{RawTree}
 use Rattle.flow_meaning.specs.World.{World, at_start}
-use Rattle.flow_meaning.specs.Runs.{Runs, ends, spent, event, after, ClassTrace}
+use Rattle.flow_meaning.specs.Runs.{Runs, ends, spent, event, ClassTrace}
 use Rattle.flow_meaning.specs.Frame.{Frame}
 use Rattle.flow_meaning.specs.Class.{classes}
 use Rattle.flow_unstuck.specs.Written.{heads}

@@ -1,14 +1,13 @@
 -- An event begins: its process, with what is brought to it, fits among the events that are left.
-use Rattle.std.proofs.Common.{◌≡◌, ℕ, zero, suc, ◌+◌, ◌<◌, ◌≤◌, nat_eq, Bool, true, false, List, [], ◌∷◌, if◌then◌else◌, refl, sym, ap, subst, ◌∙◌, arith}
-use Rattle.std.specs.Prelude.{◌&&◌, not, filter, pos}
-use Rattle.std.specs.List.{AllByRecursion}
+use Rattle.std.proofs.Common.{◌≡◌, ℕ, zero, suc, ◌≤◌, nat_eq, Bool, true, false, List, [], ◌∷◌, if◌then◌else◌, refl, sym, ap, subst, arith}
+use Rattle.std.specs.Prelude.{not, pos}
 use Rattle.std.specs.declared.option.Option.{Option}
 use Rattle.std.specs.declared.option.Option.TheVariants.{None, Some}
 use Rattle.flow_timers.specs.Pending.{Pending}
-use Rattle.flow_tree.specs.Tree.{TypeTree, VoidType, FutureType}
+use Rattle.flow_tree.specs.Tree.{TypeTree, FutureType}
 use Rattle.flow_tree.specs.Decls.{RoutineTree}
 use Rattle.flow_value.specs.declared.value.Kind.TheVariants as kind
-use Rattle.flow_value.specs.Values.{IntValue, VoidValue, OutcomeTree, GoodOutcome, BadOutcome}
+use Rattle.flow_value.specs.Values.{IntValue, OutcomeTree, GoodOutcome}
 use Rattle.flow_simdisk.specs.Disk.{File, served}
 use Rattle.flow_class.specs.Classes.{RawTree}
 use Rattle.flow_valid.specs.Validity.{IsValid}
@@ -31,7 +30,7 @@ use Rattle.flow_references.specs.Named.{Named}
 use Rattle.flow_picture.specs.Naming.{OutcomeNamed}
 use Rattle.flow_picture.specs.Rested.{has}
 use Rattle.flow_picture.specs.Alone.{spares}
-use Rattle.flow_picture.specs.Keeps.{Tied, TiedUnlessStopped}
+use Rattle.flow_picture.specs.Keeps.{TiedUnlessStopped}
 use Rattle.flow_picture.specs.Lonely.{OwnedAlone}
 use Rattle.flow_picture.proofs.Lonely.{vanished_lonely}
 use Rattle.flow_picture.proofs.LonelyBrought.{deliveries_lonely, arrivals_lonely, boots_lonely, stops_lonely}
@@ -39,7 +38,7 @@ use Rattle.flow_picture.proofs.TidySteps.{deliveries_tied, arrivals_tied, boots_
 use Rattle.flow_unstuck.specs.Rules.{ClassRules}
 use Rattle.flow_unstuck.specs.Asking.{OutcomeFits, reply_type}
 use Rattle.flow_unstuck.specs.Ending.{InPlace}
-use Rattle.flow_unstuck.specs.Fitting.{CellTypes, typed_by, ProcessFits}
+use Rattle.flow_unstuck.specs.Fitting.{CellTypes, typed_by}
 use Rattle.flow_unstuck.specs.Keeping.{Fine}
 use Rattle.flow_unstuck.proofs.States.{fine_same}
 use Rattle.flow_unstuck.proofs.Begun.{vanished_fits, stopped_fits}

@@ -1,5 +1,5 @@
 -- Each event begins in a world that fits, and leaves one.
-use Rattle.std.proofs.Common.{◌≡◌, ℕ, zero, suc, ◌+◌, ◌<◌, ◌≤◌, nat_eq, Bool, true, false, List, [], ◌∷◌, length, if◌then◌else◌, refl, sym, ap, subst, ◌∙◌, arith}
+use Rattle.std.proofs.Common.{◌≡◌, ℕ, zero, suc, ◌+◌, ◌<◌, ◌≤◌, Bool, true, false, List, [], ◌∷◌, length, if◌then◌else◌, refl, ap, subst, arith}
 use Rattle.std.specs.Prelude.{replicate, slice_index_or, slice_set, nat_lt, nat_le, map}
 use Rattle.std.specs.List.{AllByRecursion, range_with_len}
 use Rattle.std.specs.declared.option.Option.{Option}
@@ -10,11 +10,8 @@ use Rattle.flow_worldfile.specs.Directives.{InRange, Names, OrderNames}
 use Rattle.flow_worldfile.specs.declared.directive.Order.{Order}
 use Rattle.flow_worldfile.specs.declared.directive.Order.TheVariants.{Kill, Stop, Boot, Cut, Heal, DiskFail}
 use Rattle.flow_class.specs.Classes.{RawTree}
-use Rattle.flow_meaning.specs.Process.{Proc}
-use Rattle.flow_meaning.specs.Cells.{PromiseSide}
-use Rattle.flow_meaning.specs.Occ.{in_requests}
 use Rattle.flow_meaning.specs.Deliver.{idle}
-use Rattle.flow_meaning.specs.Outside.{What, Boots, Rings, Arrives, Answers, Outside}
+use Rattle.flow_meaning.specs.Outside.{What, Boots, Outside}
 use Rattle.flow_meaning.specs.World.{Place, World, sooner, soonest, Next, Nothing, Script, Event, first_of, next_of, process_of, process_in}
 use Rattle.flow_meaning.specs.Frame.{Frame}
 use Rattle.flow_meaning.proofs.RestRuns.{idle_at_rest}
@@ -23,7 +20,7 @@ use Rattle.flow_picture.proofs.TidySteps.{idle_tied}
 use Rattle.flow_unstuck.specs.Existing.{RestsInPlace}
 use Rattle.flow_unstuck.specs.Fitting.{CellTypes}
 use Rattle.flow_unstuck.proofs.Begun.{idle_fits}
-use Rattle.flow_runs.specs.Due.{due, sets, Brings, AllBring}
+use Rattle.flow_runs.specs.Due.{due, AllBring}
 use Rattle.flow_runs.specs.Among.{FitsAmong, RestsAmong, AllRest, EventNames, LineNames, WorldFits}
 use Rattle.flow_runs.proofs.Served.{Fewer, rests_fewer}
 
@@ -105,15 +102,21 @@ next_in count w h = by_script (soonest w.script) w.events.pending (λ s e. soone
     by_script : (o : Option ((ℕ × Order) × List (ℕ × Order))) (es : List (Pending What)) → ((s : (ℕ × Order) × List (ℕ × Order)) → o ≡ Some s → LineNames count s.0 × AllByRecursion (LineNames count) s.1) → NextIn count es (first_of o es)
     by_script None [] f = record { script = λ t x left e. absurd cc; event = λ p left e. absurd cc }
     by_script None (e ∷ es) f = record { script = λ t x left q. absurd cc; event = λ p left q. let a : e ≡ p = cc in let b : es ≡ left = cc in subst (λ z. e ∷ es ≡ z ∷ left) a (ap (λ l. e ∷ l) b) }
-    by_script (Some s) [] f = record { script = λ t x left q. let k = f s refl in
-        let a : s.0.1 ≡ x = cc in
-        let b : s.1 ≡ left = cc in (subst (OrderNames count) a k.0, subst (AllByRecursion (LineNames count)) b k.1); event = λ p left q. absurd cc }
+    by_script (Some s) [] f = record {
+      script = λ t x left q. let k = f s refl in
+          let a : s.0.1 ≡ x = cc in
+          let b : s.1 ≡ left = cc in (subst (OrderNames count) a k.0, subst (AllByRecursion (LineNames count)) b k.1);
+      event = λ p left q. absurd cc;
+    }
     by_script (Some s) (e ∷ es) f = by_test (nat_le s.0.0 e.time)
       where
         by_test : (b : Bool) → NextIn count (e ∷ es) (if b then Script s.0.0 s.0.1 s.1 else Event e es)
-        by_test true = record { script = λ t x left q. let k = f s refl in
-            let a : s.0.1 ≡ x = cc in
-            let b : s.1 ≡ left = cc in (subst (OrderNames count) a k.0, subst (AllByRecursion (LineNames count)) b k.1); event = λ p left q. absurd cc }
+        by_test true = record {
+          script = λ t x left q. let k = f s refl in
+              let a : s.0.1 ≡ x = cc in
+              let b : s.1 ≡ left = cc in (subst (OrderNames count) a k.0, subst (AllByRecursion (LineNames count)) b k.1);
+          event = λ p left q. absurd cc;
+        }
         by_test false = record { script = λ t x left q. absurd cc; event = λ p left q. let a : e ≡ p = cc in let b : es ≡ left = cc in subst (λ z. e ∷ es ≡ z ∷ left) a (ap (λ l. e ∷ l) b) }
 
 -- an order names its process

@@ -18,9 +18,11 @@ use Rattle.flow_unstuck.specs.Ending.{InPlace}
 use Rattle.flow_unstuck.specs.Fitting.{CellTypes, ProcessFits}
 use Rattle.flow_runs.specs.Due.{due, AllBring}
 
--- A process is in order and fits; waiters and operands agree; nobody else refers to the promise side of what it made a cell
--- for; and what pending events set are cells of open requests, of the types of what these bring.
-pub record FitsAmong (r : RawTree) (process : ℕ) (events : List (Pending What)) (p : Proc Frame) : Type 0 where
+-- A process is in order and fits; waiters and operands agree; nobody else refers to the promise side of
+-- what it made a cell for; and what pending events set are cells of open requests, of the types of what
+-- these bring.
+pub record FitsAmong (r : RawTree) (process : ℕ) (events : List (Pending What)) (p : Proc Frame)
+    : Type 0 where
   pub in_place : InPlace r p.core p.actors
   pub tied : Tied p.core
   pub alone : OwnedAlone p
@@ -44,7 +46,7 @@ EventNames count e = process_in e.what < count
 abbrev pub LineNames : ℕ → ℕ × Order → Type 0
 LineNames count x = OrderNames count x.1
 
--- A world at a boundary of events: its processes are so, and its events and its script name them alone.
+-- A world at a boundary of events: its processes are so, and its events and script name them alone.
 pub record WorldFits (r : RawTree) (w : World Frame) : Type 0 where
   pub places : AllRest r 0 w.out.events.pending w.places
   pub count : length w.places ≡ w.out.file.processes

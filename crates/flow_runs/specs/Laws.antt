@@ -16,7 +16,7 @@ use Rattle.flow_unstuck.specs.Written.{AreWritten, FunctionsWritten}
 use Rattle.flow_unstuck.specs.Existing.{Strays}
 use Rattle.flow_runs.specs.Among.{WorldFits}
 
--- valid classes, as the grammar of class text has them, whose places have numbers that can be written
+-- valid classes as the grammar of class text has them, whose places have numbers that can be written
 pub record AreValid (r : RawTree) : Type 0 where
   pub valid : IsValid r
   pub written : AreWritten r
@@ -29,8 +29,8 @@ StartsFit r = (w : file.World) → file.IsInRange w → WorldFits r (at_start w)
 -- An event keeps a world fitting, unless it is stopped.
 abbrev pub EventsKeepFitting : RawTree → Type 0
 EventsKeepFitting r =
-    (w : World Frame) (b : Begun Frame) (l : Live Outside Frame) → WorldFits r w → ending w.out (next_of w.out) ≡ None
-    → begun_by (classes r) w (next_of w.out) ≡ Some b → Burst (classes r) host (before b) l
+    (w : World Frame) (b : Begun Frame) (l : Live Outside Frame) → WorldFits r w
+    → ending w.out (next_of w.out) ≡ None → begun_by (classes r) w (next_of w.out) ≡ Some b → Burst (classes r) host (before b) l
     → l.proc.core.halted ≡ None → WorldFits r (after w b l)
 
 -- No run comes to what has no meaning.
@@ -39,7 +39,9 @@ NeverStrays r = (w : World Frame) → WorldFits r w → Strays r w → ⊥
 
 -- So at each boundary of a run in the world of a file in range the world fits.
 abbrev pub StatesFit : RawTree → Type 0
-StatesFit r = (w : file.World) (states : List (World Frame)) → file.IsInRange w → ClassStates r w states → AllByRecursion (WorldFits r) states
+StatesFit r =
+    (w : file.World) (states : List (World Frame)) → file.IsInRange w → ClassStates r w states
+    → AllByRecursion (WorldFits r) states
 
 -- there is a trace in this world, and only one
 pub record OneTrace (trace : List Line → Type 0) : Type 0 where

@@ -17,7 +17,7 @@ use Rattle.flow_unstuck.specs.Phases.{Placed}
 use Rattle.flow_unstuck.specs.Going.{Going}
 use Rattle.flow_unstuck.specs.Ending.{NoPlace, Reaches}
 
--- what has no meaning: the event was stopped for it, or goes on and the result of an effect has no place
+-- what has no meaning: the event was stopped for it, or goes on and an effect's result has no place
 abbrev pub Astray : RawTree → Live Outside Frame → Type 0
 Astray r l =
     (l.proc.core.halted ≡ Some NoMeaning)
