@@ -20,9 +20,9 @@ use Rattle.flow_tree.specs.DeclView.{program_of}
 use Rattle.flow_tree.specs.Decls.{ProgramTree}
 use Rattle.flow_class.specs.declared.program.ClassProgram.{ClassProgram}
 use Rattle.flow_staterule.specs.declared.sound.Sound.{Sound}
-use Rattle.flow_compile.specs.Verdict.{Reading, Verdict}
-use Rattle.flow_compile.specs.Weighing.{first_heavy}
-use Rattle.flow_compile.specs.Compiled.{Has}
+use Rattle.flow_front.specs.Verdict.{Reading, Verdict}
+use Rattle.flow_lower.specs.Weighing.{first_heavy}
+use Rattle.flow_lower.specs.Compiled.{Has}
 use Rattle.flow_worldfile.specs.declared.world.World0.{World0}
 use Rattle.flow_top.specs.declared.outcome.Outcome.{Outcome}
 use Rattle.flow_top.specs.declared.outcome.Outcome.TheVariants.{Told, Run}

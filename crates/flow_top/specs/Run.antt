@@ -35,9 +35,9 @@ use Rattle.flow_class.specs.declared.program.ClassProgram.{ClassProgram}
 use Rattle.flow_class.specs.View.{raw_of}
 use Rattle.flow_classprint.specs.ClassText.{ClassText}
 use Rattle.flow_staterule.specs.declared.rule.Lost.{Lost}
-use Rattle.flow_compile.specs.Verdict.{IsUnread, IsRefused, IsProgram, IsSound, IsLost}
-use Rattle.flow_compile.specs.Weighing.{first_heavy}
-use Rattle.flow_compile.specs.Compiled.{Has}
+use Rattle.flow_front.specs.Verdict.{IsUnread, IsRefused, IsProgram, IsSound, IsLost}
+use Rattle.flow_lower.specs.Weighing.{first_heavy}
+use Rattle.flow_lower.specs.Compiled.{Has}
 use Rattle.flow_run.specs.declared.ending.Ending.{Ending}
 use Rattle.flow_run.specs.declared.ending.Ending.TheVariants.{Idle, Bound, Spent}
 use Rattle.flow_run.specs.Ends.{end_line}

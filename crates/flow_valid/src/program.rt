@@ -10,20 +10,26 @@ use flow_class::class::RawClasses;
 use std::alloc::Global;
 use std::marker::Model;
 
-/// Records, functions and classes that keep the rules V1 to V8. Contracts see them as plain data.
+/// Records, functions and classes that keep the rules V1 to V8. Contracts see what they are made of.
 #[derive(Drop, Debug)]
 pub struct ClassProgram {
     raw: RawClasses,
 }
 
 impl Model for ClassProgram {
-    ghost use Rattle.flow_class.specs.Classes.{RawTree};
+    ghost use Rattle.std.specs.Coded.{codes};
+    ghost use Rattle.flow_tree.specs.contracts.ty.Ty as ty;
+    ghost use Rattle.flow_tree.specs.contracts.expr.Expr as expr;
+    ghost use Rattle.flow_tree.specs.contracts.stmt.Stmt as stmt;
+    ghost use Rattle.flow_class.specs.declared.class.RawClasses.{RawClasses};
     ghost use Rattle.flow_class.specs.View.{raw_of};
     ghost use Rattle.flow_valid.specs.Validity.{IsValid};
 
-    ghost Value = { RawTree };
+    ghost Value = { RawClasses };
 
-    ghost view = { λ p. raw_of p.raw };
+    ghost coded = { Prim.hlevel (codes, ty.the_row.coded, expr.the_row.coded, stmt.the_row.coded) };
+
+    ghost view = { λ p. p.raw };
 
     ghost invariant = { λ p. IsValid (raw_of p.raw) };
 }
@@ -33,22 +39,22 @@ impl ClassProgram {
     /// know.
     pub fn new(raw: RawClasses) -> ClassProgram
         requires { IsValid (raw_of raw) }
-        ensures { result ≡ raw_of raw }
+        ensures { result ≡ raw }
     {
         ClassProgram { raw }
     }
 
     /// The records, functions and classes. They are valid.
     pub fn raw(&self) -> &RawClasses
-        ensures raw { raw_of result.now ≡ self.now }
-        ensures valid { IsValid self.now }
+        ensures raw { result.now ≡ self.now }
+        ensures valid { IsValid (raw_of self.now) }
     {
         &self.raw
     }
 
     /// An equal program.
     pub fn copy(&self, alloc: Global) -> Result<ClassProgram, NoMemory>
-        ensures { IfOk result (λ p. p ≡ self.now) }
+        ensures { IfOk result (λ p. raw_of p ≡ raw_of self.now) }
     {
         Ok(ClassProgram {
             raw: copy_raw(alloc, &self.raw)?,
