@@ -43,10 +43,10 @@ module _ (c : Coding) (gs : List text.Group) (hs : List ℕ) (all : List GroupCo
   groups_step i dg dh first next old new g lt lth block begins branches on put inv =
       let text : List CallbackTree = view.group_of (get_or gs i dg) in
       let count : length g.branches.items ≡ length text =
-          sym (length_map branch_of g.branches.items) ∙ ap length branches ∙ length_map (coded_branch c) text in
+      sym (length_map branch_of g.branches.items) ∙ ap length branches ∙ length_map (coded_branch c) text in
       let is : group_of g ≡ made c first (get_or hs i dh) text = ap (λ b. record { block = b; first = g.first; branches = map branch_of g.branches.items }) block
-          ∙ ap (λ f. record { block = get_or hs i dh; first = f; branches = map branch_of g.branches.items }) begins
-          ∙ ap (λ bs. record { block = get_or hs i dh; first = first; branches = bs }) branches in
+      ∙ ap (λ f. record { block = get_or hs i dh; first = f; branches = map branch_of g.branches.items }) begins
+      ∙ ap (λ bs. record { block = get_or hs i dh; first = first; branches = bs }) branches in
       let rest : ℕ → List GroupCode = λ n. coded_groups c n (drop (suc i) hs) (map view.group_of (drop (suc i) gs)) in
       rw add-one
       (ap (λ n. map group_of new ++ rest n) (on ∙ ap (λ k. first + k) count)

@@ -92,10 +92,7 @@ fn first_classes<'a>(
 }
 
 impl<'a> ClassNames<'a> {
-    pub(crate) fn new(
-        alloc: Global,
-        classes: &'a [text::Class],
-    ) -> Result<ClassNames<'a>, NoMemory>
+    pub(crate) fn new(alloc: Global, classes: &'a [text::Class]) -> Result<ClassNames<'a>, NoMemory>
         ensures { IfOk result (λ c. (x : List ℕ) → at_name c.named x ≡ first_from 0 (map name_of_class classes.now) x) }
     {
         Ok(ClassNames {
@@ -234,7 +231,13 @@ impl<'n, 'a> Coder<'n, 'a> {
         ensures { result ≡ effect_named (named call_names name.now) ((coding_of self.now).class name.now) }
     {
         match predefined_call(name) {
-            Some(call) => { if is_effect(call) { Some(Effect::World(call)) } else { None } }
+            Some(call) => {
+                if is_effect(call) {
+                    Some(Effect::World(call))
+                } else {
+                    None
+                }
+            }
             None => self.classes.class(name).map(Effect::Actor),
         }
     }
@@ -257,7 +260,7 @@ impl<'n, 'a> Coder<'n, 'a> {
     fn args(&self, args: &[Expr]) -> Result<Vec<Resolved>, NoMemory>
         ensures { IfOk result (λ v. nodes_of v.items ≡ resolved_all (coding_of self.now).names (exprs_of args.now)) }
     {
-        resolve_all(self.names, self, args)
+        Ok(resolve_all(self.names, self, args)?)
     }
 
     // An expression with its names resolved.
@@ -277,6 +280,7 @@ impl<'n, 'a> Coder<'n, 'a> {
         }
     }
 
+    #[tactic(auto, using(crate::proofs::Paths::method_is))]
     // A call statement, its arguments resolved.
     fn act(&self, target: &Target, args: Vec<Resolved>) -> Result<Instruction, NoMemory>
         ensures { IfOk result (λ i. instruction_of i ≡ act_code (coding_of self.now) target.now.path.items (nodes_of args.items)) }
@@ -341,11 +345,7 @@ impl<'n, 'a> Coder<'n, 'a> {
         }
     }
 
-    fn instruction(
-        &self,
-        class: &text::Class,
-        instr: &text::Instr,
-    ) -> Result<Instruction, NoMemory>
+    fn instruction(&self, class: &text::Class, instr: &text::Instr) -> Result<Instruction, NoMemory>
         ensures { IfOk result (λ i. instruction_of i ≡ coded_instruction (coding_of self.now) (text.class_of class.now) (text.instr_of instr.now)) }
     {
         match instr {

@@ -11,8 +11,8 @@ use crate::class::{Class, Group};
 use crate::coding::{ClassNames, Coder, small};
 use flow_base::memory::NoMemory;
 use flow_class::class as text;
-use flow_class::program::ClassProgram;
 use flow_resolved::names::{FieldNames, Names};
+use flow_valid::program::ClassProgram;
 use std::alloc::Global;
 
 /// The classes of a program as they are run, the numbers of the fields of its records, and the program.
@@ -58,6 +58,7 @@ fn coded_classes(
     Ok(coded)
 }
 
+#[tactic(auto, using(crate::proofs::Coded::is_coded))]
 /// The fields of a program's records, its classes with their names resolved, and which class is `main`.
 fn coded(
     alloc: Global,
