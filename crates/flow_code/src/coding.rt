@@ -1,18 +1,17 @@
 // How classes are coded.
 
-ghost use Rattle.std.specs.Prelude.{◌≡◌, ◌+◌, ℕ, List, [], ◌∷◌, IfOk, OnOk, length, map, Some, None, if◌then◌else◌};
+ghost use Rattle.std.specs.Prelude.{◌≡◌, ◌+◌, ℕ, List, ◌∷◌, IfOk, OnOk, length, map, Some, None, if◌then◌else◌};
 ghost use Rattle.std.specs.Option.{option_map, option_and_then};
 ghost use Rattle.std.specs.Str.{bytes_eq};
 ghost use Rattle.flow_tree.specs.View.{expr_of, exprs_of, type_of};
 ghost use Rattle.flow_ast.specs.TypingNames.{named, call_names, method_names};
-ghost use Rattle.flow_class.specs.Classes.{CallbackTree};
 ghost use Rattle.flow_class.specs.Code.{type_at};
 ghost use Rattle.flow_class.specs.View as text;
 ghost use Rattle.flow_resolved.specs.Named.{at_name, first_from, or_else};
 ghost use Rattle.flow_resolved.specs.Resolving.{resolved, resolved_all};
 ghost use Rattle.flow_resolved.specs.View.{node_of, nodes_of};
 ghost use Rattle.flow_code.specs.Places.{place_of, place_in};
-ghost use Rattle.flow_code.specs.Coding.{Coding, is_effect, promise_kind, fields_of, aimed, effect_named, effect_in, act_named, set_code, effect_code, new_code, operand_code, method_code, act_code, places, coded_instruction, ended, caught, coded_block, coded_branch, homes_of, home_noted, coded_groups, coded_class};
+ghost use Rattle.flow_code.specs.Coding.{is_effect, promise_kind, fields_of, aimed, effect_named, effect_in, act_named, set_code, effect_code, new_code, operand_code, method_code, act_code, places, coded_instruction, ended, caught, coded_block, coded_branch, homes_of, home_noted, coded_groups, coded_class};
 ghost use Rattle.flow_code.specs.Coder.{coding_of, name_of_class};
 ghost use Rattle.flow_code.specs.View.{aim_of, instruction_of, end_of, catcher_of, block_of, operand_of, branch_of, group_of, code_of};
 
