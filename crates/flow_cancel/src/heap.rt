@@ -5,9 +5,9 @@ ghost use Rattle.std.specs.Borrow.{sem};
 ghost use Rattle.std.specs.Option.{ForSome, option_map, is_some};
 ghost use Rattle.flow_value.specs.View.{value_of};
 ghost use Rattle.flow_value.specs.Values.{refs_of};
-ghost use Rattle.flow_numbered.specs.Numbered.{thing, with_thing};
+ghost use Rattle.flow_numbered.specs.Numbered.{thing, with_thing, IsRising};
 ghost use Rattle.flow_cell.specs.Cells.{count_of};
-ghost use Rattle.flow_cancel.specs.Heap.{no_heap, pushed, next_cell, next_actor, with_result, with_stream, owner, may_start, started, started_holding, may_finish, finished, cleared, has_number, with_number, without_number, side_of};
+ghost use Rattle.flow_cancel.specs.Heap.{no_heap, pushed, last_cell, last_actor, next_cell, next_actor, with_result, with_stream, owner, may_start, started, started_holding, may_finish, finished, cleared, skipped_to, has_number, with_number, without_number, side_of};
 ghost use Rattle.flow_cancel.specs.Dropping.{drops, refs_in, dropping, dropped, may_drop, cancel_owner};
 ghost use Rattle.flow_cancel.specs.Leaving.{kind_at, is_waiter, left_cells, leave_stream_at, leave_cell_at, leave_one, withdrawn, suspended, cancelled};
 ghost use Rattle.flow_cancel.specs.Lending.{LendsCells, LendsStreams, LendsFrames};
@@ -213,12 +213,26 @@ impl Heap {
         &mut self.frames
     }
 
+    /// The greatest number that was given to a cell, 0 at first.
+    pub fn last_cell(&self) -> u64
+        ensures { result ≡ last_cell self.now }
+    {
+        let greatest = self.cells.greatest().max(self.streams.greatest());
+        self.made.max(greatest)
+    }
+
+    /// The greatest number that was given to an actor, 0 at first.
+    pub fn last_actor(&self) -> u64
+        ensures { result ≡ last_actor self.now }
+    {
+        self.actors.greatest().max(self.frames.greatest())
+    }
+
     // The number of the next cell, below 2^63.
     fn next_cell(&self) -> Result<u64, NoMemory>
         ensures { IfOk result (λ n. n ≡ next_cell self.now) }
     {
-        let greatest = self.cells.greatest().max(self.streams.greatest());
-        number_after(self.made.max(greatest))
+        number_after(self.last_cell())
     }
 
     /// An unset single result without a reference, with the next number. Where no number below 2^63 is left, the answer
@@ -249,7 +263,7 @@ impl Heap {
     fn next_actor(&self) -> Result<u64, NoMemory>
         ensures { IfOk result (λ n. n ≡ next_actor self.now) }
     {
-        number_after(self.actors.greatest().max(self.frames.greatest()))
+        number_after(self.last_actor())
     }
 
     /// Whether an actor may start with a result: none; or an unset single result of no unfinished actor, with a count of
@@ -506,6 +520,15 @@ impl Heap {
             Kind::PromiseStream => self.drop_stream(Side::Promise, cell),
             Kind::FutureStream => self.drop_stream(Side::Future, cell),
         }
+    }
+
+    /// Numbers up to these count as given to a cell and to an actor.
+    pub fn skip_to(&mut self, cell: CellId, actor: ActorId)
+        ensures skipped { self.new ≡ skipped_to cell.0 actor.0 self.old }
+        ensures rising { IsRising 0 self.new.frames.things self.new.frames.greatest }
+    {
+        self.made = self.made.max(cell.0);
+        self.frames.skip_to(actor);
     }
 
     /// Removes everything. The numbers given stay.

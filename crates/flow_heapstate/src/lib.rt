@@ -3,4 +3,5 @@
 
 pub mod listing;
 pub mod parts;
+mod references;
 pub mod state;
