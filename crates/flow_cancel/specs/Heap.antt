@@ -193,9 +193,6 @@ cleared h = record {
   requests = [];
 }
 
--- numbers up to these count as given to a cell and to an actor
-abbrev pub skipped_to : (cell actor : ℕ) → HeapTree → HeapTree
-skipped_to k i h = record h {
-  made = max h.made k;
-  frames = record h.frames { greatest = max h.frames.greatest i };
-}
+-- numbers up to this one count as given to an actor
+abbrev pub skipped_actors : ℕ → HeapTree → HeapTree
+skipped_actors i h = record h { frames = record h.frames { greatest = max h.frames.greatest i } }

@@ -1,13 +1,13 @@
 // The heap of a process.
 
-ghost use Rattle.std.specs.Prelude.{◌≡◌, ◌+◌, ◌<◌, ◌^◌, true, false, [], IsSome, OnOk, IfOk, None, Some, option_copied, slice_get, drop};
+ghost use Rattle.std.specs.Prelude.{◌≡◌, ◌+◌, ◌<◌, ◌^◌, max, true, false, [], IsSome, OnOk, IfOk, None, Some, option_copied, slice_get, drop};
 ghost use Rattle.std.specs.Borrow.{sem};
 ghost use Rattle.std.specs.Option.{ForSome, option_map, is_some};
 ghost use Rattle.flow_value.specs.View.{value_of};
 ghost use Rattle.flow_value.specs.Values.{refs_of};
 ghost use Rattle.flow_numbered.specs.Numbered.{thing, with_thing, IsRising};
 ghost use Rattle.flow_cell.specs.Cells.{count_of};
-ghost use Rattle.flow_cancel.specs.Heap.{no_heap, pushed, last_cell, last_actor, next_cell, next_actor, with_result, with_stream, owner, may_start, started, started_holding, may_finish, finished, cleared, skipped_to, has_number, with_number, without_number, side_of};
+ghost use Rattle.flow_cancel.specs.Heap.{no_heap, pushed, last_cell, last_actor, next_cell, next_actor, with_result, with_stream, owner, may_start, started, started_holding, may_finish, finished, cleared, skipped_actors, has_number, with_number, without_number, side_of};
 ghost use Rattle.flow_cancel.specs.Dropping.{drops, refs_in, dropping, dropped, may_drop, cancel_owner};
 ghost use Rattle.flow_cancel.specs.Leaving.{kind_at, is_waiter, left_cells, leave_stream_at, leave_cell_at, leave_one, withdrawn, suspended, cancelled};
 ghost use Rattle.flow_cancel.specs.Lending.{LendsCells, LendsStreams, LendsFrames};
@@ -522,12 +522,18 @@ impl Heap {
         }
     }
 
-    /// Numbers up to these count as given to a cell and to an actor.
-    pub fn skip_to(&mut self, cell: CellId, actor: ActorId)
-        ensures skipped { self.new ≡ skipped_to cell.0 actor.0 self.old }
-        ensures rising { IsRising 0 self.new.frames.things self.new.frames.greatest }
+    /// Numbers up to this one count as given to a cell.
+    pub fn skip_cells(&mut self, cell: CellId)
+        ensures { self.new ≡ record self.old { made = max self.old.made cell.0 } }
     {
         self.made = self.made.max(cell.0);
+    }
+
+    /// Numbers up to this one count as given to an actor.
+    pub fn skip_actors(&mut self, actor: ActorId)
+        ensures skipped { self.new ≡ skipped_actors actor.0 self.old }
+        ensures rising { IsRising 0 self.new.frames.things self.new.frames.greatest }
+    {
         self.frames.skip_to(actor);
     }
 

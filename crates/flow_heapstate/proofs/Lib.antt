@@ -1,2 +1,4 @@
 pub mod Reading
-pub mod Gathering
+pub mod Building
+pub mod Growing
+pub mod Filling

@@ -1,2 +1,3 @@
 pub mod State
 pub mod Referring
+pub mod Restoring

@@ -4,4 +4,5 @@
 pub mod listing;
 pub mod parts;
 mod references;
+pub mod restoring;
 pub mod state;

@@ -13,7 +13,6 @@ use flow_base::memory::NoMemory;
 use flow_value::value::{Kind, Outcome, Value};
 use std::alloc::Global;
 
-#[tactic(auto, using(crate::proofs::Gathering::more_refs))]
 // Adds the references of a value.
 fn add_value(alloc: Global, value: &Value, found: &mut Vec<(Kind, CellId)>) -> Result<(), NoMemory>
     ensures { OnOk result (map ref_of found.new.items ≡ map ref_of found.old.items ++ refs_of (value_of value.now)) }
@@ -31,10 +30,10 @@ fn add_content(
 ) -> Result<(), NoMemory>
     ensures { OnOk result (map ref_of found.new.items ≡ map ref_of found.old.items ++ content_refs (option_map outcome_of content.now)) }
 {
-    match content {
-        Some(Outcome::Value(value)) => add_value(alloc, value, found),
-        Some(Outcome::Error(_)) | None => Ok(()),
+    if let Some(Outcome::Value(value)) = content {
+        add_value(alloc, value, found)?;
     }
+    Ok(())
 }
 
 // Adds a single result: what it holds, an open request, and its waiters.

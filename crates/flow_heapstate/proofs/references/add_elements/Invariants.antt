@@ -8,5 +8,5 @@ use Rattle.flow_heapstate.proofs.references.add_elements.Given as goal
 
 abbrev pub invariant-loop-value : goal.invariant-loop-value
 invariant-loop-value l =
-    map ref_of l.found.items ++ flat_map refs_of (map value_of (drop l.value-index l.value-items))
-    ≡ map ref_of l.initial.found.items ++ flat_map refs_of (map value_of l.value-items)
+    map ref_of l.found.items ++ flat_map refs_of (map value_of (drop l.value-index l.queue))
+    ≡ map ref_of l.initial.found.items ++ flat_map refs_of (map value_of l.queue)

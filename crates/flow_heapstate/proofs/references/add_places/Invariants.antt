@@ -8,5 +8,5 @@ use Rattle.flow_heapstate.proofs.references.add_places.Given as goal
 
 abbrev pub invariant-loop-place : goal.invariant-loop-place
 invariant-loop-place l =
-    map ref_of l.found.items ++ flat_map place_refs (map place_of (drop l.place-index l.place-items))
-    ≡ map ref_of l.initial.found.items ++ flat_map place_refs (map place_of l.place-items)
+    map ref_of l.found.items ++ flat_map place_refs (map place_of (drop l.place-index l.places))
+    ≡ map ref_of l.initial.found.items ++ flat_map place_refs (map place_of l.places)

@@ -8,5 +8,5 @@ use Rattle.flow_heapstate.proofs.references.add_streams.Given as goal
 
 abbrev pub invariant-loop-part : goal.invariant-loop-part
 invariant-loop-part l =
-    map ref_of l.found.items ++ flat_map stream_refs (map stream_kept (drop l.part-index l.part-items))
-    ≡ map ref_of l.initial.found.items ++ flat_map stream_refs (map stream_kept l.part-items)
+    map ref_of l.found.items ++ flat_map stream_refs (map stream_kept (drop l.part-index l.parts))
+    ≡ map ref_of l.initial.found.items ++ flat_map stream_refs (map stream_kept l.parts)
