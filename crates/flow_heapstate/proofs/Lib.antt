@@ -1,4 +1,1 @@
 pub mod Reading
-pub mod Building
-pub mod Growing
-pub mod Filling

@@ -1,3 +1,1 @@
 pub mod State
-pub mod Referring
-pub mod Restoring

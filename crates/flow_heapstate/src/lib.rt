@@ -3,6 +3,4 @@
 
 pub mod listing;
 pub mod parts;
-mod references;
-pub mod restoring;
 pub mod state;
