@@ -1,5 +1,5 @@
 -- In a lowered body no path is empty, where none is in its text.
-use Rattle.std.proofs.Common.{◌≡◌, ℕ, zero, suc, Bool, true, false, List, [], ◌∷◌, ◌++◌, map, refl, subst}
+use Rattle.std.proofs.Common.{◌≡◌, ℕ, zero, suc, Bool, true, false, List, [], ◌∷◌, ◌++◌, map, subst}
 use Rattle.std.specs.Prelude.{slice_get}
 use Rattle.std.specs.List.{AllByRecursion}
 use Rattle.std.specs.declared.option.Option.{Option}
@@ -11,16 +11,16 @@ use Rattle.flow_tree.specs.Body.{IntoTree, Body, End, BlockStmt, IfStmt, IfElseS
 use Rattle.flow_ast.specs.Typing.{is_there}
 use Rattle.flow_ast.specs.Leaving.{has_statement}
 use Rattle.flow_class.specs.declared.class.Slotted.{Slotted}
-use Rattle.flow_class.specs.Classes.{InstrTree, ActInstr, DropInstr, LastTree, GotoLast, PassLast, TestLast, ChooseLast, ReturnLast, ThrowLast, BlockTree, ClassTree}
-use Rattle.flow_class.specs.Code.{Fetched, Body as Held, Last, Nothing, fetch_in, fetch_at, fetch}
+use Rattle.flow_class.specs.Classes.{InstrTree, ActInstr, DropInstr, LastTree, GotoLast, PassLast, TestLast, ChooseLast, ReturnLast, ThrowLast, BlockTree}
+use Rattle.flow_class.specs.Code.{Body as Held, Nothing, fetch_in, fetch_at}
 use Rattle.flow_class.specs.Scopes.{Scope, Var, Mark, scope, path_over, act_over, over, over_all}
 use Rattle.flow_catch.specs.Inner.{left_lists}
 use Rattle.flow_choose.specs.Places.{ident_at}
 use Rattle.flow_meaning.specs.Evaluating.{Names, effect_in}
 use Rattle.flow_meaning.specs.Items.{change}
-use Rattle.flow_split.specs.Around.{Exit, Text, Scoped, Part, Hand, Around, whole, inner, pass, guarded, handling}
+use Rattle.flow_split.specs.Around.{Exit, Text, Scoped, Part, Hand, Around, inner, pass, guarded, handling}
 use Rattle.flow_split.specs.Counts.{Next, begun, taken, grouped, past, past_branches}
-use Rattle.flow_split.specs.Lowered.{Chunk, block_with, blocks_of, joined, ends, acting, drop_of, dropping, finished, before_rest, exits, exited, with_into, with_taken, later, first_value, new_at, first_at, tested, assign_by, assigned, changed, place_in, declares, thrown, callback, callbacks, test_before, lowered, branches}
+use Rattle.flow_split.specs.Lowered.{Chunk, blocks_of, joined, ends, acting, drop_of, dropping, finished, before_rest, exits, exited, with_into, with_taken, later, first_value, new_at, first_at, tested, assign_by, assigned, changed, place_in, declares, thrown, callback, callbacks, test_before, lowered, branches}
 use Rattle.flow_fits.specs.Paths.{IsPath, HasPaths, HavePaths}
 use Rattle.flow_unstuck.specs.Written.{HasPath}
 

@@ -1,19 +1,16 @@
 -- The classes of a sound program are valid, and written as class text has classes.
-use Rattle.std.proofs.Common.{◌≡◌, ℕ, zero, suc, false, List, [], ◌∷◌, refl, subst}
+use Rattle.std.proofs.Common.{◌≡◌, ℕ, zero, suc, false, List, [], ◌∷◌, subst}
 use Rattle.std.specs.Prelude.{slice_get}
 use Rattle.std.specs.declared.option.Option.TheVariants.{None, Some}
-use Rattle.flow_tree.specs.declared.decl.Program.{Program}
 use Rattle.flow_tree.specs.Decls.{RoutineTree, DeclTree, StructDecl, FunctionDecl, ActorDecl}
 use Rattle.flow_tree.specs.DeclView.{program_of}
 use Rattle.flow_rules.specs.Judged.{Setting}
 use Rattle.flow_rules.specs.Rules.{setting_of}
-use Rattle.flow_class.specs.Classes.{ClassTree}
 use Rattle.flow_meaning.specs.Evaluating.{Names}
 use Rattle.flow_meaning.specs.Source.{functions_in, names_of}
 use Rattle.flow_split.specs.Around.{whole}
 use Rattle.flow_split.specs.Lowered.{block_with, lowered}
-use Rattle.flow_lower.specs.Compiled.{class_in, compiled}
-use Rattle.flow_front.specs.Verdict.{IsSound}
+use Rattle.flow_lower.specs.Compiled.{class_in}
 use Rattle.flow_walks.specs.Laws.{AllHaveSimpleParts}
 use Rattle.flow_walks.proofs.SimpleParts.{program_parts}
 use Rattle.flow_faithful.proofs.Whole.{EachActor}
@@ -21,8 +18,7 @@ use Rattle.flow_fits.specs.Paths.{HasPaths, AllHavePaths}
 use Rattle.flow_fits.proofs.PathsDerived.{program_paths}
 use Rattle.flow_lawful.proofs.Tested.{IsWell, actors_well, class_of}
 use Rattle.flow_lawful.proofs.Filled.{all_valid}
-use Rattle.flow_unstuck.specs.Written.{IsWritten, AreWritten, HasBody, FunctionsWritten}
-use Rattle.flow_runs.specs.Laws.{AreValid}
+use Rattle.flow_unstuck.specs.Written.{IsWritten, HasBody}
 use Rattle.flow_traces.specs.Laws.{CompilesWritten}
 use Rattle.flow_traces.proofs.Paths.{lowered_pathed, blocks_pathed, begins_there}
 

@@ -1,5 +1,3 @@
-use Rattle.flow_tree.specs.DeclView.{program_of}
-use Rattle.flow_front.specs.Verdict.{IsSound}
 use Rattle.flow_traces.specs.Laws.{classes_of}
 use Rattle.flow_traces.proofs.laws.one_trace.Goals as goal
 
