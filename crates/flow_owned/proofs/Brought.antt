@@ -1,5 +1,5 @@
 -- What is brought to a process keeps unset what it is to set itself.
-use Rattle.std.proofs.Common.{◌≡◌, ℕ, zero, suc, ◌+◌, ◌<◌, ◌≤◌, nat_eq, Bool, true, false, List, [], ◌∷◌, ◌++◌, if◌then◌else◌, refl, sym, ap, subst, ◌∙◌, arith}
+use Rattle.std.proofs.Common.{◌≡◌, ℕ, suc, ◌+◌, ◌<◌, nat_eq, Bool, true, false, [], ◌∷◌, if◌then◌else◌, sym, ap, subst, arith}
 use Rattle.std.specs.Prelude.{pos}
 use Rattle.std.specs.declared.option.Option.{Option}
 use Rattle.std.specs.declared.option.Option.TheVariants.{None, Some}
@@ -12,8 +12,8 @@ use Rattle.flow_meaning.specs.Process.{Drop, Halt, Core, Proc}
 use Rattle.flow_meaning.specs.Occ.{one, in_ports, in_requests}
 use Rattle.flow_meaning.specs.Orderly.{UnlessStopped}
 use Rattle.flow_meaning.specs.Work.{pushed, fill}
-use Rattle.flow_meaning.specs.Step.{proc, enrol}
-use Rattle.flow_meaning.specs.Deliver.{boot, boot_core, boot_with, stop, stop_main, deliver, arrive, closed_request}
+use Rattle.flow_meaning.specs.Step.{enrol}
+use Rattle.flow_meaning.specs.Deliver.{boot, boot_with, stop, stop_main, deliver, arrive, closed_request}
 use Rattle.flow_meaning.specs.Frame.{Frame}
 use Rattle.flow_meaning.specs.Class.{classes}
 use Rattle.flow_meaning.proofs.Posture.{Unless, unless, after_turn}
@@ -23,7 +23,7 @@ use Rattle.flow_picture.specs.Rested.{has}
 use Rattle.flow_picture.specs.Alone.{OwnedOnce}
 use Rattle.flow_picture.specs.Keeps.{Tied}
 use Rattle.flow_runs.proofs.Dues.{weight, one_closed}
-use Rattle.flow_owned.specs.Unset.{awaited, Unset, StepsUnset}
+use Rattle.flow_owned.specs.Unset.{Unset, StepsUnset}
 use Rattle.flow_owned.proofs.Fills.{Waits, P, fill_free}
 use Rattle.flow_owned.proofs.Steps.{no_port, enrolled_free, step_free}
 
@@ -76,9 +76,13 @@ module _ (k : ℕ) where
       by_main None = h
       by_main (Some j) = h
 
-pub unless_all : {Q : ℕ → Type 0} (o : Option Halt) → ((k : ℕ) → UnlessStopped o (Q k)) → UnlessStopped o ((k : ℕ) → Q k)
-unless_all None h = h
-unless_all (Some x) h = tt
+-- so it is of all cells
+pub all_now : (c : Core) → ((k : ℕ) → Unless (P k) c) → UnlessStopped c.halted (Unset c)
+all_now c h = by_halt c.halted h
+  where
+    by_halt : (o : Option Halt) → ((k : ℕ) → UnlessStopped o (P k c)) → UnlessStopped o (Unset c)
+    by_halt None h = h
+    by_halt (Some x) h = tt
 
 pub steps_unset : StepsUnset
-steps_unset r s p q o t alone h e = unless_all q.0.core.halted (λ k. step_free k r s p q o t alone (h k) e)
+steps_unset r s p q o t alone h e = all_now q.0.core (λ k. step_free k r s p q o t alone (h k) e)

@@ -1,24 +1,21 @@
 -- What a process does to its cells keeps those unset that it is to set itself.
-use Rattle.std.proofs.Common.{◌≡◌, ℕ, zero, suc, ◌+◌, ◌<◌, nat_eq, Bool, true, false, List, [], ◌∷◌, ◌++◌, length, if◌then◌else◌, refl, sym, ap, subst, ◌∙◌, arith}
+use Rattle.std.proofs.Common.{◌≡◌, ℕ, suc, ◌<◌, nat_eq, Bool, true, false, List, [], ◌∷◌, if◌then◌else◌, refl, sym, subst, arith}
 use Rattle.std.specs.Option.{option_map}
 use Rattle.std.specs.declared.option.Option.{Option}
 use Rattle.std.specs.declared.option.Option.TheVariants.{None, Some}
 use Rattle.flow_value.specs.Values.{ValueTree, OutcomeTree}
-use Rattle.flow_trace.specs.declared.line.Line.{Line}
 use Rattle.flow_meaning.specs.Numbered.{Numbered, thing, added, put, removed}
-use Rattle.flow_meaning.specs.Cells.{PromiseSide, Ref, Waiter, Cell, Single, Stream, is_busy, taken, after_taking, with_waiter, left_by}
+use Rattle.flow_meaning.specs.Cells.{Ref, Waiter, Cell, Single, Stream, is_busy, taken, after_taking, with_waiter, left_by}
 use Rattle.flow_meaning.specs.Asks.{Spot}
 use Rattle.flow_meaning.specs.Process.{Task, Give, Throw, Entry, Core}
 use Rattle.flow_base.specs.ErrorNumbers.{operation_cancelled, second_waiter}
 use Rattle.flow_meaning.specs.Lines.{take_line, cancel_line}
 use Rattle.flow_meaning.specs.Orderly.{Rising}
 use Rattle.flow_meaning.specs.React.{at_spot, suspend, wait_by, wait}
-use Rattle.flow_meaning.specs.Occ.{one, count_maybe, in_requests}
-use Rattle.flow_meaning.specs.Work.{turn, fill_cell, fill, free_cell, free, running, leave_for, left_cells, give, take_branch, Registration, Registered, Refused, Missing, register_at, register_one, register, first_ready, marked, cancel_by, cancel, cancel_owner, writes}
-use Rattle.flow_meaning.proofs.Posture.{Unless, unless, unless_map, after_turn, thing_put, thing_put_other, thing_removed_other, thing_added}
+use Rattle.flow_meaning.specs.Work.{fill_cell, fill, free_cell, free, running, leave_for, give, take_branch, Registration, Registered, Refused, Missing, register_at, register_one, register, first_ready, marked, cancel_by, cancel, cancel_owner, writes}
+use Rattle.flow_meaning.proofs.Posture.{Unless, unless, after_turn, thing_put, thing_put_other, thing_removed_other, thing_added}
 use Rattle.flow_meaning.proofs.Shifts.{Owned}
 use Rattle.flow_picture.specs.Rested.{IsUnset}
-use Rattle.flow_picture.specs.Alone.{results_at}
 use Rattle.flow_picture.proofs.Finds.{thing_new, none_above}
 use Rattle.flow_picture.proofs.Left.{found_left}
 use Rattle.flow_picture.proofs.OwnersOnce.{results_put}

@@ -1,30 +1,24 @@
 -- A process that fits, whose own cells are unset, owns what it made a cell for.
 use Rattle.std.proofs.Common.{◌≡◌, ℕ, ◌+◌, ◌<◌, nat_eq, Bool, true, false, List, [], ◌∷◌, if◌then◌else◌, refl, sym, ap, subst, ◌∙◌, inl, arith}
 use Rattle.std.specs.Prelude.{codes}
-use Rattle.std.specs.declared.option.Option.{Option}
-use Rattle.std.specs.declared.option.Option.TheVariants.{None, Some}
-use Rattle.flow_timers.specs.Pending.{Pending}
+use Rattle.std.specs.declared.option.Option.TheVariants.{Some}
 use Rattle.flow_tree.specs.Tree.{NamedType, FutureStreamType}
-use Rattle.flow_class.specs.Classes.{RawTree}
 use Rattle.flow_meaning.specs.Numbered.{Numbered, thing}
 use Rattle.flow_meaning.specs.Cells.{PromiseSide, Cell, Single, Stream}
-use Rattle.flow_meaning.specs.Process.{Entry, Proc}
+use Rattle.flow_meaning.specs.Process.{Entry}
 use Rattle.flow_meaning.specs.Occ.{one, count_maybe, in_requests}
 use Rattle.flow_meaning.specs.Dropping.{port_of}
-use Rattle.flow_meaning.specs.Outside.{What}
-use Rattle.flow_meaning.specs.Frame.{Frame}
 use Rattle.flow_meaning.proofs.Posture.{same_number}
 use Rattle.flow_meaning.proofs.Shifts.{same_of}
 use Rattle.flow_meaning.proofs.InOrder.{no_thing}
-use Rattle.flow_picture.specs.Rested.{has, IsUnset, IsStream, Owned}
+use Rattle.flow_picture.specs.Rested.{has, IsStream}
 use Rattle.flow_picture.specs.Alone.{results_at, owners_of}
 use Rattle.flow_picture.proofs.Beside.{one_each}
 use Rattle.flow_picture.proofs.Once.{one_reference}
 use Rattle.flow_unstuck.specs.Fitting.{CellFits}
 use Rattle.flow_unstuck.proofs.CellStates.{cell_there}
-use Rattle.flow_runs.specs.Among.{FitsAmong}
 use Rattle.flow_runs.proofs.Owned.{ports_alone, results_alone}
-use Rattle.flow_owned.specs.Unset.{awaited, Unset, ProcessesOwn}
+use Rattle.flow_owned.specs.Unset.{awaited, ProcessesOwn}
 
 result_counts : (k i : ℕ) (es : Numbered Entry) (e : Entry) → thing es i ≡ Some e → e.result ≡ Some k → 0 < results_at k es
 result_counts k i [] e at own = absurd (no_thing at)

@@ -1,10 +1,8 @@
 -- Each step keeps unset what a process is to set itself.
 use Rattle.std.proofs.Common.{◌≡◌, ◌⊎◌, inl, inr, ℕ, zero, suc, ◌+◌, ◌<◌, ◌≤◌, nat_eq, Bool, true, false, List, [], ◌∷◌, ◌++◌, length, if◌then◌else◌, refl, sym, ap, subst, ◌∙◌, arith}
-use Rattle.std.proofs.lemmas.Bool.Decides.{nat_tests}
 use Rattle.std.specs.Prelude.{pos, not, int_le, nat_lt, nat_le, ◌&&◌, ◌^◌, ◌-ℤ◌}
 use Rattle.std.specs.declared.option.Option.{Option}
 use Rattle.std.specs.declared.option.Option.TheVariants.{None, Some}
-use Rattle.flow_value.specs.declared.value.Kind.{Kind}
 use Rattle.flow_value.specs.declared.value.Kind.TheVariants as kind
 use Rattle.flow_draw.specs.Words.{scaled}
 use Rattle.flow_value.specs.Values.{ValueTree, IntValue, RefValue, OutcomeTree, GoodOutcome, BadOutcome}
@@ -16,19 +14,19 @@ use Rattle.flow_meaning.specs.Numbered.{Numbered, thing, added, put, removed}
 use Rattle.flow_meaning.specs.Cells.{Side, PromiseSide, FutureSide, side_of, Ref, Waiter, Cell, Single, Stream, is_complete, is_ready, waiters}
 use Rattle.flow_meaning.specs.Asks.{DiskCall, Spot, Effect, Make, Start, Draw, Delay, Never, Listen, Disk, Goal, Act, Goes, Pass, Drops, Effects, Operand, Waits as WaitsFor, Sends, Cancels, Prints, SendsTo, Returns, Throws, RunsOut, Stuck, Ask, Supply}
 use Rattle.flow_meaning.specs.Process.{Task, Run, Give, Throw, Catch, Store, Keep, Close, Fire, Drop, Entry, Halt, Core, Proc, Raised}
-use Rattle.flow_meaning.specs.Occ.{Scan, Occ, one, count_maybe, count_kept, in_entries, in_requests, in_ports, in_cells, in_tasks, scan_of}
+use Rattle.flow_meaning.specs.Occ.{Scan, Occ, one, count_maybe, count_kept, in_entries, in_ports, scan_of}
 use Rattle.flow_meaning.specs.Orderly.{Orderly, Rising}
 use Rattle.flow_meaning.specs.Work.{turn, fill, free, new_cell, pushed, writes, owner, first_ready, is_ready_at, leave_for}
-use Rattle.flow_meaning.specs.Effects.{Reaction, result_task, push_result, gives, gives_new, gives_open, empty_cell, between, delay, is_port, open_port, judged, ask_disk, effect}
+use Rattle.flow_meaning.specs.Effects.{Reaction, result_task, push_result, gives_open, empty_cell, between, is_port, open_port, judged, ask_disk, effect}
 use Rattle.flow_meaning.specs.React.{send_by, send_in, print, react}
 use Rattle.flow_meaning.specs.Dropping.{port_of, promises_gone, futures_gone, loss, suffer, break_cell, lose_cell, lose_ref, fire_to, fire_at, fire_cell, set_result, give_result}
-use Rattle.flow_meaning.specs.Lines.{print_line, end_line, throw_line, start_line, broken_line}
+use Rattle.flow_meaning.specs.Lines.{print_line, end_line, throw_line, broken_line}
 use Rattle.flow_meaning.specs.Step as steps
 use Rattle.flow_meaning.specs.Step.{proc, Stepped, view, enrol, entry_of, start, answer, run_next, run, fate, throw_core, Verdict, GoesOn, Cancelled, Ready, verdict, with_operand, below, leave_kept, keep_by, keep, close_actor, scanned, popped, do_task, step_tasks, step_if, step}
 use Rattle.flow_meaning.specs.Frame.{Frame}
 use Rattle.flow_meaning.specs.Class.{classes, class_names}
 use Rattle.flow_meaning.proofs.Posture.{Unless, unless, unless_map, after_turn}
-use Rattle.flow_meaning.proofs.Shifts.{Owned, owned, same_of}
+use Rattle.flow_meaning.proofs.Shifts.{owned, same_of}
 use Rattle.flow_meaning.proofs.InOrder.{no_thing}
 use Rattle.flow_picture.specs.Alone.{spares, results_at, owners_of, Alone, OwnedOnce}
 use Rattle.flow_picture.specs.Keeps.{Tied}
@@ -39,8 +37,9 @@ use Rattle.flow_references.specs.Named.{Named}
 use Rattle.flow_picture.proofs.Alone.{futures_spared}
 use Rattle.flow_picture.proofs.NamingFrames.{ActNamed, AskNamed, next_named}
 use Rattle.flow_picture.proofs.OwnersOnce.{results_added, results_removed, requests_added}
+use Rattle.flow_runs.proofs.Dues.{weight}
 use Rattle.flow_owned.specs.Unset.{awaited}
-use Rattle.flow_owned.proofs.Fills.{Waits, IsFree, P, removed_free, fill_free, free_free, leave_free, entry_free, branch_free, wait_free, cancel_free, owner_free, new_free}
+use Rattle.flow_owned.proofs.Fills.{Waits, P, removed_free, fill_free, free_free, leave_free, entry_free, branch_free, wait_free, cancel_free, owner_free, new_free}
 
 -- what rules say of each thing
 each_at : {A : Type 0} (Q : A → Type 0) (xs : Numbered A) (n : ℕ) (a : A) → Each Q xs → thing xs n ≡ Some a → Q a
@@ -92,7 +91,7 @@ module _ (k : ℕ) where
   not_one : (n : ℕ) → (n ≡ k → ⊥) → one PromiseSide k PromiseSide n ≡ 0
   not_one n o = by_test (nat_eq k n) refl
     where
-      by_test : (b : Bool) → nat_eq k n ≡ b → (if b then 1 else 0) ≡ 0
+      by_test : (b : Bool) → nat_eq k n ≡ b → weight b ≡ 0
       by_test true q = absurd (o (grind (arith, q)))
       by_test false q = refl
 

@@ -1,33 +1,29 @@
 -- At each boundary of a run, processes own what they made cells for.
-use Rattle.std.proofs.Common.{◌≡◌, ℕ, zero, suc, ◌+◌, ◌<◌, ◌≤◌, nat_eq, Bool, true, false, List, [], ◌∷◌, length, if◌then◌else◌, refl, sym, ap, subst, ◌∙◌, arith}
+use Rattle.std.proofs.Common.{◌≡◌, ℕ, zero, suc, ◌<◌, Bool, true, false, List, [], ◌∷◌, if◌then◌else◌, refl, sym, ap, subst, ◌∙◌, arith}
 use Rattle.std.specs.Prelude.{replicate, slice_index_or, slice_set}
 use Rattle.std.specs.List.{AllByRecursion}
 use Rattle.std.specs.declared.option.Option.{Option}
 use Rattle.std.specs.declared.option.Option.TheVariants.{None, Some}
 use Rattle.flow_timers.specs.Pending.{Pending}
 use Rattle.flow_trace.specs.declared.line.Line.{Line}
-use Rattle.flow_worldfile.specs.Worlds as file
 use Rattle.flow_worldfile.specs.declared.directive.Order.{Order}
 use Rattle.flow_worldfile.specs.declared.directive.Order.TheVariants.{Kill, Stop, Boot, Cut, Heal, DiskFail}
 use Rattle.flow_tree.specs.Decls.{RoutineTree}
 use Rattle.flow_value.specs.Values.{VoidValue, GoodOutcome}
-use Rattle.flow_simdisk.specs.Disk.{served}
 use Rattle.flow_class.specs.Classes.{RawTree}
 use Rattle.flow_valid.specs.Validity.{IsValid}
 use Rattle.flow_meaning.specs.Numbered.{thing}
-use Rattle.flow_meaning.specs.Cells.{PromiseSide}
-use Rattle.flow_meaning.specs.Process.{Halt, Spent, NoMeaning, Core, Proc}
-use Rattle.flow_meaning.specs.Occ.{in_requests}
+use Rattle.flow_meaning.specs.Process.{Halt, Core, Proc}
 use Rattle.flow_meaning.specs.Orderly.{UnlessStopped}
 use Rattle.flow_meaning.specs.Burst.{Live, Burst, rests, steps, serve, advanced, advance}
 use Rattle.flow_meaning.specs.Step.{Stepped, step}
-use Rattle.flow_meaning.specs.Deliver.{idle}
+use Rattle.flow_meaning.specs.Deliver.{idle_core, idle, stop, deliver, arrive}
 use Rattle.flow_meaning.specs.Outside.{What, Boots, Rings, Arrives, Answers, Outside, host}
-use Rattle.flow_meaning.specs.World.{Place, World, Begun, Next, Nothing, Script, Event, next_of, booted, ordered, packet, arrived, listener, happened, process_of, process_in, ready, counted, with_left, begun_by, ending, at_start, disk_of, disk_outcome}
+use Rattle.flow_meaning.specs.World.{Place, World, Begun, Next, Nothing, Script, Event, next_of, booted, ordered, packet, arrived, listener, happened, process_of, process_in, ready, counted, with_left, begun_by, at_start}
 use Rattle.flow_meaning.specs.Runs.{Runs, ends, spent, event, before, after}
 use Rattle.flow_meaning.specs.Frame.{Frame}
 use Rattle.flow_meaning.specs.Class.{classes}
-use Rattle.flow_meaning.proofs.Posture.{Unless, unless, same_number}
+use Rattle.flow_meaning.proofs.Posture.{unless}
 use Rattle.flow_meaning.proofs.Shifts.{same_of}
 use Rattle.flow_meaning.proofs.InOrder.{no_thing}
 use Rattle.flow_unstuck.specs.Rules.{ClassRules}
@@ -41,16 +37,15 @@ use Rattle.flow_unstuck.proofs.StepsKept.{steps_keep}
 use Rattle.flow_unstuck.proofs.Valid.{leads_on}
 use Rattle.flow_picture.specs.Rested.{has, Owned}
 use Rattle.flow_runs.specs.Due.{sets, due}
-use Rattle.flow_runs.specs.Among.{FitsAmong, RestsAmong, AllRest, WorldFits}
+use Rattle.flow_runs.specs.Among.{FitsAmong, AllRest, WorldFits}
 use Rattle.flow_runs.specs.Laws.{AreValid}
 use Rattle.flow_runs.proofs.Dues.{due_here, has_request, own_sets}
 use Rattle.flow_runs.proofs.Living.{Meant}
 use Rattle.flow_runs.proofs.Worlds.{NextIn, next_in, order_process, starts_fit}
 use Rattle.flow_runs.proofs.Events.{Good, next_good, event_begins, at_process, event_kept}
 use Rattle.flow_owned.specs.Unset.{Unset, WorldOwns, StatesOwn}
-use Rattle.flow_owned.proofs.Fills.{P}
 use Rattle.flow_owned.proofs.Steps.{step_free}
-use Rattle.flow_owned.proofs.Brought.{deliver_free, arrive_free, boot_free, stop_free, unless_all}
+use Rattle.flow_owned.proofs.Brought.{deliver_free, arrive_free, boot_free, stop_free, all_now}
 use Rattle.flow_owned.proofs.Owns.{owns}
 
 abbrev AllUnset : List (Place Frame) → Type 0
@@ -59,7 +54,7 @@ AllUnset ps = AllByRecursion (λ (a : Place Frame). Unset a.proc.core) ps
 abbrev Now : Core → Type 0
 Now c = UnlessStopped c.halted (Unset c)
 
-idle_unset : Unset (idle {Frame}).core
+idle_unset : Unset idle_core
 idle_unset k w = absurd (omega (arith, w))
 
 unset_at : (ps : List (Place Frame)) (k : ℕ) → AllUnset ps → Unset (slice_index_or ps k (record { up = false; proc = idle })).proc.core
@@ -85,21 +80,21 @@ module _ (r : RawTree) (valid : IsValid r) (actors : List RoutineTree) (rules : 
     module _ (n : ℕ) (f : FitsAmong r n w.out.events.pending (ready w n).proc) where
       boots_unset : (held : Option ℕ) → Now (booted (classes r) n (ready w n) held).proc.core
       boots_unset (Some k) = unless (ready w n).proc.core.halted (before_it n)
-      boots_unset None = unless_all _ (λ k. boot_free k r n (ready w n).proc f.tied (before_it n k))
+      boots_unset None = all_now (booted (classes r) n (ready w n) None).proc.core (λ k. boot_free k r n (ready w n).proc f.tied (before_it n k))
 
-      answer_unset : (k : ℕ) (o : _) (x : Pending What) (left : List (Pending What)) → w.out.events.pending ≡ x ∷ left → sets n k x.what ≡ true → Now (Rattle.flow_meaning.specs.Deliver.deliver k o (ready w n).proc.core)
+      answer_unset : (k : ℕ) (o : _) (x : Pending What) (left : List (Pending What)) → w.out.events.pending ≡ x ∷ left → sets n k x.what ≡ true → Now (deliver k o (ready w n).proc.core)
       answer_unset k o x left e own =
           let c = (ready w n).proc.core in
           let a = due_here n k x left own in
           let b = ap (due n k) e in
           let m = f.awaited k in
           let there : has k c.requests ≡ true = has_request k c.requests (omega (arith, a, b, m)) in
-          unless_all _ (λ j. deliver_free j k o c there f.tied.once (before_it n j))
+          all_now (deliver k o c) (λ j. deliver_free j k o c there f.tied.once (before_it n j))
 
       arrived_unset : (m from port : ℕ) (text : List ℕ) (v : Outside) (l : Option ℕ) → listener (ready w n) port ≡ l → Now (arrived m from port text (ready w n) v l).place.proc.core
       arrived_unset m from port text v None q = before_it n
       arrived_unset m from port text v (Some k) q =
-          unless_all _ (λ j. arrive_free j k (packet from port text) port (ready w n).proc.core (heard (ready w n).up q) f.tied.once (before_it n j))
+          all_now (arrive k (packet from port text) (ready w n).proc.core) (λ j. arrive_free j k (packet from port text) port (ready w n).proc.core (heard (ready w n).up q) f.tied.once (before_it n j))
         where
           heard : (b : Bool) → (if b then thing (ready w n).proc.core.ports port else None) ≡ Some k → thing (ready w n).proc.core.ports port ≡ Some k
           heard true z = z
@@ -107,7 +102,7 @@ module _ (r : RawTree) (valid : IsValid r) (actors : List RoutineTree) (rules : 
 
     by_order : (x : Order) (v : Outside) → FitsAmong r (process_of x) w.out.events.pending (ready w (process_of x)).proc → Now (ordered (classes r) x (ready w (process_of x)) v).place.proc.core
     by_order (Boot p) v f = boots_unset p f (ready w p).proc.core.main
-    by_order (Stop p) v f = unless_all _ (λ k. unless (Rattle.flow_meaning.specs.Deliver.stop (ready w p).proc.core).halted (stop_free k (ready w p).proc.core (before_it p k)))
+    by_order (Stop p) v f = all_now (stop (ready w p).proc.core) (λ k. unless (stop (ready w p).proc.core).halted (stop_free k (ready w p).proc.core (before_it p k)))
     by_order (Kill p) v f = λ k z. absurd (omega (arith, z))
     by_order (Cut p q) v f = before_it p
     by_order (Heal p q) v f = before_it p
@@ -148,7 +143,7 @@ module _ (r : RawTree) (valid : IsValid r) (actors : List RoutineTree) (rules : 
         by_step None e f u b = absurd (no_thing b)
         by_step (Some q) e f u b =
             subst (λ (z : Live Outside Frame). Now z.proc.core) (same_of b)
-            (served_unset q.1 q.0 s.out (unless_all _ (λ k. step_free k r (host.supply s.out) s.proc q f.in_place.orderly f.tied f.alone (u k) e)))
+            (served_unset q.1 q.0 s.out (all_now q.0.core (λ k. step_free k r (host.supply s.out) s.proc q f.in_place.orderly f.tied f.alone (u k) e)))
 
         by_halt : (x : Option Halt) → s.proc.core.halted ≡ x → Meant x (FitsAmong r n s.out.events.pending s.proc) → UnlessStopped x (Unset s.proc.core) → Now l.proc.core
         by_halt None e f u = by_step (step (classes r) (host.supply s.out) s.proc) refl f u a
@@ -182,7 +177,8 @@ module _ (r : RawTree) (valid : IsValid r) (actors : List RoutineTree) (rules : 
       let x = run.1 in
       let f = starts_fit r w range in
       let u = start_unset w.processes in
-      subst (AllByRecursion WorldOwns) (sym x.from_start) (own_all (at_start w).places 0 (at_start w).out.events.pending f.places u, runs_own f u x.runs)
+      let begin : World Frame = at_start w in
+      subst (AllByRecursion WorldOwns) (sym x.from_start) (own_all begin.places 0 begin.out.events.pending f.places u, runs_own f u x.runs)
 
 pub valid_own : (r : RawTree) → AreValid r → StatesOwn r
 valid_own r v =
