@@ -35,94 +35,82 @@ module _ (k : ℕ) where
   refs s c xs = references s k (proc c xs)
 
   -- an unfinished actor that isn't marked, whose result the cell is
-  pub record Wants (c : Core) : Type 0 where
-    pub actor : ℕ
-    pub entry : Entry
-    pub at : thing c.entries actor ≡ Some entry
-    pub unmarked : entry.marked ≡ false
-    pub result : entry.result ≡ Some k
+  abbrev pub Wants : Core → Type 0
+  Wants c = (i : ℕ) × (e : Entry) × (thing c.entries i ≡ Some e) × (e.marked ≡ false) × (e.result ≡ Some k)
 
   -- With these references in hand before and those after: the cell is there only where it was, no reference is lost, and an
   -- actor wants it only where one did.
-  pub record Onward (a b : Side → ℕ) (c : Core) (xs : Numbered Frame) (d : Core) (ys : Numbered Frame) : Type 0 where
-    pub there : IsThere (thing d.cells k) → IsThere (thing c.cells k)
-    pub count : (s : Side) → refs s c xs + a s ≤ refs s d ys + b s
-    pub wants : Wants d → Wants c
+  abbrev pub Onward : (a b : Side → ℕ) (c : Core) (xs : Numbered Frame) (d : Core) (ys : Numbered Frame) → Type 0
+  Onward a b c xs d ys = (IsThere (thing d.cells k) → IsThere (thing c.cells k)) × ((s : Side) → refs s c xs + a s ≤ refs s d ys + b s) × (Wants d → Wants c)
 
   pub onward_on : (a b g : Side → ℕ) (c : Core) (xs : Numbered Frame) (d : Core) (ys : Numbered Frame) (e : Core) (zs : Numbered Frame) → Onward a b c xs d ys → Onward b g d ys e zs → Onward a g c xs e zs
-  onward_on a b g c xs d ys e zs f h = record {
-    there = λ t. f.there (h.there t);
-    count = λ s. let m = f.count s in let n = h.count s in omega (arith, m, n);
-    wants = λ w. f.wants (h.wants w);
-  }
+  onward_on a b g c xs d ys e zs f h = (
+    λ t. f.0 (h.0 t),
+    λ s. let m = f.1 s in let n = h.1 s in omega (arith, m, n),
+    λ w. f.2 (h.2 w),
+  )
 
   -- what is more in hand before and after
   pub onward_more : (a b g : Side → ℕ) (c : Core) (xs : Numbered Frame) (d : Core) (ys : Numbered Frame) → Onward a b c xs d ys → Onward (λ s. a s + g s) (λ s. b s + g s) c xs d ys
-  onward_more a b g c xs d ys f = record { there = f.there; count = λ s. let m = f.count s in omega (arith, m); wants = f.wants }
+  onward_more a b g c xs d ys f = (f.0, λ s. let m = f.1 s in omega (arith, m), f.2)
 
   pub push_onward : (t : Task) (c : Core) (xs : Numbered Frame) → Onward (λ s. in_task s k t) no_refs c xs (pushed t c) xs
-  push_onward t c xs = record {
-    there = λ t. t;
-    count = λ s. let m = of_pushed (proc c xs) s k t in omega (arith, m);
-    wants = λ w. record { actor = w.actor; entry = w.entry; at = w.at; unmarked = w.unmarked; result = w.result };
-  }
+  push_onward t c xs = (
+    λ t. t,
+    λ s. let m = of_pushed (proc c xs) s k t in omega (arith, m),
+    λ w. w,
+  )
 
   pub pop_onward : (t : Task) (ts : List Task) (c : Core) (xs : Numbered Frame) → c.tasks ≡ t ∷ ts → Onward no_refs (λ s. in_task s k t) c xs (record c { tasks = ts }) xs
-  pop_onward t ts c xs e = record {
-    there = λ t. t;
-    count = λ s. let m = of_popped (proc c xs) s k t ts e in omega (arith, m);
-    wants = λ w. record { actor = w.actor; entry = w.entry; at = w.at; unmarked = w.unmarked; result = w.result };
-  }
+  pop_onward t ts c xs e = (
+    λ t. t,
+    λ s. let m = of_popped (proc c xs) s k t ts e in omega (arith, m),
+    λ w. w,
+  )
 
   pub drop_onward : (vs : List ValueTree) (c : Core) (xs : Numbered Frame) → Onward (λ s. count s k (refs_in vs)) no_refs c xs (dropping_values vs c) xs
-  drop_onward vs c xs = record {
-    there = λ t. t;
-    count = λ s. let m = of_values (proc c xs) s k vs in omega (arith, m);
-    wants = λ w. record { actor = w.actor; entry = w.entry; at = w.at; unmarked = w.unmarked; result = w.result };
-  }
+  drop_onward vs c xs = (
+    λ t. t,
+    λ s. let m = of_values (proc c xs) s k vs in omega (arith, m),
+    λ w. w,
+  )
 
   pub frame_onward : (a b : Side → ℕ) (i : ℕ) (f g : Frame) (c : Core) (xs : Numbered Frame) → thing xs i ≡ Some f → ((s : Side) → frame_holds s k f + a s ≤ frame_holds s k g + b s) → Onward a b c xs c (put xs i g)
-  frame_onward a b i f g c xs at h = record {
-    there = λ t. t;
-    count = λ s. let m = of_frame (proc c xs) s k i f g at in let n = h s in omega (arith, m, n);
-    wants = λ w. w;
-  }
+  frame_onward a b i f g c xs at h = (
+    λ t. t,
+    λ s. let m = of_frame (proc c xs) s k i f g at in let n = h s in omega (arith, m, n),
+    λ w. w,
+  )
 
   -- an entry is replaced by one that is marked or wants the same
   entry_wants : (i : ℕ) (e0 e : Entry) (c d : Core) → d.entries ≡ put c.entries i e → thing c.entries i ≡ Some e0 → (e.marked ≡ true) ⊎ ((e.marked ≡ e0.marked) × (e.result ≡ e0.result)) → Wants d → Wants c
-  entry_wants i e0 e c d same at how w = by_test (nat_eq i w.actor) refl
+  entry_wants i e0 e c d same at how w = by_test (nat_eq i w.0) refl
     where
-      here : thing (put c.entries i e) w.actor ≡ Some w.entry
-      here = subst (λ es. thing es w.actor ≡ Some w.entry) same w.at
+      here : thing (put c.entries i e) w.0 ≡ Some w.1
+      here = subst (λ es. thing es w.0 ≡ Some w.1) same w.2
 
-      by_how : w.entry ≡ e → (e.marked ≡ true) ⊎ ((e.marked ≡ e0.marked) × (e.result ≡ e0.result)) → Wants c
-      by_how q (inl m) = absurd (no_mark (sym m ∙ sym (ap (λ (x : Entry). x.marked) q) ∙ w.unmarked))
+      by_how : w.1 ≡ e → (e.marked ≡ true) ⊎ ((e.marked ≡ e0.marked) × (e.result ≡ e0.result)) → Wants c
+      by_how q (inl m) = absurd (no_mark (sym m ∙ sym (ap (λ (x : Entry). x.marked) q) ∙ w.3))
         where
           no_mark : true ≡ false → ⊥
           no_mark z = cc
-      by_how q (inr m) = record {
-        actor = i;
-        entry = e0;
-        at = at;
-        unmarked = sym m.0 ∙ sym (ap (λ (x : Entry). x.marked) q) ∙ w.unmarked;
-        result = sym m.1 ∙ sym (ap (λ (x : Entry). x.result) q) ∙ w.result;
-      }
+      by_how q (inr m) = (i, e0, at, sym m.0 ∙ sym (ap (λ (x : Entry). x.marked) q) ∙ w.3, sym m.1 ∙ sym (ap (λ (x : Entry). x.result) q) ∙ w.4)
 
-      by_test : (b : Bool) → nat_eq i w.actor ≡ b → Wants c
+      by_test : (b : Bool) → nat_eq i w.0 ≡ b → Wants c
       by_test true q =
-          let z : i ≡ w.actor = grind (arith, q) in
+          let z : i ≡ w.0 = grind (arith, q) in
           by_how (same_of (sym here ∙ subst (λ n. thing (put c.entries i e) n ≡ Some e) z (thing_put c.entries i e0 e at))) how
       by_test false q =
-          let o : i ≡ w.actor → ⊥ = (λ z. let f : ⊥ = grind (arith, q, z) in f) in
-          record { actor = w.actor; entry = w.entry; at = sym (thing_put_other c.entries i w.actor e o) ∙ here; unmarked = w.unmarked; result = w.result }
+          let o : i ≡ w.0 → ⊥ = (λ z. let f : ⊥ = grind (arith, q, z) in f) in
+          (w.0, w.1, sym (thing_put_other c.entries i w.0 e o) ∙ here, w.3, w.4)
 
   pub entry_onward : (a b : Side → ℕ) (i : ℕ) (e0 e : Entry) (c : Core) (xs : Numbered Frame) → thing c.entries i ≡ Some e0 → (e.marked ≡ true) ⊎ ((e.marked ≡ e0.marked) × (e.result ≡ e0.result))
       → ((s : Side) → entry_holds s k e0 + a s ≤ entry_holds s k e + b s) → Onward a b c xs (record c { entries = put c.entries i e }) xs
-  entry_onward a b i e0 e c xs at how h = record {
-    there = λ t. t;
-    count = λ s. let m = of_entry (proc c xs) s k i e0 e at in let n = h s in omega (arith, m, n);
-    wants = entry_wants i e0 e c (record c { entries = put c.entries i e }) refl at how;
-  }
+  entry_onward a b i e0 e c xs at how h = (
+    λ t. t,
+    λ s. let m = of_entry (proc c xs) s k i e0 e at in let n = h s in omega (arith, m, n),
+    entry_wants i e0 e c (record c { entries = put c.entries i e }) refl at how,
+  )
 
   -- an actor leaves its wait
   left_there : (i : ℕ) (c : Core) → IsThere (thing (left_cells i c.cells) k) → IsThere (thing c.cells k)
@@ -135,14 +123,14 @@ module _ (k : ℕ) where
   pub leave_onward : (i : ℕ) (e : Entry) (vs : List ValueTree) (t : Task) (c : Core) (xs : Numbered Frame) → thing c.entries i ≡ Some e → Agree c → RightKinds c.cells e.operands → Rising 0 c.made c.cells
       → Onward (λ s. count s k (refs_in vs) + in_task s k t) no_refs c xs (leave_for i e vs t c) xs
   leave_onward i e vs t c xs at agree kinds up =
-      let d = dropping_values vs (pushed t c) in record {
-        there = left_there i c;
-        count = λ s.
+      let d = dropping_values vs (pushed t c) in (
+        left_there i c,
+        λ s.
             let m = of_left (proc d xs) s k i e at agree kinds up in
             let n = of_values (proc (pushed t c) xs) s k vs in
-            let l = of_pushed (proc c xs) s k t in omega (arith, m, n, l);
-        wants = entry_wants i e (running e) c (leave_for i e vs t c) refl at (inr (refl, refl));
-      }
+            let l = of_pushed (proc c xs) s k t in omega (arith, m, n, l),
+        entry_wants i e (running e) c (leave_for i e vs t c) refl at (inr (refl, refl)),
+      )
 
   -- an entry that is replaced, and leaves
   pub replaced_onward : (g : Side → ℕ) (i : ℕ) (e0 e : Entry) (vs : List ValueTree) (t : Task) (c : Core) (xs : Numbered Frame) → thing c.entries i ≡ Some e0 → (e.marked ≡ true) ⊎ ((e.marked ≡ e0.marked) × (e.result ≡ e0.result))
@@ -154,17 +142,17 @@ module _ (k : ℕ) where
       let first = entry_onward g no_refs i e0 e c xs at how (λ s. let m = h s in omega (arith, m)) in
       let second = leave_onward i e vs t d xs (thing_put c.entries i e0 e at) agree kinds up in
       let both = onward_on (λ s. g s + a s) a no_refs c xs d xs (leave_for i e vs t d) xs
-      (record { there = first.there; count = λ s. let m = first.count s in omega (arith, m); wants = first.wants }) second in
+      ((first.0, λ s. let m = first.1 s in omega (arith, m), first.2)) second in
       subst (λ es. Onward (λ s. g s + a s) no_refs c xs (record (leave_for i e vs t c) { entries = es }) xs) (put_twice c.entries i e (running e)) both
 
   -- a cell is replaced
   pub cell_onward : (a b : Side → ℕ) (j : ℕ) (cell new : Cell) (c : Core) (xs : Numbered Frame) → thing c.cells j ≡ Some cell → ((s : Side) → cell_holds s k j cell + a s ≤ cell_holds s k j new + b s)
       → Onward a b c xs (record c { cells = put c.cells j new }) xs
-  cell_onward a b j cell new c xs at h = record {
-    there = put_there;
-    count = λ s. let m = of_cell (proc c xs) s k j cell new at in let n = h s in omega (arith, m, n);
-    wants = λ w. record { actor = w.actor; entry = w.entry; at = w.at; unmarked = w.unmarked; result = w.result };
-  }
+  cell_onward a b j cell new c xs at h = (
+    put_there,
+    λ s. let m = of_cell (proc c xs) s k j cell new at in let n = h s in omega (arith, m, n),
+    λ w. w,
+  )
     where
       put_there : IsThere (thing (put c.cells j new) k) → IsThere (thing c.cells k)
       put_there h = by_test (nat_eq j k) refl
@@ -204,13 +192,13 @@ module _ (k : ℕ) where
 
   -- a cell is removed, which is another
   pub gone_onward : (j : ℕ) (cell : Cell) (c : Core) (xs : Numbered Frame) → thing c.cells j ≡ Some cell → (j ≡ k → ⊥) → Onward no_refs (λ s. count s k (refs_in (held cell))) c xs (record c { cells = removed c.cells j }) xs
-  gone_onward j cell c xs at other = record {
-    there = λ h. subst IsThere (thing_removed_other c.cells j k other) h;
-    count = λ s.
+  gone_onward j cell c xs at other = (
+    λ h. subst IsThere (thing_removed_other c.cells j k other) h,
+    λ s.
         let m = of_gone (proc c xs) s k j cell at in
-        let n = none_waits s (waiters cell) in omega (arith, m, n);
-    wants = λ w. record { actor = w.actor; entry = w.entry; at = w.at; unmarked = w.unmarked; result = w.result };
-  }
+        let n = none_waits s (waiters cell) in omega (arith, m, n),
+    λ w. w,
+  )
     where
       none_waits : (s : Side) (ws : List Waiter) → count_waiters s k j ws ≡ 0
       none_waits s [] = refl
