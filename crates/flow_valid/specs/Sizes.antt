@@ -1,0 +1,7 @@
+-- How great the classes are that the code judges: numbers of places are below 2^32.
+use Rattle.std.specs.Prelude.{ℕ, ◌<◌, ◌^◌, length}
+use Rattle.flow_class.specs.Classes.{ClassTree}
+
+pub record HasFewPlaces (c : ClassTree) : Type 0 where
+  pub slots : length c.slots < 2 ^ 32
+  pub locals : length c.locals < 2 ^ 32

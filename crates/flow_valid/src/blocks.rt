@@ -1,0 +1,125 @@
+// The rules V4 to V6: where blocks lead, which groups are chosen, and what a catch part names.
+
+ghost use Rattle.std.specs.Prelude.{◌≡◌, ◌<◌, ◌^◌, length, map, IfOk};
+ghost use Rattle.std.specs.Option.{option_map};
+ghost use Rattle.flow_tree.specs.Tree.{ErrorType};
+ghost use Rattle.flow_tree.specs.View.{type_of};
+ghost use Rattle.flow_class.specs.View.{class_of, block_of, catcher_of, last_of, group_of};
+ghost use Rattle.flow_valid.specs.Counting.{counted_once, counted, zeros};
+ghost use Rattle.flow_valid.specs.Validity.{leads_on, leads_forward, times_chosen, each_once, groups_chosen, distinct, takes_error, catches, catchers_kept};
+
+use flow_base::memory::NoMemory;
+use flow_class::class::{Block, Catcher, Class, Group, Last};
+use flow_tree::ty::Ty;
+use indexmap::IndexSet;
+use std::alloc::Global;
+
+// `goto` and `test` lead from this block to one of greater number.
+fn leads_on(number: usize, last: &Last) -> bool
+    ensures { result ≡ leads_on number (last_of last.now) }
+{
+    match last {
+        Last::Goto(block) => number < *block as usize,
+        Last::Test(_, holds, fails) => number < *holds as usize && number < *fails as usize,
+        Last::Pass(_) | Last::Choose(_) | Last::Return(_) | Last::Throw(_) => true,
+    }
+}
+
+/// Whether `goto` and `test` lead to blocks of greater number.
+pub fn leads_forward(class: &Class) -> bool
+    ensures { result ≡ leads_forward (class_of class.now) }
+{
+    for (number, block) in class.blocks.iter().enumerate() {
+        if !leads_on(number, &block.last) {
+            return false;
+        }
+    }
+    true
+}
+
+// Notes that a group, numbered from 1, is chosen once more.
+fn note_chosen(counts: &mut [u32], group: u32)
+    ensures { counts.new ≡ counted_once counts.old group }
+{
+    let Some(number) = (group as usize).checked_sub(1) else {
+        return;
+    };
+    if let Some(count) = counts.get_mut(number) {
+        *count = count.saturating_add(1);
+    }
+}
+
+// How often each group, from the first, is chosen.
+fn times_chosen(alloc: Global, class: &Class) -> Result<Vec<u32>, NoMemory>
+    ensures { IfOk result (λ v. v.items ≡ counted (map block_of class.now.blocks.items) (zeros class.now.groups.items)) }
+{
+    let mut counts = Vec::new(alloc);
+    for _ in &class.groups {
+        counts.push(0)?;
+    }
+    for block in &class.blocks {
+        if let Last::Choose(group) = &block.last {
+            note_chosen(&mut counts, *group);
+        }
+    }
+    Ok(counts)
+}
+
+/// Whether each group is named by exactly one `choose`.
+pub fn groups_chosen(alloc: Global, class: &Class) -> Result<bool, NoMemory>
+    ensures { IfOk result (λ b. b ≡ groups_chosen (class_of class.now)) }
+{
+    let counts = times_chosen(alloc, class)?;
+    Ok(counts.iter().all(|count| *count == 1))
+}
+
+// Whether no number stands twice.
+fn are_distinct(alloc: Global, numbers: &[u32]) -> Result<bool, NoMemory>
+    ensures { IfOk result (λ b. b ≡ distinct numbers.now) }
+{
+    let mut seen: IndexSet<u32> = IndexSet::new(alloc);
+    for number in numbers {
+        if seen.contains(number) {
+            return Ok(false);
+        }
+        seen.insert(*number)?;
+    }
+    Ok(true)
+}
+
+// The error of a catch part goes into a local for errors.
+fn takes_error(class: &Class, error: Option<u32>) -> bool
+    ensures { result ≡ takes_error (class_of class.now) error }
+{
+    match error {
+        Some(number) => matches!(class.locals.get(number as usize), Some(Ty::Error)),
+        None => true,
+    }
+}
+
+fn catches(
+    alloc: Global,
+    class: &Class,
+    number: usize,
+    catcher: &Option<Catcher>,
+) -> Result<bool, NoMemory>
+    ensures { IfOk result (λ b. b ≡ catches (class_of class.now) number (option_map catcher_of catcher.now)) }
+{
+    let Some(catcher) = catcher else {
+        return Ok(true);
+    };
+    let forward = number < catcher.block as usize && takes_error(class, catcher.error);
+    Ok(forward && are_distinct(alloc, &catcher.drops)?)
+}
+
+/// Whether each catch part leads to a block of greater number, has a local for its error, and drops distinct locals.
+pub fn catchers_kept(alloc: Global, class: &Class) -> Result<bool, NoMemory>
+    ensures { IfOk result (λ b. b ≡ catchers_kept (class_of class.now)) }
+{
+    for (number, block) in class.blocks.iter().enumerate() {
+        if !catches(alloc, class, number, &block.catcher)? {
+            return Ok(false);
+        }
+    }
+    Ok(true)
+}
