@@ -6,3 +6,5 @@ pub mod Sizes
 pub mod Answers
 pub mod Counting
 pub mod PlaceNames
+pub mod Following
+pub mod Small

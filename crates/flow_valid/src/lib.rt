@@ -4,7 +4,11 @@
 
 pub mod blocks;
 pub mod decls;
+pub mod filling;
 pub mod heads;
 pub mod invalid;
 pub mod named;
+pub mod touch;
 pub mod types;
+pub mod validate;
+pub mod window;

@@ -246,3 +246,56 @@ fn add_slots<'a>(vars: &mut Vars<'a>, names: &'a [Name], class: &'a Class) -> Re
     }
     Ok(())
 }
+
+// Locals become variables by their names.
+fn add_locals<'a>(vars: &mut Vars<'a>, names: &'a [Name], class: &'a Class) -> Result<(), NoMemory>
+    requires before { vars_of vars.old ≡ slot_rows 0 (class_of class.now).slots }
+    requires names { AreLocalNames (length names.now) names.now }
+    requires enough { length class.now.locals.items ≤ length names.now }
+    ensures { IfOk result (λ _. vars_of vars.new ≡ slot_rows 0 (class_of class.now).slots ++ local_rows 0 (class_of class.now).locals) }
+{
+    for (ty, name) in class.locals.iter().zip(names) {
+        vars.insert(name.bytes(), Found::of(ty))?;
+    }
+    Ok(())
+}
+
+/// The places of a class as variables by their names.
+pub fn variables<'a>(
+    alloc: Global,
+    names: &'a PlaceNames,
+    class: &'a Class,
+) -> Result<Vars<'a>, NoMemory>
+    requires { NamesAll names.now (class_of class.now) }
+    ensures { IfOk result (λ m. vars_of m ≡ slot_rows 0 (class_of class.now).slots ++ local_rows 0 (class_of class.now).locals) }
+{
+    let mut vars: Vars<'a> = IndexMap::new(alloc);
+    add_slots(&mut vars, &names.slots, class)?;
+    add_locals(&mut vars, &names.locals, class)?;
+    Ok(vars)
+}
+
+// The greatest number of slots, and of locals, of a class.
+fn most(classes: &[Class]) -> (usize, usize)
+    ensures { (i : ℕ) (c : code_class.Class) → slice_get classes.now i ≡ Some c → (length c.slots.items ≤ result.0) × (length c.locals.items ≤ result.1) }
+{
+    let mut slots = 0;
+    let mut locals = 0;
+    for class in classes {
+        slots = class.slots.len().max(slots);
+        locals = class.locals.len().max(locals);
+    }
+    (slots, locals)
+}
+
+/// Names for the places of these classes.
+pub fn place_names(alloc: Global, classes: &[Class]) -> Result<PlaceNames, NoMemory>
+    requires { AreFew (map class_of classes.now) }
+    ensures { IfOk result (λ n. (i : ℕ) (c : code_class.Class) → slice_get classes.now i ≡ Some c → NamesAll n (class_of c)) }
+{
+    let (slots, locals) = most(classes);
+    Ok(PlaceNames {
+        slots: slot_names(alloc, slots as u32)?,
+        locals: local_names(alloc, locals as u32)?,
+    })
+}
