@@ -67,14 +67,13 @@ reads c (Last (ChooseLast g)) = group_reads (group_at c.groups g)
 reads c (Last l) = last_places l
 reads c Nothing = []
 
--- the first slots are the parameters
-abbrev pub is_parameter_of : (params : ℕ) → Slotted → Bool
-is_parameter_of params (Slot n) = nat_lt n params
-is_parameter_of params (Local n) = false
-
--- Whether a place is filled: behind an instruction; behind a wait, which empties all locals, and in the branch
+-- Whether a place is filled: at the begin; behind an instruction; behind a wait, which empties all locals, and in the branch
 -- that it takes; and in the handler of an error.
 module _ (c : ClassTree) (p : Slotted) where
+  abbrev pub is_parameter : Slotted → Bool
+  is_parameter (Slot n) = nat_lt n c.params
+  is_parameter (Local n) = false
+
   abbrev pub behind : InstrTree → (filled : Bool) → Bool
   behind i filled = among (instr_fills i) p || (filled && not (instr_empties i p))
 
@@ -93,7 +92,7 @@ module _ (c : ClassTree) (p : Slotted) where
 
   -- some walk from block 0 comes to an instruction, and the place is filled there or not
   pub data Comes : (block instr : ℕ) → (filled : Bool) → Type 0 where
-    begins : Comes 0 0 (is_parameter_of c.params p)
+    begins : Comes 0 0 (is_parameter p)
     goes_on : {b n : ℕ} {filled : Bool} (i : InstrTree) →
         Comes b n filled → fetch c b n ≡ Body i → Comes b (suc n) (behind i filled)
     jumps : {b n : ℕ} {filled : Bool} (l : LastTree) (to : ℕ) →

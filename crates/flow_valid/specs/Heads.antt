@@ -6,10 +6,10 @@ use Rattle.std.specs.declared.option.Option.TheVariants.{None, Some}
 use Rattle.flow_tree.specs.declared.ty.Ident.{Ident}
 use Rattle.flow_tree.specs.Canon.{first_place}
 use Rattle.flow_tree.specs.Body.{End}
-use Rattle.flow_tree.specs.Decls.{ParamTree, SlotTree, RecordTree, RoutineTree, DeclTree, StructDecl, FunctionDecl, ActorDecl}
+use Rattle.flow_tree.specs.Decls.{ParamTree, SlotTree, DeclTree, StructDecl, FunctionDecl, ActorDecl}
 use Rattle.flow_ast.specs.Typing.{or_else, is_there}
 use Rattle.flow_rules.specs.Known.{Meaning, known, type_known, is_predefined}
-use Rattle.flow_rules.specs.Rules.{with_name, setting_of, decls_refusal, first_large, packet_size, is_main}
+use Rattle.flow_rules.specs.Rules.{setting_of, decls_refusal, first_large, packet_size, is_main}
 use Rattle.flow_class.specs.Classes.{ClassTree, RawTree}
 
 abbrev pub ident : List ℕ → Ident
@@ -42,38 +42,22 @@ abbrev pub declarations_kept : RawTree → Bool
 declarations_kept r =
     is_none (or_else (decls_refusal (setting_of (all_decls r)) [] (plain_decls r)) (first_large ((codes "Packet", packet_size) ∷ []) (plain_decls r)))
 
--- The name of a class is not predefined and not taken before it, it has a slot for each parameter, and the types of its
--- places are known.
-abbrev pub head_kept : (all : List ℕ → Option Meaning) → (taken : List ℕ → Bool) → ClassTree → Bool
-head_kept all taken c =
-    not (is_predefined c.name || taken c.name)
+-- The name of a class is not predefined and not that of a declaration before it, it has a slot for each parameter, and
+-- the types of its places are known.
+abbrev pub head_kept : (before all : List ℕ → Option Meaning) → ClassTree → Bool
+head_kept before all c =
+    not (is_predefined c.name || is_there (before c.name))
     && nat_le c.params (length c.slots)
     && list_all (λ (s : SlotTree). type_known all s.ty) c.slots
     && list_all (type_known all) c.locals
 
--- the first of these classes, numbered from i, whose head doesn't stand where these names are taken
-abbrev pub first_head : (all : List ℕ → Option Meaning) → (taken : List ℕ → Bool) → (i : ℕ) → List ClassTree → Option ℕ
-first_head all taken i [] = None
-first_head all taken i (c ∷ cs) = if head_kept all taken c then first_head all (with_name c.name taken) (suc i) cs else Some i
-
-abbrev pub declared_in : List DeclTree → List ℕ → Bool
-declared_in ds x = is_there (known ds x)
+-- the first of these classes, numbered from i, whose head doesn't stand behind these declarations
+abbrev pub first_head : (all : List ℕ → Option Meaning) → List DeclTree → (i : ℕ) → List ClassTree → Option ℕ
+first_head all ds i [] = None
+first_head all ds i (c ∷ cs) = if head_kept (known ds) all c then first_head all (ds ++ head_of c ∷ []) (suc i) cs else Some i
 
 abbrev pub broken_head : RawTree → Option ℕ
-broken_head r = first_head (known (all_decls r)) (declared_in (plain_decls r)) 0 r.classes
+broken_head r = first_head (known (all_decls r)) (plain_decls r) 0 r.classes
 
 abbrev pub has_main : RawTree → Bool
 has_main r = is_main (known (all_decls r) (codes "main"))
-
--- the records and the functions among declarations
-abbrev pub records_in : List DeclTree → List RecordTree
-records_in [] = []
-records_in (StructDecl r ∷ ds) = r ∷ records_in ds
-records_in (FunctionDecl f ∷ ds) = records_in ds
-records_in (ActorDecl f ∷ ds) = records_in ds
-
-abbrev pub functions_in : List DeclTree → List RoutineTree
-functions_in [] = []
-functions_in (StructDecl r ∷ ds) = functions_in ds
-functions_in (FunctionDecl f ∷ ds) = f ∷ functions_in ds
-functions_in (ActorDecl f ∷ ds) = functions_in ds

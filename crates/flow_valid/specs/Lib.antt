@@ -8,3 +8,4 @@ pub mod Counting
 pub mod PlaceNames
 pub mod Following
 pub mod Small
+pub mod Apart

@@ -15,12 +15,7 @@ is_small (Slot n) = nat_lt n (2 ^ 32)
 is_small (Local n) = nat_lt n (2 ^ 32)
 
 abbrev pub small_places : List Slotted → List Slotted
-small_places [] = []
-small_places (p ∷ ps) = small_if (is_small p) p (small_places ps)
-  where
-    small_if : Bool → Slotted → List Slotted → List Slotted
-    small_if true p ps = p ∷ ps
-    small_if false p ps = ps
+small_places ps = filter is_small ps
 
 abbrev pub reads_of : List Slotted → List Touch
 reads_of ps = map Reads (small_places ps)

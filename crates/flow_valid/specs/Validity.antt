@@ -142,11 +142,8 @@ module _ (c : ClassTree) (s : Setting) where
 
 -- Expressions, targets, arguments, operands and results fit their types; an effect stands only in `do`, which takes nothing
 -- else, and as a whole operand; `act` calls a function of the program or is a statement call.
-abbrev pub types_fit_in : ClassTree → Setting → Bool
-types_fit_in c s = list_all (block_fits c s) c.blocks && list_all (list_all (callback_fits c s)) c.groups
-
 abbrev pub types_fit : RawTree → ClassTree → Bool
-types_fit r c = types_fit_in c (class_setting r c)
+types_fit r c = list_all (block_fits c (class_setting r c)) c.blocks && list_all (list_all (callback_fits c (class_setting r c))) c.groups
 
 -- the first of these rules that doesn't hold
 abbrev pub first_broken : List (ℕ × Bool) → Option ℕ

@@ -4,7 +4,8 @@ ghost use Rattle.std.specs.Prelude.{◌≡◌, ◌++◌, IfOk, map, take};
 ghost use Rattle.flow_tree.specs.Decls.{StructDecl, FunctionDecl};
 ghost use Rattle.flow_tree.specs.DeclView.{param_of, slot_of, record_of, function_of, decl_of};
 ghost use Rattle.flow_class.specs.View.{class_of};
-ghost use Rattle.flow_valid.specs.Heads.{slot_param, head_of, records_in, functions_in};
+ghost use Rattle.flow_valid.specs.Heads.{ident, slot_param, head_of};
+ghost use Rattle.flow_valid.specs.Apart.{records_in, functions_in};
 
 use flow_base::memory::NoMemory;
 use flow_base::name::Name;

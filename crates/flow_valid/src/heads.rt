@@ -16,7 +16,8 @@ ghost use Rattle.flow_rules.specs.ProgramView.{setting_by};
 ghost use Rattle.flow_rules.specs.WalkView.{texts_of};
 ghost use Rattle.flow_rules.specs.Items.{among};
 ghost use Rattle.flow_class.specs.View.{class_of};
-ghost use Rattle.flow_valid.specs.Heads.{head_kept, first_head, declared_in};
+ghost use Rattle.flow_valid.specs.Heads.{head_kept, first_head};
+ghost use Rattle.flow_valid.specs.Apart.{declared_in};
 ghost use Rattle.flow_valid.specs.Answers.{Tells};
 
 use flow_base::memory::NoMemory;

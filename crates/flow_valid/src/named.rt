@@ -1,10 +1,13 @@
 // The rule V3: what a class names is there.
 
-ghost use Rattle.std.specs.Prelude.{◌≡◌, ◌×◌, ◌<◌, ◌^◌, length, map, is_some};
+ghost use Rattle.std.specs.Prelude.{◌≡◌, ◌<◌, ◌^◌, length, map, is_some};
 ghost use Rattle.std.specs.List.{list_all};
 ghost use Rattle.std.specs.Option.{option_map};
 ghost use Rattle.flow_tree.specs.View.{expr_of, exprs_of};
-ghost use Rattle.flow_class.specs.Places.{place_named};
+ghost use Rattle.flow_class.specs.Places.{place_named, is_number};
+ghost use Rattle.flow_class.specs.declared.class.Slotted.TheVariants as place;
+ghost use Rattle.flow_class.specs.Code.{group_at};
+ghost use Rattle.flow_ast.specs.Typing.{is_there};
 ghost use Rattle.flow_class.specs.Classes.{InstrTree};
 ghost use Rattle.flow_class.specs.View.{class_of, block_of, catcher_of, instr_of, last_of, callback_of, group_of};
 ghost use Rattle.flow_valid.specs.Named.{listed, expr_places, exprs_places, path_place, base_place, instr_places, last_places, targets, has_place, has_block, has_catcher, has_group, has_last, has_named, has_operand, names_exist};
@@ -47,7 +50,7 @@ fn has_place(class: &Class, place: Slotted) -> bool
 }
 
 fn has_local(class: &Class, number: u32) -> bool
-    ensures { result ≡ has_place (class_of class.now) (Local number) }
+    ensures { result ≡ has_place (class_of class.now) (place.Local number) }
 {
     has_place(class, Slotted::Local(number))
 }
@@ -114,7 +117,7 @@ fn has_base_place(class: &Class, path: &[Ident]) -> bool
 }
 
 fn has_locals(class: &Class, numbers: &[u32]) -> bool
-    ensures { result ≡ list_all (has_place (class_of class.now)) (map Local numbers.now) }
+    ensures { result ≡ list_all (has_place (class_of class.now)) (map place.Local numbers.now) }
 {
     numbers.iter().all(|number| has_local(class, *number))
 }
@@ -148,7 +151,7 @@ fn has_group(class: &Class, number: u32) -> bool
 }
 
 fn has_error(class: &Class, error: Option<u32>) -> bool
-    ensures { result ≡ list_all (has_place (class_of class.now)) (listed (option_map Local error)) }
+    ensures { result ≡ list_all (has_place (class_of class.now)) (listed (option_map place.Local error)) }
 {
     match error {
         Some(number) => has_local(class, number),

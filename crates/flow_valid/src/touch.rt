@@ -8,6 +8,7 @@ ghost use Rattle.flow_class.specs.declared.class.Group as code;
 ghost use Rattle.flow_class.specs.Code.{group_at};
 ghost use Rattle.flow_class.specs.View.{class_of, block_of, instr_of, last_of, callback_of, group_of};
 ghost use Rattle.flow_class.specs.Places.{place_named, small_place};
+ghost use Rattle.flow_valid.specs.declared.touch.Touch.TheVariants as touch;
 ghost use Rattle.flow_valid.specs.Named.{listed, expr_places, exprs_places, base_place, last_places};
 ghost use Rattle.flow_valid.specs.Filling.{filled_path, operands, group_reads};
 ghost use Rattle.flow_valid.specs.Small.{small_places, reads_of, small_instr, small_body, small_last, small_block};
@@ -84,7 +85,7 @@ fn add_base_read(touches: &mut Vec<Touch>, path: &[Ident]) -> Result<(), NoMemor
 
 // A path that is one place fills it.
 fn add_fill(touches: &mut Vec<Touch>, path: &[Ident]) -> Result<(), NoMemory>
-    ensures { IfOk result (λ _. touches.new.items ≡ touches.old.items ++ map Fills (small_places (filled_path path.now))) }
+    ensures { IfOk result (λ _. touches.new.items ≡ touches.old.items ++ map touch.Fills (small_places (filled_path path.now))) }
 {
     let [only] = path else {
         return Ok(());
@@ -96,7 +97,7 @@ fn add_fill(touches: &mut Vec<Touch>, path: &[Ident]) -> Result<(), NoMemory>
 }
 
 fn add_put(touches: &mut Vec<Touch>, path: &[Ident], value: &Expr) -> Result<(), NoMemory>
-    ensures { IfOk result (λ _. touches.new.items ≡ touches.old.items ++ reads_of (base_place path.now) ++ reads_of (expr_places (expr_of value.now)) ++ map Fills (small_places (filled_path path.now))) }
+    ensures { IfOk result (λ _. touches.new.items ≡ touches.old.items ++ reads_of (base_place path.now) ++ reads_of (expr_places (expr_of value.now)) ++ map touch.Fills (small_places (filled_path path.now))) }
 {
     add_base_read(touches, path)?;
     add_reads(touches, value)?;
@@ -104,7 +105,7 @@ fn add_put(touches: &mut Vec<Touch>, path: &[Ident], value: &Expr) -> Result<(),
 }
 
 fn add_emptied(touches: &mut Vec<Touch>, numbers: &[u32]) -> Result<(), NoMemory>
-    ensures { IfOk result (λ _. touches.new.items ≡ touches.old.items ++ map Empties numbers.now) }
+    ensures { IfOk result (λ _. touches.new.items ≡ touches.old.items ++ map touch.Empties numbers.now) }
 {
     for number in numbers {
         touches.push(Touch::Empties(*number))?;
@@ -155,7 +156,7 @@ pub fn group_of(class: &Class, number: u32) -> Option<&Group>
 }
 
 fn add_wait(touches: &mut Vec<Touch>, class: &Class, group: u32) -> Result<(), NoMemory>
-    ensures { IfOk result (λ _. touches.new.items ≡ touches.old.items ++ reads_of (group_reads (group_at (class_of class.now).groups group)) ++ Waits ∷ Throws ∷ []) }
+    ensures { IfOk result (λ _. touches.new.items ≡ touches.old.items ++ reads_of (group_reads (group_at (class_of class.now).groups group)) ++ touch.Waits ∷ touch.Throws ∷ []) }
 {
     if let Some(group) = group_of(class, group) {
         add_operands(touches, &group.callbacks)?;

@@ -1,6 +1,6 @@
 // The verdict on class programs.
 
-ghost use Rattle.std.specs.Prelude.{◌≡◌, ◌×◌, ◌<◌, ◌^◌, ◌≤◌, ◌++◌, [], map, take, length, IfOk, IfErr, Some, None};
+ghost use Rattle.std.specs.Prelude.{◌≡◌, ◌<◌, ◌^◌, ◌≤◌, ◌++◌, [], map, take, length, IfOk, IfErr, Some, None};
 ghost use Rattle.flow_tree.specs.DeclView.{decl_of, params_of};
 ghost use Rattle.flow_ast.specs.Typing.{packet_fields};
 ghost use Rattle.flow_rules.specs.Known.{field_row};

@@ -2,7 +2,8 @@
 
 ghost use Rattle.std.specs.Prelude.{◌≡◌, ◌<◌, ◌+◌, ℕ, not, nat_le, nat_eq};
 ghost use Rattle.flow_class.specs.declared.class.Slotted as place;
-ghost use Rattle.flow_valid.specs.Filling.{same_place, is_local, dropped, is_parameter_of};
+ghost use Rattle.flow_valid.specs.Filling.{same_place, is_local, dropped};
+ghost use Rattle.flow_valid.specs.Apart.{is_parameter_of};
 ghost use Rattle.flow_valid.specs.Following.{AreBits, ArePassing, Passing, touched, passed, has_bit};
 
 use crate::touch::Touch;
