@@ -1,1 +1,3 @@
 mod Examples
+pub mod Bits
+pub mod Passing

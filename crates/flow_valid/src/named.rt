@@ -8,6 +8,7 @@ ghost use Rattle.flow_class.specs.Places.{place_named, is_number};
 ghost use Rattle.flow_class.specs.declared.class.Slotted.TheVariants as place;
 ghost use Rattle.flow_class.specs.Code.{group_at};
 ghost use Rattle.flow_ast.specs.Typing.{is_there};
+ghost use Rattle.flow_base.specs.Names.{digit, are_digits};
 ghost use Rattle.flow_class.specs.Classes.{InstrTree};
 ghost use Rattle.flow_class.specs.View.{class_of, block_of, catcher_of, instr_of, last_of, callback_of, group_of};
 ghost use Rattle.flow_valid.specs.Named.{listed, expr_places, exprs_places, path_place, base_place, instr_places, last_places, targets, has_place, has_block, has_catcher, has_group, has_last, has_named, has_operand, names_exist};
@@ -19,6 +20,12 @@ use flow_class::places::place_named;
 use flow_tree::expr::Expr;
 use flow_tree::ty::Ident;
 
+fn are_digits(digits: &[u8]) -> bool
+    ensures { result ≡ list_all digit digits.now }
+{
+    digits.iter().all(|digit| is_digit(*digit))
+}
+
 // One or more digits with no zero in front.
 fn is_number(digits: &[u8]) -> bool
     ensures { result ≡ is_number digits.now }
@@ -26,7 +33,7 @@ fn is_number(digits: &[u8]) -> bool
     match digits {
         [] => false,
         [digit] => is_digit(*digit),
-        [first, ..] => *first != b'0' && digits.iter().all(|digit| is_digit(*digit)),
+        [first, ..] => *first != b'0' && are_digits(digits),
     }
 }
 

@@ -41,7 +41,7 @@ fn bits_from(first: u64, number: u32) -> u64
     ensures { (j : ℕ) → j < 64 → has_bit result j ≡ nat_le number (first + j) }
 {
     match u64::from(number).checked_sub(first) {
-        Some(bit) if bit < 64 => u64::MAX << bit,
+        Some(bit) if bit < 64 => !((1 << bit) - 1),
         Some(_) => 0,
         None => u64::MAX,
     }
