@@ -1,3 +1,5 @@
 mod Examples
 pub mod Bits
 pub mod Passing
+pub mod Gathering
+pub mod Groups

@@ -2,7 +2,7 @@
 use Rattle.std.specs.Prelude.{ℕ, ◌^◌, nat_lt, Bool, List, [], ◌∷◌, ◌++◌, map, filter}
 use Rattle.flow_class.specs.declared.class.Slotted.{Slotted}
 use Rattle.flow_class.specs.declared.class.Slotted.TheVariants.{Slot, Local}
-use Rattle.flow_class.specs.Classes.{InstrTree, LastTree, ChooseLast, BlockTree, ClassTree}
+use Rattle.flow_class.specs.Classes.{InstrTree, NewInstr, LastTree, ChooseLast, BlockTree, ClassTree}
 use Rattle.flow_class.specs.Code.{group_at}
 use Rattle.flow_valid.specs.declared.touch.Touch.{Touch}
 use Rattle.flow_valid.specs.declared.touch.Touch.TheVariants.{Throws, Reads, Fills, Empties, Waits}
@@ -20,8 +20,12 @@ small_places ps = filter is_small ps
 abbrev pub reads_of : List Slotted → List Touch
 reads_of ps = map Reads (small_places ps)
 
+abbrev pub small_fills : InstrTree → List Slotted
+small_fills (NewInstr p) = p ∷ []
+small_fills i = small_places (instr_fills i)
+
 abbrev pub small_instr : InstrTree → List Touch
-small_instr i = Throws ∷ reads_of (instr_reads i) ++ map Fills (small_places (instr_fills i)) ++ map Empties (emptied_by i)
+small_instr i = Throws ∷ reads_of (instr_reads i) ++ map Fills (small_fills i) ++ map Empties (emptied_by i)
 
 abbrev pub small_body : List InstrTree → List Touch
 small_body [] = []

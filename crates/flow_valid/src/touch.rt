@@ -152,7 +152,13 @@ fn add_operands(touches: &mut Vec<Touch>, callbacks: &[Callback]) -> Result<(), 
 pub fn group_of(class: &Class, number: u32) -> Option<&Group>
     ensures { option_map (λ (g : Bor code.Group). group_of g.now) result ≡ group_at (class_of class.now).groups number }
 {
-    class.groups.get((number as usize).checked_sub(1)?)
+    if number == 0 {
+        return None;
+    }
+    match class.groups.get(number as usize - 1) {
+        Some(group) => Some(group),
+        None => None,
+    }
 }
 
 fn add_wait(touches: &mut Vec<Touch>, class: &Class, group: u32) -> Result<(), NoMemory>
