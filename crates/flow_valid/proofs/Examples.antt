@@ -536,4 +536,3 @@ case_97 = refl
 case_98 : tested (record { records = ([]); functions = ([]); classes = ((record { name = (codes "a"); returns = IntType; params = 0; slots = ([]); locals = ([]); blocks = ((plain ([]) (GotoLast 0)) ∷ []); groups = ([]) }) ∷ (record { name = (codes "b"); returns = IntType; params = 0; slots = ([]); locals = ([]); blocks = ((plain ([]) (GotoLast 7)) ∷ []); groups = ([]) }) ∷ (record { name = (codes "main"); returns = VoidType; params = 1; slots = ((record { ty = IntType; name = (codes "p") }) ∷ []); locals = ([]); blocks = ((plain ([]) (ReturnLast VoidExpr)) ∷ []); groups = ([]) }) ∷ []) }) ≡ Some (4, Some 0)
 unfolding digits
 case_98 = refl
-

@@ -4,9 +4,11 @@ ghost use Rattle.std.specs.Prelude.{◌≡◌, ◌<◌, ◌^◌, length, map, If
 ghost use Rattle.std.specs.Option.{option_map};
 ghost use Rattle.flow_tree.specs.Tree.{ErrorType};
 ghost use Rattle.flow_tree.specs.View.{type_of};
+ghost use Rattle.flow_ast.specs.Typing.{same_type};
+ghost use Rattle.flow_class.specs.Classes.{BlockTree};
 ghost use Rattle.flow_class.specs.View.{class_of, block_of, catcher_of, last_of, group_of};
 ghost use Rattle.flow_valid.specs.Counting.{counted_once, counted, zeros};
-ghost use Rattle.flow_valid.specs.Validity.{leads_on, leads_forward, times_chosen, each_once, groups_chosen, distinct, takes_error, catches, catchers_kept};
+ghost use Rattle.flow_valid.specs.Validity.{all_blocks, leads_on, leads_forward, times_chosen, each_once, groups_chosen, distinct, takes_error, catches, catchers_kept};
 
 use flow_base::memory::NoMemory;
 use flow_class::class::{Block, Catcher, Class, Group, Last};
@@ -25,16 +27,22 @@ fn leads_on(number: usize, last: &Last) -> bool
     }
 }
 
-/// Whether `goto` and `test` lead to blocks of greater number.
-pub fn leads_forward(class: &Class) -> bool
-    ensures { result ≡ leads_forward (class_of class.now) }
+fn all_lead_on(blocks: &[Block]) -> bool
+    ensures { result ≡ all_blocks (λ n (b : BlockTree). leads_on n b.last) 0 (map block_of blocks.now) }
 {
-    for (number, block) in class.blocks.iter().enumerate() {
+    for (number, block) in blocks.iter().enumerate() {
         if !leads_on(number, &block.last) {
             return false;
         }
     }
     true
+}
+
+/// Whether `goto` and `test` lead to blocks of greater number.
+pub fn leads_forward(class: &Class) -> bool
+    ensures { result ≡ leads_forward (class_of class.now) }
+{
+    all_lead_on(&class.blocks)
 }
 
 // Notes that a group, numbered from 1, is chosen once more.
@@ -92,8 +100,21 @@ fn takes_error(class: &Class, error: Option<u32>) -> bool
     ensures { result ≡ takes_error (class_of class.now) error }
 {
     match error {
-        Some(number) => matches!(class.locals.get(number as usize), Some(Ty::Error)),
+        Some(number) => match class.locals.get(number as usize) {
+            Some(ty) => is_error(ty),
+            None => false,
+        },
         None => true,
+    }
+}
+
+fn is_error(ty: &Ty) -> bool
+    ensures { result ≡ same_type ErrorType (type_of ty.now) }
+{
+    match ty {
+        Ty::Error => true,
+        Ty::Int | Ty::Bool | Ty::Str | Ty::Void | Ty::Named(_) => false,
+        Ty::Future(_) | Ty::FutureStream(_) | Ty::Promise(_) | Ty::PromiseStream(_) => false,
     }
 }
 
@@ -112,14 +133,20 @@ fn catches(
     Ok(forward && are_distinct(alloc, &catcher.drops)?)
 }
 
-/// Whether each catch part leads to a block of greater number, has a local for its error, and drops distinct locals.
-pub fn catchers_kept(alloc: Global, class: &Class) -> Result<bool, NoMemory>
-    ensures { IfOk result (λ b. b ≡ catchers_kept (class_of class.now)) }
+fn all_catch(alloc: Global, class: &Class, blocks: &[Block]) -> Result<bool, NoMemory>
+    ensures { IfOk result (λ b. b ≡ all_blocks (λ n (b : BlockTree). catches (class_of class.now) n b.catcher) 0 (map block_of blocks.now)) }
 {
-    for (number, block) in class.blocks.iter().enumerate() {
+    for (number, block) in blocks.iter().enumerate() {
         if !catches(alloc, class, number, &block.catcher)? {
             return Ok(false);
         }
     }
     Ok(true)
+}
+
+/// Whether each catch part leads to a block of greater number, has a local for its error, and drops distinct locals.
+pub fn catchers_kept(alloc: Global, class: &Class) -> Result<bool, NoMemory>
+    ensures { IfOk result (λ b. b ≡ catchers_kept (class_of class.now)) }
+{
+    all_catch(alloc, class, &class.blocks)
 }

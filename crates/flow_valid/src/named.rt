@@ -126,7 +126,12 @@ fn has_base_place(class: &Class, path: &[Ident]) -> bool
 fn has_locals(class: &Class, numbers: &[u32]) -> bool
     ensures { result ≡ list_all (has_place (class_of class.now)) (map place.Local numbers.now) }
 {
-    numbers.iter().all(|number| has_local(class, *number))
+    for number in numbers {
+        if !has_local(class, *number) {
+            return false;
+        }
+    }
+    true
 }
 
 fn has_instr(class: &Class, instr: &Instr) -> bool
@@ -197,7 +202,12 @@ fn has_body(class: &Class, body: &[Instr]) -> bool
     requires { HasFewPlaces (class_of class.now) }
     ensures { result ≡ list_all (λ (i : InstrTree). list_all (has_place (class_of class.now)) (instr_places i)) (map instr_of body.now) }
 {
-    body.iter().all(|instr| has_instr(class, instr))
+    for instr in body {
+        if !has_instr(class, instr) {
+            return false;
+        }
+    }
+    true
 }
 
 fn has_named_in(class: &Class, block: &Block) -> bool
@@ -227,14 +237,40 @@ fn has_operand(class: &Class, callback: &Callback) -> bool
         && has_into(class, callback.into)
 }
 
-fn has_operands(class: &Class, group: &Group) -> bool
+fn has_operands(class: &Class, callbacks: &[Callback]) -> bool
     requires { HasFewPlaces (class_of class.now) }
-    ensures { result ≡ list_all (has_operand (class_of class.now)) (group_of group.now) }
+    ensures { result ≡ list_all (has_operand (class_of class.now)) (map callback_of callbacks.now) }
 {
-    group
-        .callbacks
-        .iter()
-        .all(|callback| has_operand(class, callback))
+    for callback in callbacks {
+        if !has_operand(class, callback) {
+            return false;
+        }
+    }
+    true
+}
+
+fn has_blocks(class: &Class, blocks: &[Block]) -> bool
+    requires { HasFewPlaces (class_of class.now) }
+    ensures { result ≡ list_all (has_named (class_of class.now)) (map block_of blocks.now) }
+{
+    for block in blocks {
+        if !has_named_in(class, block) {
+            return false;
+        }
+    }
+    true
+}
+
+fn has_groups(class: &Class, groups: &[Group]) -> bool
+    requires { HasFewPlaces (class_of class.now) }
+    ensures { result ≡ list_all (list_all (has_operand (class_of class.now))) (map group_of groups.now) }
+{
+    for group in groups {
+        if !has_operands(class, &group.callbacks) {
+            return false;
+        }
+    }
+    true
 }
 
 /// Whether every slot, local, group and block that a class names exists.
@@ -242,6 +278,5 @@ pub fn names_exist(class: &Class) -> bool
     requires { HasFewPlaces (class_of class.now) }
     ensures { result ≡ names_exist (class_of class.now) }
 {
-    class.blocks.iter().all(|block| has_named_in(class, block))
-        && class.groups.iter().all(|group| has_operands(class, group))
+    has_blocks(class, &class.blocks) && has_groups(class, &class.groups)
 }
