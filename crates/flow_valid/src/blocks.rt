@@ -1,6 +1,7 @@
 // The rules V4 to V6: where blocks lead, which groups are chosen, and what a catch part names.
 
-ghost use Rattle.std.specs.Prelude.{◌≡◌, ◌<◌, ◌^◌, length, map, IfOk};
+ghost use Rattle.std.specs.Prelude.{◌≡◌, map, nat_eq, IfOk};
+ghost use Rattle.std.specs.List.{list_all};
 ghost use Rattle.std.specs.Option.{option_map};
 ghost use Rattle.flow_tree.specs.Tree.{ErrorType};
 ghost use Rattle.flow_tree.specs.View.{type_of};
@@ -46,51 +47,72 @@ pub fn leads_forward(class: &Class) -> bool
 }
 
 // Notes that a group, numbered from 1, is chosen once more.
-fn note_chosen(counts: &mut [u32], group: u32)
-    ensures { counts.new ≡ counted_once counts.old group }
+fn note_chosen(counts: &mut Vec<u32>, group: u32)
+    ensures { counts.new.items ≡ counted_once counts.old.items group }
 {
-    let Some(number) = (group as usize).checked_sub(1) else {
+    if group == 0 {
         return;
-    };
-    if let Some(count) = counts.get_mut(number) {
-        *count = count.saturating_add(1);
+    }
+    let number = group as usize - 1;
+    if number < counts.len() {
+        counts[number] = counts[number].saturating_add(1);
     }
 }
 
-// How often each group, from the first, is chosen.
-fn times_chosen(alloc: Global, class: &Class) -> Result<Vec<u32>, NoMemory>
-    ensures { IfOk result (λ v. v.items ≡ counted (map block_of class.now.blocks.items) (zeros class.now.groups.items)) }
+// A count for each group, which begins at 0.
+fn no_counts(alloc: Global, groups: &[Group]) -> Result<Vec<u32>, NoMemory>
+    ensures { IfOk result (λ v. v.items ≡ zeros groups.now) }
 {
     let mut counts = Vec::new(alloc);
-    for _ in &class.groups {
+    for _ in groups {
         counts.push(0)?;
     }
-    for block in &class.blocks {
+    Ok(counts)
+}
+
+// Counts how often groups are chosen.
+fn count_chosen(counts: &mut Vec<u32>, blocks: &[Block])
+    ensures { counts.new.items ≡ counted (map block_of blocks.now) counts.old.items }
+{
+    for block in blocks {
         if let Last::Choose(group) = &block.last {
-            note_chosen(&mut counts, *group);
+            note_chosen(counts, *group);
         }
     }
-    Ok(counts)
+}
+
+fn are_all_one(counts: &[u32]) -> bool
+    ensures { result ≡ list_all (nat_eq 1) counts.now }
+{
+    for count in counts {
+        if *count != 1 {
+            return false;
+        }
+    }
+    true
 }
 
 /// Whether each group is named by exactly one `choose`.
 pub fn groups_chosen(alloc: Global, class: &Class) -> Result<bool, NoMemory>
     ensures { IfOk result (λ b. b ≡ groups_chosen (class_of class.now)) }
 {
-    let counts = times_chosen(alloc, class)?;
-    Ok(counts.iter().all(|count| *count == 1))
+    let mut counts = no_counts(alloc, &class.groups)?;
+    count_chosen(&mut counts, &class.blocks);
+    Ok(are_all_one(&counts))
 }
 
 // Whether no number stands twice.
 fn are_distinct(alloc: Global, numbers: &[u32]) -> Result<bool, NoMemory>
     ensures { IfOk result (λ b. b ≡ distinct numbers.now) }
 {
-    let mut seen: IndexSet<u32> = IndexSet::new(alloc);
-    for number in numbers {
-        if seen.contains(number) {
+    let mut behind: IndexSet<u32> = IndexSet::new(alloc);
+    let mut at = numbers.len();
+    while at > 0 {
+        at -= 1;
+        if behind.contains(&numbers[at]) {
             return Ok(false);
         }
-        seen.insert(*number)?;
+        behind.insert(numbers[at])?;
     }
     Ok(true)
 }

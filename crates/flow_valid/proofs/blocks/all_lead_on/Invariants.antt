@@ -7,7 +7,7 @@ use Rattle.flow_class.specs.Classes.{BlockTree}
 use Rattle.flow_valid.specs.Validity.{all_blocks, leads_on, catches, distinct}
 use Rattle.flow_valid.proofs.blocks.all_lead_on.Given as goal
 
-abbrev pub invariant-loop-block : goal.invariant-loop-block
-invariant-loop-block l =
-    all_blocks (λ n (b : BlockTree). leads_on n b.last) l.block-index (map block_of (drop l.block-index l.blocks))
+abbrev pub invariant-loop-number : goal.invariant-loop-number
+invariant-loop-number l =
+    all_blocks (λ n (b : BlockTree). leads_on n b.last) l.number-index (map block_of (drop l.number-index l.blocks))
     ≡ all_blocks (λ n (b : BlockTree). leads_on n b.last) 0 (map block_of l.blocks)
