@@ -3,3 +3,5 @@ pub mod Bits
 pub mod Passing
 pub mod Gathering
 pub mod Groups
+pub mod Plain
+pub mod Touching
