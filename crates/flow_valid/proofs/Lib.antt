@@ -5,3 +5,5 @@ pub mod Gathering
 pub mod Groups
 pub mod Plain
 pub mod Touching
+pub mod Sound
+pub mod Closed

@@ -7,5 +7,6 @@ pub mod Answers
 pub mod Counting
 pub mod PlaceNames
 pub mod Following
+pub mod Entered
 pub mod Small
 pub mod Apart
