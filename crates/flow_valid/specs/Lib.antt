@@ -8,5 +8,6 @@ pub mod Counting
 pub mod PlaceNames
 pub mod Following
 pub mod Entered
+pub mod Standing
 pub mod Small
 pub mod Apart
