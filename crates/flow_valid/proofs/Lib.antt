@@ -7,3 +7,4 @@ pub mod Plain
 pub mod Touching
 pub mod Sound
 pub mod Closed
+pub mod Entering

@@ -3,7 +3,7 @@
 // A class may have many blocks and many places. So 64 places are followed at a time: for each block it is kept which of them may be
 // empty where it begins, and each block is passed again as long as there are more.
 
-ghost use Rattle.std.specs.Prelude.{◌≡◌, ◌<◌, ℕ, [], ◌∷◌, ◌++◌, map, length, IfOk};
+ghost use Rattle.std.specs.Prelude.{◌≡◌, ◌<◌, ℕ, [], ◌∷◌, ◌++◌, map, length, IfOk, true};
 ghost use Rattle.std.specs.Option.{option_map};
 ghost use Rattle.flow_class.specs.View.{class_of, catcher_of, last_of, callback_of};
 ghost use Rattle.flow_valid.specs.Named.{names_exist};
