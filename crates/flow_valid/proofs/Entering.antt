@@ -1,5 +1,5 @@
 -- How entries widen.
-use Rattle.std.proofs.Common.{◌≡◌, ◌⊎◌, inl, inr, ℕ, zero, suc, ◌+◌, ◌-◌, ◌*◌, ◌^◌, ◌<◌, ◌≤◌, nat_eq, Bool, true, false, not, ◌&&◌, ◌||◌, List, [], ◌∷◌, ◌++◌, map, length, set, get_or, slice_get, Contains, bit_or, if◌then◌else◌, refl, sym, subst, ap, ap₂, ◌∙◌, arith}
+use Rattle.std.proofs.Common.{Result, Ok, Err, IfOk, ◌≡◌, ◌⊎◌, inl, inr, ℕ, zero, suc, ◌+◌, ◌-◌, ◌*◌, ◌^◌, ◌<◌, ◌≤◌, nat_eq, Bool, true, false, not, ◌&&◌, ◌||◌, List, [], ◌∷◌, ◌++◌, map, length, set, get_or, slice_get, Contains, bit_or, if◌then◌else◌, refl, sym, subst, ap, ap₂, ◌∙◌, arith}
 use Rattle.std.specs.List.{sum_by}
 use Rattle.std.proofs.lemmas.Bool.{cases_eq, eqb-false, eqb-true, false≢true}
 use Rattle.std.proofs.lemmas.Nat.{le_or_l}
@@ -282,3 +282,8 @@ entered_as a b to f g same h = record {
     by i y j lt (inl h) = inl h
     by i y j lt (inr (inl (at, bit))) = inr (inl (at, sym (same j lt) ∙ bit))
     by i y j lt (inr (inr none)) = absurd none
+
+-- what holds where a call answers `Ok`
+pub ok_then : {A E : Type 0} (r : Result A E) (p q : Type 0) → (p → q) → IfOk r (λ x. p) → IfOk r (λ x. q)
+ok_then (Ok a) p q f h = f h
+ok_then (Err e) p q f h = tt

@@ -8,3 +8,5 @@ pub mod Touching
 pub mod Sound
 pub mod Closed
 pub mod Entering
+pub mod Ways
+pub mod Passes

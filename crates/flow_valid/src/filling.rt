@@ -3,7 +3,7 @@
 // A class may have many blocks and many places. So 64 places are followed at a time: for each block it is kept which of them may be
 // empty where it begins, and each block is passed again as long as there are more.
 
-ghost use Rattle.std.specs.Prelude.{◌≡◌, ◌<◌, ℕ, [], ◌∷◌, ◌++◌, map, length, IfOk, true};
+ghost use Rattle.std.specs.Prelude.{◌≡◌, ◌<◌, ℕ, [], ◌∷◌, ◌++◌, map, length, IfOk, IfSome, Some, true, ◌^◌};
 ghost use Rattle.std.specs.Option.{option_map};
 ghost use Rattle.flow_class.specs.View.{class_of, catcher_of, last_of, callback_of};
 ghost use Rattle.flow_valid.specs.Named.{names_exist};
@@ -31,14 +31,20 @@ pub struct Walks {
 }
 
 // What an entry becomes if these places may be empty too; nothing, if it says so.
+fn joined(before: u64, empty: u64) -> Option<u64>
+    ensures becomes { result ≡ widened (Some before) empty }
+    ensures small { IfSome result (λ n. n < 2 ^ 64) }
+{
+    let all = before | empty;
+    if all == before { None } else { Some(all) }
+}
+
 fn widened(entry: Option<u64>, empty: u64) -> Option<u64>
-    ensures { result ≡ widened entry empty }
+    ensures becomes { result ≡ widened entry empty }
+    ensures small { IfSome result (λ n. n < 2 ^ 64) }
 {
     match entry {
-        Some(before) => {
-            let all = before | empty;
-            if all == before { None } else { Some(all) }
-        }
+        Some(before) => joined(before, empty),
         None => Some(empty),
     }
 }
