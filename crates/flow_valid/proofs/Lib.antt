@@ -10,3 +10,5 @@ pub mod Closed
 pub mod Entering
 pub mod Ways
 pub mod Passes
+pub mod Followed
+pub mod Everywhere

@@ -21,12 +21,12 @@ use Rattle.flow_valid.specs.Following.{emptied_by, instr_touches, body_touches, 
 use Rattle.flow_valid.specs.Small.{is_small, small_places, reads_of, small_fills, small_instr, small_body, small_last, small_block}
 use Rattle.flow_valid.specs.Sizes.{HasFewPlaces}
 
-there_below : {A : Type 0} (xs : List A) (n : ℕ) → is_there (slice_get xs n) ≡ true → n < length xs
+pub there_below : {A : Type 0} (xs : List A) (n : ℕ) → is_there (slice_get xs n) ≡ true → n < length xs
 there_below [] n h = cc
 there_below (x ∷ xs) zero h = omega arith
 there_below (x ∷ xs) (suc n) h = let m : n < length xs = there_below xs n h in omega (arith, m)
 
-there_mapped : {A B : Type 0} (f : A → B) (o : Option A) → is_there (option_map f o) ≡ is_there o
+pub there_mapped : {A B : Type 0} (f : A → B) (o : Option A) → is_there (option_map f o) ≡ is_there o
 there_mapped f None = refl
 there_mapped f (Some a) = refl
 
