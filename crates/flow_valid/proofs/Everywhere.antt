@@ -38,11 +38,11 @@ same_kind (Local m) (Slot n) h = cc
 
 among_all : (f : Slotted → Bool) (ps : List Slotted) (p : Slotted) → list_all f ps ≡ true → among ps p ≡ true → f p ≡ true
 among_all f [] p h g = cc
-among_all f (q ∷ qs) p h g = by (and_parts (f q) (list_all f qs) h) (same_place p q) refl
+among_all f (q ∷ qs) p h g = let both = and_parts (f q) (list_all f qs) h in by both.0 (same_place p q) refl (λ i. among_all f qs p both.1 i)
   where
-    by : (f q ≡ true) × (list_all f qs ≡ true) → (b : Bool) → same_place p q ≡ b → f p ≡ true
-    by both true e = ap f (sym (same_kind p q e)) ∙ both.0
-    by both false e = among_all f qs p both.1 (sym (ap (λ (x : Bool). x || among qs p) e) ∙ g)
+    by : f q ≡ true → (b : Bool) → same_place p q ≡ b → (among qs p ≡ true → f p ≡ true) → f p ≡ true
+    by own true e rest = ap f (sym (same_kind p q e)) ∙ own
+    by own false e rest = rest (sym (ap (λ (x : Bool). x || among qs p) e) ∙ g)
 
 module _ (c : ClassTree) (few : HasFewPlaces c) (named : names_exist c ≡ true) where
   body_there : (is : List InstrTree) (l : LastTree) (n : ℕ) → list_all (λ (i : InstrTree). list_all (has_place c) (instr_places i)) is ≡ true → has_last c l ≡ true

@@ -17,7 +17,7 @@ use Rattle.flow_valid.specs.Named.{listed, targets}
 use Rattle.flow_valid.specs.Filling.{among, reads, Comes, ReadsEmpty}
 use Rattle.flow_valid.specs.Following.{Passing, entering, passed, block_touches, place_in, has_bit, ArePassing}
 use Rattle.flow_valid.specs.Entered.{Covers, Enters, empty_handled, empty_taken, IsPassed}
-use Rattle.flow_valid.specs.Standing.{Standing, Way, entry_of, handler_ways, branch_way, group_ways, plain_way, last_ways, IsCovered, AreCovered, Led, Entered, AreSound, AllPassed, Passes}
+use Rattle.flow_valid.specs.Standing.{Standing, Way, AnyBit, entry_of, handler_ways, branch_way, group_ways, plain_way, last_ways, IsCovered, AreCovered, Led, Entered, AreSound, AllPassed, Passes}
 use Rattle.flow_valid.proofs.Bits.{has_zero}
 use Rattle.flow_valid.proofs.Sound.{Leads, leads}
 
@@ -166,10 +166,9 @@ module _ (c : ClassTree) (w : Window) (k : BlockTree) (b x : ℕ) (is : slice_ge
   misread_bit j lt = h.misread j lt ∙ ap (λ (s : Passing). s.misread) (sees j)
 
   -- a place that is read while it is empty
-  pub misreads : q.misread < 2 ^ 64 → (q.misread ≡ 0 → ⊥) → (es : List (Option ℕ)) → slice_get es b ≡ Some (Some x) → AreSound c w es → ReadsEmpty c
+  pub misreads : AnyBit q.misread true → (es : List (Option ℕ)) → slice_get es b ≡ Some (Some x) → AreSound c w es → ReadsEmpty c
   unfolding final
-  misreads small ne es at sound =
-      let bit = some_bit q.misread small ne in
+  misreads bit es at sound =
       (leads c (place_in w bit.0) b k (has_bit x bit.0) is (sound b x bit.0 at bit.1)).misread (sym (misread_bit bit.0 bit.1) ∙ bit.2)
 
   module _ (old new : Standing) (at : slice_get old.entries b ≡ Some (Some x)) (filled : q.misread ≡ 0)

@@ -31,6 +31,11 @@ abbrev pub widened : Option ℕ → (empty : ℕ) → Option ℕ
 widened None e = Some e
 widened (Some x) e = if nat_eq (bit_or x e) x then None else Some (bit_or x e)
 
+-- one of 64 bits is set, or none
+abbrev pub AnyBit : ℕ → (any : Bool) → Type 0
+AnyBit n true = (j : ℕ) × (j < 64) × (has_bit n j ≡ true)
+AnyBit n false = n ≡ 0
+
 -- an entry, for one of the places
 abbrev pub entry_bit : Option (Option ℕ) → (bit : ℕ) → Option Bool
 entry_bit None j = None

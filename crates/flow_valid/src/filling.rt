@@ -13,7 +13,7 @@ ghost use Rattle.flow_valid.specs.Filling.{among, is_error, ReadsFilled};
 ghost use Rattle.flow_class.specs.Classes.{ClassTree};
 ghost use Rattle.flow_class.specs.Classes as last;
 ghost use Rattle.flow_valid.specs.Following.{AreBits, place_in};
-ghost use Rattle.flow_valid.specs.Standing.{standing, widened, plain_way, handler_ways, branch_way, last_ways, Entered, AreTouches, PassesOr, AreWalks, IsFilled, FilledOr, items_of, nothing_entered, AreFilledBelow};
+ghost use Rattle.flow_valid.specs.Standing.{standing, widened, AnyBit, plain_way, handler_ways, branch_way, last_ways, Entered, AreTouches, PassesOr, AreWalks, IsFilled, FilledOr, items_of, nothing_entered, AreFilledBelow};
 
 
 use crate::touch::{Touch, block_touches, group_of};
@@ -47,6 +47,16 @@ fn widened(entry: Option<u64>, empty: u64) -> Option<u64>
         Some(before) => joined(before, empty),
         None => Some(empty),
     }
+}
+
+// Whether one of 64 bits is set.
+fn is_any(bits: u64) -> bool
+    ensures { AnyBit bits result }
+{
+    if bits == 0 {
+        return false;
+    }
+    true
 }
 
 impl Walks {
@@ -183,7 +193,7 @@ impl Walks {
             return Ok(true);
         };
         let passage = Passage::entering(empty).through(window, &touches[number]);
-        if passage.misread != 0 {
+        if is_any(passage.misread) {
             return Ok(false);
         }
         self.lead(window, class, &class.blocks[number], passage)?;
