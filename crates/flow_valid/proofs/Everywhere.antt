@@ -15,7 +15,7 @@ use Rattle.flow_valid.specs.Named.{has_place, has_last, instr_places, names_exis
 use Rattle.flow_valid.specs.Sizes.{HasFewPlaces}
 use Rattle.flow_valid.specs.Filling.{same_place, among, instr_reads, reads, Comes, ReadsFilled}
 use Rattle.flow_valid.specs.Following.{place_in}
-use Rattle.flow_valid.specs.Standing.{IsFilled, AreFilledBelow}
+use Rattle.flow_valid.specs.Standing.{IsFilled, AreFilledBelow, FilledOr}
 use Rattle.flow_valid.proofs.Plain.{reads_there, group_there, last_there, block_named, groups_named, there_below, there_mapped}
 
 -- 64 more places
@@ -77,3 +77,11 @@ module _ (c : ClassTree) (few : HasFewPlaces c) (named : names_exist c ≡ true)
       by : (p : Slotted) (b n : ℕ) → Comes c p b n false → (x : Bool) → among (reads c (fetch c b n)) p ≡ x → among (reads c (fetch c b n)) p ≡ false
       by p b n walk false e = e
       by p b n walk true e = place_filled slots locals p (among_all (has_place c) (reads c (fetch c b n)) p (fetched_there b n) e) b n walk
+
+-- what is told where all is filled
+pub filled_or : (c : ClassTree) (p q : Type 0) → (p → q) → (b : Bool) → FilledOr c p b → FilledOr c q b
+filled_or c p q f true h = f h
+filled_or c p q f false h = h
+
+pub below_as : (c : ClassTree) (locals : Bool) (m n : ℕ) → m ≡ n → AreFilledBelow c locals m → AreFilledBelow c locals n
+below_as c locals m n e h = subst (AreFilledBelow c locals) e h

@@ -20,6 +20,8 @@ use Rattle.flow_valid.specs.Filling.{filled_path, instr_reads, instr_fills, oper
 use Rattle.flow_valid.specs.Following.{emptied_by, instr_touches, body_touches, last_touches, block_touches}
 use Rattle.flow_valid.specs.Small.{is_small, small_places, reads_of, small_fills, small_instr, small_body, small_last, small_block}
 use Rattle.flow_valid.specs.Sizes.{HasFewPlaces}
+use Rattle.flow_valid.specs.Standing.{AreTouches}
+use Rattle.std.proofs.lemmas.List.{length-map}
 
 pub there_below : {A : Type 0} (xs : List A) (n : ℕ) → is_there (slice_get xs n) ≡ true → n < length xs
 there_below [] n h = cc
@@ -44,6 +46,9 @@ all_weaker p q f [] h = refl
 all_weaker p q f (x ∷ xs) h =
     let both = and_parts (p x) (list_all p xs) h in
     and_from (q x) (list_all q xs) (f x both.0) (all_weaker p q f xs both.1)
+
+none_some : {A : Type 0} (a : A) → None ≡ Some a → ⊥
+none_some a e = cc
 
 same_some : {A : Type 0} (a b : A) → Some a ≡ Some b → b ≡ a
 same_some a b e = cc
@@ -158,3 +163,14 @@ module _ (c : ClassTree) (few : HasFewPlaces c) where
   plain_block h n b e =
       let named = block_named h n b e in
       ap₂ (λ (x y : List Touch). x ++ y) (plain_body b.body named.body) (plain_last (groups_named h) b.last named.last)
+
+mapped_at : {A B : Type 0} (f : A → B) (xs : List A) (n : ℕ) (x : A) (y : B) → slice_get xs n ≡ Some x → slice_get (map f xs) n ≡ Some y → y ≡ f x
+mapped_at f [] n x y h g = absurd (none_some x h)
+mapped_at f (z ∷ zs) zero x y h g = same_some (f z) y g ∙ ap f (sym (same_some z x h))
+mapped_at f (z ∷ zs) (suc n) x y h g = mapped_at f zs n x y h g
+
+pub all_plain : (c : ClassTree) → HasFewPlaces c → names_exist c ≡ true → (touches : List (List Touch)) → touches ≡ map (small_block c) c.blocks → AreTouches c touches
+all_plain c few named touches e = record {
+  same_length = ap length e ∙ length-map c.blocks (small_block c);
+  each = λ b k ts is at. mapped_at (small_block c) c.blocks b k ts is (ap (λ (l : List (List Touch)). slice_get l b) (sym e) ∙ at) ∙ plain_block c few named b k is;
+}

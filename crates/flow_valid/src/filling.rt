@@ -5,8 +5,9 @@
 
 ghost use Rattle.std.specs.Prelude.{◌≡◌, ◌<◌, ℕ, [], ◌∷◌, ◌++◌, map, length, IfOk, IfSome, Some, true, ◌^◌};
 ghost use Rattle.std.specs.Option.{option_map};
-ghost use Rattle.flow_class.specs.View.{class_of, catcher_of, last_of, callback_of};
+ghost use Rattle.flow_class.specs.View.{class_of, block_of, catcher_of, last_of, callback_of};
 ghost use Rattle.flow_valid.specs.Named.{names_exist};
+ghost use Rattle.flow_valid.specs.Small.{small_block};
 ghost use Rattle.flow_valid.specs.Sizes.{HasFewPlaces};
 ghost use Rattle.flow_valid.specs.Named.{listed};
 ghost use Rattle.flow_valid.specs.Filling.{among, is_error, ReadsFilled};
@@ -240,16 +241,23 @@ fn into_bit(window: Window, into: Option<Slotted>) -> u64
     }
 }
 
+fn touches_of(alloc: Global, class: &Class, blocks: &[Block]) -> Result<Vec<Vec<Touch>>, NoMemory>
+    ensures { IfOk result (λ v. items_of v.items ≡ map (small_block (class_of class.now)) (map block_of blocks.now)) }
+{
+    let mut all = Vec::new(alloc);
+    for block in blocks {
+        all.push(block_touches(alloc, class, block)?)?;
+    }
+    Ok(all)
+}
+
+// What the blocks of a class do to places.
 fn all_touches(alloc: Global, class: &Class) -> Result<Vec<Vec<Touch>>, NoMemory>
     requires few { HasFewPlaces (class_of class.now) }
     requires named { names_exist (class_of class.now) ≡ true }
     ensures { IfOk result (λ v. AreTouches (class_of class.now) (items_of v.items)) }
 {
-    let mut all = Vec::new(alloc);
-    for block in &class.blocks {
-        all.push(block_touches(alloc, class, block)?)?;
-    }
-    Ok(all)
+    touches_of(alloc, class, &class.blocks)
 }
 
 // No walk leads anywhere yet.
