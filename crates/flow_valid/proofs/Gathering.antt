@@ -13,12 +13,12 @@ use Rattle.flow_valid.specs.Named.{expr_places, exprs_places}
 use Rattle.flow_valid.specs.Filling.{operands}
 use Rattle.flow_valid.specs.Small.{is_small, small_places, reads_of}
 
-drop_next : {A : Type 0} (xs : List A) (i : ℕ) (d : A) → i < length xs → drop i xs ≡ get_or xs i d ∷ drop (suc i) xs
+pub drop_next : {A : Type 0} (xs : List A) (i : ℕ) (d : A) → i < length xs → drop i xs ≡ get_or xs i d ∷ drop (suc i) xs
 drop_next [] i d lt = absurd (omega arith)
 drop_next (x ∷ xs) zero d lt = refl
 drop_next (x ∷ xs) (suc i) d lt = let m : i < length xs = omega arith in drop_next xs i d m
 
-dropped_all : {A : Type 0} (xs : List A) (i : ℕ) → length xs ≤ i → drop i xs ≡ []
+pub dropped_all : {A : Type 0} (xs : List A) (i : ℕ) → length xs ≤ i → drop i xs ≡ []
 dropped_all [] zero le = refl
 dropped_all [] (suc i) le = refl
 dropped_all (x ∷ xs) zero le = absurd (omega arith)

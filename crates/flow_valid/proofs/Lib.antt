@@ -12,3 +12,4 @@ pub mod Ways
 pub mod Passes
 pub mod Followed
 pub mod Everywhere
+pub mod Leading

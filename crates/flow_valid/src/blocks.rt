@@ -31,8 +31,8 @@ fn leads_on(number: usize, last: &Last) -> bool
 fn all_lead_on(blocks: &[Block]) -> bool
     ensures { result ≡ all_blocks (λ n (b : BlockTree). leads_on n b.last) 0 (map block_of blocks.now) }
 {
-    for (number, block) in blocks.iter().enumerate() {
-        if !leads_on(number, &block.last) {
+    for number in 0..blocks.len() {
+        if !leads_on(number, &blocks[number].last) {
             return false;
         }
     }
@@ -158,8 +158,8 @@ fn catches(
 fn all_catch(alloc: Global, class: &Class, blocks: &[Block]) -> Result<bool, NoMemory>
     ensures { IfOk result (λ b. b ≡ all_blocks (λ n (b : BlockTree). catches (class_of class.now) n b.catcher) 0 (map block_of blocks.now)) }
 {
-    for (number, block) in blocks.iter().enumerate() {
-        if !catches(alloc, class, number, &block.catcher)? {
+    for number in 0..blocks.len() {
+        if !catches(alloc, class, number, &blocks[number].catcher)? {
             return Ok(false);
         }
     }

@@ -9,5 +9,5 @@ use Rattle.flow_valid.proofs.blocks.all_catch.Given as goal
 
 abbrev pub invariant-loop-number : goal.invariant-loop-number
 invariant-loop-number l =
-    all_blocks (λ n (b : BlockTree). catches (class_of l.class) n b.catcher) l.number-index (map block_of (drop l.number-index l.blocks))
+    all_blocks (λ n (b : BlockTree). catches (class_of l.class) n b.catcher) l.number (map block_of (drop l.number l.blocks))
     ≡ all_blocks (λ n (b : BlockTree). catches (class_of l.class) n b.catcher) 0 (map block_of l.blocks)

@@ -9,5 +9,5 @@ use Rattle.flow_valid.proofs.blocks.all_lead_on.Given as goal
 
 abbrev pub invariant-loop-number : goal.invariant-loop-number
 invariant-loop-number l =
-    all_blocks (λ n (b : BlockTree). leads_on n b.last) l.number-index (map block_of (drop l.number-index l.blocks))
+    all_blocks (λ n (b : BlockTree). leads_on n b.last) l.number (map block_of (drop l.number l.blocks))
     ≡ all_blocks (λ n (b : BlockTree). leads_on n b.last) 0 (map block_of l.blocks)
