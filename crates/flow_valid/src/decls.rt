@@ -1,7 +1,7 @@
 // The declarations that a class program has: its records and functions, and its classes as heads of actors.
 
 ghost use Rattle.std.specs.Prelude.{◌≡◌, ◌++◌, IfOk, map, take};
-ghost use Rattle.flow_tree.specs.Decls.{StructDecl, FunctionDecl};
+ghost use Rattle.flow_tree.specs.Decls as tree;
 ghost use Rattle.flow_tree.specs.DeclView.{param_of, slot_of, record_of, function_of, decl_of};
 ghost use Rattle.flow_class.specs.View.{class_of};
 ghost use Rattle.flow_valid.specs.Heads.{ident, slot_param, head_of};
@@ -75,7 +75,7 @@ pub fn head_of(alloc: Global, class: &Class) -> Result<Decl, NoMemory>
 
 /// Records behind these declarations.
 pub fn add_records(decls: &mut Vec<Decl>, records: Vec<RecordDecl>) -> Result<(), NoMemory>
-    ensures { IfOk result (λ _. map decl_of decls.new.items ≡ map decl_of decls.old.items ++ map StructDecl (map record_of records.entry.items)) }
+    ensures { IfOk result (λ _. map decl_of decls.new.items ≡ map decl_of decls.old.items ++ map tree.StructDecl (map record_of records.items)) }
 {
     for record in records {
         decls.push(Decl::Struct(record))?;
@@ -85,7 +85,7 @@ pub fn add_records(decls: &mut Vec<Decl>, records: Vec<RecordDecl>) -> Result<()
 
 /// Functions behind these declarations.
 pub fn add_functions(decls: &mut Vec<Decl>, functions: Vec<FunctionDecl>) -> Result<(), NoMemory>
-    ensures { IfOk result (λ _. map decl_of decls.new.items ≡ map decl_of decls.old.items ++ map FunctionDecl (map function_of functions.entry.items)) }
+    ensures { IfOk result (λ _. map decl_of decls.new.items ≡ map decl_of decls.old.items ++ map tree.FunctionDecl (map function_of functions.items)) }
 {
     for function in functions {
         decls.push(Decl::Function(function))?;
@@ -112,8 +112,8 @@ pub struct Plain {
 
 /// The records and functions among declarations.
 pub fn apart(alloc: Global, decls: Vec<Decl>) -> Result<Plain, NoMemory>
-    ensures records { IfOk result (λ p. map record_of p.records.items ≡ records_in (map decl_of decls.entry.items)) }
-    ensures functions { IfOk result (λ p. map function_of p.functions.items ≡ functions_in (map decl_of decls.entry.items)) }
+    ensures records { IfOk result (λ p. map record_of p.records.items ≡ records_in (map decl_of decls.items)) }
+    ensures functions { IfOk result (λ p. map function_of p.functions.items ≡ functions_in (map decl_of decls.items)) }
 {
     let mut plain = Plain {
         records: Vec::new(alloc),
@@ -123,7 +123,7 @@ pub fn apart(alloc: Global, decls: Vec<Decl>) -> Result<Plain, NoMemory>
         match decl {
             Decl::Struct(record) => plain.records.push(record)?,
             Decl::Function(function) => plain.functions.push(function)?,
-            Decl::Actor(_) => {}
+            Decl::Actor(_actor) => {}
         }
     }
     Ok(plain)
