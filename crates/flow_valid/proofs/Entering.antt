@@ -109,8 +109,8 @@ stays s empty b (Some x) is h =
       grows = same_grows s;
       covers = (
         (λ j lt less. subst (λ (o : Option (Option ℕ)). Covers (entry_bit o j) (has_bit empty j)) (sym is)
-        (λ t. sym (ap (λ y. has_bit y j) same) ∙ has_or x empty j ∙ right_true (has_bit x j) (has_bit empty j) t)),
-        tt
+            (λ t. sym (ap (λ y. has_bit y j) same) ∙ has_or x empty j ∙ right_true (has_bit x j) (has_bit empty j) t)),
+        tt,
       );
       from = λ i y j g lt. inl (y, g, refl);
     }
@@ -188,8 +188,8 @@ module _ (s : Standing) (empty b : ℕ) (e : Option ℕ) (all : ℕ) (is : slice
     };
     covers = (
       (λ j lt less. subst (λ (o : Option (Option ℕ)). Covers (entry_bit o j) (has_bit empty j)) (sym here)
-      (λ t. widened_bit e empty all j h ∙ right_true (bit_before e j) (has_bit empty j) t)),
-      tt
+          (λ t. widened_bit e empty all j h ∙ right_true (bit_before e j) (has_bit empty j) t)),
+      tt,
     );
     from = from_at;
   }

@@ -121,9 +121,9 @@ pub chosen_once : {A : Type 0} (bs : List BlockTree) (xs : List A) (gs : List (L
 chosen_once bs xs gs e =
     all_once bs (counted bs (zeros xs)) 1 gs (counted_long bs (zeros xs) ∙ zeros_long xs ∙ e)
     (λ k lt.
-        let within : k < length (zeros xs) = subst (λ (n : ℕ). k < n) (counted_long bs (zeros xs)) lt in
-        let none = zeros_get xs k in
-        counted_get bs (zeros xs) k within (omega (arith, none)) ∙ ap (λ n. min (n + times_chosen (suc k) bs) (2 ^ 32 - 1)) none ∙ plain k)
+    let within : k < length (zeros xs) = subst (λ (n : ℕ). k < n) (counted_long bs (zeros xs)) lt in
+    let none = zeros_get xs k in
+    counted_get bs (zeros xs) k within (omega (arith, none)) ∙ ap (λ n. min (n + times_chosen (suc k) bs) (2 ^ 32 - 1)) none ∙ plain k)
   where
     plain : (k : ℕ) → min (0 + times_chosen (suc k) bs) (2 ^ 32 - 1) ≡ min (times_chosen (k + 1) bs) (2 ^ 32 - 1)
     plain k = ap (λ n. min n (2 ^ 32 - 1)) (zero_plus (times_chosen (suc k) bs)) ∙ rw add-one refl

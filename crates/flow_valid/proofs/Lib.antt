@@ -13,3 +13,4 @@ pub mod Passes
 pub mod Followed
 pub mod Everywhere
 pub mod Leading
+pub mod Parting

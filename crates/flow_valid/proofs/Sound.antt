@@ -230,7 +230,7 @@ module _ (c : ClassTree) (p : Slotted) (b : ℕ) where
               (jumps k.last to to_end.sound.comes to_end.last h);
           branches = λ g n cb l i.
               let same : (passed p (block_touches c k) (entering e)).empty ≡ (s.empty || is_local p) =
-                  ap (λ (x : Passing). x.empty) whole ∙ ap (λ (x : LastTree). (passed p (last_touches c x) s).empty) l ∙ waited_empty g s
+              ap (λ (x : Passing). x.empty) whole ∙ ap (λ (x : LastTree). (passed p (last_touches c x) s).empty) l ∙ waited_empty g s
               in
               subst (Comes c p cb.block 0) (sym (ap (λ (x : Bool). not (x && not (among (listed cb.into) p))) same ∙ taken_so s.empty (is_local p) (among (listed cb.into) p)))
               (is_taken g n cb to_end.sound.comes (to_end.last ∙ ap Last l) i);

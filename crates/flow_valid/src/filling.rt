@@ -16,7 +16,6 @@ ghost use Rattle.flow_class.specs.Classes as last;
 ghost use Rattle.flow_valid.specs.Following.{AreBits, place_in};
 ghost use Rattle.flow_valid.specs.Standing.{standing, widened, AnyBit, plain_way, handler_ways, branch_way, last_ways, Entered, AreTouches, PassesOr, AreWalks, IsFilled, FilledOr, items_of, nothing_entered, AreFilledBelow};
 
-
 use crate::touch::{Touch, block_touches, group_of};
 use crate::window::{Passage, Window};
 use flow_base::memory::NoMemory;
