@@ -11,3 +11,4 @@ pub mod Entered
 pub mod Standing
 pub mod Small
 pub mod Apart
+pub mod Verdicts

@@ -1,17 +1,15 @@
 // The rules V1 and V2: records, functions, and heads of classes.
 
-ghost use Rattle.std.specs.Prelude.{◌≡◌, ◌++◌, ◌<◌, ◌^◌, ℕ, map, is_none, IfOk, Result, Ok, Err};
-ghost use Rattle.std.specs.Option.{option_map};
+ghost use Rattle.std.specs.Prelude.{◌≡◌, ◌++◌, ◌∷◌, ◌<◌, ◌^◌, [], ℕ, List, codes, length, map, is_none, IfOk};
 ghost use Rattle.std.specs.List.{list_all};
-ghost use Rattle.flow_tree.specs.Tree.{TypeTree};
+ghost use Rattle.std.specs.declared.option.Option.{Option};
 ghost use Rattle.flow_tree.specs.Decls.{SlotTree};
 ghost use Rattle.flow_tree.specs.View.{type_of};
 ghost use Rattle.flow_tree.specs.DeclView.{slot_of, params_of, decl_of};
-ghost use Rattle.flow_ast.specs.Typing.{packet_fields, or_else};
-ghost use Rattle.flow_ast.specs.TypingNames.{named};
-ghost use Rattle.flow_rules.specs.Known.{field_row, type_known, known};
-ghost use Rattle.flow_rules.specs.Rules.{decls_refusal, first_large, packet_size, is_main};
-ghost use Rattle.flow_rules.specs.MapView.{known_by, rows_of};
+ghost use Rattle.flow_ast.specs.Typing.{packet_fields, or_else, is_there};
+ghost use Rattle.flow_rules.specs.Known.{Meaning, field_row, type_known};
+ghost use Rattle.flow_rules.specs.Rules.{decls_refusal, first_large, packet_size};
+ghost use Rattle.flow_rules.specs.MapView.{known_by};
 ghost use Rattle.flow_rules.specs.ProgramView.{setting_by};
 ghost use Rattle.flow_rules.specs.WalkView.{texts_of};
 ghost use Rattle.flow_rules.specs.Items.{among};
@@ -86,7 +84,7 @@ fn names_taken<'a>(alloc: Global, decls: &'a [Decl]) -> Result<IndexSet<&'a [u8]
 
 // Whether the head of a class stands where these names are taken.
 fn head_kept(names: &Names<'_>, taken: &IndexSet<&[u8]>, class: &Class) -> bool
-    ensures { result ≡ head_kept (known_by names.now) (among (texts_of taken.now)) (class_of class.now) }
+    ensures { (before : List ℕ → Option Meaning) → ((x : List ℕ) → among (texts_of taken.now) x ≡ is_there (before x)) → result ≡ head_kept before (known_by names.now) (class_of class.now) }
 {
     let name = class.name.bytes();
     !(is_predefined(name) || has_text(taken, name))
@@ -103,7 +101,7 @@ pub fn broken_head<'a>(
     classes: &'a [Class],
 ) -> Result<Option<u32>, NoMemory>
     requires few { length classes.now < 2 ^ 32 }
-    ensures { IfOk result (λ o. o ≡ first_head (known_by names.now) (declared_in (map decl_of decls.now)) 0 (map class_of classes.now)) }
+    ensures { IfOk result (λ o. o ≡ first_head (known_by names.now) (map decl_of decls.now) 0 (map class_of classes.now)) }
 {
     let mut taken = names_taken(alloc, decls)?;
     for (place, class) in classes.iter().enumerate() {

@@ -1,6 +1,6 @@
 // The rule V7: types of expressions, targets, arguments, operands and results.
 
-ghost use Rattle.std.specs.Prelude.{◌≡◌, ◌≤◌, ◌<◌, ◌^◌, ◌++◌, ℕ, List, length, map, IfOk, slice_get, is_none};
+ghost use Rattle.std.specs.Prelude.{◌≡◌, ◌≤◌, ◌<◌, ◌^◌, ◌++◌, ℕ, List, length, map, IfOk, slice_get, is_none, [], zero, Some};
 ghost use Rattle.std.specs.Option.{option_map};
 ghost use Rattle.std.specs.List.{list_all};
 ghost use denote.Ref.{Bor};
@@ -15,8 +15,11 @@ ghost use Rattle.flow_rules.specs.SettingView.{setting_view};
 ghost use Rattle.flow_class.specs.Code.{type_at};
 ghost use Rattle.flow_class.specs.Places.{place_name};
 ghost use Rattle.flow_class.specs.View.{class_of, block_of, instr_of, last_of, callback_of, group_of};
+ghost use Rattle.flow_valid.specs.Apart.{types_fit_in};
+ghost use Rattle.flow_valid.specs.Sizes.{AreFew};
+ghost use Rattle.flow_class.specs.declared.class.Class as code_class;
 ghost use Rattle.flow_valid.specs.Validity.{slot_rows, local_rows, is_effect, put_fault, is_promise, operand_type, has_type, instr_fits, last_fits, operand_fits, taken_type, callback_fits, block_fits};
-ghost use Rattle.flow_valid.specs.PlaceNames.{AreSlotNames, AreLocalNames};
+ghost use Rattle.flow_valid.specs.PlaceNames.{AreSlotNames, AreLocalNames, AreEnough};
 
 use flow_base::memory::NoMemory;
 use flow_base::name::Name;
@@ -266,7 +269,7 @@ pub fn variables<'a>(
     names: &'a PlaceNames,
     class: &'a Class,
 ) -> Result<Vars<'a>, NoMemory>
-    requires { NamesAll names.now (class_of class.now) }
+    requires { AreEnough names.now.slots.items names.now.locals.items (class_of class.now) }
     ensures { IfOk result (λ m. vars_of m ≡ slot_rows 0 (class_of class.now).slots ++ local_rows 0 (class_of class.now).locals) }
 {
     let mut vars: Vars<'a> = IndexMap::new(alloc);
@@ -291,7 +294,7 @@ fn most(classes: &[Class]) -> (usize, usize)
 /// Names for the places of these classes.
 pub fn place_names(alloc: Global, classes: &[Class]) -> Result<PlaceNames, NoMemory>
     requires { AreFew (map class_of classes.now) }
-    ensures { IfOk result (λ n. (i : ℕ) (c : code_class.Class) → slice_get classes.now i ≡ Some c → NamesAll n (class_of c)) }
+    ensures { IfOk result (λ n. (i : ℕ) (c : code_class.Class) → slice_get classes.now i ≡ Some c → AreEnough n.slots.items n.locals.items (class_of c)) }
 {
     let (slots, locals) = most(classes);
     Ok(PlaceNames {
