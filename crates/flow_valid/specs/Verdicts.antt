@@ -10,8 +10,8 @@ use Rattle.flow_rules.specs.Judged.{Setting}
 use Rattle.flow_class.specs.Classes.{ClassTree, RawTree}
 use Rattle.flow_valid.specs.declared.invalid.Invalid.{Invalid}
 use Rattle.flow_valid.specs.declared.invalid.Invalid.TheVariants as invalid
-use Rattle.flow_valid.specs.Heads.{all_decls}
-use Rattle.flow_valid.specs.Validity.{declarations_kept, broken_head, has_main, IsSoundClass, BreaksIn, Breaks}
+use Rattle.flow_valid.specs.Heads.{all_decls, declarations_kept, broken_head, has_main}
+use Rattle.flow_valid.specs.Validity.{IsSoundClass, BreaksIn, Breaks}
 
 -- a class breaks no rule, or a first one
 abbrev pub ClassTold : RawTree → ClassTree → Option ℕ → Type 0
