@@ -14,3 +14,6 @@ pub mod Followed
 pub mod Everywhere
 pub mod Leading
 pub mod Parting
+pub mod Taken
+pub mod Keeping
+pub mod Rows

@@ -1,9 +1,10 @@
 -- Declarations taken apart, names that they take, and types in any setting: what the code's calls say of themselves.
-use Rattle.std.specs.Prelude.{ℕ, Bool, false, ◌&&◌, nat_lt, List, [], ◌∷◌}
+use Rattle.std.specs.Prelude.{◌≡◌, ℕ, Bool, false, ◌&&◌, nat_lt, List, [], ◌∷◌}
 use Rattle.std.specs.List.{list_all}
 use Rattle.flow_tree.specs.Decls.{RecordTree, RoutineTree, DeclTree, StructDecl, FunctionDecl, ActorDecl}
 use Rattle.flow_ast.specs.Typing.{is_there}
 use Rattle.flow_rules.specs.Known.{known}
+use Rattle.flow_rules.specs.Items.{among}
 use Rattle.flow_rules.specs.Judged.{Setting}
 use Rattle.flow_class.specs.declared.class.Slotted.{Slotted}
 use Rattle.flow_class.specs.declared.class.Slotted.TheVariants.{Slot, Local}
@@ -23,9 +24,9 @@ functions_in (StructDecl r ∷ ds) = functions_in ds
 functions_in (FunctionDecl f ∷ ds) = f ∷ functions_in ds
 functions_in (ActorDecl f ∷ ds) = functions_in ds
 
--- whether a name is that of one of these declarations, or of the predefined record
-abbrev pub declared_in : List DeclTree → List ℕ → Bool
-declared_in ds x = is_there (known ds x)
+-- these names are those of declarations, and the predefined record's
+abbrev pub AreTaken : List (List ℕ) → List DeclTree → Type 0
+AreTaken names ds = (x : List ℕ) → among names x ≡ is_there (known ds x)
 
 -- the first slots are the parameters
 abbrev pub is_parameter_of : (params : ℕ) → Slotted → Bool

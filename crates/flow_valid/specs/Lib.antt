@@ -12,3 +12,4 @@ pub mod Standing
 pub mod Small
 pub mod Apart
 pub mod Verdicts
+pub mod Rows

@@ -1,21 +1,19 @@
 // The rules V1 and V2: records, functions, and heads of classes.
 
-ghost use Rattle.std.specs.Prelude.{◌≡◌, ◌++◌, ◌∷◌, ◌<◌, ◌^◌, [], ℕ, List, codes, length, map, is_none, IfOk};
+ghost use Rattle.std.specs.Prelude.{◌≡◌, ◌∷◌, ◌<◌, ◌^◌, [], List, codes, length, map, is_none, IfOk};
 ghost use Rattle.std.specs.List.{list_all};
-ghost use Rattle.std.specs.declared.option.Option.{Option};
-ghost use Rattle.flow_tree.specs.Decls.{SlotTree};
+ghost use Rattle.flow_tree.specs.Decls.{SlotTree, DeclTree};
 ghost use Rattle.flow_tree.specs.View.{type_of};
 ghost use Rattle.flow_tree.specs.DeclView.{slot_of, params_of, decl_of};
-ghost use Rattle.flow_ast.specs.Typing.{packet_fields, or_else, is_there};
-ghost use Rattle.flow_rules.specs.Known.{Meaning, field_row, type_known};
+ghost use Rattle.flow_ast.specs.Typing.{packet_fields, or_else};
+ghost use Rattle.flow_rules.specs.Known.{field_row, known, type_known};
 ghost use Rattle.flow_rules.specs.Rules.{decls_refusal, first_large, packet_size};
 ghost use Rattle.flow_rules.specs.MapView.{known_by};
 ghost use Rattle.flow_rules.specs.ProgramView.{setting_by};
 ghost use Rattle.flow_rules.specs.WalkView.{texts_of};
-ghost use Rattle.flow_rules.specs.Items.{among};
 ghost use Rattle.flow_class.specs.View.{class_of};
 ghost use Rattle.flow_valid.specs.Heads.{head_kept, first_head};
-ghost use Rattle.flow_valid.specs.Apart.{declared_in};
+ghost use Rattle.flow_valid.specs.Apart.{AreTaken};
 ghost use Rattle.flow_valid.specs.Answers.{Tells};
 
 use flow_base::memory::NoMemory;
@@ -72,7 +70,7 @@ fn slots_known(names: &Names<'_>, slots: &[Slot]) -> bool
 
 // What names these declarations take, and the predefined record's.
 fn names_taken<'a>(alloc: Global, decls: &'a [Decl]) -> Result<IndexSet<&'a [u8]>, NoMemory>
-    ensures { IfOk result (λ s. among (texts_of s) ≡ declared_in (map decl_of decls.now)) }
+    ensures { IfOk result (λ s. AreTaken (texts_of s) (map decl_of decls.now)) }
 {
     let mut taken: IndexSet<&[u8]> = IndexSet::new(alloc);
     taken.insert(b"Packet".as_slice())?;
@@ -84,7 +82,7 @@ fn names_taken<'a>(alloc: Global, decls: &'a [Decl]) -> Result<IndexSet<&'a [u8]
 
 // Whether the head of a class stands where these names are taken.
 fn head_kept(names: &Names<'_>, taken: &IndexSet<&[u8]>, class: &Class) -> bool
-    ensures { (before : List ℕ → Option Meaning) → ((x : List ℕ) → among (texts_of taken.now) x ≡ is_there (before x)) → result ≡ head_kept before (known_by names.now) (class_of class.now) }
+    ensures { (ds : List DeclTree) → AreTaken (texts_of taken.now) ds → result ≡ head_kept (known ds) (known_by names.now) (class_of class.now) }
 {
     let name = class.name.bytes();
     !(is_predefined(name) || has_text(taken, name))

@@ -1,6 +1,6 @@
 // The rule V7: types of expressions, targets, arguments, operands and results.
 
-ghost use Rattle.std.specs.Prelude.{◌≡◌, ◌≤◌, ◌<◌, ◌^◌, ◌++◌, ℕ, List, length, map, IfOk, slice_get, is_none, [], zero, Some};
+ghost use Rattle.std.specs.Prelude.{◌≡◌, ◌≤◌, ◌<◌, ◌^◌, ◌++◌, ℕ, length, map, IfOk, slice_get, is_none, [], true, false, Some};
 ghost use Rattle.std.specs.Option.{option_map};
 ghost use Rattle.std.specs.List.{list_all};
 ghost use denote.Ref.{Bor};
@@ -13,13 +13,13 @@ ghost use Rattle.flow_rules.specs.View.{found_of, inner_of};
 ghost use Rattle.flow_rules.specs.MapView.{vars_of};
 ghost use Rattle.flow_rules.specs.SettingView.{setting_view};
 ghost use Rattle.flow_class.specs.Code.{type_at};
-ghost use Rattle.flow_class.specs.Places.{place_name};
 ghost use Rattle.flow_class.specs.View.{class_of, block_of, instr_of, last_of, callback_of, group_of};
 ghost use Rattle.flow_valid.specs.Apart.{types_fit_in};
-ghost use Rattle.flow_valid.specs.Sizes.{AreFew};
-ghost use Rattle.flow_class.specs.declared.class.Class as code_class;
+ghost use Rattle.flow_valid.specs.Sizes.{HasFewPlaces, AreFew};
+ghost use Rattle.flow_class.specs.Classes.{ClassTree};
 ghost use Rattle.flow_valid.specs.Validity.{slot_rows, local_rows, is_effect, put_fault, is_promise, operand_type, has_type, instr_fits, last_fits, operand_fits, taken_type, callback_fits, block_fits};
-ghost use Rattle.flow_valid.specs.PlaceNames.{AreSlotNames, AreLocalNames, AreEnough};
+ghost use Rattle.flow_valid.specs.PlaceNames.{place_of, AreNames, AreEnough, AreEnoughFor};
+ghost use Rattle.flow_valid.specs.Rows.{AreSlotRows};
 
 use flow_base::memory::NoMemory;
 use flow_base::name::Name;
@@ -29,6 +29,7 @@ use flow_rules::callee::Kind;
 use flow_rules::found::{Found, Inner};
 use flow_rules::judge::{Setting, Vars, wants};
 use flow_rules::rule::lesser;
+use flow_tree::decl::Slot;
 use flow_tree::expr::Expr;
 use flow_tree::stmt::Target;
 use flow_tree::ty::Ty;
@@ -40,26 +41,28 @@ use std::alloc::Global;
 pub struct PlaceNames {
     pub slots: Vec<Name>,
     pub locals: Vec<Name>,
+    ghost slots_named: { AreNames false slots.items },
+    ghost locals_named: { AreNames true locals.items },
 }
 
-/// The names of so many slots.
-pub fn slot_names(alloc: Global, count: u32) -> Result<Vec<Name>, NoMemory>
-    ensures { IfOk result (λ v. AreSlotNames count v.items) }
+fn place_of(is_local: bool, number: u32) -> Slotted
+    ensures { result ≡ place_of is_local number }
 {
-    let mut names = Vec::new(alloc);
-    for number in 0..count {
-        names.push(var_over(alloc, Some(Slotted::Slot(number)))?)?;
+    if is_local {
+        Slotted::Local(number)
+    } else {
+        Slotted::Slot(number)
     }
-    Ok(names)
 }
 
-/// The names of so many locals.
-pub fn local_names(alloc: Global, count: u32) -> Result<Vec<Name>, NoMemory>
-    ensures { IfOk result (λ v. AreLocalNames count v.items) }
+// The names of so many slots or locals, from the first.
+fn names_of(alloc: Global, are_locals: bool, count: u32) -> Result<Vec<Name>, NoMemory>
+    ensures named { IfOk result (λ v. AreNames are_locals v.items) }
+    ensures count { IfOk result (λ v. length v.items ≡ count) }
 {
     let mut names = Vec::new(alloc);
     for number in 0..count {
-        names.push(var_over(alloc, Some(Slotted::Local(number)))?)?;
+        names.push(var_over(alloc, Some(place_of(are_locals, number)))?)?;
     }
     Ok(names)
 }
@@ -238,26 +241,28 @@ pub fn types_fit<'a>(class: &'a Class, setting: &Setting<'_, 'a>) -> bool
 }
 
 // Slots become variables by their names.
-fn add_slots<'a>(vars: &mut Vars<'a>, names: &'a [Name], class: &'a Class) -> Result<(), NoMemory>
+fn add_slots<'a>(vars: &mut Vars<'a>, names: &'a [Name], slots: &'a [Slot]) -> Result<(), NoMemory>
     requires empty { vars_of vars.old ≡ [] }
-    requires names { AreSlotNames (length names.now) names.now }
-    requires enough { length class.now.slots.items ≤ length names.now }
-    ensures { IfOk result (λ _. vars_of vars.new ≡ slot_rows 0 (class_of class.now).slots) }
+    requires few { length slots.now < 2 ^ 32 }
+    requires names { AreNames false names.now }
+    requires enough { length slots.now ≤ length names.now }
+    ensures { IfOk result (λ _. vars_of vars.new ≡ slot_rows 0 (map slot_of slots.now)) }
 {
-    for (slot, name) in class.slots.iter().zip(names) {
+    for (slot, name) in slots.iter().zip(names) {
         vars.insert(name.bytes(), Found::of(&slot.ty))?;
     }
     Ok(())
 }
 
 // Locals become variables by their names.
-fn add_locals<'a>(vars: &mut Vars<'a>, names: &'a [Name], class: &'a Class) -> Result<(), NoMemory>
-    requires before { vars_of vars.old ≡ slot_rows 0 (class_of class.now).slots }
-    requires names { AreLocalNames (length names.now) names.now }
-    requires enough { length class.now.locals.items ≤ length names.now }
-    ensures { IfOk result (λ _. vars_of vars.new ≡ slot_rows 0 (class_of class.now).slots ++ local_rows 0 (class_of class.now).locals) }
+fn add_locals<'a>(vars: &mut Vars<'a>, names: &'a [Name], locals: &'a [Ty]) -> Result<(), NoMemory>
+    requires before { AreSlotRows (vars_of vars.old) }
+    requires few { length locals.now < 2 ^ 32 }
+    requires names { AreNames true names.now }
+    requires enough { length locals.now ≤ length names.now }
+    ensures { IfOk result (λ _. vars_of vars.new ≡ vars_of vars.old ++ local_rows 0 (map type_of locals.now)) }
 {
-    for (ty, name) in class.locals.iter().zip(names) {
+    for (ty, name) in locals.iter().zip(names) {
         vars.insert(name.bytes(), Found::of(ty))?;
     }
     Ok(())
@@ -269,36 +274,47 @@ pub fn variables<'a>(
     names: &'a PlaceNames,
     class: &'a Class,
 ) -> Result<Vars<'a>, NoMemory>
-    requires { AreEnough names.now.slots.items names.now.locals.items (class_of class.now) }
+    requires few { HasFewPlaces (class_of class.now) }
+    requires enough { AreEnough names.now.slots.items names.now.locals.items (class_of class.now) }
     ensures { IfOk result (λ m. vars_of m ≡ slot_rows 0 (class_of class.now).slots ++ local_rows 0 (class_of class.now).locals) }
 {
     let mut vars: Vars<'a> = IndexMap::new(alloc);
-    add_slots(&mut vars, &names.slots, class)?;
-    add_locals(&mut vars, &names.locals, class)?;
+    add_slots(&mut vars, &names.slots, &class.slots)?;
+    add_locals(&mut vars, &names.locals, &class.locals)?;
     Ok(vars)
 }
 
-// The greatest number of slots, and of locals, of a class.
-fn most(classes: &[Class]) -> (usize, usize)
-    ensures { (i : ℕ) (c : code_class.Class) → slice_get classes.now i ≡ Some c → (length c.slots.items ≤ result.0) × (length c.locals.items ≤ result.1) }
+// The greatest number of slots of a class.
+fn most_slots(classes: &[Class]) -> u32
+    requires { AreFew (map class_of classes.now) }
+    ensures { (i : ℕ) (c : ClassTree) → slice_get (map class_of classes.now) i ≡ Some c → length c.slots ≤ result }
 {
-    let mut slots = 0;
-    let mut locals = 0;
+    let mut most: u32 = 0;
     for class in classes {
-        slots = class.slots.len().max(slots);
-        locals = class.locals.len().max(locals);
+        most = most.max(class.slots.len() as u32);
     }
-    (slots, locals)
+    most
+}
+
+// The greatest number of locals of a class.
+fn most_locals(classes: &[Class]) -> u32
+    requires { AreFew (map class_of classes.now) }
+    ensures { (i : ℕ) (c : ClassTree) → slice_get (map class_of classes.now) i ≡ Some c → length c.locals ≤ result }
+{
+    let mut most: u32 = 0;
+    for class in classes {
+        most = most.max(class.locals.len() as u32);
+    }
+    most
 }
 
 /// Names for the places of these classes.
 pub fn place_names(alloc: Global, classes: &[Class]) -> Result<PlaceNames, NoMemory>
     requires { AreFew (map class_of classes.now) }
-    ensures { IfOk result (λ n. (i : ℕ) (c : code_class.Class) → slice_get classes.now i ≡ Some c → AreEnough n.slots.items n.locals.items (class_of c)) }
+    ensures { IfOk result (λ n. AreEnoughFor n.slots.items n.locals.items (map class_of classes.now)) }
 {
-    let (slots, locals) = most(classes);
     Ok(PlaceNames {
-        slots: slot_names(alloc, slots as u32)?,
-        locals: local_names(alloc, locals as u32)?,
+        slots: names_of(alloc, false, most_slots(classes))?,
+        locals: names_of(alloc, true, most_locals(classes))?,
     })
 }

@@ -8,7 +8,7 @@ ghost use Rattle.flow_class.specs.Classes.{ClassTree, RawTree};
 ghost use Rattle.flow_class.specs.View.{class_of, raw_of};
 ghost use Rattle.flow_valid.specs.Heads.{all_decls, plain_decls};
 ghost use Rattle.flow_valid.specs.Sizes.{HasFewPlaces, AreFew};
-ghost use Rattle.flow_valid.specs.PlaceNames.{AreEnough};
+ghost use Rattle.flow_valid.specs.PlaceNames.{AreEnough, AreEnoughFor};
 ghost use Rattle.flow_valid.specs.Validity.{IsValid};
 ghost use Rattle.flow_valid.specs.Verdicts.{ClassTold, Told, Sees, AreHeadsKept, AreSoundClasses};
 
@@ -74,7 +74,7 @@ fn judge_classes<'a>(
 ) -> Result<(), Invalid>
     requires few { AreFew (map class_of classes.now) }
     requires count { length classes.now < 2 ^ 32 }
-    requires places { (i : ℕ) (c : ClassTree) → slice_get (map class_of classes.now) i ≡ Some c → AreEnough places.now.slots.items places.now.locals.items c }
+    requires places { AreEnoughFor places.now.slots.items places.now.locals.items (map class_of classes.now) }
     ensures sound { (r : RawTree) → Sees r names.now → r.classes ≡ map class_of classes.now → IfOk result (λ _. AreSoundClasses r) }
     ensures refused { (r : RawTree) → Sees r names.now → r.classes ≡ map class_of classes.now → AreHeadsKept r → IfErr result (Told r) }
 {
