@@ -32,7 +32,8 @@ use Rattle.flow_meaning.specs.Frame.{Memory, read}
 use Rattle.flow_meaning.specs.Frame as frame
 use Rattle.flow_meaning.proofs.BareEval.{then_same}
 use Rattle.flow_carried.specs.Memories.{vars_of, Held}
-use Rattle.flow_carried.proofs.Places.{IsSmall, place_back, no_constant}
+use Rattle.flow_class.proofs.Numbers.{IsSmall, place_back}
+use Rattle.flow_carried.proofs.Places.{no_constant}
 use Rattle.flow_carried.proofs.Seen.{place_found, place_small}
 
 module _ (c : ClassTree) (m : Memory) (s : Scope) (held : Held c m s) where

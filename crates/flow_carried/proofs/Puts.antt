@@ -24,7 +24,7 @@ use Rattle.flow_meaning.specs.Carry.{DeclaredAs}
 use Rattle.flow_meaning.specs.Carries.{TakesInto}
 use Rattle.flow_carried.specs.Memories.{vars_of, Held}
 use Rattle.flow_carried.proofs.Lists.{below_out, filled_none}
-use Rattle.flow_carried.proofs.Places.{place_back}
+use Rattle.flow_class.proofs.Numbers.{place_back}
 use Rattle.flow_carried.proofs.Seen.{seen_new, new_falls, held_new, place_found, place_small, var_set, held_set}
 
 -- a value is put in place, and what stood there handed out, on both sides or on neither

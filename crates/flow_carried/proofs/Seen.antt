@@ -18,7 +18,7 @@ use Rattle.flow_meaning.specs.Frame.{Memory, read, write, held_in, reversed, emp
 use Rattle.flow_carried.specs.Memories.{seen, slots_seen, vars_of, Falling, NotIn, Held}
 use Rattle.flow_carried.proofs.Lists.{at_number, at_numbers, at-set_same, at-set_other, length-slice_set, not_both, falling_first, falling_rest, falling_out, below_out, AllOut, all_filled}
 use Rattle.flow_carried.proofs.Memory.{local, without, emptied_or, emptied_slots, emptied_length, blank, length-blanks, covers_all, covered_values}
-use Rattle.flow_carried.proofs.Places.{IsSmall}
+use Rattle.flow_class.proofs.Numbers.{IsSmall}
 
 -- Locals in force
 

@@ -6,4 +6,3 @@
 
 pub mod class;
 pub mod places;
-pub mod program;

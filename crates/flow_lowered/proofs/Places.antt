@@ -1,21 +1,18 @@
 -- A declared variable has a place: the next local, or its slot.
-use Rattle.std.proofs.Common.{◌≡◌, ◌⊎◌, inl, inr, ℕ, zero, suc, ◌^◌, ◌<◌, Bool, true, false, not, ◌&&◌, ◌==◌, List, [], ◌∷◌, length, get_or, slice_get, position, decimal, if◌then◌else◌, refl, ap, ◌∙◌, arith, rules}
+use Rattle.std.proofs.Common.{◌≡◌, ℕ, ◌^◌, ◌<◌, Bool, true, false, not, List, [], ◌∷◌, length, slice_get, position, if◌then◌else◌, refl, ap, ◌∙◌, arith}
 use Rattle.std.specs.Str.{bytes_eq}
-use Rattle.std.specs.List.{list_all}
 use Rattle.std.specs.Option.{option_map, option_and_then}
-use Rattle.std.proofs.lemmas.Fmt.{decimal_digit, decimal_nonempty, first_decimal, digits_decimal, digits_value-decimal}
-use Rattle.std.proofs.lemmas.Str.Parse.{IsNumeralModel, numerals_by_fold}
 use Rattle.std.proofs.lemmas.Option.{slice_get_within}
 use Rattle.std.specs.declared.option.Option.{Option}
 use Rattle.std.specs.declared.option.Option.TheVariants.{None, Some}
-use Rattle.flow_base.specs.Names.{digit, are_digits, digits_from}
 use Rattle.flow_tree.specs.Body.{IntoTree}
 use Rattle.flow_tree.specs.Decls.{SlotTree}
 use Rattle.flow_class.specs.declared.class.Slotted.{Slotted}
 use Rattle.flow_class.specs.declared.class.Slotted.TheVariants as place
 use Rattle.flow_class.specs.Classes.{ClassTree}
 use Rattle.flow_class.specs.Code.{type_at}
-use Rattle.flow_class.specs.Places.{place_name, place_named, is_number, number_of}
+use Rattle.flow_class.specs.Places.{place_name, place_named}
+use Rattle.flow_class.proofs.Numbers.{place_back}
 use Rattle.flow_class.specs.Scopes.{Scope, Mark, Var, find, Above, place_of}
 use Rattle.flow_class.specs.Scopes as scopes
 use Rattle.flow_layout.specs.Locals.{declared_locals}
@@ -26,34 +23,11 @@ use Rattle.flow_lowered.specs.InPlace.{NotAmong, naming_if, HasSlot, MayDeclare}
 use Rattle.flow_lowered.proofs.Standing.{LocalsAt}
 
 -- the name of a place is read as that place
-own : IsNumeralModel (λ ds. list_all digit ds ≡ true) (digits_from 0)
-own = numerals_by_fold _ (search rules) digits_from (search rules)
-
-one_or_more : (ds : List ℕ) → list_all digit ds ≡ true → 0 < length ds → (length ds ≡ 1) ⊎ (48 < get_or ds 0 0) → is_number ds ≡ true
-one_or_more [] all lt h = absurd (omega arith)
-one_or_more (d ∷ []) all lt h = all
-one_or_more (d ∷ e ∷ ds) all lt (inl h) = absurd (omega (arith, h))
-one_or_more (d ∷ e ∷ ds) all lt (inr h) =
-    ap (λ b. not b && are_digits (d ∷ e ∷ ds)) (unlike d h) ∙ ap (λ b. not b && list_all digit (d ∷ e ∷ ds)) (some (suc (length ds))) ∙ all
-  where
-    some : (n : ℕ) → (suc n == 0) ≡ false
-    some n = grind arith
-
-    unlike : (d : ℕ) → 48 < d → (d == 48) ≡ false
-    unlike d h = grind arith
-
-is_decimal : (n : ℕ) → n < 2 ^ 64 → is_number (decimal n) ≡ true
-is_decimal zero lt = one_or_more (decimal 0) (digits_decimal own 0 lt) (decimal_nonempty 0 lt) (inl (ap length (decimal_digit 0 (omega arith))))
-is_decimal (suc n) lt = one_or_more (decimal (suc n)) (digits_decimal own (suc n) lt) (decimal_nonempty (suc n) lt) (inr (first_decimal (suc n) (omega arith) lt))
-
-number_is : (n : ℕ) → n < 2 ^ 64 → number_of (decimal n) ≡ Some n
-number_is n lt = ap (λ b. if b then Some (digits_from 0 (decimal n)) else None) (is_decimal n lt) ∙ ap Some (digits_value-decimal own n lt)
-
 pub slot_named : (n : ℕ) → n < 2 ^ 64 → place_named (place_name (place.Slot n)) ≡ Some (place.Slot n)
-slot_named n lt = ap (option_map place.Slot) (number_is n lt)
+slot_named n lt = place_back (place.Slot n) lt
 
 pub local_named : (n : ℕ) → n < 2 ^ 64 → place_named (place_name (place.Local n)) ≡ Some (place.Local n)
-local_named n lt = ap (option_map place.Local) (number_is n lt)
+local_named n lt = place_back (place.Local n) lt
 
 -- the names of the locals in force
 abbrev pub names : Scope → List (List ℕ)

@@ -34,7 +34,6 @@ pub mod StepFits
 pub mod RunFits
 pub mod TasksFitOn
 pub mod Tops
-pub mod Numbers
 pub mod Variables
 pub mod EffectsTyped
 pub mod Instructions

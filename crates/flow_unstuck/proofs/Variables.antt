@@ -20,7 +20,7 @@ use Rattle.flow_fits.specs.Scopes.{setting_in}
 use Rattle.flow_fits.proofs.Names.{bytes_same, none_some, some_same}
 use Rattle.flow_unstuck.specs.Places.{slot_vars, local_vars, class_vars, AreNamed}
 use Rattle.flow_unstuck.specs.Written.{IsWritten}
-use Rattle.flow_unstuck.proofs.Numbers.{place_back}
+use Rattle.flow_class.proofs.Numbers.{place_back}
 
 record FoundSlot (n : ℕ) (ss : List SlotTree) (x : List ℕ) (p : ParamTree) : Type 0 where
   at : ℕ
