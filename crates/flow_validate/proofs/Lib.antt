@@ -16,3 +16,5 @@ pub mod Parting
 pub mod Taken
 pub mod Keeping
 pub mod Rows
+pub mod Most
+pub mod FirstHead

@@ -6,11 +6,17 @@ use Rattle.std.specs.declared.option.Option.{Option}
 use Rattle.std.specs.declared.option.Option.TheVariants.{None, Some}
 use Rattle.std.proofs.lemmas.Bool.{false≢true}
 use Rattle.std.proofs.lemmas.Fmt.{decimal_is_IsNumeral}
+use Rattle.std.proofs.lemmas.List.{map_more, length-map, length-take-le}
+use Rattle.std.proofs.lemmas.Option.{get_or_from_slice_get}
 use Rattle.std.proofs.lemmas.Slice.Eq.{bytes_eq-Decides}
 use denote.Ref.{Bor}
 use Rattle.indexmap.specs.IndexMap.{insert_entry}
 use Rattle.flow_tree.specs.Tree.{TypeTree}
+use Rattle.flow_tree.specs.declared.decl.Slot.{Slot as code_slot}
+use Rattle.flow_tree.specs.declared.ty.Ty.{Ty}
 use Rattle.flow_tree.specs.Decls.{SlotTree}
+use Rattle.flow_tree.specs.View.{type_of}
+use Rattle.flow_tree.specs.DeclView.{slot_of}
 use Rattle.flow_ast.specs.TypingNames.{named}
 use Rattle.flow_rules.specs.declared.found.Found as code
 use Rattle.flow_rules.specs.View.{found_of}
@@ -19,6 +25,8 @@ use Rattle.flow_class.specs.declared.class.Slotted.{Slotted}
 use Rattle.flow_class.specs.declared.class.Slotted.TheVariants.{Slot, Local}
 use Rattle.flow_class.specs.Places.{place_name}
 use Rattle.flow_valid.specs.Validity.{slot_rows, local_rows}
+use Rattle.flow_validate.specs.PlaceNames.{AreNames}
+use Rattle.flow_validate.specs.Rows.{AreSlotRows}
 
 -- names of places of one kind are those of one number
 tail : List ℕ → List ℕ
@@ -119,3 +127,31 @@ local_put k v es new ss ts t few before name type put =
     ap rows put ∙ row_put k v es free ∙ ap₂ (λ l x. l ++ (x, found_of v) ∷ []) before name
     ∙ ap (λ u. (slot_rows 0 ss ++ local_rows 0 ts) ++ (place_name (Local (length ts)), u) ∷ []) type
     ∙ append_assoc (slot_rows 0 ss) (local_rows 0 ts) _ ∙ ap (λ l. slot_rows 0 ss ++ l) (sym (locals_last 0 ts t))
+
+-- so many of a list, seen one by one
+so_many : {A B : Type 0} (f : A → B) (xs : List A) (n : ℕ) → n < length xs → length (map f (take n xs)) ≡ n
+so_many f xs n lt = length-map (take n xs) f ∙ length-take-le n xs (omega arith)
+
+last_of : {A B : Type 0} (f : A → B) (xs : List A) (n : ℕ) (x : A) → n < length xs → x ≡ get_or xs n x → map f (take n xs) ++ f x ∷ [] ≡ map f (take (n + 1) xs)
+last_of f xs n x lt at = ap (λ y. map f (take n xs) ++ f y ∷ []) at ∙ sym (map_more f xs n x lt)
+
+pub slot_step : (slots : List code_slot) (names : List (List ℕ)) (n : ℕ) (slot : code_slot) (k : Bor (List ℕ)) (v : code.Found) (es new : List (Bor (List ℕ) × code.Found))
+    → length slots < 2 ^ 32 → n < length slots → n < length names → AreNames false names → slot ≡ get_or slots n slot → k.now ≡ get_or names n k.now
+    → found_of v ≡ type_of slot.ty → new ≡ insert_entry (λ (x y : Bor (List ℕ)). bytes_eq x.now y.now) es k v
+    → rows es ≡ slot_rows 0 (map slot_of (take n slots)) → rows new ≡ slot_rows 0 (map slot_of (take (n + 1) slots))
+slot_step slots names n slot k v es new few lt has named at name type put before =
+    let many = so_many slot_of slots n lt in
+    let called = name ∙ get_or_from_slice_get names n (place_name (Slot n)) k.now (named n has) ∙ ap (λ m. place_name (Slot m)) (sym many) in
+    slot_put k v es new (map slot_of (take n slots)) (slot_of slot) (omega (arith, many)) before called type put
+    ∙ ap (slot_rows 0) (last_of slot_of slots n slot lt at)
+
+pub local_step : (locals : List Ty) (names : List (List ℕ)) (n : ℕ) (ty : Ty) (k : Bor (List ℕ)) (v : code.Found) (first es new : List (Bor (List ℕ) × code.Found))
+    → AreSlotRows (rows first) → length locals < 2 ^ 32 → n < length locals → n < length names → AreNames true names → ty ≡ get_or locals n ty → k.now ≡ get_or names n k.now
+    → found_of v ≡ type_of ty → new ≡ insert_entry (λ (x y : Bor (List ℕ)). bytes_eq x.now y.now) es k v
+    → rows es ≡ rows first ++ local_rows 0 (map type_of (take n locals)) → rows new ≡ rows first ++ local_rows 0 (map type_of (take (n + 1) locals))
+local_step locals names n ty k v first es new slots few lt has named at name type put before =
+    let many = so_many type_of locals n lt in
+    let called = name ∙ get_or_from_slice_get names n (place_name (Local n)) k.now (named n has) ∙ ap (λ m. place_name (Local m)) (sym many) in
+    let behind = ap (λ l. l ++ local_rows 0 (map type_of (take n locals))) slots.1 in
+    local_put k v es new slots.0 (map type_of (take n locals)) (type_of ty) (omega (arith, many)) (before ∙ behind) called type put
+    ∙ ap₂ (λ l ts. l ++ local_rows 0 ts) (sym slots.1) (last_of type_of locals n ty lt at)

@@ -1,14 +1,16 @@
 -- Names that are taken: what is put among them is taken from then on.
-use Rattle.std.proofs.Common.{◌≡◌, ℕ, Bool, true, false, ◌||◌, List, [], ◌∷◌, ◌++◌, map, if◌then◌else◌, refl, sym, ap, ap₂, ◌∙◌}
+use Rattle.std.proofs.Common.{◌≡◌, ℕ, ◌+◌, ◌<◌, Bool, true, false, ◌||◌, List, [], ◌∷◌, ◌++◌, map, take, length, get_or, if◌then◌else◌, refl, sym, ap, ap₂, ◌∙◌}
 use Rattle.std.specs.List.{list_any}
 use Rattle.std.specs.Str.{bytes_eq}
 use Rattle.std.specs.declared.option.Option.{Option}
 use Rattle.std.specs.declared.option.Option.TheVariants.{None, Some}
 use Rattle.std.proofs.lemmas.Slice.Eq.{bytes_eq-Decides}
-use Rattle.std.proofs.lemmas.List.{map-append}
+use Rattle.std.proofs.lemmas.List.{map-append, map_more}
 use denote.Ref.{Bor}
 use Rattle.indexmap.specs.IndexSet.{insert_key}
+use Rattle.flow_tree.specs.declared.decl.Decl.{Decl}
 use Rattle.flow_tree.specs.Decls.{DeclTree}
+use Rattle.flow_tree.specs.DeclView.{decl_of}
 use Rattle.flow_ast.specs.TypingNames.{named}
 use Rattle.flow_ast.specs.Typing.{is_there}
 use Rattle.flow_rules.specs.Known.{row_of, packet_row, known}
@@ -74,3 +76,9 @@ pub taken_more : (ks new : List (Bor (List ℕ))) (k : Bor (List ℕ)) (ds : Lis
     → AreTaken (texts ks) ds → AreTaken (texts new) (ds ++ d ∷ [])
 taken_more ks new k ds d is name h x =
     ap (λ l. among (texts l) x) is ∙ among_put ks k x ∙ ap₂ (λ y b. bytes_eq x y || b) name (h x) ∙ sym (known_last ds d x)
+
+pub taken_step : (decls : List Decl) (i : ℕ) (d : Decl) (ks new : List (Bor (List ℕ))) (k : Bor (List ℕ)) → i < length decls → d ≡ get_or decls i d
+    → new ≡ put ks k → k.now ≡ (row_of (decl_of d)).0 → AreTaken (texts ks) (map decl_of (take i decls)) → AreTaken (texts new) (map decl_of (take (i + 1) decls))
+taken_step decls i d ks new k lt at is name h x =
+    taken_more ks new k (map decl_of (take i decls)) (decl_of d) is name h x
+    ∙ ap (λ ds. is_there (known ds x)) (sym (map_more decl_of decls i d lt ∙ ap (λ (y : Decl). map decl_of (take i decls) ++ decl_of y ∷ []) (sym at)))

@@ -14,8 +14,8 @@ AreNames locals names = (n : ℕ) → n < length names → slice_get names n ≡
 
 -- names enough for all places of a class, and of these classes
 pub record AreEnough (slots locals : List (List ℕ)) (c : ClassTree) : Type 0 where
-  pub slots : length c.slots ≤ length slots
-  pub locals : length c.locals ≤ length locals
+  pub enough_slots : length c.slots ≤ length slots
+  pub enough_locals : length c.locals ≤ length locals
 
 abbrev pub AreEnoughFor : (slots locals : List (List ℕ)) → List ClassTree → Type 0
 AreEnoughFor slots locals cs = (i : ℕ) (c : ClassTree) → slice_get cs i ≡ Some c → AreEnough slots locals c

@@ -30,7 +30,7 @@ use std::alloc::Global;
 
 // Whether something was refused.
 fn is_refused(answer: Result<(), SourceFault>) -> Result<bool, NoMemory>
-    ensures { Tells answer.entry result }
+    ensures { Tells answer result }
 {
     match answer {
         Ok(()) => Ok(false),
@@ -59,13 +59,23 @@ pub fn declarations_kept<'a>(
 fn types_known(names: &Names<'_>, types: &[Ty]) -> bool
     ensures { result ≡ list_all (type_known (known_by names.now)) (map type_of types.now) }
 {
-    types.iter().all(|ty| names.type_known(ty))
+    for ty in types {
+        if !names.type_known(ty) {
+            return false;
+        }
+    }
+    true
 }
 
 fn slots_known(names: &Names<'_>, slots: &[Slot]) -> bool
     ensures { result ≡ list_all (λ (s : SlotTree). type_known (known_by names.now) s.ty) (map slot_of slots.now) }
 {
-    slots.iter().all(|slot| names.type_known(&slot.ty))
+    for slot in slots {
+        if !names.type_known(&slot.ty) {
+            return false;
+        }
+    }
+    true
 }
 
 // What names these declarations take, and the predefined record's.

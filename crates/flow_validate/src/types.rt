@@ -117,13 +117,24 @@ fn type_at(class: &Class, place: Slotted) -> Option<&Ty>
     }
 }
 
+fn is_promise_type(ty: &Ty) -> bool
+    ensures { result ≡ is_promise (Some (type_of ty.now)) }
+{
+    match ty {
+        Ty::Promise(_) | Ty::PromiseStream(_) => true,
+        Ty::Int | Ty::Bool | Ty::Str | Ty::Void | Ty::Error | Ty::Named(_) => false,
+        Ty::Future(_) | Ty::FutureStream(_) => false,
+    }
+}
+
+// A place for a promise or for a stream of promises.
 fn is_promise(class: &Class, place: Slotted) -> bool
     ensures { result ≡ is_promise (type_at (class_of class.now) place) }
 {
-    matches!(
-        type_at(class, place),
-        Some(Ty::Promise(_)) | Some(Ty::PromiseStream(_))
-    )
+    match type_at(class, place) {
+        Some(ty) => is_promise_type(ty),
+        None => false,
+    }
 }
 
 fn instr_fits<'a>(class: &'a Class, setting: &Setting<'_, 'a>, instr: &'a Instr) -> bool
@@ -164,7 +175,7 @@ fn operand_type<'a>(next: bool, taken: Inner<'a>) -> Found<'a>
 
 // What the place of a branch takes, or `Void`.
 fn taken_type(class: &Class, into: Option<Slotted>) -> Option<Inner<'_>>
-    ensures { option_map inner_of result ≡ taken_type (class_of class.now) into }
+    ensures { (s : Judging) → option_map inner_of result ≡ taken_type (class_of class.now) s into }
 {
     match into {
         None => Some(Inner::Void),

@@ -21,11 +21,11 @@ use crate::named::names_exist;
 use crate::types::{PlaceNames, place_names, types_fit, variables};
 use flow_base::memory::NoMemory;
 use flow_class::class::{Class, RawClasses};
-use flow_class::program::ClassProgram;
 use flow_rules::judge::Setting;
 use flow_rules::known::{Names, packet_fields};
 use flow_rules::program::is_main;
 use flow_tree::decl::{Decl, Param};
+use flow_valid::program::ClassProgram;
 use std::alloc::Global;
 
 // The first of the rules V3 to V8 that a class breaks.
@@ -159,12 +159,9 @@ pub fn validate(alloc: Global, raw: RawClasses) -> Result<ClassProgram, Invalid>
     add_heads(alloc, &mut decls, &classes)?;
     judge(alloc, &decls, plain, &classes)?;
     let Plain { records, functions } = apart(alloc, decls)?;
-    Ok(ClassProgram::unjudged(
-        alloc,
-        RawClasses {
-            records,
-            functions,
-            classes,
-        },
-    )?)
+    Ok(ClassProgram::new(RawClasses {
+        records,
+        functions,
+        classes,
+    }))
 }
