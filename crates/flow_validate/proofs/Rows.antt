@@ -29,11 +29,11 @@ use Rattle.flow_validate.specs.PlaceNames.{AreNames}
 use Rattle.flow_validate.specs.Rows.{AreSlotRows}
 
 -- names of places of one kind are those of one number
-tail : List ℕ → List ℕ
+abbrev tail : List ℕ → List ℕ
 tail [] = []
 tail (x ∷ xs) = xs
 
-head : List ℕ → ℕ
+abbrev head : List ℕ → ℕ
 head [] = 0
 head (x ∷ xs) = x
 
@@ -71,13 +71,12 @@ locals_before from n (t ∷ ts) le small =
 
 named_both : {A : Type 0} (rows more : List (List ℕ × A)) (x : List ℕ) → named rows x ≡ None → named more x ≡ None → named (rows ++ more) x ≡ None
 named_both [] more x h k = k
-named_both (row ∷ rows) more x h k = by (bytes_eq x row.0) refl
+named_both (row ∷ rows) more x h k = by (λ g. named_both rows more x g k) (bytes_eq x row.0) refl
   where
-    by : (b : Bool) → bytes_eq x row.0 ≡ b → named ((row ∷ rows) ++ more) x ≡ None
-    by true is = let there : Some row.1 ≡ None = sym (ap (λ c. if c then Some row.1 else named rows x) is) ∙ h in absurd cc
-    by false is =
-        ap (λ c. if c then Some row.1 else named (rows ++ more) x) is
-        ∙ named_both rows more x (sym (ap (λ c. if c then Some row.1 else named rows x) is) ∙ h) k
+    by : (named rows x ≡ None → named (rows ++ more) x ≡ None) → (b : Bool) → bytes_eq x row.0 ≡ b → named ((row ∷ rows) ++ more) x ≡ None
+    by further true is = let there : Some row.1 ≡ None = sym (ap (λ c. if c then Some row.1 else named rows x) is) ∙ h in absurd cc
+    by further false is =
+        ap (λ c. if c then Some row.1 else named (rows ++ more) x) is ∙ further (sym (ap (λ c. if c then Some row.1 else named rows x) is) ∙ h)
 
 -- one row more
 slots_last : (from : ℕ) (ss : List SlotTree) (s : SlotTree) → slot_rows from (ss ++ s ∷ []) ≡ slot_rows from ss ++ (place_name (Slot (from + length ss)), s.ty) ∷ []
@@ -96,15 +95,16 @@ locals_last from (u ∷ ts) t =
 row_put : (k : Bor (List ℕ)) (v : code.Found) (es : List (Bor (List ℕ) × code.Found)) → named (map (bound found_of) es) k.now ≡ None
     → map (bound found_of) (insert_entry (λ (x y : Bor (List ℕ)). bytes_eq x.now y.now) es k v) ≡ map (bound found_of) es ++ (k.now, found_of v) ∷ []
 row_put k v [] h = refl
-row_put k v (e ∷ es) h = by (bytes_eq k.now e.0.now) refl
+row_put k v (e ∷ es) h = by (row_put k v es) (bytes_eq k.now e.0.now) refl
   where
-    by : (b : Bool) → bytes_eq k.now e.0.now ≡ b
+    by : (named (map (bound found_of) es) k.now ≡ None → map (bound found_of) (insert_entry (λ (x y : Bor (List ℕ)). bytes_eq x.now y.now) es k v) ≡ map (bound found_of) es ++ (k.now, found_of v) ∷ [])
+        → (b : Bool) → bytes_eq k.now e.0.now ≡ b
         → map (bound found_of) (if bytes_eq k.now e.0.now then (e.0, v) ∷ es else e ∷ insert_entry (λ (x y : Bor (List ℕ)). bytes_eq x.now y.now) es k v)
         ≡ bound found_of e ∷ (map (bound found_of) es ++ (k.now, found_of v) ∷ [])
-    by true is = let there : Some (found_of e.1) ≡ None = sym (ap (λ b. if b then Some (found_of e.1) else named (map (bound found_of) es) k.now) is) ∙ h in absurd cc
-    by false is =
+    by more true is = let there : Some (found_of e.1) ≡ None = sym (ap (λ b. if b then Some (found_of e.1) else named (map (bound found_of) es) k.now) is) ∙ h in absurd cc
+    by more false is =
         ap (λ b. map (bound found_of) (if b then (e.0, v) ∷ es else e ∷ insert_entry (λ (x y : Bor (List ℕ)). bytes_eq x.now y.now) es k v)) is
-        ∙ ap (λ l. bound found_of e ∷ l) (row_put k v es (sym (ap (λ b. if b then Some (found_of e.1) else named (map (bound found_of) es) k.now) is) ∙ h))
+        ∙ ap (λ l. bound found_of e ∷ l) (more (sym (ap (λ b. if b then Some (found_of e.1) else named (map (bound found_of) es) k.now) is) ∙ h))
 
 abbrev rows : List (Bor (List ℕ) × code.Found) → List (List ℕ × TypeTree)
 rows es = map (bound found_of) es
@@ -115,7 +115,8 @@ pub slot_put : (k : Bor (List ℕ)) (v : code.Found) (es new : List (Bor (List �
 slot_put k v es new ss s few before name type put =
     let free = ap₂ named before name ∙ slots_before 0 (length ss) ss (omega arith) (omega arith) in
     ap rows put ∙ row_put k v es free ∙ ap₂ (λ l x. l ++ (x, found_of v) ∷ []) before name
-    ∙ ap (λ t. slot_rows 0 ss ++ (place_name (Slot (length ss)), t) ∷ []) type ∙ sym (slots_last 0 ss s)
+    ∙ ap (λ t. slot_rows 0 ss ++ (place_name (Slot (length ss)), t) ∷ []) type 
+    ∙ ap (λ n. slot_rows 0 ss ++ (place_name (Slot n), s.ty) ∷ []) (omega arith) ∙ sym (slots_last 0 ss s)
 
 pub local_put : (k : Bor (List ℕ)) (v : code.Found) (es new : List (Bor (List ℕ) × code.Found)) (ss : List SlotTree) (ts : List TypeTree) (t : TypeTree)
     → length ts < 2 ^ 32 → rows es ≡ slot_rows 0 ss ++ local_rows 0 ts → k.now ≡ place_name (Local (length ts)) → found_of v ≡ t
@@ -126,7 +127,8 @@ local_put k v es new ss ts t few before name type put =
         ∙ named_both (slot_rows 0 ss) (local_rows 0 ts) (place_name (Local (length ts))) (no_slot 0 (length ts) ss) (locals_before 0 (length ts) ts (omega arith) (omega arith)) in
     ap rows put ∙ row_put k v es free ∙ ap₂ (λ l x. l ++ (x, found_of v) ∷ []) before name
     ∙ ap (λ u. (slot_rows 0 ss ++ local_rows 0 ts) ++ (place_name (Local (length ts)), u) ∷ []) type
-    ∙ append_assoc (slot_rows 0 ss) (local_rows 0 ts) _ ∙ ap (λ l. slot_rows 0 ss ++ l) (sym (locals_last 0 ts t))
+    ∙ append_assoc (slot_rows 0 ss) (local_rows 0 ts) ((place_name (Local (length ts)), t) ∷ [])
+    ∙ ap (λ l. slot_rows 0 ss ++ l) (ap (λ n. local_rows 0 ts ++ (place_name (Local n), t) ∷ []) (omega arith) ∙ sym (locals_last 0 ts t))
 
 -- so many of a list, seen one by one
 so_many : {A B : Type 0} (f : A → B) (xs : List A) (n : ℕ) → n < length xs → length (map f (take n xs)) ≡ n

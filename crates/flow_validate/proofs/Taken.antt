@@ -1,6 +1,6 @@
 -- Names that are taken: what is put among them is taken from then on.
-use Rattle.std.proofs.Common.{◌≡◌, ℕ, ◌+◌, ◌<◌, Bool, true, false, ◌||◌, List, [], ◌∷◌, ◌++◌, map, take, length, get_or, if◌then◌else◌, refl, sym, ap, ap₂, ◌∙◌}
-use Rattle.std.specs.List.{list_any}
+use Rattle.std.proofs.Common.{◌≡◌, ℕ, ◌+◌, ◌<◌, Bool, true, false, not, ◌&&◌, ◌||◌, nat_le, List, [], ◌∷◌, ◌++◌, map, take, length, get_or, if◌then◌else◌, refl, sym, ap, ap₂, ◌∙◌}
+use Rattle.std.specs.List.{list_any, list_all}
 use Rattle.std.specs.Str.{bytes_eq}
 use Rattle.std.specs.declared.option.Option.{Option}
 use Rattle.std.specs.declared.option.Option.TheVariants.{None, Some}
@@ -9,12 +9,15 @@ use Rattle.std.proofs.lemmas.List.{map-append, map_more}
 use denote.Ref.{Bor}
 use Rattle.indexmap.specs.IndexSet.{insert_key}
 use Rattle.flow_tree.specs.declared.decl.Decl.{Decl}
-use Rattle.flow_tree.specs.Decls.{DeclTree}
+use Rattle.flow_tree.specs.Tree.{TypeTree}
+use Rattle.flow_tree.specs.Decls.{SlotTree, DeclTree}
 use Rattle.flow_tree.specs.DeclView.{decl_of}
 use Rattle.flow_ast.specs.TypingNames.{named}
 use Rattle.flow_ast.specs.Typing.{is_there}
-use Rattle.flow_rules.specs.Known.{row_of, packet_row, known}
+use Rattle.flow_rules.specs.Known.{Meaning, row_of, packet_row, known, type_known, is_predefined}
 use Rattle.flow_rules.specs.Items.{among}
+use Rattle.flow_class.specs.Classes.{ClassTree}
+use Rattle.flow_valid.specs.Heads.{head_kept}
 use Rattle.flow_validate.specs.Apart.{AreTaken}
 
 -- the texts of borrowed names
@@ -82,3 +85,12 @@ pub taken_step : (decls : List Decl) (i : ℕ) (d : Decl) (ks new : List (Bor (L
 taken_step decls i d ks new k lt at is name h x =
     taken_more ks new k (map decl_of (take i decls)) (decl_of d) is name h x
     ∙ ap (λ ds. is_there (known ds x)) (sym (map_more decl_of decls i d lt ∙ ap (λ (y : Decl). map decl_of (take i decls) ++ decl_of y ∷ []) (sym at)))
+
+-- a head stands by its parts
+pub head_by : (ts : List (List ℕ)) (all : List ℕ → Option Meaning) (c : ClassTree) (ds : List DeclTree) → AreTaken ts ds
+    → (free enough slots locals : Bool) → free ≡ not (is_predefined c.name || among ts c.name) → enough ≡ nat_le c.params (length c.slots)
+    → slots ≡ list_all (λ (s : SlotTree). type_known all s.ty) c.slots → locals ≡ list_all (type_known all) c.locals
+    → (free && enough && slots && locals) ≡ head_kept (known ds) all c
+head_by ts all c ds h free enough slots locals f e s l =
+    ap₂ (λ x y. x && y && slots && locals) (f ∙ ap (λ b. not (is_predefined c.name || b)) (h c.name)) e
+    ∙ ap₂ (λ x y. not (is_predefined c.name || is_there (known ds c.name)) && nat_le c.params (length c.slots) && x && y) s l

@@ -1,12 +1,13 @@
 // The rules V1 and V2: records, functions, and heads of classes.
 
-ghost use Rattle.std.specs.Prelude.{◌≡◌, ◌∷◌, ◌<◌, ◌^◌, [], List, codes, length, map, is_none, IfOk};
+ghost use Rattle.std.specs.Prelude.{◌≡◌, ◌∷◌, ◌<◌, ◌^◌, ◌||◌, not, [], List, codes, length, map, is_none, IfOk};
 ghost use Rattle.std.specs.List.{list_all};
 ghost use Rattle.flow_tree.specs.Decls.{SlotTree, DeclTree};
 ghost use Rattle.flow_tree.specs.View.{type_of};
 ghost use Rattle.flow_tree.specs.DeclView.{slot_of, params_of, decl_of};
 ghost use Rattle.flow_ast.specs.Typing.{packet_fields, or_else};
-ghost use Rattle.flow_rules.specs.Known.{field_row, known, type_known};
+ghost use Rattle.flow_rules.specs.Known.{field_row, known, type_known, is_predefined};
+ghost use Rattle.flow_rules.specs.Items.{among};
 ghost use Rattle.flow_rules.specs.Rules.{decls_refusal, first_large, packet_size};
 ghost use Rattle.flow_rules.specs.MapView.{known_by};
 ghost use Rattle.flow_rules.specs.ProgramView.{setting_by};
@@ -90,15 +91,24 @@ fn names_taken<'a>(alloc: Global, decls: &'a [Decl]) -> Result<IndexSet<&'a [u8]
     Ok(taken)
 }
 
+// A name is not predefined, and none of those that are taken.
+fn is_free(taken: &IndexSet<&[u8]>, name: &[u8]) -> bool
+    ensures { result ≡ not (is_predefined name.now || among (texts_of taken.now) name.now) }
+{
+    !(is_predefined(name) || has_text(taken, name))
+}
+
 // Whether the head of a class stands where these names are taken.
 fn head_kept(names: &Names<'_>, taken: &IndexSet<&[u8]>, class: &Class) -> bool
     ensures { (ds : List DeclTree) → AreTaken (texts_of taken.now) ds → result ≡ head_kept (known ds) (known_by names.now) (class_of class.now) }
 {
-    let name = class.name.bytes();
-    !(is_predefined(name) || has_text(taken, name))
-        && class.params as usize <= class.slots.len()
-        && slots_known(names, &class.slots)
-        && types_known(names, &class.locals)
+    if !is_free(taken, class.name.bytes()) {
+        return false;
+    }
+    if class.params as usize > class.slots.len() {
+        return false;
+    }
+    slots_known(names, &class.slots) && types_known(names, &class.locals)
 }
 
 /// The place, from 0, of the first class whose head doesn't stand behind these declarations.

@@ -9,7 +9,7 @@ ghost use Rattle.flow_tree.specs.Tree.{BoolType, ErrorType};
 ghost use Rattle.flow_tree.specs.View.{type_of, expr_of, exprs_of};
 ghost use Rattle.flow_tree.specs.DeclView.{slot_of};
 ghost use Rattle.flow_rules.specs.Judged.{Setting as Judging};
-ghost use Rattle.flow_rules.specs.View.{found_of, inner_of};
+ghost use Rattle.flow_rules.specs.View.{found_of, inner_of, kind_of, callee_of};
 ghost use Rattle.flow_rules.specs.MapView.{vars_of};
 ghost use Rattle.flow_rules.specs.SettingView.{setting_view};
 ghost use Rattle.flow_class.specs.Code.{type_at};
@@ -17,7 +17,7 @@ ghost use Rattle.flow_class.specs.View.{class_of, block_of, instr_of, last_of, c
 ghost use Rattle.flow_validate.specs.Apart.{types_fit_in};
 ghost use Rattle.flow_validate.specs.Sizes.{HasFewPlaces, AreFew};
 ghost use Rattle.flow_class.specs.Classes.{ClassTree};
-ghost use Rattle.flow_valid.specs.Validity.{slot_rows, local_rows, is_effect, put_fault, is_promise, operand_type, has_type, instr_fits, last_fits, operand_fits, taken_type, callback_fits, block_fits};
+ghost use Rattle.flow_valid.specs.Validity.{slot_rows, local_rows, is_effect_kind, calls_effect, is_effect, put_fault, is_promise, operand_type, has_type, instr_fits, last_fits, operand_fits, taken_type, callback_fits, block_fits};
 ghost use Rattle.flow_validate.specs.PlaceNames.{place_of, AreNames, AreEnough, AreEnoughFor};
 ghost use Rattle.flow_validate.specs.Rows.{AreSlotRows};
 
@@ -25,7 +25,7 @@ use flow_base::memory::NoMemory;
 use flow_base::name::Name;
 use flow_choose::places::var_over;
 use flow_class::class::{Block, Callback, Class, Group, Instr, Last, Slotted};
-use flow_rules::callee::Kind;
+use flow_rules::callee::{Callee, Kind};
 use flow_rules::found::{Found, Inner};
 use flow_rules::judge::{Setting, Vars, wants};
 use flow_rules::rule::lesser;
@@ -85,6 +85,24 @@ fn put_fault<'a>(
     lesser(lesser(into.fault, value.fault), fits)
 }
 
+fn is_effect_kind(kind: Kind) -> bool
+    ensures { result ≡ is_effect_kind (kind_of kind) }
+{
+    match kind {
+        Kind::Effect => true,
+        Kind::Value | Kind::Function | Kind::Clock | Kind::Statement => false,
+    }
+}
+
+fn calls_effect(callee: Option<Callee<'_>>) -> bool
+    ensures { result ≡ calls_effect (option_map callee_of callee.entry) }
+{
+    match callee {
+        Some(callee) => is_effect_kind(callee.kind),
+        None => false,
+    }
+}
+
 // Whether an expression is an effect, as a whole.
 fn is_effect<'a>(setting: &Setting<'_, 'a>, value: &'a Expr) -> bool
     ensures { result ≡ is_effect (setting_view setting.now) (expr_of value.now) }
@@ -92,10 +110,7 @@ fn is_effect<'a>(setting: &Setting<'_, 'a>, value: &'a Expr) -> bool
     let Expr::Call(name, _) = value else {
         return false;
     };
-    match setting.called(&name.name) {
-        Some(callee) => matches!(callee.kind, Kind::Effect),
-        None => false,
-    }
+    calls_effect(setting.called(&name.name))
 }
 
 fn has_type<'a>(setting: &Setting<'_, 'a>, effect: bool, value: &'a Expr, ty: Found<'a>) -> bool
