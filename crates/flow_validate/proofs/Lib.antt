@@ -18,3 +18,4 @@ pub mod Keeping
 pub mod Rows
 pub mod Most
 pub mod FirstHead
+pub mod Verdicts

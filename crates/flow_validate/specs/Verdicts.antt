@@ -36,3 +36,7 @@ pub record AreHeadsKept (r : RawTree) : Type 0 where
 -- all classes are sound
 abbrev pub AreSoundClasses : RawTree → Type 0
 AreSoundClasses r = (i : ℕ) (c : ClassTree) → slice_get r.classes i ≡ Some c → IsSoundClass r c
+
+-- the first of these classes are sound in each class program in which the names are these
+abbrev pub AreSoundBelow : Names → List ClassTree → (count : ℕ) → Type 0
+AreSoundBelow n cs count = (r : RawTree) → Sees r n → (i : ℕ) (c : ClassTree) → i < count → slice_get cs i ≡ Some c → IsSoundClass r c

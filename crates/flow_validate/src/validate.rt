@@ -1,6 +1,6 @@
 // The verdict on class programs.
 
-ghost use Rattle.std.specs.Prelude.{◌≡◌, ◌<◌, ◌^◌, ◌≤◌, ℕ, map, take, length, slice_get, IfOk, IfErr, Some};
+ghost use Rattle.std.specs.Prelude.{◌≡◌, ◌<◌, ◌^◌, ◌≤◌, ℕ, map, take, length, slice_get, IfOk, IfErr, None, true};
 ghost use Rattle.flow_tree.specs.DeclView.{decl_of, params_of};
 ghost use Rattle.flow_ast.specs.Typing.{packet_fields};
 ghost use Rattle.flow_rules.specs.Known.{field_row};
@@ -9,7 +9,8 @@ ghost use Rattle.flow_class.specs.View.{class_of, raw_of};
 ghost use Rattle.flow_valid.specs.Heads.{all_decls, plain_decls};
 ghost use Rattle.flow_validate.specs.Sizes.{HasFewPlaces, AreFew};
 ghost use Rattle.flow_validate.specs.PlaceNames.{AreEnough, AreEnoughFor};
-ghost use Rattle.flow_valid.specs.Validity.{IsValid};
+ghost use Rattle.flow_valid.specs.Named.{names_exist};
+ghost use Rattle.flow_valid.specs.Validity.{IsValid, broken_rule};
 ghost use Rattle.flow_validate.specs.Verdicts.{ClassTold, Told, Sees, AreHeadsKept, AreSoundClasses};
 
 use crate::blocks::{catchers_kept, groups_chosen, leads_forward};
@@ -28,8 +29,8 @@ use flow_tree::decl::{Decl, Param};
 use flow_valid::program::ClassProgram;
 use std::alloc::Global;
 
-// The first of the rules V3 to V8 that a class breaks.
-fn class_rule<'a>(
+// The first of the rules V3 to V7 that a class breaks.
+fn broken_rule<'a>(
     alloc: Global,
     names: &Names<'a>,
     places: &'a PlaceNames,
@@ -37,7 +38,8 @@ fn class_rule<'a>(
 ) -> Result<Option<u8>, NoMemory>
     requires few { HasFewPlaces (class_of class.now) }
     requires places { AreEnough places.now.slots.items places.now.locals.items (class_of class.now) }
-    ensures { (r : RawTree) → Sees r names.now → IfOk result (ClassTold r (class_of class.now)) }
+    ensures rule { (r : RawTree) → Sees r names.now → IfOk result (λ o. o ≡ broken_rule r (class_of class.now)) }
+    ensures named { IfOk result (λ o. o ≡ None → names_exist (class_of class.now) ≡ true) }
 {
     if !names_exist(class) {
         return Ok(Some(3));
@@ -58,6 +60,23 @@ fn class_rule<'a>(
     };
     if !types_fit(class, &setting) {
         return Ok(Some(7));
+    }
+    Ok(None)
+}
+
+// The first of the rules V3 to V8 that a class breaks.
+fn class_rule<'a>(
+    alloc: Global,
+    names: &Names<'a>,
+    places: &'a PlaceNames,
+    class: &'a Class,
+) -> Result<Option<u8>, NoMemory>
+    requires few { HasFewPlaces (class_of class.now) }
+    requires places { AreEnough places.now.slots.items places.now.locals.items (class_of class.now) }
+    ensures { (r : RawTree) → Sees r names.now → IfOk result (ClassTold r (class_of class.now)) }
+{
+    if let Some(rule) = broken_rule(alloc, names, places, class)? {
+        return Ok(Some(rule));
     }
     if !reads_filled(alloc, class)? {
         return Ok(Some(8));
