@@ -1,7 +1,19 @@
 // How classes are coded.
 
-ghost use Rattle.std.specs.Prelude.{◌≡◌};
+ghost use Rattle.std.specs.Prelude.{◌≡◌, ◌+◌, ℕ, List, ◌∷◌, IfOk, OnOk, length, map, Some, None, if◌then◌else◌};
+ghost use Rattle.std.specs.Option.{option_map, option_and_then};
+ghost use Rattle.std.specs.Str.{bytes_eq};
+ghost use Rattle.flow_tree.specs.View.{expr_of, exprs_of, type_of};
+ghost use Rattle.flow_ast.specs.TypingNames.{named, call_names, method_names};
+ghost use Rattle.flow_class.specs.Code.{type_at};
+ghost use Rattle.flow_class.specs.View as text;
+ghost use Rattle.flow_resolved.specs.Named.{at_name, first_from, or_else};
+ghost use Rattle.flow_resolved.specs.Resolving.{resolved, resolved_all};
+ghost use Rattle.flow_resolved.specs.View.{node_of, nodes_of};
 ghost use Rattle.flow_code.specs.Places.{place_of, place_in};
+ghost use Rattle.flow_code.specs.Coding.{is_effect, promise_kind, fields_of, aimed, effect_named, effect_in, act_named, set_code, effect_code, new_code, operand_code, method_code, act_code, places, coded_instruction, ended, caught, coded_block, coded_branch, homes_of, home_noted, coded_groups, coded_class};
+ghost use Rattle.flow_code.specs.Coder.{coding_of, name_of_class};
+ghost use Rattle.flow_code.specs.View.{aim_of, instruction_of, end_of, catcher_of, block_of, operand_of, branch_of, group_of, code_of};
 
 use crate::class::{
     Act, Aim, Block, Branch, Catcher, Class, Effect, Group, Instruction, Last, Operand,
@@ -11,38 +23,86 @@ use flow_base::memory::NoMemory;
 use flow_class::class as text;
 use flow_class::class::Slotted;
 use flow_class::places::place_named;
+use flow_resolved::expr::Resolved;
 use flow_resolved::names::Names;
 use flow_resolved::resolve::{NamedPlaces, resolve, resolve_all};
 use flow_tree::expr::Expr;
 use flow_tree::stmt::Target;
 use flow_tree::ty::{Ident, Ty};
 use flow_value::value::Kind;
+use indexmap::IndexMap;
 use std::alloc::Global;
-use std::collections::HashMap;
+
+/// A number of things below 2^32; want of memory where there are more.
+pub(crate) fn small(n: usize) -> Result<u32, NoMemory>
+    ensures { IfOk result (λ k. k ≡ n) }
+{
+    match u32::try_from(n) {
+        Ok(n) => Ok(n),
+        Err(_) => Err(NoMemory),
+    }
+}
+
+/// The sum, where it is below 2^32; want of memory where it is not.
+fn sum(a: u32, b: u32) -> Result<u32, NoMemory>
+    ensures { IfOk result (λ n. n ≡ a + b) }
+{
+    match a.checked_add(b) {
+        Some(n) => Ok(n),
+        None => Err(NoMemory),
+    }
+}
 
 /// The first class of each name.
 #[derive(Drop)]
 pub(crate) struct ClassNames<'a> {
-    named: HashMap<&'a [u8], u32>,
+    named: IndexMap<&'a [u8], u32>,
+}
+
+#[tactic(auto, using(flow_resolved::proofs::Maps::noted_there, flow_resolved::proofs::Maps::noted_new))]
+/// Notes the place of a name, unless one is noted already.
+fn note<'a>(
+    places: &mut IndexMap<&'a [u8], u32>,
+    name: &'a [u8],
+    place: u32,
+) -> Result<(), NoMemory>
+    ensures { OnOk result ((x : List ℕ) → at_name places.new x ≡ or_else (at_name places.old x) (if bytes_eq x name.now then Some place else None)) }
+{
+    if places.get(name).is_some() {
+        return Ok(());
+    }
+    places.insert(name, place)?;
+    Ok(())
+}
+
+#[tactic(auto, using(flow_resolved::proofs::Maps::first_step, flow_resolved::proofs::Maps::first_end))]
+/// The place of the first class of each name.
+fn first_classes<'a>(
+    alloc: Global,
+    classes: &'a [text::Class],
+) -> Result<IndexMap<&'a [u8], u32>, NoMemory>
+    ensures { IfOk result (λ m. (x : List ℕ) → at_name m x ≡ first_from 0 (map name_of_class classes.now) x) }
+{
+    let mut places = IndexMap::new(alloc);
+    for (place, class) in classes.iter().enumerate() {
+        note(&mut places, class.name.bytes(), small(place)?)?;
+    }
+    Ok(places)
 }
 
 impl<'a> ClassNames<'a> {
-    pub(crate) fn new(
-        alloc: Global,
-        classes: &'a [text::Class],
-    ) -> Result<ClassNames<'a>, NoMemory> {
-        let mut named: HashMap<&'a [u8], u32> = HashMap::new(alloc);
-        for (place, class) in classes.iter().enumerate() {
-            let name = class.name.bytes();
-            if !named.contains_key(&name) {
-                named.insert(name, u32::try_from(place).unwrap_or(u32::MAX))?;
-            }
-        }
-        Ok(ClassNames { named })
+    pub(crate) fn new(alloc: Global, classes: &'a [text::Class]) -> Result<ClassNames<'a>, NoMemory>
+        ensures { IfOk result (λ c. (x : List ℕ) → at_name c.named x ≡ first_from 0 (map name_of_class classes.now) x) }
+    {
+        Ok(ClassNames {
+            named: first_classes(alloc, classes)?,
+        })
     }
 
-    pub(crate) fn class(&self, name: &[u8]) -> Option<u32> {
-        self.named.get(&name).copied()
+    pub(crate) fn class(&self, name: &[u8]) -> Option<u32>
+        ensures { result ≡ at_name self.now.named name.now }
+    {
+        self.named.get(name).copied()
     }
 }
 
@@ -56,7 +116,9 @@ pub(crate) struct Coder<'n, 'a> {
 }
 
 /// Whether a predefined call has an effect and gives a value.
-fn is_effect(call: Predefined) -> bool {
+fn is_effect(call: Predefined) -> bool
+    ensures { result ≡ is_effect call }
+{
     matches!(
         call,
         Predefined::RandomInt
@@ -71,19 +133,36 @@ fn is_effect(call: Predefined) -> bool {
 }
 
 /// What a new cell of a promise's type is.
-fn promise_kind(ty: &Ty) -> Option<Kind> {
+fn promise_kind(ty: &Ty) -> Option<Kind>
+    ensures { result ≡ promise_kind (type_of ty.now) }
+{
     match ty {
         Ty::Promise(_) => Some(Kind::Promise),
         Ty::PromiseStream(_) => Some(Kind::PromiseStream),
-        _ => None,
+        Ty::Int
+        | Ty::Bool
+        | Ty::Str
+        | Ty::Void
+        | Ty::Error
+        | Ty::Named(_)
+        | Ty::Future(_)
+        | Ty::FutureStream(_) => None,
     }
 }
 
-/// The type of a place of a class.
-fn type_at(class: &text::Class, place: Slotted) -> Option<&Ty> {
+/// What a new cell at a place of a class is, by the type of the place.
+fn kind_at(class: &text::Class, place: Slotted) -> Option<Kind>
+    ensures { result ≡ option_and_then promise_kind (type_at (text.class_of class.now) place) }
+{
     match place {
-        Slotted::Slot(n) => Some(&class.slots.get(n as usize)?.ty),
-        Slotted::Local(n) => class.locals.get(n as usize),
+        Slotted::Slot(n) => match class.slots.get(n as usize) {
+            Some(slot) => promise_kind(&slot.ty),
+            None => None,
+        },
+        Slotted::Local(n) => match class.locals.get(n as usize) {
+            Some(ty) => promise_kind(ty),
+            None => None,
+        },
     }
 }
 
@@ -109,11 +188,11 @@ impl<'n, 'a> Coder<'n, 'a> {
         }
     }
 
-    // A place of a frame and a path of fields.
-    fn aim(&self, first: &Ident, path: &[Ident]) -> Result<Option<Aim>, NoMemory> {
-        let Some(place) = self.place(first.name.bytes()) else {
-            return Ok(None);
-        };
+    #[tactic(auto, using(crate::proofs::Fields::fields_step, crate::proofs::Fields::fields_none, crate::proofs::Fields::fields_end))]
+    // The numbers of the names of fields, where all are names of fields.
+    fn fields(&self, path: &[Ident]) -> Result<Option<Vec<usize>>, NoMemory>
+        ensures { IfOk result (λ r. option_map (λ v. v.items) r ≡ fields_of (coding_of self.now).names.field path.now) }
+    {
         let mut fields = Vec::new(self.alloc);
         for name in path {
             let Some(field) = self.names.field(name.name.bytes()) else {
@@ -121,47 +200,112 @@ impl<'n, 'a> Coder<'n, 'a> {
             };
             fields.push(field)?;
         }
-        Ok(Some(Aim {
-            place,
-            path: fields,
-        }))
+        Ok(Some(fields))
     }
 
-    fn aim_at(&self, target: &Target) -> Result<Option<Aim>, NoMemory> {
+    // A place of a frame and a path of fields.
+    fn aim(&self, first: &Ident, path: &[Ident]) -> Result<Option<Aim>, NoMemory>
+        ensures { IfOk result (λ r. option_map aim_of r ≡ aimed (coding_of self.now) (first.now ∷ path.now)) }
+    {
+        let Some(place) = self.place(first.name.bytes()) else {
+            return Ok(None);
+        };
+        match self.fields(path)? {
+            Some(path) => Ok(Some(Aim { place, path })),
+            None => Ok(None),
+        }
+    }
+
+    fn aim_at(&self, target: &Target) -> Result<Option<Aim>, NoMemory>
+        ensures { IfOk result (λ r. option_map aim_of r ≡ aimed (coding_of self.now) target.now.path.items) }
+    {
         match target.path.split_first() {
             Some((first, path)) => self.aim(first, path),
             None => Ok(None),
         }
     }
 
-    // The effect that an expression is, and its arguments.
-    fn effect<'e>(&self, expr: &'e Expr) -> Option<(Effect, &'e [Expr])> {
-        let Expr::Call(name, args) = expr else {
-            return None;
-        };
-        match predefined_call(name.name.bytes()) {
-            Some(call) if is_effect(call) => Some((Effect::World(call), args)),
-            Some(_) => None,
-            None => {
-                let class = self.classes.class(name.name.bytes())?;
-                Some((Effect::Actor(class), args))
+    // What has an effect by a name.
+    fn effect_named(&self, name: &[u8]) -> Option<Effect>
+        ensures { result ≡ effect_named (named call_names name.now) ((coding_of self.now).class name.now) }
+    {
+        match predefined_call(name) {
+            Some(call) => {
+                if is_effect(call) {
+                    Some(Effect::World(call))
+                } else {
+                    None
+                }
             }
+            None => self.classes.class(name).map(Effect::Actor),
         }
     }
 
+    // The effect that an expression is, with its arguments.
+    fn effect(&self, expr: &Expr) -> Result<Option<(Effect, Vec<Resolved>)>, NoMemory>
+        ensures { IfOk result (λ r. option_map (λ p. (p.0, nodes_of p.1.items)) r ≡ effect_in (coding_of self.now) (expr_of expr.now)) }
+    {
+        let Expr::Call(name, args) = expr else {
+            return Ok(None);
+        };
+        match self.effect_named(name.name.bytes()) {
+            Some(effect) => Ok(Some((effect, self.args(args)?))),
+            None => Ok(None),
+        }
+    }
+
+    #[tactic(auto, using(flow_resolved::proofs::Resolves::args_resolved))]
+    // Arguments with their names resolved.
+    fn args(&self, args: &[Expr]) -> Result<Vec<Resolved>, NoMemory>
+        ensures { IfOk result (λ v. nodes_of v.items ≡ resolved_all (coding_of self.now).names (exprs_of args.now)) }
+    {
+        Ok(resolve_all(self.names, self, args)?)
+    }
+
+    // An expression with its names resolved.
+    fn expr(&self, expr: &Expr) -> Result<Resolved, NoMemory>
+        ensures { IfOk result (λ r. node_of r ≡ resolved (coding_of self.now).names (expr_of expr.now)) }
+    {
+        resolve(self.names, self, expr)
+    }
+
     // What a call statement without a base calls.
-    fn plain(&self, name: &[u8]) -> Option<Act> {
+    fn plain(&self, name: &[u8]) -> Option<Act>
+        ensures { result ≡ act_named (named call_names name.now) ((coding_of self.now).names.function name.now) }
+    {
         match predefined_call(name) {
             Some(call) => Some(Act::World(call)),
             None => self.names.function(name).map(Act::Function),
         }
     }
 
-    fn act(&self, target: &Target, args: &[Expr]) -> Result<Instruction, NoMemory> {
+    // A method of the reference at a path, its arguments resolved.
+    fn method(
+        &self,
+        first: &Ident,
+        path: &[Ident],
+        name: &[u8],
+        args: Vec<Resolved>,
+    ) -> Result<Instruction, NoMemory>
+        ensures { IfOk result (λ i. instruction_of i ≡ method_code (aimed (coding_of self.now) (first.now ∷ path.now)) (named method_names name.now) (nodes_of args.items)) }
+    {
+        let Some(aim) = self.aim(first, path)? else {
+            return Ok(Instruction::Invalid);
+        };
+        match predefined_method(name) {
+            Some(method) => Ok(Instruction::Method(aim, method, args)),
+            None => Ok(Instruction::Invalid),
+        }
+    }
+
+    #[tactic(auto, using(crate::proofs::Paths::method_coded))]
+    // A call statement, its arguments resolved.
+    fn act(&self, target: &Target, args: Vec<Resolved>) -> Result<Instruction, NoMemory>
+        ensures { IfOk result (λ i. instruction_of i ≡ act_code (coding_of self.now) target.now.path.items (nodes_of args.items)) }
+    {
         let Some((last, before)) = target.path.split_last() else {
             return Ok(Instruction::Invalid);
         };
-        let args = resolve_all(self.names, self, args)?;
         let name = last.name.bytes();
         let Some((first, path)) = before.split_first() else {
             return match self.plain(name) {
@@ -169,157 +313,236 @@ impl<'n, 'a> Coder<'n, 'a> {
                 None => Ok(Instruction::Invalid),
             };
         };
-        match (self.aim(first, path)?, predefined_method(name)) {
-            (Some(aim), Some(method)) => Ok(Instruction::Method(aim, method, args)),
-            _ => Ok(Instruction::Invalid),
-        }
+        Ok(self.method(first, path, name, args)?)
     }
 
     // The numbers of locals in their frame.
-    fn locals(&self, locals: &[u32]) -> Result<Vec<u32>, NoMemory> {
+    fn locals(&self, locals: &[u32]) -> Result<Vec<u32>, NoMemory>
+        ensures { IfOk result (λ v. v.items ≡ places (coding_of self.now) locals.now) }
+    {
         let mut places = Vec::new(self.alloc);
         for local in locals {
-            places.push(self.slots.saturating_add(*local))?;
+            places.push(sum(self.slots, *local)?)?;
         }
         Ok(places)
     }
 
-    fn instruction(
-        &self,
-        class: &text::Class,
-        instr: &text::Instr,
-    ) -> Result<Instruction, NoMemory> {
+    // An assignment.
+    fn set(&self, target: &Target, expr: &Expr) -> Result<Instruction, NoMemory>
+        ensures { IfOk result (λ i. instruction_of i ≡ set_code (aimed (coding_of self.now) target.now.path.items) (resolved (coding_of self.now).names (expr_of expr.now))) }
+    {
+        match self.aim_at(target)? {
+            Some(aim) => Ok(Instruction::Set(aim, self.expr(expr)?)),
+            None => Ok(Instruction::Invalid),
+        }
+    }
+
+    // An assignment of what an effect gives.
+    fn set_effect(&self, target: &Target, expr: &Expr) -> Result<Instruction, NoMemory>
+        ensures { IfOk result (λ i. instruction_of i ≡ effect_code (aimed (coding_of self.now) target.now.path.items) (effect_in (coding_of self.now) (expr_of expr.now))) }
+    {
+        let Some(aim) = self.aim_at(target)? else {
+            return Ok(Instruction::Invalid);
+        };
+        match self.effect(expr)? {
+            Some((effect, args)) => Ok(Instruction::Effect(aim, effect, args)),
+            None => Ok(Instruction::Invalid),
+        }
+    }
+
+    // A new cell.
+    fn new_cell(&self, class: &text::Class, place: Slotted) -> Instruction
+        ensures { instruction_of result ≡ new_code (place_of self.now.slots place) (option_and_then promise_kind (type_at (text.class_of class.now) place)) }
+    {
+        match (self.number(place), kind_at(class, place)) {
+            (Some(place), Some(kind)) => Instruction::New(place, kind),
+            _ => Instruction::Invalid,
+        }
+    }
+
+    fn instruction(&self, class: &text::Class, instr: &text::Instr) -> Result<Instruction, NoMemory>
+        ensures { IfOk result (λ i. instruction_of i ≡ coded_instruction (coding_of self.now) (text.class_of class.now) (text.instr_of instr.now)) }
+    {
         match instr {
-            text::Instr::Set(target, expr) => match self.aim_at(target)? {
-                Some(aim) => Ok(Instruction::Set(aim, resolve(self.names, self, expr)?)),
-                None => Ok(Instruction::Invalid),
-            },
-            text::Instr::Effect(target, expr) => match (self.aim_at(target)?, self.effect(expr)) {
-                (Some(aim), Some((effect, args))) => Ok(Instruction::Effect(
-                    aim,
-                    effect,
-                    resolve_all(self.names, self, args)?,
-                )),
-                _ => Ok(Instruction::Invalid),
-            },
-            text::Instr::New(place) => {
-                let kind = type_at(class, *place).and_then(promise_kind);
-                match (self.number(*place), kind) {
-                    (Some(place), Some(kind)) => Ok(Instruction::New(place, kind)),
-                    _ => Ok(Instruction::Invalid),
-                }
-            }
-            text::Instr::Act(target, args) => self.act(target, args),
+            text::Instr::Set(target, expr) => self.set(target, expr),
+            text::Instr::Effect(target, expr) => self.set_effect(target, expr),
+            text::Instr::New(place) => Ok(self.new_cell(class, *place)),
+            text::Instr::Act(target, args) => self.act(target, self.args(args)?),
             text::Instr::Drop(locals) => Ok(Instruction::Drop(self.locals(locals)?)),
         }
     }
 
-    fn last(&self, last: &text::Last) -> Result<Last, NoMemory> {
+    fn last(&self, last: &text::Last) -> Result<Last, NoMemory>
+        ensures { IfOk result (λ l. end_of l ≡ ended (coding_of self.now) (text.last_of last.now)) }
+    {
         match last {
             text::Last::Goto(block) => Ok(Last::Goto(*block)),
             text::Last::Pass(block) => Ok(Last::Pass(*block)),
-            text::Last::Test(expr, yes, no) => {
-                Ok(Last::Test(resolve(self.names, self, expr)?, *yes, *no))
-            }
+            text::Last::Test(expr, yes, no) => Ok(Last::Test(self.expr(expr)?, *yes, *no)),
             text::Last::Choose(group) => Ok(Last::Choose(*group)),
-            text::Last::Return(expr) => Ok(Last::Return(resolve(self.names, self, expr)?)),
-            text::Last::Throw(expr) => Ok(Last::Throw(resolve(self.names, self, expr)?)),
+            text::Last::Return(expr) => Ok(Last::Return(self.expr(expr)?)),
+            text::Last::Throw(expr) => Ok(Last::Throw(self.expr(expr)?)),
         }
     }
 
-    fn catcher(&self, catcher: &Option<text::Catcher>) -> Result<Option<Catcher>, NoMemory> {
-        let Some(catcher) = catcher else {
-            return Ok(None);
-        };
-        Ok(Some(Catcher {
-            block: catcher.block,
-            error: catcher.error.map(|local| self.slots.saturating_add(local)),
-            drops: self.locals(&catcher.drops)?,
-        }))
+    // The place of the error of a catcher.
+    fn error(&self, local: Option<u32>) -> Result<Option<u32>, NoMemory>
+        ensures { IfOk result (λ r. r ≡ option_map (λ n. self.now.slots + n) local) }
+    {
+        match local {
+            Some(local) => Ok(Some(sum(self.slots, local)?)),
+            None => Ok(None),
+        }
     }
 
-    fn block(&self, class: &text::Class, block: &text::Block) -> Result<Block, NoMemory> {
-        let mut body = Vec::new(self.alloc);
-        for instr in &block.body {
-            body.push(self.instruction(class, instr)?)?;
+    fn catcher(&self, catcher: &Option<text::Catcher>) -> Result<Option<Catcher>, NoMemory>
+        ensures { IfOk result (λ r. option_map catcher_of r ≡ option_map (caught (coding_of self.now)) (option_map text.catcher_of catcher.now)) }
+    {
+        match catcher {
+            Some(catcher) => Ok(Some(Catcher {
+                block: catcher.block,
+                error: self.error(catcher.error)?,
+                drops: self.locals(&catcher.drops)?,
+            })),
+            None => Ok(None),
         }
+    }
+
+    fn body(&self, class: &text::Class, body: &[text::Instr]) -> Result<Vec<Instruction>, NoMemory>
+        ensures { IfOk result (λ v. map instruction_of v.items ≡ map (coded_instruction (coding_of self.now) (text.class_of class.now)) (map text.instr_of body.now)) }
+    {
+        let mut coded = Vec::new(self.alloc);
+        for instr in body {
+            coded.push(self.instruction(class, instr)?)?;
+        }
+        Ok(coded)
+    }
+
+    fn block(&self, class: &text::Class, block: &text::Block) -> Result<Block, NoMemory>
+        ensures { IfOk result (λ b. block_of b ≡ coded_block (coding_of self.now) (text.class_of class.now) (text.block_of block.now)) }
+    {
         Ok(Block {
             catcher: self.catcher(&block.catcher)?,
-            body,
+            body: self.body(class, &block.body)?,
             last: self.last(&block.last)?,
         })
     }
 
-    fn operand(&self, expr: &Expr) -> Result<Operand, NoMemory> {
-        match self.effect(expr) {
-            Some((effect, args)) => Ok(Operand::Effect(
-                effect,
-                resolve_all(self.names, self, args)?,
-            )),
-            None => Ok(Operand::Value(resolve(self.names, self, expr)?)),
-        }
-    }
-
-    fn branches(&self, group: &text::Group) -> Result<Vec<Branch>, NoMemory> {
-        let mut branches = Vec::new(self.alloc);
-        for callback in &group.callbacks {
-            branches.push(Branch {
-                operand: self.operand(&callback.operand)?,
-                into: match callback.into {
-                    Some(place) => self.number(place),
-                    None => None,
-                },
-                block: callback.block,
-            })?;
-        }
-        Ok(branches)
-    }
-
-    fn groups(&self, class: &text::Class) -> Result<Vec<Group>, NoMemory> {
-        let mut groups = Vec::new(self.alloc);
-        let mut first: u32 = 0;
-        for group in &class.groups {
-            let branches = self.branches(group)?;
-            let count = u32::try_from(branches.len()).unwrap_or(u32::MAX);
-            groups.push(Group {
-                block: 0,
-                first,
-                branches,
-            })?;
-            first = first.saturating_add(count);
-        }
-        for (place, block) in class.blocks.iter().enumerate() {
-            if let text::Last::Choose(group) = &block.last {
-                note(&mut groups, *group, u32::try_from(place).unwrap_or(0));
-            }
-        }
-        Ok(groups)
-    }
-
-    /// A class with its names resolved.
-    pub(crate) fn class(&self, class: &text::Class) -> Result<Class, NoMemory> {
+    fn blocks(&self, class: &text::Class) -> Result<Vec<Block>, NoMemory>
+        ensures { IfOk result (λ v. map block_of v.items ≡ map (coded_block (coding_of self.now) (text.class_of class.now)) (map text.block_of class.now.blocks.items)) }
+    {
         let mut blocks = Vec::new(self.alloc);
         for block in &class.blocks {
             blocks.push(self.block(class, block)?)?;
         }
-        let locals = u32::try_from(class.locals.len()).unwrap_or(u32::MAX);
+        Ok(blocks)
+    }
+
+    fn operand(&self, expr: &Expr) -> Result<Operand, NoMemory>
+        ensures { IfOk result (λ o. operand_of o ≡ operand_code (effect_in (coding_of self.now) (expr_of expr.now)) (resolved (coding_of self.now).names (expr_of expr.now))) }
+    {
+        match self.effect(expr)? {
+            Some((effect, args)) => Ok(Operand::Effect(effect, args)),
+            None => Ok(Operand::Value(self.expr(expr)?)),
+        }
+    }
+
+    // The place that takes the value of a branch.
+    fn into(&self, place: Option<Slotted>) -> Option<u32>
+        ensures { result ≡ option_and_then (place_of self.now.slots) place }
+    {
+        match place {
+            Some(place) => self.number(place),
+            None => None,
+        }
+    }
+
+    fn branch(&self, callback: &text::Callback) -> Result<Branch, NoMemory>
+        ensures { IfOk result (λ b. branch_of b ≡ coded_branch (coding_of self.now) (text.callback_of callback.now)) }
+    {
+        Ok(Branch {
+            operand: self.operand(&callback.operand)?,
+            into: self.into(callback.into),
+            block: callback.block,
+        })
+    }
+
+    fn branches(&self, group: &text::Group) -> Result<Vec<Branch>, NoMemory>
+        ensures { IfOk result (λ v. map branch_of v.items ≡ map (coded_branch (coding_of self.now)) (text.group_of group.now)) }
+    {
+        let mut branches = Vec::new(self.alloc);
+        for callback in &group.callbacks {
+            branches.push(self.branch(callback)?)?;
+        }
+        Ok(branches)
+    }
+
+    #[tactic(auto, using(crate::proofs::Groups::groups_step, crate::proofs::Groups::groups_end))]
+    // Groups with their homes.
+    fn groups_at(&self, groups: &[text::Group], homes: &[u32]) -> Result<Vec<Group>, NoMemory>
+        requires { length homes.now ≡ length groups.now }
+        ensures { IfOk result (λ v. map group_of v.items ≡ coded_groups (coding_of self.now) 0 homes.now (map text.group_of groups.now)) }
+    {
+        let mut coded = Vec::new(self.alloc);
+        let mut first: u32 = 0;
+        for (place, group) in groups.iter().enumerate() {
+            let branches = self.branches(group)?;
+            let next = sum(first, small(branches.len())?)?;
+            coded.push(Group {
+                block: homes[place],
+                first,
+                branches,
+            })?;
+            first = next;
+        }
+        Ok(coded)
+    }
+
+    fn groups(&self, class: &text::Class) -> Result<Vec<Group>, NoMemory>
+        ensures { IfOk result (λ v. map group_of v.items ≡ coded_groups (coding_of self.now) 0 (homes_of (text.class_of class.now)) (map text.group_of class.now.groups.items)) }
+    {
+        let homes = homes(self.alloc, class)?;
+        self.groups_at(&class.groups, &homes)
+    }
+
+    /// A class with its names resolved.
+    pub(crate) fn class(&self, class: &text::Class) -> Result<Class, NoMemory>
+        ensures { IfOk result (λ c. code_of c ≡ coded_class (coding_of self.now) (text.class_of class.now)) }
+    {
         Ok(Class {
             name: class.name.copy(self.alloc)?,
             params: class.params,
             slots: self.slots,
-            places: self.slots.saturating_add(locals),
-            blocks,
+            places: sum(self.slots, small(class.locals.len())?)?,
+            blocks: self.blocks(class)?,
             groups: self.groups(class)?,
         })
     }
 }
 
 // Notes the block that ends in the wait of a group, numbered from 1.
-fn note(groups: &mut [Group], group: u32, block: u32) {
-    let Some(at) = (group as usize).checked_sub(1) else {
+fn note_home(homes: &mut [u32], last: &text::Last, block: u32)
+    ensures homes { homes.new ≡ home_noted (text.last_of last.now) block homes.old }
+    ensures length { length homes.new ≡ length homes.old }
+{
+    let text::Last::Choose(group) = last else {
         return;
     };
-    if let Some(group) = groups.get_mut(at) {
-        group.block = block;
+    let group = *group as usize;
+    if 0 < group && group <= homes.len() {
+        homes[group - 1] = block;
     }
+}
+
+#[tactic(auto, using(crate::proofs::Homes::homes_step, crate::proofs::Homes::homes_end))]
+// The homes of the groups of a class.
+fn homes(alloc: Global, class: &text::Class) -> Result<Vec<u32>, NoMemory>
+    ensures homes { IfOk result (λ v. v.items ≡ homes_of (text.class_of class.now)) }
+    ensures length { IfOk result (λ v. length v.items ≡ length class.now.groups.items) }
+{
+    let mut homes = vec![in alloc; 0u32; class.groups.len()]?;
+    for (place, block) in class.blocks.iter().enumerate() {
+        note_home(&mut homes, &block.last, small(place)?);
+    }
+    Ok(homes)
 }

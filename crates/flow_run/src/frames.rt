@@ -56,7 +56,7 @@ fn put_process<L: LineOut>(
 fn class_name(alloc: Global, world: &World, frame: &FrameView) -> Result<Name, RunFault>
     ensures { ¬ IsErrOf result Failed }
 {
-    let Some(class) = world.classes().class(frame.class) else {
+    let Some(class) = world.classes().raw().classes.get(frame.class as usize) else {
         return Err(RunFault::Astray);
     };
     Ok(class.name.copy(alloc)?)

@@ -2,7 +2,7 @@ use super::*;
 use flow_base::mem_sink::MemSink;
 use flow_base::memory::NoMemory;
 use flow_class::class::RawClasses;
-use flow_class::program::ClassProgram;
+use flow_valid::program::ClassProgram;
 use flow_machine::host::RunFault;
 use flow_worldfile::read_world;
 use std::alloc::Global;

@@ -10,7 +10,7 @@ ghost use Rattle.flow_trace.specs.Out.{Grows, GrowsTo};
 use crate::ending::Ending;
 use crate::trace::put_trace;
 use flow_base::sink::Sink;
-use flow_class::program::ClassProgram;
+use flow_valid::program::ClassProgram;
 use flow_machine::host::RunFault;
 use flow_trace::buffer::LineBuf;
 use flow_trace::sink_out::SinkOut;

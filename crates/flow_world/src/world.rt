@@ -17,7 +17,7 @@ use flow_base::errors::DISK_FAILED;
 use flow_base::ids::{CellId, ProcId};
 use flow_base::memory::NoMemory;
 use flow_base::text::Text;
-use flow_class::program::ClassProgram;
+use flow_valid::program::ClassProgram;
 use flow_code::program::Code;
 use flow_draw::Draws;
 use flow_machine::host::{Burst, Host, RunFault};

@@ -1,0 +1,5 @@
+pub mod Coded
+pub mod Fields
+pub mod Groups
+pub mod Homes
+pub mod Paths
