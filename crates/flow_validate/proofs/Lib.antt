@@ -19,3 +19,4 @@ pub mod Rows
 pub mod Most
 pub mod FirstHead
 pub mod Verdicts
+pub mod Whole

@@ -10,13 +10,13 @@ use Rattle.flow_tree.specs.Decls as tree
 use Rattle.flow_tree.specs.DeclView.{record_of, function_of, actor_of, decl_of}
 use Rattle.flow_validate.specs.Apart.{records_in, functions_in}
 
-records_both : (ds es : List tree.DeclTree) → records_in (ds ++ es) ≡ records_in ds ++ records_in es
+pub records_both : (ds es : List tree.DeclTree) → records_in (ds ++ es) ≡ records_in ds ++ records_in es
 records_both [] es = refl
 records_both (tree.StructDecl r ∷ ds) es = ap (λ l. r ∷ l) (records_both ds es)
 records_both (tree.FunctionDecl f ∷ ds) es = records_both ds es
 records_both (tree.ActorDecl a ∷ ds) es = records_both ds es
 
-functions_both : (ds es : List tree.DeclTree) → functions_in (ds ++ es) ≡ functions_in ds ++ functions_in es
+pub functions_both : (ds es : List tree.DeclTree) → functions_in (ds ++ es) ≡ functions_in ds ++ functions_in es
 functions_both [] es = refl
 functions_both (tree.StructDecl r ∷ ds) es = functions_both ds es
 functions_both (tree.FunctionDecl f ∷ ds) es = ap (λ l. f ∷ l) (functions_both ds es)

@@ -1,9 +1,10 @@
 -- What calls on parts of a class program tell of the whole.
-use Rattle.std.proofs.Common.{◌≡◌, ℕ, suc, ◌+◌, ◌<◌, ◌≤◌, Bool, true, false, List, [], ◌∷◌, ◌++◌, ◌⊎◌, inl, inr, map, take, get_or, length, codes, is_none, Result, Ok, Err, refl, sym, ap, ap₂, subst, ◌∙◌, arith}
+use Rattle.std.proofs.Common.{◌≡◌, ◌≢◌, eqb, ℕ, suc, ◌+◌, ◌<◌, ◌≤◌, Bool, true, false, List, [], ◌∷◌, ◌++◌, ◌⊎◌, inl, inr, map, take, get_or, length, codes, is_none, Result, Ok, Err, refl, sym, ap, ap₂, subst, ◌∙◌, arith}
 use Rattle.std.specs.List.{slice_get}
 use Rattle.std.specs.Option.{option_map}
 use Rattle.std.specs.declared.option.Option.{Option}
 use Rattle.std.specs.declared.option.Option.TheVariants.{None, Some}
+use Rattle.std.proofs.lemmas.Bool.Decides.{eqb_tells}
 use Rattle.std.proofs.lemmas.List.{length-map}
 use Rattle.std.proofs.lemmas.Option.{slice_get_cases}
 use Rattle.flow_tree.specs.declared.decl.Decl.{Decl}
@@ -66,14 +67,14 @@ main_by r n o b sees e is = is ∙ ap is_main (e ∙ ap (λ k. k (codes "main"))
 -- one more class is sound
 pub sound_more : (n : Names) (cs : List ClassTree) (k : ℕ) (c : ClassTree) → slice_get cs k ≡ Some c → ((r : RawTree) → Sees r n → IsSoundClass r c)
     → AreSoundBelow n cs k → AreSoundBelow n cs (k + 1)
-sound_more n cs k c at sound below r sees i d lt is = by (omega (arith, lt))
+sound_more n cs k c at sound below r sees i d lt is = by (eqb_tells i k)
   where
-    by : (i < k) ⊎ (i ≡ k) → IsSoundClass r d
-    by (inl less) = below r sees i d less is
-    by (inr same) = subst (λ (x : ClassTree). IsSoundClass r x) (inside (sym at ∙ ap (slice_get cs) (sym same) ∙ is)) (sound r sees)
-      where
-        inside : {A : Type 0} {a b : A} → Some a ≡ Some b → a ≡ b
-        inside e = cc
+    inside : {A : Type 0} {a b : A} → Some a ≡ Some b → a ≡ b
+    inside e = cc
+
+    by : ((eqb i k ≡ true) × (i ≡ k)) ⊎ ((eqb i k ≡ false) × (i ≢ k)) → IsSoundClass r d
+    by (inl (e, one)) = subst (λ (x : ClassTree). IsSoundClass r x) (inside (sym at ∙ ap (slice_get cs) (sym one) ∙ is)) (sound r sees)
+    by (inr (e, ne)) = below r sees i d (omega arith) is
 
 pub sound_all : (n : Names) (cs : List ClassTree) (k : ℕ) (r : RawTree) → Sees r n → r.classes ≡ cs → length cs ≤ k → AreSoundBelow n cs k → AreSoundClasses r
 sound_all n cs k r sees classes le below i c at =
@@ -81,7 +82,7 @@ sound_all n cs k r sees classes le below i c at =
     below r sees i c (within (slice_get_cases cs i)) here
   where
     within : (slice_get cs i ≡ slice_get cs i) × (((x : ClassTree) × (i < length cs) × (slice_get cs i ≡ Some x) × (get_or cs i x ≡ x)) ⊎ ((length cs ≤ i) × (slice_get cs i ≡ None))) → i < k
-    within (e, inl (x, lt, f)) = omega arith
+    within (e, inl (x, lt, f, g)) = omega arith
     within (e, inr (over, none)) = absurd cc
 
 pub class_breaks : (n : Names) (cs : List ClassTree) (k : ℕ) (c : ClassTree) (rule : ℕ) (r : RawTree) → Sees r n → r.classes ≡ cs → AreHeadsKept r → slice_get cs k ≡ Some c

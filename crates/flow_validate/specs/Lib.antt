@@ -9,3 +9,4 @@ pub mod Small
 pub mod Apart
 pub mod Verdicts
 pub mod Rows
+pub mod Gathered

@@ -1,16 +1,17 @@
 // The verdict on class programs.
 
-ghost use Rattle.std.specs.Prelude.{◌≡◌, ◌<◌, ◌^◌, ◌≤◌, ℕ, map, take, length, slice_get, IfOk, IfErr, None, true};
+ghost use Rattle.std.specs.Prelude.{◌≡◌, ◌<◌, ◌^◌, ◌≤◌, map, length, IfOk, IfErr, None, true};
 ghost use Rattle.flow_tree.specs.DeclView.{decl_of, params_of};
 ghost use Rattle.flow_ast.specs.Typing.{packet_fields};
 ghost use Rattle.flow_rules.specs.Known.{field_row};
-ghost use Rattle.flow_class.specs.Classes.{ClassTree, RawTree};
+ghost use Rattle.flow_class.specs.Classes.{RawTree};
 ghost use Rattle.flow_class.specs.View.{class_of, raw_of};
-ghost use Rattle.flow_valid.specs.Heads.{all_decls, plain_decls};
+ghost use Rattle.flow_valid.specs.Heads.{plain_decls};
 ghost use Rattle.flow_validate.specs.Sizes.{HasFewPlaces, AreFew};
 ghost use Rattle.flow_validate.specs.PlaceNames.{AreEnough, AreEnoughFor};
 ghost use Rattle.flow_valid.specs.Named.{names_exist};
 ghost use Rattle.flow_valid.specs.Validity.{IsValid, broken_rule};
+ghost use Rattle.flow_validate.specs.Gathered.{IsGathered};
 ghost use Rattle.flow_validate.specs.Verdicts.{ClassTold, Told, Sees, AreHeadsKept, AreSoundClasses};
 
 use crate::blocks::{catchers_kept, groups_chosen, leads_forward};
@@ -142,29 +143,18 @@ fn judge_heads<'a>(
     Ok(())
 }
 
-// The verdict on declarations, of which so many are records and functions, and on the classes.
-fn judge(alloc: Global, decls: &[Decl], plain: usize, classes: &[Class]) -> Result<(), Invalid>
-    requires few { AreFew (map class_of classes.now) }
-    requires count { length classes.now < 2 ^ 32 }
-    requires within { plain ≤ length decls.now }
-    ensures valid { (r : RawTree) → all_decls r ≡ map decl_of decls.now → plain_decls r ≡ take plain (map decl_of decls.now) → r.classes ≡ map class_of classes.now → IfOk result (λ _. IsValid r) }
-    ensures refused { (r : RawTree) → all_decls r ≡ map decl_of decls.now → plain_decls r ≡ take plain (map decl_of decls.now) → r.classes ≡ map class_of classes.now → IfErr result (Told r) }
-{
-    let packet = packet_fields(alloc)?;
-    let places = place_names(alloc, classes)?;
-    let names = Names::new(alloc, &packet, decls)?;
-    judge_heads(alloc, &names, &packet, &decls[..plain], classes)?;
-    judge_classes(alloc, &names, &places, classes)
+/// All that has a name at the top of a class program, as declarations: the records, the functions, and the classes as heads of
+/// actors; how many of them are records and functions; and the classes themselves.
+#[derive(Drop)]
+pub struct Gathered {
+    pub decls: Vec<Decl>,
+    pub count: usize,
+    pub classes: Vec<Class>,
 }
 
-/// The classes, where the rules V1 to V8 hold. Otherwise they are refused: by V1, where a record or a function breaks a rule of a
-/// program's; then by V2 at the first class whose head breaks it, or without a class where `main` does; then by the least of V3 to V8
-/// that the first class breaks which breaks one.
-pub fn validate(alloc: Global, raw: RawClasses) -> Result<ClassProgram, Invalid>
-    requires few { AreFew (raw_of raw).classes }
-    requires count { length raw.classes.items < 2 ^ 32 }
-    ensures valid { IfOk result (λ p. (raw_of p.raw ≡ raw_of raw) × IsValid (raw_of raw)) }
-    ensures refused { IfErr result (Told (raw_of raw)) }
+// What a class program declares.
+fn gather(alloc: Global, raw: RawClasses) -> Result<Gathered, NoMemory>
+    ensures { IfOk result (IsGathered (raw_of raw)) }
 {
     let RawClasses {
         records,
@@ -174,13 +164,58 @@ pub fn validate(alloc: Global, raw: RawClasses) -> Result<ClassProgram, Invalid>
     let mut decls = Vec::new(alloc);
     add_records(&mut decls, records)?;
     add_functions(&mut decls, functions)?;
-    let plain = decls.len();
+    let count = decls.len();
     add_heads(alloc, &mut decls, &classes)?;
-    judge(alloc, &decls, plain, &classes)?;
+    Ok(Gathered {
+        decls,
+        count,
+        classes,
+    })
+}
+
+// The class program that was gathered.
+fn release(alloc: Global, gathered: Gathered) -> Result<RawClasses, NoMemory>
+    ensures { IfOk result (λ raw. (r : RawTree) → IsGathered r gathered → raw_of raw ≡ r) }
+{
+    let Gathered {
+        decls,
+        count: _,
+        classes,
+    } = gathered;
     let Plain { records, functions } = apart(alloc, decls)?;
-    Ok(ClassProgram::new(RawClasses {
+    Ok(RawClasses {
         records,
         functions,
         classes,
-    }))
+    })
+}
+
+// The verdict on what is gathered.
+fn judge(alloc: Global, gathered: &Gathered) -> Result<(), Invalid>
+    requires few { AreFew (map class_of gathered.now.classes.items) }
+    requires many { length gathered.now.classes.items < 2 ^ 32 }
+    requires within { gathered.now.count ≤ length gathered.now.decls.items }
+    ensures valid { (r : RawTree) → IsGathered r gathered.now → IfOk result (λ _. IsValid r) }
+    ensures refused { (r : RawTree) → IsGathered r gathered.now → IfErr result (Told r) }
+{
+    let packet = packet_fields(alloc)?;
+    let places = place_names(alloc, &gathered.classes)?;
+    let names = Names::new(alloc, &packet, &gathered.decls)?;
+    let plain = &gathered.decls[..gathered.count];
+    judge_heads(alloc, &names, &packet, plain, &gathered.classes)?;
+    judge_classes(alloc, &names, &places, &gathered.classes)
+}
+
+/// The classes, where the rules V1 to V8 hold. Otherwise they are refused: by V1, where a record or a function breaks a rule of a
+/// program's; then by V2 at the first class whose head breaks it, or without a class where `main` does; then by the least of V3 to V8
+/// that the first class breaks which breaks one. Want of memory may come at any time.
+pub fn validate(alloc: Global, raw: RawClasses) -> Result<ClassProgram, Invalid>
+    requires few { AreFew (raw_of raw).classes }
+    requires many { length raw.classes.items < 2 ^ 32 }
+    ensures valid { IfOk result (λ p. (raw_of p ≡ raw_of raw) × IsValid (raw_of raw)) }
+    ensures refused { IfErr result (Told (raw_of raw)) }
+{
+    let gathered = gather(alloc, raw)?;
+    judge(alloc, &gathered)?;
+    Ok(ClassProgram::new(release(alloc, gathered)?))
 }
