@@ -1,6 +1,7 @@
 -- What calls on parts of a class program tell of the whole.
 use Rattle.std.proofs.Common.{◌≡◌, ◌≢◌, eqb, ℕ, suc, ◌+◌, ◌<◌, ◌≤◌, Bool, true, false, List, [], ◌∷◌, ◌++◌, ◌⊎◌, inl, inr, map, take, get_or, length, codes, is_none, Result, Ok, Err, refl, sym, ap, ap₂, subst, ◌∙◌, arith}
 use Rattle.std.specs.List.{slice_get}
+use Rattle.std.specs.Result.{IfOk}
 use Rattle.std.specs.Option.{option_map}
 use Rattle.std.specs.declared.option.Option.{Option}
 use Rattle.std.specs.declared.option.Option.TheVariants.{None, Some}
@@ -92,3 +93,7 @@ class_breaks n cs k c rule r sees classes heads at breaks below =
 
 pub is_valid : (r : RawTree) → AreHeadsKept r → AreSoundClasses r → IsValid r
 is_valid r heads sound = record { declarations = heads.declarations; heads = heads.heads; main = heads.main; classes = sound }
+
+pub then_ok : {T E P Q : Type 0} (x : Result T E) → (P → Q) → IfOk x (λ _. P) → IfOk x (λ _. Q)
+then_ok (Ok v) f h = f h
+then_ok (Err e) f h = h

@@ -15,22 +15,19 @@ use Rattle.flow_class.specs.View.{class_of, raw_of}
 use Rattle.flow_valid.specs.Heads.{head_of, plain_decls, all_decls}
 use Rattle.flow_validate.specs.declared.validate.Gathered.{Gathered}
 use Rattle.flow_validate.specs.Apart.{records_in, functions_in}
-use Rattle.flow_validate.specs.Gathered.{IsGathered}
+use Rattle.flow_validate.specs.Gathered.{AreParts}
 use Rattle.flow_validate.proofs.Parting.{records_both, functions_both}
 
-pub is_gathered : (raw : RawClasses) (g : Gathered) (first plain : List Decl) → map decl_of first ≡ map StructDecl (map record_of raw.records.items)
+pub are_parts : (raw : RawClasses) (g : Gathered) (first plain : List Decl) → map decl_of first ≡ map StructDecl (map record_of raw.records.items)
     → map decl_of plain ≡ map decl_of first ++ map function_decl (map function_of raw.functions.items) → g.count ≡ length plain
-    → map decl_of g.decls.items ≡ map decl_of plain ++ map head_of (map class_of raw.classes.items) → g.classes ≡ raw.classes → IsGathered (raw_of raw) g
-is_gathered raw g first plain f p n a cl =
+    → map decl_of g.decls.items ≡ map decl_of plain ++ map head_of (map class_of raw.classes.items) → g.classes ≡ raw.classes → AreParts (raw_of raw) g
+are_parts raw g first plain f p n a cl =
     let both : map decl_of plain ≡ plain_decls (raw_of raw) = p ∙ ap (λ l. l ++ map function_decl (map function_of raw.functions.items)) f in
     let whole : all_decls (raw_of raw) ≡ map decl_of g.decls.items = ap (λ l. l ++ map head_of (map class_of raw.classes.items)) (sym both) ∙ sym a in
     let many : length (map decl_of plain) ≡ g.count = length-map plain decl_of ∙ sym n in
-    let long : length g.decls.items ≡ length (map decl_of plain) + length (map head_of (map class_of raw.classes.items)) =
-      sym (length-map g.decls.items decl_of) ∙ ap length a ∙ length-append (map decl_of plain) (map head_of (map class_of raw.classes.items)) in
     record {
       all = whole;
       plain = sym both ∙ sym (ap (take g.count) a ∙ take_at (map decl_of plain) (map head_of (map class_of raw.classes.items)) g.count many);
-      within = omega arith;
       kept = ap (λ (v : Vec Class Global). map class_of v.items) (sym cl);
     }
 
@@ -77,10 +74,17 @@ all_functions r =
 abbrev the_raw : List RecordTree → List RoutineTree → List ClassTree → RawTree
 the_raw rs fs cs = record { records = rs; functions = fs; classes = cs }
 
-pub released : (g : Gathered) (records : List RecordDecl) (functions : List FunctionDecl) (r : RawTree) → IsGathered r g
+pub released : (g : Gathered) (records : List RecordDecl) (functions : List FunctionDecl) (r : RawTree) → AreParts r g
     → map record_of records ≡ records_in (map decl_of g.decls.items) → map function_of functions ≡ functions_in (map decl_of g.decls.items)
     → ◌≡◌ {A = RawTree} (record { records = map record_of records; functions = map function_of functions; classes = map class_of g.classes.items }) r
 released g records functions r h e f =
     ap₂ (λ (rs : List RecordTree) (fs : List RoutineTree). the_raw rs fs (map class_of g.classes.items))
     (e ∙ ap records_in (sym h.all) ∙ all_records r) (f ∙ ap functions_in (sym h.all) ∙ all_functions r)
     ∙ ap (λ (cs : List ClassTree). the_raw r.records r.functions cs) (sym h.kept)
+
+pub within_all : (raw : RawClasses) (decls plain : List Decl) → map decl_of decls ≡ map decl_of plain ++ map head_of (map class_of raw.classes.items) → length plain ≤ length decls
+within_all raw decls plain a =
+    let long : length decls ≡ length plain + length (map head_of (map class_of raw.classes.items)) =
+      sym (length-map decls decl_of) ∙ ap length a ∙ length-append (map decl_of plain) (map head_of (map class_of raw.classes.items))
+      ∙ ap (λ n. n + length (map head_of (map class_of raw.classes.items))) (length-map plain decl_of) in
+    omega arith

@@ -11,7 +11,7 @@ ghost use Rattle.flow_validate.specs.Sizes.{HasFewPlaces, AreFew};
 ghost use Rattle.flow_validate.specs.PlaceNames.{AreEnough, AreEnoughFor};
 ghost use Rattle.flow_valid.specs.Named.{names_exist};
 ghost use Rattle.flow_valid.specs.Validity.{IsValid, broken_rule};
-ghost use Rattle.flow_validate.specs.Gathered.{IsGathered};
+ghost use Rattle.flow_validate.specs.Gathered.{AreParts, IsReady};
 ghost use Rattle.flow_validate.specs.Verdicts.{ClassTold, Told, Sees, AreHeadsKept, AreSoundClasses};
 
 use crate::blocks::{catchers_kept, groups_chosen, leads_forward};
@@ -93,7 +93,7 @@ fn judge_classes<'a>(
     classes: &'a [Class],
 ) -> Result<(), Invalid>
     requires few { AreFew (map class_of classes.now) }
-    requires count { length classes.now < 2 ^ 32 }
+    requires many { length classes.now < 2 ^ 32 }
     requires places { AreEnoughFor places.now.slots.items places.now.locals.items (map class_of classes.now) }
     ensures sound { (r : RawTree) → Sees r names.now → r.classes ≡ map class_of classes.now → IfOk result (λ _. AreSoundClasses r) }
     ensures refused { (r : RawTree) → Sees r names.now → r.classes ≡ map class_of classes.now → AreHeadsKept r → IfErr result (Told r) }
@@ -118,7 +118,7 @@ fn judge_heads<'a>(
     classes: &'a [Class],
 ) -> Result<(), Invalid>
     requires packet { map field_row (params_of packet.now) ≡ packet_fields }
-    requires count { length classes.now < 2 ^ 32 }
+    requires many { length classes.now < 2 ^ 32 }
     ensures kept { (r : RawTree) → Sees r names.now → plain_decls r ≡ map decl_of plain.now → r.classes ≡ map class_of classes.now → IfOk result (λ _. AreHeadsKept r) }
     ensures refused { (r : RawTree) → Sees r names.now → plain_decls r ≡ map decl_of plain.now → r.classes ≡ map class_of classes.now → IfErr result (Told r) }
 {
@@ -143,24 +143,32 @@ fn judge_heads<'a>(
     Ok(())
 }
 
-/// All that has a name at the top of a class program, as declarations: the records, the functions, and the classes as heads of
-/// actors; how many of them are records and functions; and the classes themselves.
+/// What a class program is judged by: all that has a name at the top, as declarations, which are its records, its functions, and its
+/// classes as heads of actors; how many of them are records and functions; the classes themselves; the fields of the predefined
+/// record; and names for the places of the classes.
 #[derive(Drop)]
 pub struct Gathered {
     pub decls: Vec<Decl>,
     pub count: usize,
     pub classes: Vec<Class>,
+    pub packet: Vec<Param>,
+    pub places: PlaceNames,
 }
 
-// What a class program declares.
+// What a class program is judged by.
 fn gather(alloc: Global, raw: RawClasses) -> Result<Gathered, NoMemory>
-    ensures { IfOk result (IsGathered (raw_of raw)) }
+    requires few { AreFew (raw_of raw).classes }
+    requires many { length raw.classes.items < 2 ^ 32 }
+    ensures parts { IfOk result (AreParts (raw_of raw)) }
+    ensures ready { IfOk result IsReady }
 {
     let RawClasses {
         records,
         functions,
         classes,
     } = raw;
+    let packet = packet_fields(alloc)?;
+    let places = place_names(alloc, &classes)?;
     let mut decls = Vec::new(alloc);
     add_records(&mut decls, records)?;
     add_functions(&mut decls, functions)?;
@@ -170,17 +178,21 @@ fn gather(alloc: Global, raw: RawClasses) -> Result<Gathered, NoMemory>
         decls,
         count,
         classes,
+        packet,
+        places,
     })
 }
 
 // The class program that was gathered.
 fn release(alloc: Global, gathered: Gathered) -> Result<RawClasses, NoMemory>
-    ensures { IfOk result (λ raw. (r : RawTree) → IsGathered r gathered → raw_of raw ≡ r) }
+    ensures { IfOk result (λ raw. (r : RawTree) → AreParts r gathered → raw_of raw ≡ r) }
 {
     let Gathered {
         decls,
-        count: _,
+        count: _count,
         classes,
+        packet: _packet,
+        places: _places,
     } = gathered;
     let Plain { records, functions } = apart(alloc, decls)?;
     Ok(RawClasses {
@@ -190,20 +202,34 @@ fn release(alloc: Global, gathered: Gathered) -> Result<RawClasses, NoMemory>
     })
 }
 
+// The verdict by the names at the top.
+fn judge_named<'a>(
+    alloc: Global,
+    names: &Names<'a>,
+    gathered: &'a Gathered,
+) -> Result<(), Invalid>
+    requires { IsReady gathered.now }
+    ensures valid { (r : RawTree) → Sees r names.now → AreParts r gathered.now → IfOk result (λ _. IsValid r) }
+    ensures refused { (r : RawTree) → Sees r names.now → AreParts r gathered.now → IfErr result (Told r) }
+{
+    judge_heads(
+        alloc,
+        names,
+        &gathered.packet,
+        &gathered.decls[..gathered.count],
+        &gathered.classes,
+    )?;
+    judge_classes(alloc, names, &gathered.places, &gathered.classes)
+}
+
 // The verdict on what is gathered.
 fn judge(alloc: Global, gathered: &Gathered) -> Result<(), Invalid>
-    requires few { AreFew (map class_of gathered.now.classes.items) }
-    requires many { length gathered.now.classes.items < 2 ^ 32 }
-    requires within { gathered.now.count ≤ length gathered.now.decls.items }
-    ensures valid { (r : RawTree) → IsGathered r gathered.now → IfOk result (λ _. IsValid r) }
-    ensures refused { (r : RawTree) → IsGathered r gathered.now → IfErr result (Told r) }
+    requires { IsReady gathered.now }
+    ensures valid { (r : RawTree) → AreParts r gathered.now → IfOk result (λ _. IsValid r) }
+    ensures refused { (r : RawTree) → AreParts r gathered.now → IfErr result (Told r) }
 {
-    let packet = packet_fields(alloc)?;
-    let places = place_names(alloc, &gathered.classes)?;
-    let names = Names::new(alloc, &packet, &gathered.decls)?;
-    let plain = &gathered.decls[..gathered.count];
-    judge_heads(alloc, &names, &packet, plain, &gathered.classes)?;
-    judge_classes(alloc, &names, &places, &gathered.classes)
+    let names = Names::new(alloc, &gathered.packet, &gathered.decls)?;
+    judge_named(alloc, &names, gathered)
 }
 
 /// The classes, where the rules V1 to V8 hold. Otherwise they are refused: by V1, where a record or a function breaks a rule of a
