@@ -115,7 +115,7 @@ pub slot_put : (k : Bor (List ℕ)) (v : code.Found) (es new : List (Bor (List �
 slot_put k v es new ss s few before name type put =
     let free = ap₂ named before name ∙ slots_before 0 (length ss) ss (omega arith) (omega arith) in
     ap rows put ∙ row_put k v es free ∙ ap₂ (λ l x. l ++ (x, found_of v) ∷ []) before name
-    ∙ ap (λ t. slot_rows 0 ss ++ (place_name (Slot (length ss)), t) ∷ []) type 
+    ∙ ap (λ t. slot_rows 0 ss ++ (place_name (Slot (length ss)), t) ∷ []) type
     ∙ ap (λ n. slot_rows 0 ss ++ (place_name (Slot n), s.ty) ∷ []) (omega arith) ∙ sym (slots_last 0 ss s)
 
 pub local_put : (k : Bor (List ℕ)) (v : code.Found) (es new : List (Bor (List ℕ) × code.Found)) (ss : List SlotTree) (ts : List TypeTree) (t : TypeTree)
@@ -123,8 +123,8 @@ pub local_put : (k : Bor (List ℕ)) (v : code.Found) (es new : List (Bor (List 
     → new ≡ insert_entry (λ (x y : Bor (List ℕ)). bytes_eq x.now y.now) es k v → rows new ≡ slot_rows 0 ss ++ local_rows 0 (ts ++ t ∷ [])
 local_put k v es new ss ts t few before name type put =
     let free =
-        ap₂ named before name
-        ∙ named_both (slot_rows 0 ss) (local_rows 0 ts) (place_name (Local (length ts))) (no_slot 0 (length ts) ss) (locals_before 0 (length ts) ts (omega arith) (omega arith)) in
+    ap₂ named before name
+    ∙ named_both (slot_rows 0 ss) (local_rows 0 ts) (place_name (Local (length ts))) (no_slot 0 (length ts) ss) (locals_before 0 (length ts) ts (omega arith) (omega arith)) in
     ap rows put ∙ row_put k v es free ∙ ap₂ (λ l x. l ++ (x, found_of v) ∷ []) before name
     ∙ ap (λ u. (slot_rows 0 ss ++ local_rows 0 ts) ++ (place_name (Local (length ts)), u) ∷ []) type
     ∙ append_assoc (slot_rows 0 ss) (local_rows 0 ts) ((place_name (Local (length ts)), t) ∷ [])

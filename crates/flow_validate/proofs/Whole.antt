@@ -85,6 +85,6 @@ released g records functions r h e f =
 pub within_all : (raw : RawClasses) (decls plain : List Decl) → map decl_of decls ≡ map decl_of plain ++ map head_of (map class_of raw.classes.items) → length plain ≤ length decls
 within_all raw decls plain a =
     let long : length decls ≡ length plain + length (map head_of (map class_of raw.classes.items)) =
-      sym (length-map decls decl_of) ∙ ap length a ∙ length-append (map decl_of plain) (map head_of (map class_of raw.classes.items))
-      ∙ ap (λ n. n + length (map head_of (map class_of raw.classes.items))) (length-map plain decl_of) in
+    sym (length-map decls decl_of) ∙ ap length a ∙ length-append (map decl_of plain) (map head_of (map class_of raw.classes.items))
+    ∙ ap (λ n. n + length (map head_of (map class_of raw.classes.items))) (length-map plain decl_of) in
     omega arith

@@ -203,11 +203,7 @@ fn release(alloc: Global, gathered: Gathered) -> Result<RawClasses, NoMemory>
 }
 
 // The verdict by the names at the top.
-fn judge_named<'a>(
-    alloc: Global,
-    names: &Names<'a>,
-    gathered: &'a Gathered,
-) -> Result<(), Invalid>
+fn judge_named<'a>(alloc: Global, names: &Names<'a>, gathered: &'a Gathered) -> Result<(), Invalid>
     requires { IsReady gathered.now }
     ensures valid { (r : RawTree) → Sees r names.now → AreParts r gathered.now → IfOk result (λ _. IsValid r) }
     ensures refused { (r : RawTree) → Sees r names.now → AreParts r gathered.now → IfErr result (Told r) }

@@ -32,5 +32,5 @@ loop-place-preserved c =
           c.loop-place.invariant.taken x
           ∙ ap (λ l. is_there (known l x)) (sym more);
       first = first_more all ds cs at class c.loop-place-test.true c.index-classes-place.is (first_head all ds 0 (map class_of cs))
-      (sym (c.head_kept.ensures (before ds cs at) c.loop-place.invariant.taken) ∙ c.if-not-head_kept.false) c.loop-place.invariant.first;
+          (sym (c.head_kept.ensures (before ds cs at) c.loop-place.invariant.taken) ∙ c.if-not-head_kept.false) c.loop-place.invariant.first;
     }
