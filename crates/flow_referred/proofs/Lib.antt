@@ -1,2 +1,5 @@
 pub mod Frames
 pub mod Onward
+pub mod Hands
+pub mod Tasks
+pub mod Losses

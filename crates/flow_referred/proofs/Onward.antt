@@ -205,3 +205,25 @@ module _ (k : ℕ) where
       none_waits s (w ∷ ws) =
           let a = none_waits s ws in
           let b = Rattle.flow_picture.proofs.Keeping.no_one s j k FutureSide other in omega (arith, a, b)
+
+  -- the cell has a reference where it is there, and a future where an actor wants it
+  abbrev pub Refers : Core → Numbered Frame → Type 0
+  Refers c xs = (IsThere (thing c.cells k) → 0 < refs PromiseSide c xs + refs FutureSide c xs) × (Wants c → 0 < refs FutureSide c xs)
+
+  pub refers_on : (c : Core) (xs : Numbered Frame) (d : Core) (ys : Numbered Frame) → Onward no_refs no_refs c xs d ys → Refers c xs → Refers d ys
+  refers_on c xs d ys f h = (
+    λ t. let m = f.1 PromiseSide in let n = f.1 FutureSide in let a = h.0 (f.0 t) in omega (arith, m, n, a),
+    λ w. let n = f.1 FutureSide in let a = h.1 (f.2 w) in omega (arith, n, a),
+  )
+
+  -- one task for another
+  pub swap_onward : (u v : Task) (c : Core) (xs : Numbered Frame) → ((s : Side) → in_task s k u ≤ in_task s k v) → Onward (λ s. in_task s k u) no_refs c xs (pushed v c) xs
+  swap_onward u v c xs h = (λ t. t, λ s. let m = of_pushed (proc c xs) s k v in let n = h s in omega (arith, m, n), λ w. w)
+
+  -- values that are dropped below a task
+  pub drop_push_onward : (vs : List ValueTree) (u : Task) (c : Core) (xs : Numbered Frame) → Onward (λ s. count s k (refs_in vs) + in_task s k u) no_refs c xs (dropping_values vs (pushed u c)) xs
+  drop_push_onward vs u c xs = (
+    λ t. t,
+    λ s. let m = of_values (proc (pushed u c) xs) s k vs in let n = of_pushed (proc c xs) s k u in omega (arith, m, n),
+    λ w. w,
+  )
