@@ -3,3 +3,4 @@ pub mod Onward
 pub mod Hands
 pub mod Tasks
 pub mod Losses
+pub mod Steps

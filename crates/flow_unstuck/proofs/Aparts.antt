@@ -69,4 +69,4 @@ pub ends_apart : (r : RawTree) → IsValid r → (types : CellTypes) (c : Core) 
 ends_apart r valid types c xs p order i k e o ts top at own =
     let a = actor_here r types i (Close i o) ts c xs order top (close_of i o) p in
     let same : a.owner.result ≡ k = some_number a.owner.result k (sym a.owner.owns ∙ ap (λ (e : Entry). e.result) (some_entry a.entry e (sym a.at ∙ at)) ∙ own) in
-    outcome_zero k r valid types o a.class.returns (ap types (sym same) ∙ a.owner.gives) a.doing
+    outcome_zero k r valid types o a.class.returns (ap types (sym same) ∙ a.owner.gives) a.doing.0

@@ -370,7 +370,7 @@ module _ (r : RawTree) (actors : List RoutineTree) (vars : List ParamTree) (type
   last_fits (ChooseLast g) here h = choose_fits g (callback_at f.code g v.kept) here refl h
   last_fits (ReturnLast e) here h =
       evaluated_fits (λ u. Is u f.code.returns) (value (class_names r) v (look f.mem) e) (λ u left. asks left (Returns u (everything f.mem)) over)
-      (value_fits e f.code.returns (filled_here (Last (ReturnLast e)) here) h) (λ u left k. ((k, everything_some r.records typed f.code f.mem s.holds), tt))
+      (value_fits e f.code.returns (filled_here (Last (ReturnLast e)) here) h) (λ u left k. ((k, everything_some r.records typed f.code f.mem s.holds, refl), tt))
   last_fits (ThrowLast e) here h =
       evaluated_fits (λ u. Is u ErrorType) (value (class_names r) v (look f.mem) e) (λ u left. throw_value (class_names r) v f left (error_of u))
       (value_fits e ErrorType (filled_here (Last (ThrowLast e)) here) h)

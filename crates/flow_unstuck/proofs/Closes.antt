@@ -131,5 +131,5 @@ module _ (r : RawTree) (types : CellTypes) (i : ℕ) (o : OutcomeTree) (ts : Lis
           let ra = in_requests PromiseSide result c.requests in
           let ma = count_maybe PromiseSide result FutureSide c.main in
           subst (λ x. Fine r types (give_result (frames_scan ys) x o d).halted (give_result (frames_scan ys) x o d) ys) (sym a.owner.owns)
-          (result_set r types result o a.class.returns d ys state go a.owner.gives a.doing (Occ (frames_scan ys) FutureSide result d) refl (other_tasks q ca ea va ta pa ra ma all_zero) (first_task q ca ea va ta pa ra ma all_zero)
+          (result_set r types result o a.class.returns d ys state go a.owner.gives a.doing.0 (Occ (frames_scan ys) FutureSide result d) refl (other_tasks q ca ea va ta pa ra ma all_zero) (first_task q ca ea va ta pa ra ma all_zero)
           (alone.apart i result a.entry o ts top a.at a.owner.owns))

@@ -148,7 +148,7 @@ module _ (r : RawTree) (types others : CellTypes) (P : ℕ → Type 0) (moves : 
   doing_retyped c e f (Give i b v ∷ ts) s o k h = (h.0, given_retyped f b v s k h.1, h.2)
   doing_retyped c e f (Throw i err ∷ ts) s o k h = (h.0, either_retyped f s h.1, operands_retyped f 0 e.operands o h.2)
   doing_retyped c e f (Catch i err ∷ ts) s o k h = (h.0, standing_retyped f s h.1, h.2)
-  doing_retyped c e f (Close i v ∷ ts) s o k h = outcome_retyped v c.returns k h
+  doing_retyped c e f (Close i v ∷ ts) s o k h = (outcome_retyped v c.returns k h.0, h.1, h.2)
   doing_retyped c e f (Fire n ∷ ts) s o k h = h
   doing_retyped c e f (Drop kd n ∷ ts) s o k h = h
 

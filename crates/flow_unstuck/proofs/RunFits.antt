@@ -18,7 +18,7 @@ use Rattle.flow_meaning.specs.Work.{writes, pushed, dropping_values, new_cell}
 use Rattle.flow_meaning.specs.Effects.{result_task, push_result}
 use Rattle.flow_meaning.specs.Step.{proc, kept_by, view, enrol, start, answer_effect, answer, run_next, run}
 use Rattle.flow_meaning.specs.Orderly.{tasks_of, Rising, Orderly}
-use Rattle.flow_meaning.specs.Frame.{Frame}
+use Rattle.flow_meaning.specs.Frame.{Frame, over}
 use Rattle.flow_meaning.specs.Class.{begun, fresh_from, next_step, classes, class_names}
 use Rattle.flow_meaning.proofs.Posture.{thing_put, own_task}
 use Rattle.flow_meaning.proofs.Shifts.{run_of, close_of}
@@ -99,10 +99,10 @@ module _ (r : RawTree) (actors : List RoutineTree) (rules : ClassRules r actors)
 
   -- an actor asks
   module _ (types : CellTypes) (i : ℕ) (k : Core) (xs : Numbered Frame) (e : Entry) (g : Frame) (c : ClassTree) (go : k.halted ≡ None) (h : HandFits r types i k xs e g c) (up : Rising 0 k.started k.entries) where
-    end_fits : (v : ValueTree) (vs : List ValueTree) → OutcomeFits r.records (typed_by types) (GoodOutcome v) c.returns → HaveSome r.records (typed_by types) vs → After r actors rules s types (answer (classes r) s i (Returns v vs) (proc k xs))
-    end_fits v vs f some =
+    end_fits : (v : ValueTree) (vs : List ValueTree) → OutcomeFits r.records (typed_by types) (GoodOutcome v) c.returns → HaveSome r.records (typed_by types) vs → g ≡ over → e.operands ≡ [] → After r actors rules s types (answer (classes r) s i (Returns v vs) (proc k xs))
+    end_fits v vs f some ended none =
         let t = Close i (GoodOutcome v) in
-        fine_same r types k.halted (dropping_values vs (pushed t k)) xs go (dropping_fits r types vs (pushed t k) xs some (goes_by r types i t k xs e g c h (close_of i (GoodOutcome v)) (λ ts. f)))
+        fine_same r types k.halted (dropping_values vs (pushed t k)) xs go (dropping_fits r types vs (pushed t k) xs some (goes_by r types i t k xs e g c h (close_of i (GoodOutcome v)) (λ ts. (f, ended, none))))
 
     effect_asked : (goal : Goal) (eff : Effect) → g.code ≡ c → ActFits r (class_vars g.code) (typed_by types) c (length e.operands) (Effects goal eff) g → OperandsFit r types g 0 e.operands → ((OfWait (Effects goal eff) → ⊥) → e.operands ≡ [])
         → After r actors rules s types (answer_effect (classes r) s i goal eff (proc k xs))
@@ -116,7 +116,7 @@ module _ (r : RawTree) (actors : List RoutineTree) (rules : ClassRules r actors)
 
     pub asked_fits : (act : Act) → StaysIn r (class_vars g.code) (typed_by types) c act g → ActFits r (class_vars g.code) (typed_by types) c (length e.operands) act g → OperandsFit r types g 0 e.operands → ((OfWait act → ⊥) → e.operands ≡ [])
         → After r actors rules s types (answer (classes r) s i act (proc k xs))
-    asked_fits (Returns v vs) stays f o none = end_fits v vs f.0 f.1
+    asked_fits (Returns v vs) stays f o none = end_fits v vs f.0 f.1 f.2 (none (λ w. w))
     asked_fits (Effects goal eff) stays f o none = effect_asked goal eff stays f o none
     asked_fits act stays f o none = react_fits r i xs e g c stays types s act k go h up f o none (λ z class args q. cc) (λ v vs q. cc)
 

@@ -154,7 +154,7 @@ module _ (r : RawTree) (actors : List RoutineTree) (rules : ClassRules r actors)
       by_catcher : (a : Actor r types i (Throw i err) ts c xs) (x : Option CatcherTree) → catcher_at a.frame.code a.frame.block ≡ x
           → Fine r types (throw_core i err (raised err a.frame x).0 (Some a.entry) popped_core).halted (throw_core i err (raised err a.frame x).0 (Some a.entry) popped_core) (put xs i (raised err a.frame x).1)
       by_catcher a None q =
-          leaves a (raised err a.frame None).1 (everything a.frame.mem) (Close i (BadOutcome err)) (close_of i (BadOutcome err)) (everything_some r.records (typed_by types) a.frame.code a.frame.mem (holds_of a.frame a.doing.1)) (λ us. tt)
+          leaves a (raised err a.frame None).1 (everything a.frame.mem) (Close i (BadOutcome err)) (close_of i (BadOutcome err)) (everything_some r.records (typed_by types) a.frame.code a.frame.mem (holds_of a.frame a.doing.1)) (λ us. (tt, refl, refl))
       by_catcher a (Some x) q =
           let out = caught a x q a.doing.1 in
           leaves a (raised err a.frame (Some x)).1 (raised err a.frame (Some x)).0.values (Catch i err) (catch_of i err) out.1 (λ us. (out.2 ∙ a.doing.0, out.0, refl))

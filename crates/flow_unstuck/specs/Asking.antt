@@ -13,7 +13,7 @@ use Rattle.flow_class.specs.Code.{Fetched, Body, Last, fetch, callback_at, type_
 use Rattle.flow_valid.specs.Validity.{operand_type}
 use Rattle.flow_meaning.specs.Lines.{print_line}
 use Rattle.flow_meaning.specs.Asks.{DiskCall, ReadCall, WriteCall, SyncCall, SizeCall, Effect, Make, Start, Draw, Delay, Never, Listen, Disk, Goal, Stored, Kept, Ask, Act, Goes, Pass, Drops, Effects, Operand, Waits, Sends, Cancels, Prints, SendsTo, Returns, Throws, RunsOut, Stuck}
-use Rattle.flow_meaning.specs.Frame.{Frame}
+use Rattle.flow_meaning.specs.Frame.{Frame, over}
 use Rattle.flow_unstuck.specs.Rules.{first_types, takes_type}
 use Rattle.flow_unstuck.specs.Standing.{Stands, StandsWaiting}
 
@@ -93,7 +93,8 @@ module _ (r : RawTree) (vars : List ParamTree) (typed : ℕ → TypeTree → Typ
   ActFits c kept (Cancels k) g = Standing g
   ActFits c kept (Prints v) g = Standing g × CanPrint v
   ActFits c kept (SendsTo q port text) g = Standing g
-  ActFits c kept (Returns v vs) g = HasType r.records typed v c.returns × HaveSome r.records typed vs
+  ActFits c kept (Returns v vs) g =
+      HasType r.records typed v c.returns × HaveSome r.records typed vs × (g ≡ over)
   ActFits c kept (Throws e) g = Standing g
   ActFits c kept RunsOut g = Unit {0}
   ActFits c kept Stuck g = ⊥

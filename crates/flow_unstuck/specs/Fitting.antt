@@ -11,7 +11,7 @@ use Rattle.flow_meaning.specs.Numbered.{Numbered, thing}
 use Rattle.flow_meaning.specs.Cells.{Ref, Waiter, Cell, Single, Stream, waiters}
 use Rattle.flow_meaning.specs.Process.{Task, Run, Give, Throw, Catch, Store, Keep, Close, Fire, Drop, Entry, Core}
 use Rattle.flow_meaning.specs.Orderly.{tasks_of, Rising}
-use Rattle.flow_meaning.specs.Frame.{Frame}
+use Rattle.flow_meaning.specs.Frame.{Frame, over}
 use Rattle.flow_unstuck.specs.Places.{class_vars}
 use Rattle.flow_unstuck.specs.Standing.{Stands, StandsWaiting}
 use Rattle.flow_unstuck.specs.Rules.{takes_type}
@@ -97,7 +97,8 @@ module _ (r : RawTree) (types : CellTypes) where
   DoingFits c e f (Give i b o ∷ ts) = (f.code ≡ c) × GivenFits f b o × (e.operands ≡ [])
   DoingFits c e f (Throw i err ∷ ts) = (f.code ≡ c) × (Standing f ⊎ Waiting f) × OperandsFit f 0 e.operands
   DoingFits c e f (Catch i err ∷ ts) = (f.code ≡ c) × Standing f × (e.operands ≡ [])
-  DoingFits c e f (Close i o ∷ ts) = OutcomeFits r.records (typed_by types) o c.returns
+  DoingFits c e f (Close i o ∷ ts) =
+      OutcomeFits r.records (typed_by types) o c.returns × (f ≡ over) × (e.operands ≡ [])
   DoingFits c e f ts = ⊥
 
   abbrev pub PostureFits : Bool → ClassTree → Entry → Frame → List Task → Type 0
