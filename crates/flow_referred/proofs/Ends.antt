@@ -68,3 +68,58 @@ module _ (k : ℕ) (c : Core) (xs : Numbered Frame) (i b j : ℕ) (e : Entry) (v
       let l = leave_onward k i e vs (Give i b o) d xs entry (taken_agrees c j cell at agree) (taken_kinds c j cell at e.operands kinds)
       (Rattle.flow_meaning.proofs.Order.rising_put c.cells 0 c.made j (after_taking cell) up) in
       ((λ z. a.0 (l.0 z)), (λ s. let x = a.1 s in let y = l.1 s in let w : in_task s k (Give i b o) ≡ in_task s k (Give 0 0 o) = refl in omega (arith, x, y, w)), (λ w. a.2 (l.2 w)))
+
+module _ (k : ℕ) (r : RawTree) (actors : List RoutineTree) (rules : Rattle.flow_unstuck.specs.Rules.ClassRules r actors) (types : CellTypes) (c : Core) (xs : Numbered Frame) (o : Orderly c) (p : ProcessFits r types c xs) (t : Tied c) (ts : List Task) (h : Refers k c xs) where
+  abbrev now : Core
+  now = record c { tasks = ts }
+
+  abbrev Fine : Core → Numbered Frame → Type 0
+  Fine d ys = Unless (λ d. Refers k d ys) d
+
+  fine_on : (d : Core) (ys : Numbered Frame) → Onward k no_refs no_refs c xs d ys → Fine d ys
+  fine_on d ys f = unless d.halted (refers_on k c xs d ys f h)
+
+  -- the actor leaves with what its frame lost
+  lost_frame : (i : ℕ) (f : Frame) → thing xs i ≡ Some f → (a : Side → ℕ) → Onward k a (λ s. count s k (refs_in (lose f).0) + a s) now xs now (put xs i (lose f).1)
+  lost_frame i f at a =
+      Rattle.flow_referred.proofs.Onward.frame_onward k a (λ s. count s k (refs_in (lose f).0) + a s) i f (lose f).1 now xs at (λ s. let m = Rattle.flow_picture.proofs.Holding.of_all_locals s k f.mem in omega (arith, m))
+
+  -- an operand is kept
+  kept_holds : (s : Side) (spot : _) (q : Ref) (e : Entry) → e.suspended ≡ false → entry_holds s k e + in_task s k (Keep 0 spot q) ≤ entry_holds s k (with_operand spot q e)
+  kept_holds s spot q e awake =
+      let a = ap (λ b. count_kept s k b e.operands) awake in
+      let b = ap (λ b. count_kept s k b (e.operands ++ q ∷ [])) awake in
+      let d = Rattle.flow_picture.proofs.Sums.count_joined s k e.operands (q ∷ []) in omega (arith, a, b, d)
+
+  -- nothing but the actor's next step is taken from below
+  below_onward : (i : ℕ) (us : List Task) (ys : Numbered Frame) → Rattle.flow_meaning.specs.Orderly.NextStep i us → (b : Side → ℕ) → Onward k b b (record c { tasks = us }) ys (record c { tasks = below us }) ys
+  below_onward i [] ys n b = absurd n
+  below_onward i (Run j ∷ us) ys n b =
+      let m = Rattle.flow_referred.proofs.Onward.pop_onward k (Run j) us (record c { tasks = Run j ∷ us }) ys refl in
+      (m.0, (λ s. let x = m.1 s in let z : in_task s k (Run j) ≡ 0 = refl in omega (arith, x, z)), m.2)
+  below_onward i (Give j b o ∷ us) ys n g = absurd n
+  below_onward i (Throw j e ∷ us) ys n g = absurd n
+  below_onward i (Catch j e ∷ us) ys n g = absurd n
+  below_onward i (Store j v ∷ us) ys n g = absurd n
+  below_onward i (Keep j spot q ∷ us) ys n g = absurd n
+  below_onward i (Close j o ∷ us) ys n g = absurd n
+  below_onward i (Fire j ∷ us) ys n g = absurd n
+  below_onward i (Drop kd j ∷ us) ys n g = absurd n
+
+  module _ (i : ℕ) (spot : _) (q : Ref) (top : c.tasks ≡ Keep i spot q ∷ ts) where
+    task : Side → ℕ
+    task s = in_task s k (Keep i spot q)
+
+    popped : Onward k no_refs (λ s. in_task s k (Keep i spot q)) c xs now xs
+    popped = Rattle.flow_referred.proofs.Onward.pop_onward k (Keep i spot q) ts c xs top
+
+    next_there : Rattle.flow_meaning.specs.Orderly.NextStep i ts
+    next_there = (subst Rattle.flow_meaning.specs.Orderly.Paired top o.paired).0
+
+    -- one more is kept
+    goes_on : (e : Entry) → thing c.entries i ≡ Some e → e.suspended ≡ false → Fine (record now { entries = put c.entries i (with_operand spot q e) }) xs
+    goes_on e at awake =
+        let a : Side → ℕ = λ s. in_task s k (Keep i spot q) in
+        let d = record now { entries = put c.entries i (with_operand spot q e) } in
+        let m = Rattle.flow_referred.proofs.Onward.entry_onward k a no_refs i e (with_operand spot q e) now xs at (inr (refl, refl)) (λ s. let n = kept_holds s spot q e awake in omega (arith, n)) in
+        fine_on d xs (onward_on k no_refs a no_refs c xs now xs d xs popped m)

@@ -4,3 +4,5 @@ pub mod Hands
 pub mod Tasks
 pub mod Losses
 pub mod Steps
+pub mod Ends
+pub mod Drops

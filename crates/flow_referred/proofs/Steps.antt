@@ -62,12 +62,10 @@ module _ (k : ℕ) (r : RawTree) (actors : List RoutineTree) (rules : ClassRules
           let d = a.doing.1 in
           let w = rules_of i (Give i b (GoodOutcome u)) a a.doing.0 in
           let z = (classes r).take b u f in
-          let into = λ (q : Rattle.flow_class.specs.declared.class.Slotted.Slotted) (e : d.callback.into ≡ Some q).
-          (d.takes, sym (ap (Rattle.flow_unstuck.specs.Rules.takes_type f.code) e) ∙ d.into) in
           subst (λ x. After (steps.give (classes r) i b (GoodOutcome u) x (proc (now k c xs ts) xs))) (sym a.stands)
           (after_kept (dropping_values z.0 (pushed (Run i) (now k c xs ts))) (put xs i z.1)
           (handed_on k c xs ts (Give i b (GoodOutcome u)) i f z.1 z.0 (Run i) top a.stands
-          (λ s. take_takes r (typed_by types) (class_vars f.code) f w.places d.waiting.holds s k b u d.waiting.group d.callback d.waiting.there d.there into)))
+          (λ s. take_takes r (typed_by types) (class_vars f.code) f w.places d.waiting.holds s k b u d.waiting.group d.callback d.waiting.there d.there (λ q e. (d.takes, sym (ap (Rattle.flow_unstuck.specs.Rules.takes_type f.code) e) ∙ d.into)))))
 
   -- the result of an effect
   store_refers : (i : ℕ) (v : ValueTree) → c.tasks ≡ Store i v ∷ ts → After (steps.store (classes r) i v (thing xs i) (proc (now k c xs ts) xs))
