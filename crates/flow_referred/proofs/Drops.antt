@@ -28,7 +28,7 @@ module _ (k : ℕ) (r : RawTree) (types : CellTypes) (c : Core) (xs : Numbered F
   abbrev off : ℕ → Core
   off n = record c { tasks = ts; left = n }
 
-  off_fits : (n : ℕ) → TasksFit r types ts → ((i : ℕ) → tasks_of i c.tasks ≡ tasks_of i ts) → ProcessFits r types (off n) xs
+  pub off_fits : (n : ℕ) → TasksFit r types ts → ((i : ℕ) → tasks_of i c.tasks ≡ tasks_of i ts) → ProcessFits r types (off n) xs
   off_fits n work same = record {
     cells = p.cells;
     waiting = p.waiting;

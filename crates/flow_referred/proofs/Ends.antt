@@ -59,7 +59,7 @@ module _ (c : Core) (j : ℕ) (cell : Cell) (at : thing c.cells j ≡ Some cell)
 
 -- a branch is taken: from the same process, whose actor leaves with these values
 module _ (k : ℕ) (c : Core) (xs : Numbered Frame) (i b j : ℕ) (e : Entry) (vs : List ValueTree) where
-  given_onward : (cell : Cell) (o : OutcomeTree) (m : ℕ) → thing c.cells j ≡ Some cell → taken cell ≡ Some o → thing c.entries i ≡ Some e → Agree c → RightKinds c.cells e.operands → Rising 0 c.made c.cells
+  pub given_onward : (cell : Cell) (o : OutcomeTree) (m : ℕ) → thing c.cells j ≡ Some cell → taken cell ≡ Some o → thing c.entries i ≡ Some e → Agree c → RightKinds c.cells e.operands → Rising 0 c.made c.cells
       → (let d = record (writes (take_line i e.spot.group b) (record c { left = m })) { cells = put c.cells j (after_taking cell) } in
       Onward k (λ s. count s k (refs_in vs)) no_refs c xs (leave_for i e vs (Give i b o) d) xs)
   given_onward cell o m at got entry agree kinds up =
@@ -123,3 +123,65 @@ module _ (k : ℕ) (r : RawTree) (actors : List RoutineTree) (rules : Rattle.flo
         let d = record now { entries = put c.entries i (with_operand spot q e) } in
         let m = Rattle.flow_referred.proofs.Onward.entry_onward k a no_refs i e (with_operand spot q e) now xs at (inr (refl, refl)) (λ s. let n = kept_holds s spot q e awake in omega (arith, n)) in
         fine_on d xs (onward_on k no_refs a no_refs c xs now xs d xs popped m)
+
+    -- the actor leaves its wait with what its frame lost: by a task that holds nothing, or by a branch that it takes
+    module _ (e : Entry) (f : Frame) (at : thing c.entries i ≡ Some e) (awake : e.suspended ≡ false) (stands : thing xs i ≡ Some f) (kinds : RightKinds c.cells (e.operands ++ q ∷ [])) where
+      abbrev kept : Entry
+      kept = with_operand spot q e
+
+      abbrev low : Core
+      low = record c { tasks = below ts }
+
+      abbrev ys : Numbered Frame
+      ys = put xs i (lose f).1
+
+      agree : Agree (record c { entries = put c.entries i kept })
+      agree = Rattle.flow_referred.proofs.Tasks.agree_put c i e kept at (ap (λ b. Rattle.flow_picture.specs.Counted.waiting_by b (e.operands ++ q ∷ [])) awake ∙ sym (ap (λ b. Rattle.flow_picture.specs.Counted.waiting_by b e.operands) awake)) t.agree
+
+      -- so far: the tasks are off, the frame has lost
+      so_far : Onward k no_refs (λ s. count s k (refs_in (lose f).0) + in_task s k (Keep i spot q)) c xs low ys
+      so_far =
+          let a : Side → ℕ = λ s. in_task s k (Keep i spot q) in
+          let b : Side → ℕ = λ s. count s k (refs_in (lose f).0) + in_task s k (Keep i spot q) in
+          onward_on k no_refs b b c xs now ys low ys (onward_on k no_refs a b c xs now xs now ys popped (lost_frame i f stands a)) (below_onward i ts ys next_there b)
+
+      cancelled_on : Fine (leave_for i kept (lose f).0 (Throw i operation_cancelled) low) ys
+      cancelled_on =
+          let a : Side → ℕ = λ s. in_task s k (Keep i spot q) in
+          let b : Side → ℕ = λ s. count s k (refs_in (lose f).0) + in_task s k (Keep i spot q) in
+          let d = leave_for i kept (lose f).0 (Throw i operation_cancelled) low in
+          let m = replaced_onward k a i e kept (lose f).0 (Throw i operation_cancelled) low ys at (inr (refl, refl)) (λ s. kept_holds s spot q e awake) agree kinds p.numbered in
+          fine_on d ys (onward_on k no_refs b no_refs c xs low ys d ys so_far (m.0, (λ s. let x = m.1 s in omega (arith, x)), m.2))
+
+      -- the operand that is kept is the branch that is taken
+      taken_on : (b : ℕ) (x : Option Cell) → thing c.cells q.1 ≡ x → Fine (take_branch i b q.1 kept (lose f).0 x low) ys
+      taken_on b None found = tt
+      taken_on b (Some cell) found = after_turn (λ d. Refers k d ys) (λ d. give i b kept (lose f).0 (taken cell) (record (writes (take_line i kept.spot.group b) d) { cells = put d.cells q.1 (after_taking cell) })) low c.left (λ n. by_taken n (taken cell) refl)
+        where
+          by_taken : (n : ℕ) (o : Option OutcomeTree) → taken cell ≡ o → Fine (give i b kept (lose f).0 o (record (writes (take_line i kept.spot.group b) (record low { left = n })) { cells = put c.cells q.1 (after_taking cell) })) ys
+          by_taken n None got = tt
+          by_taken n (Some o) got =
+              let a : Side → ℕ = λ s. in_task s k (Keep i spot q) in
+              let g : Side → ℕ = λ s. count s k (refs_in (lose f).0) + in_task s k (Keep i spot q) in
+              let d = record (writes (take_line i kept.spot.group b) (record low { left = n })) { cells = put c.cells q.1 (after_taking cell) } in
+              let z = leave_for i kept (lose f).0 (Give i b o) d in
+              let m = taking_onward k q.1 cell o low ys found got in
+              let l = replaced_onward k a i e kept (lose f).0 (Give i b o) d ys at (inr (refl, refl)) (λ s. kept_holds s spot q e awake)
+                  (taken_agrees (record c { entries = put c.entries i kept }) q.1 cell found agree) (taken_kinds c q.1 cell found kept.operands kinds)
+                  (Rattle.flow_meaning.proofs.Order.rising_put c.cells 0 c.made q.1 (after_taking cell) p.numbered) in
+              fine_on z ys (onward_on k no_refs g no_refs c xs low ys z ys so_far ((λ w. m.0 (l.0 w)), (λ s. let x = m.1 s in let y = l.1 s in let w : in_task s k (Give i b o) ≡ in_task s k (Give 0 0 o) = refl in omega (arith, x, y, w)), (λ w. m.2 (l.2 w))))
+
+      by_verdict : (b : ℕ) (v : Verdict) → Fine (keep_by (classes r) i b v q kept f (proc now xs)).0.core (keep_by (classes r) i b v q kept f (proc now xs)).0.actors
+      by_verdict b GoesOn = goes_on e at awake
+      by_verdict b Cancelled = cancelled_on
+      by_verdict b Ready = taken_on b (thing c.cells q.1) refl
+
+    abbrev Kept_on : steps.Stepped Frame → Type 0
+    Kept_on z = Fine z.0.core z.0.actors
+
+    pub keep_refers : Kept_on (keep (classes r) i spot q (thing xs i) (thing c.entries i) (proc now xs))
+    keep_refers =
+        let a = Rattle.flow_unstuck.proofs.StepFits.actor_here r types i (Keep i spot q) ts c xs o top (keep_of i spot q) p in
+        subst (λ x. Kept_on (keep (classes r) i spot q x (thing c.entries i) (proc now xs))) (sym a.stands)
+        (subst (λ x. Kept_on (keep (classes r) i spot q (Some a.frame) x (proc now xs))) (sym a.at)
+        (by_verdict a.entry a.frame a.at a.awake a.stands (Rattle.flow_referred.proofs.Tasks.right_kinds r types c p.cells a.frame 0 (a.entry.operands ++ q ∷ []) a.doing.2) (length a.entry.operands) (verdict a.entry.marked (is_ready_at (thing c.cells q.1)))))

@@ -6,3 +6,5 @@ pub mod Losses
 pub mod Steps
 pub mod Ends
 pub mod Drops
+pub mod Fires
+pub mod Closes

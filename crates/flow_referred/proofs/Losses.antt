@@ -36,7 +36,7 @@ module _ (k : ℕ) (r : RawTree) (types : CellTypes) (c : Core) (xs : Numbered F
   still = ((λ z. z), (λ s. omega arith), (λ w. w))
 
   -- an actor that wants a cell holds its promise
-  wants_counts : (es : Numbered Entry) (i : ℕ) (e : Entry) → thing es i ≡ Some e → e.result ≡ Some k → 0 < in_entries PromiseSide k es
+  pub wants_counts : (es : Numbered Entry) (i : ℕ) (e : Entry) → thing es i ≡ Some e → e.result ≡ Some k → 0 < in_entries PromiseSide k es
   wants_counts [] i e at own = absurd (no_thing at)
   wants_counts (x ∷ es) i e at own = by_test (nat_eq i x.0) at (λ f. wants_counts es i e f own)
     where
