@@ -8,3 +8,4 @@ pub mod Ends
 pub mod Drops
 pub mod Fires
 pub mod Closes
+pub mod Acts
