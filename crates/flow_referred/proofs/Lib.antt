@@ -9,3 +9,5 @@ pub mod Drops
 pub mod Fires
 pub mod Closes
 pub mod Acts
+pub mod Waits
+pub mod Runs
