@@ -11,3 +11,4 @@ pub mod Closes
 pub mod Acts
 pub mod Waits
 pub mod Runs
+pub mod Stepping

@@ -46,11 +46,11 @@ module _ (k : ℕ) (r : RawTree) (actors : List RoutineTree) (rules : ClassRules
   rules_of i u a code = frame_rules r actors rules (record { now = 0; processes = 0; word = 0 }) types a.entry a.class a.frame a.owner code
 
   -- a handler begins
-  catch_refers : (i err : ℕ) → c.tasks ≡ Catch i err ∷ ts → Unless (λ d. Refers k d xs) (handle i err (now k c xs ts))
+  pub catch_refers : (i err : ℕ) → c.tasks ≡ Catch i err ∷ ts → Unless (λ d. Refers k d xs) (handle i err (now k c xs ts))
   catch_refers i err top = after_kept (handle i err (now k c xs ts)) xs (swapped k c xs ts (Catch i err) (Run i) top (λ s. omega arith))
 
   -- a branch that was taken
-  give_refers : (i b : ℕ) (v : OutcomeTree) → c.tasks ≡ Give i b v ∷ ts → After (steps.give (classes r) i b v (thing xs i) (proc (now k c xs ts) xs))
+  pub give_refers : (i b : ℕ) (v : OutcomeTree) → c.tasks ≡ Give i b v ∷ ts → After (steps.give (classes r) i b v (thing xs i) (proc (now k c xs ts) xs))
   give_refers i b v top = by_outcome v (actor_here r types i (Give i b v) ts c xs o top (give_of i b v) p) top
     where
       by_outcome : (v : OutcomeTree) (a : Actor r types i (Give i b v) ts c xs) → c.tasks ≡ Give i b v ∷ ts → After (steps.give (classes r) i b v (thing xs i) (proc (now k c xs ts) xs))
@@ -68,7 +68,7 @@ module _ (k : ℕ) (r : RawTree) (actors : List RoutineTree) (rules : ClassRules
           (λ s. take_takes r (typed_by types) (class_vars f.code) f w.places d.waiting.holds s k b u d.waiting.group d.callback d.waiting.there d.there (λ q e. (d.takes, sym (ap (Rattle.flow_unstuck.specs.Rules.takes_type f.code) e) ∙ d.into)))))
 
   -- the result of an effect
-  store_refers : (i : ℕ) (v : ValueTree) → c.tasks ≡ Store i v ∷ ts → After (steps.store (classes r) i v (thing xs i) (proc (now k c xs ts) xs))
+  pub store_refers : (i : ℕ) (v : ValueTree) → c.tasks ≡ Store i v ∷ ts → After (steps.store (classes r) i v (thing xs i) (proc (now k c xs ts) xs))
   store_refers i v top =
       let a = actor_here r types i (Store i v) ts c xs o top (store_of i v) p in
       let f = a.frame in
@@ -87,7 +87,7 @@ module _ (k : ℕ) (r : RawTree) (actors : List RoutineTree) (rules : ClassRules
   holds_of f (inl z) = z.holds
   holds_of f (inr z) = z.holds
 
-  throw_refers : (i err : ℕ) → c.tasks ≡ Throw i err ∷ ts → After (steps.throw (classes r) i err (thing xs i) (proc (now k c xs ts) xs))
+  pub throw_refers : (i err : ℕ) → c.tasks ≡ Throw i err ∷ ts → After (steps.throw (classes r) i err (thing xs i) (proc (now k c xs ts) xs))
   throw_refers i err top =
       let a = actor_here r types i (Throw i err) ts c xs o top (throw_of i err) p in
       let f = a.frame in
