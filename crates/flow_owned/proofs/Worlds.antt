@@ -48,16 +48,16 @@ use Rattle.flow_owned.proofs.Steps.{step_free}
 use Rattle.flow_owned.proofs.Brought.{deliver_free, arrive_free, boot_free, stop_free, all_now}
 use Rattle.flow_owned.proofs.Owns.{owns}
 
-abbrev AllUnset : List (Place Frame) → Type 0
+abbrev pub AllUnset : List (Place Frame) → Type 0
 AllUnset ps = AllByRecursion (λ (a : Place Frame). Unset a.proc.core) ps
 
-abbrev Now : Core → Type 0
+abbrev pub Now : Core → Type 0
 Now c = UnlessStopped c.halted (Unset c)
 
 idle_unset : Unset idle_core
 idle_unset k w = absurd (omega (arith, w))
 
-unset_at : (ps : List (Place Frame)) (k : ℕ) → AllUnset ps → Unset (slice_index_or ps k (record { up = false; proc = idle })).proc.core
+pub unset_at : (ps : List (Place Frame)) (k : ℕ) → AllUnset ps → Unset (slice_index_or ps k (record { up = false; proc = idle })).proc.core
 unset_at [] k h = idle_unset
 unset_at (p ∷ ps) zero h = h.0
 unset_at (p ∷ ps) (suc k) h = unset_at ps k h.1
@@ -67,7 +67,7 @@ unset_set [] k a h x = tt
 unset_set (p ∷ ps) zero a h x = (x, h.1)
 unset_set (p ∷ ps) (suc k) a h x = (h.0, unset_set ps k a h.1 x)
 
-start_unset : (n : ℕ) → AllUnset (replicate n (record { up = false; proc = idle }))
+pub start_unset : (n : ℕ) → AllUnset (replicate n (record { up = false; proc = idle }))
 start_unset zero = tt
 start_unset (suc n) = (idle_unset, start_unset n)
 
@@ -115,7 +115,7 @@ module _ (r : RawTree) (valid : IsValid r) (actors : List RoutineTree) (rules : 
     by_what t number (Arrives m from to port text) left v e f = arrived_unset to f m from port text v (listener (ready w to) port) refl
     by_what t number (Answers p k call) left v e f = answer_unset p f k _ (record { time = t; number = number; what = Answers p k call }) left e (own_sets p k)
 
-    begun_unset : (b : Begun Frame) → begun_by (classes r) w (next_of w.out) ≡ Some b → Now b.place.proc.core
+    pub begun_unset : (b : Begun Frame) → begun_by (classes r) w (next_of w.out) ≡ Some b → Now b.place.proc.core
     begun_unset b g = by_next (next_of w.out) g (next_in w.out.file.processes w.out fits.script)
       where
         by_next : (x : Next) → begun_by (classes r) w x ≡ Some b → NextIn w.out.file.processes w.out.events.pending x → Now b.place.proc.core
@@ -136,7 +136,7 @@ module _ (r : RawTree) (valid : IsValid r) (actors : List RoutineTree) (rules : 
   served_unset (Some q) t v h = h
 
   module _ (places : List (Place Frame)) (count n : ℕ) where
-    next_unset : (s l : Live Outside Frame) → Good r valid actors rules leads steps_fit places count n s → Now s.proc.core → advance (classes r) host s ≡ Some l → Now l.proc.core
+    pub next_unset : (s l : Live Outside Frame) → Good r valid actors rules leads steps_fit places count n s → Now s.proc.core → advance (classes r) host s ≡ Some l → Now l.proc.core
     next_unset s l g h a = by_halt s.proc.core.halted refl g.own h
       where
         by_step : (x : Option (Stepped Frame)) → step (classes r) (host.supply s.out) s.proc ≡ x → FitsAmong r n s.out.events.pending s.proc → Unset s.proc.core → advanced host s.out x ≡ Some l → Now l.proc.core
@@ -153,7 +153,7 @@ module _ (r : RawTree) (valid : IsValid r) (actors : List RoutineTree) (rules : 
     burst_unset s t (rests e) g h = h
     burst_unset s t (steps next e k) g h = burst_unset next t k (next_good r valid actors rules leads steps_fit places count n s next g e) (next_unset s next g h e)
 
-  event_unset : (w : World Frame) (b : Begun Frame) (l : Live Outside Frame) → WorldFits r w → AllUnset w.places → begun_by (classes r) w (next_of w.out) ≡ Some b → Burst (classes r) host (before b) l → l.proc.core.halted ≡ None
+  pub event_unset : (w : World Frame) (b : Begun Frame) (l : Live Outside Frame) → WorldFits r w → AllUnset w.places → begun_by (classes r) w (next_of w.out) ≡ Some b → Burst (classes r) host (before b) l → l.proc.core.halted ≡ None
       → AllUnset (after w b l).places
   event_unset w b l fits h g q go =
       let start = event_begins r valid actors rules leads steps_fit w b fits g in

@@ -28,7 +28,7 @@ use Rattle.flow_meaning.proofs.Shifts.{same_of}
 use Rattle.flow_picture.proofs.Referring.{of_new_cell, of_new_actor, of_port, of_request}
 use Rattle.flow_referred.proofs.Onward.{IsThere, no_refs, refs, Wants, Onward, Refers, refers_on, push_onward, filling_onward, IsOpen}
 
-one_side : (k : ℕ) (s : Side) (n : ℕ) → n ≡ k → one PromiseSide k s n + one FutureSide k s n ≡ 1
+pub one_side : (k : ℕ) (s : Side) (n : ℕ) → n ≡ k → one PromiseSide k s n + one FutureSide k s n ≡ 1
 one_side k PromiseSide n e =
     let a : one PromiseSide k PromiseSide n ≡ 1 = ap (λ z. one PromiseSide k PromiseSide z) e ∙ ap (λ (b : Bool). if b then 1 else 0) (same_number k) in
     let z : one FutureSide k PromiseSide n ≡ 0 = refl in omega (arith, a, z)

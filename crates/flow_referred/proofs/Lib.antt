@@ -12,3 +12,5 @@ pub mod Acts
 pub mod Waits
 pub mod Runs
 pub mod Stepping
+pub mod Brought
+pub mod Worlds

@@ -1,0 +1,5 @@
+use Rattle.flow_referred.proofs.Worlds.{valid_referred}
+use Rattle.flow_referred.proofs.laws.references_kept.Goals as goal
+
+pub returns : goal.returns
+returns c = valid_referred
