@@ -2,4 +2,4 @@ use Rattle.flow_referred.proofs.Worlds.{valid_referred}
 use Rattle.flow_referred.proofs.laws.references_kept.Goals as goal
 
 pub returns : goal.returns
-returns c = valid_referred
+returns c = record { states = valid_referred }
