@@ -1,6 +1,7 @@
 -- Stores in which things are added and changed.
-use Rattle.std.proofs.Common.{◌≡◌, ℕ, ◌<◌, ◌≤◌, max, nat_eq, Bool, true, false, List, [], ◌∷◌, ◌++◌, Option, Some, None, IsSome, refl, sym, ap, ◌∙◌, arith, if◌then◌else◌}
+use Rattle.std.proofs.Common.{◌≡◌, ℕ, suc, ◌+◌, ◌<◌, ◌≤◌, max, drop, get_or, length, nat_eq, Bool, true, false, List, [], ◌∷◌, ◌++◌, Option, Some, None, IsSome, refl, sym, ap, ◌∙◌, arith, if◌then◌else◌}
 use Rattle.std.proofs.lemmas.Bool.Decides.{nat_tests}
+use Rattle.std.proofs.Math.Seq.{drop-cons}
 use Rattle.flow_numbered.specs.Numbered.{Numbered, Store, thing, added, put, with_thing, IsRising}
 use Rattle.flow_numbered.proofs.Things.{with_same, thing_put, thing_added, nothing_above}
 use Rattle.flow_cancel.specs.Heap.{with_new}
@@ -34,6 +35,16 @@ module _ {A : Type 0} where
   pub thing_with : (s : Store A) (n : ℕ) (a b : A) → thing s.things n ≡ Some a → thing (put s.things n b) n ≡ Some b
   thing_with s n a b e = let same : nat_eq n n ≡ true = grind (arith, nat_tests) in thing_put s.things n a b n e ∙ rw same refl
 
+  pub with_thing_is : (s t : Store A) (n : ℕ) (a b : A) → thing s.things n ≡ Some a → t ≡ with_thing s n b → thing t.things n ≡ Some b
+  with_thing_is s t n a b e is = ap (λ (x : Store A). thing x.things n) is ∙ thing_with s n a b e
+
+  -- what is done to a thing that was just added
+  pub new_is : (s t : Store A) (n : ℕ) (a : A) → IsRising 0 s.things s.greatest → s.greatest < n → t ≡ with_new s n a → thing t.things n ≡ Some a
+  new_is s t n a h l is = ap (λ (x : Store A). thing x.things n) is ∙ thing_new s n a h l
+
+  pub then_new : (s t u : Store A) (n : ℕ) (a b : A) → IsRising 0 s.things s.greatest → s.greatest < n → t ≡ with_new s n a → u ≡ with_thing t n b → u ≡ with_new s n b
+  then_new s t u n a b h l is e = e ∙ ap (λ x. with_thing x n b) is ∙ with_new_with s n a b h l
+
   pub rising_added : (low : ℕ) (xs : Numbered A) (most n : ℕ) (a : A) → IsRising low xs most → most < n → IsRising low (added xs n a) n
   rising_added low [] most n a h l = (omega (arith, h, l), omega arith)
   rising_added low (x ∷ xs) most n a h l = (h.0, rising_added x.0 xs most n a h.1 l)
@@ -49,6 +60,10 @@ module _ {A W : Type 0} (add : A → List W → A) where
   more_next both s t n a w ws e is =
       rw (is, e, thing_with s n a (add a (w ∷ [])) e) (with_with s n (add a (w ∷ [])) (add (add a (w ∷ [])) ws) ∙ ap (with_thing s n) (both a w ws))
 
+  pub more_step : ((a : A) (w : W) (ws : List W) → add (add a (w ∷ [])) ws ≡ add a (w ∷ ws)) → (s t : Store A) (n : ℕ) (a : A) (w : W) (all : List W) (i : ℕ)
+      → thing s.things n ≡ Some a → t ≡ with_thing s n (add a (w ∷ [])) → drop i all ≡ w ∷ drop (i + 1) all → more n (drop (i + 1) all) (thing t.things n) t ≡ more n (drop i all) (thing s.things n) s
+  more_step both s t n a w all i e is split = more_next both s t n a w (drop (i + 1) all) e is ∙ ap (λ xs. more n xs (thing s.things n) s) (sym split)
+
   pub more_there : (s t : Store A) (n : ℕ) (a : A) (w : W) → thing s.things n ≡ Some a → t ≡ with_thing s n (add a (w ∷ [])) → IsSome (thing t.things n)
   more_there s t n a w e is = rw (is, thing_with s n a (add a (w ∷ [])) e) refl
 
@@ -58,3 +73,6 @@ module _ {A W : Type 0} (add : A → List W → A) where
       by_case : (o : Option A) → thing s.things n ≡ o → more n [] o s ≡ s
       by_case None e = refl
       by_case (Some a) e = with_same s n (add a []) (e ∙ ap (λ b. Some b) (sym (none a)))
+
+pub drop_next : {W : Type 0} (all : List W) (i : ℕ) (d : W) → i < length all → drop i all ≡ get_or all i d ∷ drop (i + 1) all
+drop_next all i d l = let next : suc i ≡ i + 1 = omega arith in drop-cons all i d l ∙ ap (λ k. get_or all i d ∷ drop k all) next

@@ -13,6 +13,7 @@ use Rattle.flow_stream.specs.Streams.{StreamTree}
 use Rattle.flow_cancel.specs.Heap.{HeapTree}
 use Rattle.flow_heapstate.specs.Referring.{Ref, same_kind, times}
 use Rattle.flow_heapstate.specs.Restoring.{RisesFrom, cell_held, stream_held, held_one, held_all}
+use Rattle.flow_heapstate.specs.Sound.{cell_times, stream_times}
 use Rattle.flow_heapstate.specs.declared.state.CellState.{CellState}
 use Rattle.flow_heapstate.specs.declared.state.StreamState.{StreamState}
 
@@ -146,13 +147,7 @@ module _ (cs : List CellState) (ss : List StreamState) (a b : ℕ) (cells : Rise
 abbrev pub added_counts : Counts → Counts → Counts
 added_counts a b = record { promises = a.promises + b.promises; futures = a.futures + b.futures }
 
-abbrev pub cell_times : ℕ → List Ref → Counts
-cell_times n rs = record { promises = times kind.Promise n rs; futures = times kind.Future n rs }
-
-abbrev pub stream_times : ℕ → List Ref → Counts
-stream_times n rs = record { promises = times kind.PromiseStream n rs; futures = times kind.FutureStream n rs }
-
-counts_same : (a b : Counts) → a.promises ≡ b.promises → a.futures ≡ b.futures → a ≡ b
+pub counts_same : (a b : Counts) → a.promises ≡ b.promises → a.futures ≡ b.futures → a ≡ b
 counts_same a b p q = ap₂ (λ x y. record { promises = x; futures = y }) p q
 
 pub cells_counted : (rs : List Ref) (f : ℕ → Counts) (n : ℕ) → all_in_cells rs f n ≡ added_counts (f n) (cell_times n rs)

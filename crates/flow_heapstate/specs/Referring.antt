@@ -1,5 +1,5 @@
 -- What counts as a reference in a heap that rests.
-use Rattle.std.specs.Prelude.{ℕ, suc, nat_eq, Bool, true, false, ◌&&◌, List, [], ◌∷◌, ◌++◌, map, if◌then◌else◌}
+use Rattle.std.specs.Prelude.{ℕ, suc, nat_eq, Bool, true, false, ◌&&◌, List, [], ◌∷◌, ◌++◌, if◌then◌else◌}
 use Rattle.std.specs.List.{flat_map}
 use Rattle.std.specs.declared.option.Option.{Option}
 use Rattle.std.specs.declared.option.Option.TheVariants.{None, Some}
@@ -38,8 +38,12 @@ waited None n = []
 waited (Some w) n = (FutureStream, n) ∷ []
 
 -- A waiter is a future, an open request a promise, a port a promise of its stream.
+abbrev pub waits_of : ℕ → List Waiter → List Ref
+waits_of n [] = []
+waits_of n (w ∷ ws) = (Future, n) ∷ waits_of n ws
+
 abbrev pub cell_refs : CellPart → List Ref
-cell_refs c = content_refs c.content ++ (noted c.requested Promise c.cell ++ map (λ w. (Future, c.cell)) c.waiters)
+cell_refs c = content_refs c.content ++ (noted c.requested Promise c.cell ++ waits_of c.cell c.waiters)
 
 abbrev pub stream_refs : StreamPart → List Ref
 stream_refs s = flat_map refs_of s.queue ++ (noted s.port PromiseStream s.cell ++ waited s.waiter s.cell)

@@ -13,7 +13,7 @@ use Rattle.flow_cell.specs.declared.waiter.Waiter.{Waiter}
 use Rattle.flow_cell.specs.Cells.{CellTree, no_counts, held}
 use Rattle.flow_stream.specs.Streams.{StreamTree}
 use Rattle.flow_frame.specs.declared.held.Held.{Held}
-use Rattle.flow_frame.specs.Frames.{FrameTree}
+use Rattle.flow_frame.specs.Frames.{FrameTree, in_state}
 use Rattle.flow_cancel.specs.Heap.{HeapTree, no_heap, with_new, with_number, may_start, promised_in, new_note, skipped_actors}
 use Rattle.flow_heapstate.specs.State.{parts_kept}
 use Rattle.flow_heapstate.specs.Referring.{Ref, stored_refs}
@@ -38,6 +38,10 @@ frame_of s = record {
   places = s.places.items;
   callbacks = s.callbacks.items;
 }
+
+-- a frame with a state and more callbacks
+abbrev pub stood : ℕ → List Held → FrameTree Value → FrameTree Value
+stood state hs f = record (in_state state f) { callbacks = (in_state state f).callbacks ++ hs }
 
 abbrev pub noted_if : Bool → ℕ → List ℕ → List ℕ
 noted_if false n ns = ns

@@ -5,11 +5,12 @@ ghost use Rattle.std.specs.List.{flat_map};
 ghost use Rattle.flow_value.specs.Values.{refs_of};
 ghost use Rattle.flow_value.specs.View.{value_of, outcome_of, ref_of};
 ghost use Rattle.flow_heapstate.specs.State.{place_of, cell_kept, stream_kept, actor_kept, parts_kept};
-ghost use Rattle.flow_heapstate.specs.Referring.{content_refs, place_refs, cell_refs, stream_refs, actor_refs, named, stored_refs};
+ghost use Rattle.flow_heapstate.specs.Referring.{waits_of, content_refs, place_refs, cell_refs, stream_refs, actor_refs, named, stored_refs};
 
 use crate::state::{ActorState, CellState, HeapState, StreamState};
 use flow_base::ids::CellId;
 use flow_base::memory::NoMemory;
+use flow_cell::waiter::Waiter;
 use flow_value::value::{Kind, Outcome, Value};
 use std::alloc::Global;
 
@@ -36,6 +37,20 @@ fn add_content(
     Ok(())
 }
 
+// Adds a future of a single result for each of its waiters.
+fn add_waits(
+    cell: CellId,
+    waiters: &[Waiter],
+    found: &mut Vec<(Kind, CellId)>,
+) -> Result<(), NoMemory>
+    ensures { OnOk result (map ref_of found.new.items ≡ map ref_of found.old.items ++ waits_of cell.0 waiters.now) }
+{
+    for _waiter in waiters {
+        found.push((Kind::Future, cell))?;
+    }
+    Ok(())
+}
+
 // Adds a single result: what it holds, an open request, and its waiters.
 fn add_cell(
     alloc: Global,
@@ -48,10 +63,7 @@ fn add_cell(
     if part.requested {
         found.push((Kind::Promise, part.cell))?;
     }
-    for _waiter in &part.waiters {
-        found.push((Kind::Future, part.cell))?;
-    }
-    Ok(())
+    add_waits(part.cell, &part.waiters, found)
 }
 
 // Adds the elements of a stream.

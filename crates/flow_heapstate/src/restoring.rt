@@ -4,12 +4,13 @@ ghost use Rattle.std.specs.Prelude.{◌≡◌, ◌<◌, ◌++◌, ◌^◌, max, 
 ghost use Rattle.std.specs.Option.{ForSome};
 ghost use Rattle.flow_value.specs.View.{ref_of};
 ghost use Rattle.flow_numbered.specs.Numbered.{thing, with_thing, IsRising};
-ghost use Rattle.flow_cell.specs.Cells.{unset};
-ghost use Rattle.flow_stream.specs.Streams.{empty};
-ghost use Rattle.flow_frame.specs.Frames.{in_state};
+ghost use Rattle.flow_cell.specs.Cells.{no_counts};
 ghost use Rattle.flow_cancel.specs.Heap.{last_actor, may_start, with_new, side_of};
-ghost use Rattle.flow_heapstate.specs.Restoring.{with_cell, with_cells, with_stream, with_streams, begun, with_actor, with_actors, held_in_cells, held_in_streams, held_one, held_all, restored, RisesFrom, InOrder};
+ghost use Rattle.flow_heapstate.specs.State.{parts_kept, parts_of};
+ghost use Rattle.flow_heapstate.specs.Sound.{SoundHeap, RestsWith};
+ghost use Rattle.flow_heapstate.specs.Restoring.{with_cell, with_cells, with_stream, with_streams, stood, begun, with_actor, with_actors, held_in_cells, held_in_streams, held_one, held_all, restored, RisesFrom, InOrder};
 
+use crate::listing::state;
 use crate::references::references;
 use crate::state::{ActorState, CellState, HeapState, StreamState};
 use flow_base::ids::{ActorId, CellId, ErrorCode};
@@ -35,20 +36,32 @@ fn add_waiters(cells: &mut Cells<Outcome>, cell: CellId, waiters: &[Waiter]) -> 
     Ok(())
 }
 
-// A new single result that may be set, without a reference and without a waiter.
+#[tactic(auto, using(flow_numbered::proofs::Things::with_same))]
+// An unset single result is set, or stays unset.
+fn set_cell(cells: &mut Cells<Outcome>, cell: CellId, content: Option<Outcome>)
+    requires there { IsSome (thing cells.old.things cell.0) }
+    requires unset { ForSome (thing cells.old.things cell.0) (λ c. c.content ≡ None) }
+    ensures { ForSome (thing cells.old.things cell.0) (λ c. cells.new ≡ with_thing cells.old cell.0 (record c { content = content })) }
+{
+    if let Some(outcome) = content {
+        cells.set(cell, outcome);
+    }
+}
+
+// A new single result with this content and these waiters, without a reference.
 fn make_cell(
     cells: &mut Cells<Outcome>,
     cell: CellId,
     content: Option<Outcome>,
+    waiters: &[Waiter],
 ) -> Result<(), NoMemory>
     requires rising { IsRising 0 cells.old.things cells.old.greatest }
     requires above { cells.old.greatest < cell.0 }
-    ensures { OnOk result (cells.new ≡ with_new cells.old cell.0 (record unset { content = content })) }
+    ensures { OnOk result (cells.new ≡ with_new cells.old cell.0 (record { content = content; references = no_counts; waiters = waiters.now })) }
 {
     cells.make(cell)?;
-    if let Some(outcome) = content {
-        cells.set(cell, outcome);
-    }
+    set_cell(cells, cell, content);
+    add_waiters(cells, cell, waiters)?;
     Ok(())
 }
 
@@ -59,14 +72,14 @@ fn put_cell(heap: &mut Heap, part: CellState) -> Result<(), NoMemory>
     ensures { OnOk result (heap.new ≡ with_cell part heap.old) }
 {
     let cells = heap.cells_mut();
-    make_cell(cells, part.cell, part.content)?;
-    add_waiters(cells, part.cell, &part.waiters)?;
+    make_cell(cells, part.cell, part.content, &part.waiters)?;
     if part.requested {
         heap.add_request(part.cell)?;
     }
     Ok(())
 }
 
+#[tactic(auto, using(crate::proofs::Building::rising_added))]
 // The single results of a state, without a reference.
 fn put_cells(heap: &mut Heap, parts: Vec<CellState>) -> Result<(), NoMemory>
     requires rising { IsRising 0 heap.old.cells.things heap.old.cells.greatest }
@@ -95,24 +108,47 @@ fn add_elements(
     Ok(())
 }
 
-// A stream gets its end and its waiter, if it has them.
-fn close_stream(
-    streams: &mut Streams<Value>,
-    cell: CellId,
-    end: Option<ErrorCode>,
-    waiter: Option<Waiter>,
-)
+#[tactic(auto, using(flow_numbered::proofs::Things::with_same))]
+// A stream that has no end gets one, or none.
+fn end_stream(streams: &mut Streams<Value>, cell: CellId, end: Option<ErrorCode>)
     requires there { IsSome (thing streams.old.things cell.0) }
     requires endless { ForSome (thing streams.old.things cell.0) (λ s. s.end ≡ None) }
-    requires alone { ForSome (thing streams.old.things cell.0) (λ s. s.waiter ≡ None) }
-    ensures { ForSome (thing streams.old.things cell.0) (λ s. streams.new ≡ with_thing streams.old cell.0 (record s { end = end; waiter = waiter })) }
+    ensures { ForSome (thing streams.old.things cell.0) (λ s. streams.new ≡ with_thing streams.old cell.0 (record s { end = end })) }
 {
     if let Some(error) = end {
         streams.end(cell, error);
     }
+}
+
+#[tactic(auto, using(flow_numbered::proofs::Things::with_same))]
+// A stream that has no waiter gets one, or none.
+fn await_stream(streams: &mut Streams<Value>, cell: CellId, waiter: Option<Waiter>)
+    requires there { IsSome (thing streams.old.things cell.0) }
+    requires alone { ForSome (thing streams.old.things cell.0) (λ s. s.waiter ≡ None) }
+    ensures { ForSome (thing streams.old.things cell.0) (λ s. streams.new ≡ with_thing streams.old cell.0 (record s { waiter = waiter })) }
+{
     if let Some(waiter) = waiter {
         streams.add_waiter(cell, waiter);
     }
+}
+
+// A new stream with these elements, end and waiter, without a reference.
+fn make_stream(
+    streams: &mut Streams<Value>,
+    cell: CellId,
+    queue: Vec<Value>,
+    end: Option<ErrorCode>,
+    waiter: Option<Waiter>,
+) -> Result<(), NoMemory>
+    requires rising { IsRising 0 streams.old.things streams.old.greatest }
+    requires above { streams.old.greatest < cell.0 }
+    ensures { OnOk result (streams.new ≡ with_new streams.old cell.0 (record { references = no_counts; queue = queue.items; end = end; waiter = waiter })) }
+{
+    streams.make(cell)?;
+    add_elements(streams, cell, queue)?;
+    end_stream(streams, cell, end);
+    await_stream(streams, cell, waiter);
+    Ok(())
 }
 
 // A stream of a state, without a reference.
@@ -122,15 +158,14 @@ fn put_stream(heap: &mut Heap, part: StreamState) -> Result<(), NoMemory>
     ensures { OnOk result (heap.new ≡ with_stream part heap.old) }
 {
     let streams = heap.streams_mut();
-    streams.make(part.cell)?;
-    add_elements(streams, part.cell, part.queue)?;
-    close_stream(streams, part.cell, part.end, part.waiter);
+    make_stream(streams, part.cell, part.queue, part.end, part.waiter)?;
     if part.port {
         heap.add_port(part.cell)?;
     }
     Ok(())
 }
 
+#[tactic(auto, using(crate::proofs::Building::rising_added))]
 // The streams of a state, without a reference.
 fn put_streams(heap: &mut Heap, parts: Vec<StreamState>) -> Result<(), NoMemory>
     requires rising { IsRising 0 heap.old.streams.things heap.old.streams.greatest }
@@ -158,6 +193,21 @@ fn add_callbacks(
     Ok(())
 }
 
+// A frame gets its state and more callbacks.
+fn stand(
+    frames: &mut Frames<Value>,
+    actor: ActorId,
+    state: u32,
+    callbacks: &[Held],
+) -> Result<(), NoMemory>
+    requires { IsSome (thing frames.old.things actor.0) }
+    ensures { ForSome (thing frames.old.things actor.0) (λ f. OnOk result (frames.new ≡ with_thing frames.old actor.0 (stood state callbacks.now f))) }
+{
+    frames.set_state(actor, state);
+    add_callbacks(frames, actor, callbacks)?;
+    Ok(())
+}
+
 // An actor starts with what its state says.
 fn begin(heap: &mut Heap, places: u32, part: ActorState) -> Result<(), NoMemory>
     requires may { may_start part.result heap.old ≡ true }
@@ -167,9 +217,8 @@ fn begin(heap: &mut Heap, places: u32, part: ActorState) -> Result<(), NoMemory>
 {
     heap.skip_actors(ActorId(part.actor.0 - 1));
     let actor = heap.start_holding(part.class, places, part.places, part.result)?;
-    let frames = heap.frames_mut();
-    frames.set_state(actor, part.state);
-    add_callbacks(frames, actor, &part.callbacks)
+    stand(heap.frames_mut(), actor, part.state, &part.callbacks)?;
+    Ok(())
 }
 
 // An actor of a state, if it can begin.
@@ -186,6 +235,7 @@ fn put_actor(heap: &mut Heap, part: ActorState) -> Result<(), NoMemory>
     begin(heap, places, part)
 }
 
+#[tactic(auto, using(crate::proofs::Filling::actors_rise))]
 // The actors of a state that can begin.
 fn put_actors(heap: &mut Heap, parts: Vec<ActorState>) -> Result<(), NoMemory>
     requires { RisesFrom (last_actor heap.old) (map (λ s. s.actor.0) parts.items) }
@@ -247,8 +297,8 @@ fn hold_all(heap: &mut Heap, found: &[(Kind, CellId)]) -> Result<(), NoMemory>
     Ok(())
 }
 
-/// The heap of a state whose parts are in the order of their numbers: what the state tells, and each reference counted.
-pub fn restore(alloc: Global, state: HeapState) -> Result<Heap, NoMemory>
+// The heap of a state whose parts are in the order of their numbers: what the state tells, and each reference counted.
+fn filled(alloc: Global, state: HeapState) -> Result<Heap, NoMemory>
     requires { InOrder state }
     ensures { IfOk result (λ h. h ≡ restored state) }
 {
@@ -270,4 +320,22 @@ pub fn restore(alloc: Global, state: HeapState) -> Result<Heap, NoMemory>
     heap.set_main(main);
     hold_all(&mut heap, &found)?;
     Ok(heap)
+}
+
+/// The heap of a state: it rests, holds what the state tells, and counts each reference in it and no other. The next
+/// numbers of cells and actors are those that the state's heap would have given.
+pub fn restore(alloc: Global, state: HeapState) -> Result<Heap, NoMemory>
+    requires { SoundHeap (parts_kept state) }
+    ensures { IfOk result (λ h. RestsWith (parts_kept state) h) }
+{
+    filled(alloc, state)
+}
+
+/// Another heap like one that rests and counts its references, made from its state.
+pub fn copied(alloc: Global, heap: &Heap) -> Result<Heap, NoMemory>
+    requires sound { SoundHeap (parts_of heap.now) }
+    requires counted { RestsWith (parts_of heap.now) heap.now }
+    ensures { IfOk result (λ h. RestsWith (parts_of heap.now) h) }
+{
+    restore(alloc, state(alloc, heap)?)
 }
