@@ -1,4 +1,5 @@
-use Rattle.std.proofs.Common.{◌≡◌, ◌∷◌, [], Some, None, refl, sym, ap, ◌∙◌, arith, rules}
+use Rattle.std.proofs.Common.{◌≡◌, ◌∷◌, [], Some, None, refl, sym, ap, ◌∙◌, arith}
+use Rattle.std.proofs.lemmas.Grind.{common_steps}
 use Rattle.flow_numbered.specs.Numbered.{thing}
 use Rattle.flow_heapstate.proofs.Reading.{what_is}
 use Rattle.flow_heapstate.proofs.Building.{more, more_next, more_there, more_none, with_thing_is}
@@ -24,6 +25,6 @@ pub returns : goal.returns
 returns c = λ x e.
     let s = c.loop-value.streams in
     let n = c.args.cell.0 in
-    let none : c.loop-value.value-iterator.rest.items ≡ [] = search rules in
+    let none : c.loop-value.value-iterator.rest.items ≡ [] = grind (arith, common_steps) in
     sym (more_none queue_more queue_none s n) ∙ ap (λ xs. more queue_more n xs (thing s.things n) s) (sym none) ∙ c.loop-value.invariant.same
     ∙ ap (λ o. more queue_more n c.args.queue.items o c.args.streams.now) e

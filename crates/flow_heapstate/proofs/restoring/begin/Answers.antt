@@ -9,5 +9,6 @@ stand-requires c =
 
 pub returns : goal.returns
 returns c =
+    let held : c.deref.result.now ≡ c.args.part.callbacks.items = grind arith in
     begins c.args.part _ _ _ c.in_ok-actor.actor.0 c.args.places c.requires.above c.skip_actors.ensures.skipped c.in_ok-actor.ensures.number c.in_ok-actor.ensures.started c.skip_actors.ensures.rising _ c.requires.places
-    (rw c.frames_mut.ensures.value at c.in_ok-stand.ensures)
+    (rw (c.frames_mut.ensures.value, held) at c.in_ok-stand.ensures)
