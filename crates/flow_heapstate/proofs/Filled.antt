@@ -1,22 +1,20 @@
 -- A heap filled from a state, part by part.
-use Rattle.std.proofs.Common.{◌≡◌, ◌≢◌, ◌<◌, ◌≤◌, ◌+◌, ◌-◌, ◌^◌, ℕ, suc, max, nat_eq, nat_lt, Bool, true, false, ◌&&◌, ◌||◌, List, [], ◌∷◌, ◌++◌, map, length, Option, Some, None, IsSome, refl, sym, ap, ap₂, ◌∙◌, arith, if◌then◌else◌}
+use Rattle.std.proofs.Common.{◌≡◌, ◌<◌, ◌-◌, ◌^◌, ℕ, nat_eq, nat_lt, Bool, true, false, List, [], ◌∷◌, ◌++◌, map, length, Option, Some, None, refl, ap, ap₂, ◌∙◌, arith, if◌then◌else◌}
 use Rattle.std.proofs.lemmas.Bool.Decides.{nat_tests}
 use Rattle.std.proofs.lemmas.List.{append_assoc}
 use Rattle.flow_base.specs.declared.ids.CellId.{CellId}
 use Rattle.flow_value.specs.declared.value.Value.{Value}
-use Rattle.flow_value.specs.declared.value.Outcome.{Outcome}
-use Rattle.flow_numbered.specs.Numbered.{Numbered, Store, thing, added}
+use Rattle.flow_numbered.specs.Numbered.{Numbered, thing, added}
 use Rattle.flow_cell.specs.declared.counts.Side.TheVariants.{Promise}
-use Rattle.flow_cell.specs.Cells.{Counts, CellTree, no_counts}
+use Rattle.flow_cell.specs.Cells.{Counts, no_counts}
 use Rattle.flow_frame.specs.Frames.{FrameTree}
 use Rattle.flow_cancel.specs.declared.actors.Note.{Note}
-use Rattle.flow_cancel.specs.Heap.{HeapTree, owner, owner_of, is_result, new_note, may_start, promised_in}
-use Rattle.flow_heapstate.specs.Referring.{Ref}
+use Rattle.flow_cancel.specs.Heap.{HeapTree, owner, is_result, new_note, may_start, promised_in}
 use Rattle.flow_heapstate.specs.Restoring.{frame_of, noted_if, with_cell, with_cells, with_stream, with_streams, can_begin, begun, with_actor, with_actors, RisesFrom}
 use Rattle.flow_heapstate.specs.declared.state.CellState.{CellState}
 use Rattle.flow_heapstate.specs.declared.state.StreamState.{StreamState}
 use Rattle.flow_heapstate.specs.declared.state.ActorState.{ActorState}
-use Rattle.flow_heapstate.proofs.Recounting.{bumped, recounted, cell_number, stream_number, cell_counted, stream_counted, cells_with, streams_with, cell_rises}
+use Rattle.flow_heapstate.proofs.Recounting.{bumped, recounted, cell_number, stream_number, cell_counted, stream_counted, cells_with, cell_rises}
 
 abbrev pub no_count : ℕ → Counts
 no_count n = no_counts

@@ -1,5 +1,5 @@
 -- Waiters, elements and callbacks that come one after another.
-use Rattle.std.proofs.Common.{◌≡◌, ℕ, List, [], ◌∷◌, ◌++◌, refl, sym, ap, ◌∙◌}
+use Rattle.std.proofs.Common.{◌≡◌, List, [], ◌∷◌, ◌++◌, ap}
 use Rattle.std.proofs.lemmas.List.{append_assoc, append-nil}
 use Rattle.flow_value.specs.declared.value.Value.{Value}
 use Rattle.flow_value.specs.declared.value.Outcome.{Outcome}

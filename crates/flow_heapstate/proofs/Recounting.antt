@@ -1,17 +1,16 @@
 -- Counts of references that rise one after another.
-use Rattle.std.proofs.Common.{◌≡◌, ◌≢◌, ◌<◌, ℕ, suc, ◌+◌, nat_eq, Bool, true, false, ◌&&◌, List, [], ◌∷◌, ◌++◌, map, Option, Some, None, refl, sym, ap, ap₂, ◌∙◌, arith, if◌then◌else◌}
+use Rattle.std.proofs.Common.{◌≡◌, ◌≢◌, ◌<◌, ℕ, suc, ◌+◌, nat_eq, Bool, true, false, List, [], ◌∷◌, map, Option, Some, None, refl, sym, ap, ap₂, ◌∙◌, arith, if◌then◌else◌}
 use Rattle.std.proofs.lemmas.Bool.Decides.{nat_tests}
-use Rattle.flow_value.specs.declared.value.Kind.{Kind}
 use Rattle.flow_value.specs.declared.value.Kind.TheVariants as kind
 use Rattle.flow_value.specs.declared.value.Value.{Value}
 use Rattle.flow_value.specs.declared.value.Outcome.{Outcome}
-use Rattle.flow_numbered.specs.Numbered.{Numbered, Store, thing, put, with_thing}
+use Rattle.flow_numbered.specs.Numbered.{Numbered, Store, thing, put}
 use Rattle.flow_cell.specs.declared.counts.Side.{Side}
 use Rattle.flow_cell.specs.declared.counts.Side.TheVariants.{Promise, Future}
 use Rattle.flow_cell.specs.Cells.{Counts, CellTree, held}
 use Rattle.flow_stream.specs.Streams.{StreamTree}
 use Rattle.flow_cancel.specs.Heap.{HeapTree}
-use Rattle.flow_heapstate.specs.Referring.{Ref, same_kind, times}
+use Rattle.flow_heapstate.specs.Referring.{Ref, times}
 use Rattle.flow_heapstate.specs.Restoring.{RisesFrom, cell_held, stream_held, held_one, held_all}
 use Rattle.flow_heapstate.specs.Sound.{cell_times, stream_times}
 use Rattle.flow_heapstate.specs.declared.state.CellState.{CellState}

@@ -1,5 +1,5 @@
 -- The heap that a state is restored to.
-use Rattle.std.proofs.Common.{◌≡◌, ◌≢◌, ◌<◌, ◌≤◌, ◌+◌, ◌^◌, ℕ, suc, max, nat_eq, nat_lt, Bool, true, false, ◌&&◌, ◌||◌, List, [], ◌∷◌, ◌++◌, map, length, Option, Some, None, IsSome, refl, sym, ap, ap₂, ◌∙◌, subst, arith, if◌then◌else◌}
+use Rattle.std.proofs.Common.{◌≡◌, ◌<◌, ◌+◌, ◌^◌, ℕ, suc, max, nat_eq, Bool, true, false, ◌&&◌, List, [], ◌∷◌, ◌++◌, map, length, Option, Some, None, refl, sym, ap, ◌∙◌, arith, if◌then◌else◌}
 use Rattle.std.proofs.lemmas.Bool.Decides.{nat_tests}
 use Rattle.std.proofs.lemmas.List.{append_assoc, length-map}
 use Rattle.std.specs.List.{AllByRecursion, flat_map}
@@ -15,13 +15,13 @@ use Rattle.flow_cell.specs.declared.counts.Side.TheVariants.{Promise}
 use Rattle.flow_cancel.specs.Heap.{HeapTree, no_heap, skipped_actors}
 use Rattle.flow_heapstate.specs.State.{Parts, CellPart, place_of, parts_kept, cell_kept, stream_kept, actor_kept}
 use Rattle.flow_heapstate.specs.Referring.{Ref, named, result_refs, stored_refs, references, same_kind, times}
-use Rattle.flow_heapstate.specs.Restoring.{with_cells, with_streams, with_actors, filled, uncounted, restored, held_all, RisesFrom, InOrder}
-use Rattle.flow_heapstate.specs.Sound.{cell_times, stream_times, RiseTo, at_number, cell_at, results, SoundActor, OwnResult, SoundHeap}
+use Rattle.flow_heapstate.specs.Restoring.{with_streams, with_actors, filled, restored, held_all, RisesFrom, InOrder}
+use Rattle.flow_heapstate.specs.Sound.{cell_times, stream_times, RiseTo, at_number, results, SoundActor, OwnResult, SoundHeap}
 use Rattle.flow_heapstate.specs.declared.state.CellState.{CellState}
 use Rattle.flow_heapstate.specs.declared.state.StreamState.{StreamState}
 use Rattle.flow_heapstate.specs.declared.state.ActorState.{ActorState}
 use Rattle.flow_heapstate.specs.declared.state.HeapState.{HeapState}
-use Rattle.flow_heapstate.proofs.Recounting.{bumped, recounted, cell_number, stream_number, cell_counted, stream_counted, cells_with, streams_with, in_cells, all_in_cells, in_streams, all_in_streams, with_counts, all_held, cells_counted, streams_counted, added_counts, counts_same}
+use Rattle.flow_heapstate.proofs.Recounting.{bumped, recounted, cell_number, stream_number, cell_counted, stream_counted, cells_with, streams_with, in_cells, all_in_cells, in_streams, all_in_streams, all_held, cells_counted, streams_counted, added_counts, counts_same}
 use Rattle.flow_heapstate.proofs.Filled.{no_count, last_of, cells_noted, streams_noted, more_cells, more_streams, cells_filled, streams_filled, actor_number, frames_of, notes_of, promised_counts, all_promised, more_actors, at_state, IsUnset, IsFree, Differ, NoneLater, AreReady, AreFree, actors_filled}
 
 -- the order of the parts

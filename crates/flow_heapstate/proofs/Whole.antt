@@ -1,21 +1,12 @@
 -- What a restored heap holds, and that it rests.
-use Rattle.std.proofs.Common.{◌≡◌, ◌≢◌, ◌<◌, ◌≤◌, ◌^◌, ℕ, max, nat_eq, nat_lt, Bool, true, false, ◌&&◌, ◌||◌, List, [], ◌∷◌, ◌++◌, map, length, Option, Some, None, IsSome, refl, sym, ap, ap₂, ◌∙◌, subst, arith, if◌then◌else◌}
+use Rattle.std.proofs.Common.{◌≡◌, ◌<◌, ◌≤◌, ℕ, max, nat_eq, Bool, true, false, ◌&&◌, ◌||◌, List, [], ◌∷◌, map, Some, IsSome, refl, sym, ap, ap₂, ◌∙◌, subst, arith, if◌then◌else◌}
 use Rattle.std.proofs.lemmas.Bool.Decides.{nat_tests}
-use Rattle.std.specs.Ordering.{nat_cmp, match_ordering}
-use Rattle.std.specs.declared.cmp.Ordering.{Ordering}
 use Rattle.std.specs.List.{AllByRecursion}
-use Rattle.flow_base.specs.declared.ids.CellId.{CellId}
-use Rattle.flow_value.specs.declared.value.Value.{Value}
-use Rattle.flow_value.specs.declared.value.Outcome.{Outcome}
 use Rattle.flow_numbered.specs.Numbered.{Numbered, thing, IsRising}
-use Rattle.flow_numbered.proofs.Things.{above}
-use Rattle.flow_cell.specs.Cells.{Counts, CellTree}
-use Rattle.flow_stream.specs.Streams.{StreamTree}
-use Rattle.flow_frame.specs.Frames.{FrameTree}
+use Rattle.flow_cell.specs.Cells.{Counts}
 use Rattle.flow_cancel.specs.declared.actors.Note.{Note}
-use Rattle.flow_cancel.specs.Heap.{HeapTree, has_number, with_number, new_note}
-use Rattle.flow_heapstate.specs.State.{Parts, CellPart, StreamPart, ActorPart, cell_part, stream_part, actor_part, parts_of, parts_kept, cell_kept, stream_kept, actor_kept, result_noted, IsAtRest, Rests}
-use Rattle.flow_heapstate.specs.Referring.{references}
+use Rattle.flow_cancel.specs.Heap.{has_number, new_note}
+use Rattle.flow_heapstate.specs.State.{Parts, cell_part, stream_part, actor_part, parts_of, parts_kept, cell_kept, stream_kept, actor_kept, result_noted, IsAtRest, Rests}
 use Rattle.flow_heapstate.specs.Restoring.{frame_of, noted_if, restored, RisesFrom}
 use Rattle.flow_heapstate.specs.Sound.{RiseTo, SoundActor, SoundHeap, RestsWith}
 use Rattle.flow_heapstate.specs.declared.state.CellState.{CellState}

@@ -2,14 +2,12 @@
 use Rattle.std.specs.Prelude.{◌<◌, ℕ, nat_lt, max, map, ◌^◌, ◌&&◌, Bool, true, false, List, [], ◌∷◌, ◌++◌, length, if◌then◌else◌}
 use Rattle.std.specs.declared.option.Option.{Option}
 use Rattle.std.specs.declared.option.Option.TheVariants.{None, Some}
-use Rattle.flow_value.specs.declared.value.Kind.{Kind}
 use Rattle.flow_value.specs.declared.value.Kind.TheVariants as kind
 use Rattle.flow_value.specs.declared.value.Value.{Value}
 use Rattle.flow_value.specs.declared.value.Outcome.{Outcome}
 use Rattle.flow_numbered.specs.Numbered.{Store, thing, with_thing}
 use Rattle.flow_cell.specs.declared.counts.Side.{Side}
 use Rattle.flow_cell.specs.declared.counts.Side.TheVariants.{Promise, Future}
-use Rattle.flow_cell.specs.declared.waiter.Waiter.{Waiter}
 use Rattle.flow_cell.specs.Cells.{CellTree, no_counts, held}
 use Rattle.flow_stream.specs.Streams.{StreamTree}
 use Rattle.flow_frame.specs.declared.held.Held.{Held}

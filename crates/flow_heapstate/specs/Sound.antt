@@ -17,7 +17,7 @@ use Rattle.flow_cancel.specs.Heap.{HeapTree}
 use Rattle.flow_stream.specs.Streams.{StreamTree}
 use Rattle.flow_cancel.specs.Leaving.{waits, waiter_of, is_waiter}
 use Rattle.flow_heapstate.specs.State.{CellPart, StreamPart, ActorPart, Parts, parts_of, Rests}
-use Rattle.flow_heapstate.specs.Referring.{Ref, content_refs, place_refs, actor_refs, result_refs, references, times}
+use Rattle.flow_heapstate.specs.Referring.{Ref, content_refs, actor_refs, result_refs, references, times}
 
 -- how many references to a single result, and to a stream, are among these
 abbrev pub cell_times : ℕ → List Ref → Counts

@@ -2,8 +2,6 @@ use Rattle.std.proofs.Common.{◌≡◌, ◌++◌, map, drop}
 use Rattle.std.specs.List.{flat_map}
 use Rattle.flow_value.specs.View.{ref_of, value_of}
 use Rattle.flow_value.specs.Values.{refs_of}
-use Rattle.flow_heapstate.specs.State.{place_of, cell_kept, stream_kept, actor_kept}
-use Rattle.flow_heapstate.specs.Referring.{place_refs, cell_refs, stream_refs, actor_refs}
 use Rattle.flow_heapstate.proofs.references.add_elements.Given as goal
 
 abbrev pub invariant-loop-value : goal.invariant-loop-value

@@ -1,4 +1,4 @@
-use Rattle.std.proofs.Common.{◌≡◌, Option, Some, sym, ap, ◌∙◌}
+use Rattle.std.proofs.Common.{Option, sym, ap, ◌∙◌}
 use Rattle.flow_numbered.specs.Numbered.{with_thing}
 use Rattle.flow_cell.specs.declared.waiter.Waiter.{Waiter}
 use Rattle.flow_stream.specs.Streams.{or_waiter}

@@ -1,4 +1,4 @@
-use Rattle.std.proofs.Common.{◌≡◌, refl, sym, ap, ◌∙◌, arith}
+use Rattle.std.proofs.Common.{◌≡◌, refl, arith}
 use Rattle.flow_heapstate.proofs.Filling.{stands_there, begins}
 use Rattle.flow_heapstate.proofs.restoring.begin.Goals as goal
 

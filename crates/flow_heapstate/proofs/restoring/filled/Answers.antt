@@ -1,7 +1,6 @@
-use Rattle.std.proofs.Common.{◌≡◌, ◌∙◌, ap, sym, subst, arith}
-use Rattle.flow_numbered.specs.Numbered.{IsRising}
+use Rattle.std.proofs.Common.{◌∙◌, ap, arith}
 use Rattle.flow_cancel.specs.Heap.{HeapTree, no_heap, last_actor}
-use Rattle.flow_heapstate.specs.Restoring.{with_cells, with_streams, RisesFrom}
+use Rattle.flow_heapstate.specs.Restoring.{with_cells, with_streams}
 use Rattle.flow_heapstate.proofs.Filling.{streams_stay, last_stays, last_stays_too}
 use Rattle.flow_heapstate.proofs.restoring.filled.Goals as goal
 

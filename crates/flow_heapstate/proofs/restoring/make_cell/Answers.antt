@@ -1,4 +1,4 @@
-use Rattle.std.proofs.Common.{◌≡◌, Some, None, refl, sym, ap, ◌∙◌}
+use Rattle.std.proofs.Common.{◌≡◌, refl, sym, ap}
 use Rattle.flow_cell.specs.Cells.{unset}
 use Rattle.flow_heapstate.proofs.Building.{new_is, then_new}
 use Rattle.flow_heapstate.proofs.restoring.make_cell.Goals as goal

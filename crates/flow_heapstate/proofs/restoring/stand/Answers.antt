@@ -1,4 +1,4 @@
-use Rattle.std.proofs.Common.{◌≡◌, Some, refl, ap, ◌∙◌}
+use Rattle.std.proofs.Common.{refl, ap, ◌∙◌}
 use Rattle.flow_numbered.specs.Numbered.{thing, with_thing}
 use Rattle.flow_frame.specs.Frames.{in_state}
 use Rattle.flow_heapstate.specs.Restoring.{stood}
