@@ -90,9 +90,6 @@ same_grows s = record {
   less = omega arith;
 }
 
-pub none_entered : (s : Standing) → Entered s s []
-none_entered s = record { grows = same_grows s; covers = tt; from = λ b y j h lt. inl (y, h, refl) }
-
 -- a block that isn't there, and one whose entry says so already
 pub beyond : (s : Standing) (empty b : ℕ) → length s.entries ≤ b → Entered s s (plain_way empty b ∷ [])
 beyond s empty b le = record {

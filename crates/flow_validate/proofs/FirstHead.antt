@@ -38,7 +38,3 @@ module _ (all : List ℕ → Option Meaning) (ds : List DeclTree) (cs : List Cla
   pub first_found : (total : Option ℕ) → head_kept (known (before ds cs i)) all (class_of c) ≡ false → first_head all (before ds cs i) i (map class_of (drop i cs)) ≡ total → Some i ≡ total
   first_found total kept h =
       sym (by_kept ∙ ap (λ b. if b then first_head all (before ds cs i ++ head_of (class_of c) ∷ []) (suc i) (map class_of (drop (i + 1) cs)) else Some i) kept) ∙ h
-
-pub first_none : (all : List ℕ → Option Meaning) (ds : List DeclTree) (cs : List Class) (i : ℕ) (total : Option ℕ) → length cs ≤ i
-    → first_head all ds i (map class_of (drop i cs)) ≡ total → None ≡ total
-first_none all ds cs i total le h = ap (λ l. first_head all ds i (map class_of l)) (sym (drop_all i cs le)) ∙ h

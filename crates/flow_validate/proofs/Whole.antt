@@ -18,19 +18,6 @@ use Rattle.flow_validate.specs.Apart.{records_in, functions_in}
 use Rattle.flow_validate.specs.Gathered.{AreParts}
 use Rattle.flow_validate.proofs.Parting.{records_both, functions_both}
 
-pub are_parts : (raw : RawClasses) (g : Gathered) (first plain : List Decl) → map decl_of first ≡ map StructDecl (map record_of raw.records.items)
-    → map decl_of plain ≡ map decl_of first ++ map function_decl (map function_of raw.functions.items) → g.count ≡ length plain
-    → map decl_of g.decls.items ≡ map decl_of plain ++ map head_of (map class_of raw.classes.items) → g.classes ≡ raw.classes → AreParts (raw_of raw) g
-are_parts raw g first plain f p n a cl =
-    let both : map decl_of plain ≡ plain_decls (raw_of raw) = p ∙ ap (λ l. l ++ map function_decl (map function_of raw.functions.items)) f in
-    let whole : all_decls (raw_of raw) ≡ map decl_of g.decls.items = ap (λ l. l ++ map head_of (map class_of raw.classes.items)) (sym both) ∙ sym a in
-    let many : length (map decl_of plain) ≡ g.count = length-map plain decl_of ∙ sym n in
-    record {
-      all = whole;
-      plain = sym both ∙ sym (ap (take g.count) a ∙ take_at (map decl_of plain) (map head_of (map class_of raw.classes.items)) g.count many);
-      kept = ap (λ (v : Vec Class Global). map class_of v.items) (sym cl);
-    }
-
 records_of_structs : (rs : List RecordTree) → records_in (map StructDecl rs) ≡ rs
 records_of_structs [] = refl
 records_of_structs (r ∷ rs) = ap (λ l. r ∷ l) (records_of_structs rs)
