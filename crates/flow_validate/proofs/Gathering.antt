@@ -1,15 +1,15 @@
 -- What a loop gathers from the elements of a list, one after another.
-use Rattle.std.proofs.Common.{◌≡◌, ℕ, zero, suc, ◌+◌, ◌<◌, ◌≤◌, List, [], ◌∷◌, ◌++◌, map, filter, length, drop, get_or, refl, sym, ap, ◌∙◌, append_assoc, arith, add-one}
-use Rattle.std.proofs.lemmas.List.{append-nil, map-append}
+use Rattle.std.proofs.Common.{◌≡◌, ℕ, zero, suc, ◌<◌, ◌≤◌, List, [], ◌∷◌, ◌++◌, map, length, drop, get_or, refl, ap, ◌∙◌, arith}
+use Rattle.std.proofs.lemmas.List.{map-append}
 use Rattle.std.proofs.lemmas.List.Elements.{filter-append}
 use Rattle.flow_tree.specs.declared.expr.Expr.{Expr}
-use Rattle.flow_tree.specs.View.{expr_of, exprs_of}
+use Rattle.flow_tree.specs.View.{exprs_of}
 use Rattle.flow_class.specs.declared.class.Slotted.{Slotted}
 use Rattle.flow_class.specs.declared.class.Callback.{Callback}
 use Rattle.flow_class.specs.View.{callback_of}
 use Rattle.flow_validate.specs.declared.touch.Touch.{Touch}
 use Rattle.flow_validate.specs.declared.touch.Touch.TheVariants.{Reads}
-use Rattle.flow_valid.specs.Named.{expr_places, exprs_places}
+use Rattle.flow_valid.specs.Named.{exprs_places}
 use Rattle.flow_valid.specs.Filling.{operands}
 use Rattle.flow_validate.specs.Small.{is_small, small_places, reads_of}
 

@@ -9,7 +9,6 @@ use Rattle.std.proofs.lemmas.List.{map-append, map_more}
 use denote.Ref.{Bor}
 use Rattle.indexmap.specs.IndexSet.{insert_key}
 use Rattle.flow_tree.specs.declared.decl.Decl.{Decl}
-use Rattle.flow_tree.specs.Tree.{TypeTree}
 use Rattle.flow_tree.specs.Decls.{SlotTree, DeclTree}
 use Rattle.flow_tree.specs.DeclView.{decl_of}
 use Rattle.flow_ast.specs.TypingNames.{named}

@@ -1,17 +1,14 @@
 -- A class program that is gathered and let go again.
-use Rattle.std.proofs.Common.{◌≡◌, ℕ, ◌+◌, ◌≤◌, List, [], ◌∷◌, ◌++◌, map, take, length, refl, sym, ap, ap₂, ◌∙◌, arith, length-append}
-use Rattle.std.specs.declared.alloc.Global.{Global}
-use Rattle.std.specs.declared.vec.Vec.{Vec}
-use Rattle.std.proofs.lemmas.List.{length-map, take_at, append-nil}
+use Rattle.std.proofs.Common.{◌≡◌, ◌+◌, ◌≤◌, List, [], ◌∷◌, ◌++◌, map, length, refl, sym, ap, ap₂, ◌∙◌, arith, length-append}
+use Rattle.std.proofs.lemmas.List.{length-map, append-nil}
 use Rattle.flow_tree.specs.declared.decl.Decl.{Decl}
 use Rattle.flow_tree.specs.declared.decl.RecordDecl.{RecordDecl}
 use Rattle.flow_tree.specs.declared.decl.FunctionDecl.{FunctionDecl}
-use Rattle.flow_tree.specs.Decls.{RecordTree, RoutineTree, DeclTree, StructDecl, FunctionDecl as function_decl}
+use Rattle.flow_tree.specs.Decls.{RecordTree, RoutineTree, StructDecl, FunctionDecl as function_decl}
 use Rattle.flow_tree.specs.DeclView.{record_of, function_of, decl_of}
-use Rattle.flow_class.specs.declared.class.Class.{Class}
 use Rattle.flow_class.specs.declared.class.RawClasses.{RawClasses}
 use Rattle.flow_class.specs.Classes.{ClassTree, RawTree}
-use Rattle.flow_class.specs.View.{class_of, raw_of}
+use Rattle.flow_class.specs.View.{class_of}
 use Rattle.flow_valid.specs.Heads.{head_of, plain_decls, all_decls}
 use Rattle.flow_validate.specs.declared.validate.Gathered.{Gathered}
 use Rattle.flow_validate.specs.Apart.{records_in, functions_in}
