@@ -48,8 +48,8 @@ abbrev pub place_at : Slotted → Place → Marked
 place_at p at = opens [] (token.Name (place_name p)) at
 
 -- the variables of an expression are such names
-mutual
-  abbrev pub AreFree : ExprTree → Type 0
+abbrev mutual
+  pub AreFree : ExprTree → Type 0
   AreFree (IntExpr n) = Unit {0}
   AreFree (TextExpr t) = Unit {0}
   AreFree (BoolExpr b) = Unit {0}
@@ -63,7 +63,7 @@ mutual
   AreFree (BinaryExpr op a b) = AreFree a × AreFree b
   AreFree (ParenExpr e) = AreFree e
 
-  abbrev pub AllAreFree : ExprTrees → Type 0
+  pub AllAreFree : ExprTrees → Type 0
   AllAreFree NoExprs = Unit {0}
   AllAreFree (MoreExprs e es) = AreFree e × AllAreFree es
 
@@ -187,7 +187,7 @@ pub data ClassRule : List Marked → ClassTree → Type 0 where
       {all : List Marked} (p q r s u v w : Place) (of slots locals blocks groups : List Marked)
       → TypeRule 1 of t → IsNumber params → NumberedRule SlotRule 0 slots ss → NumberedRule LocalRule 0 locals ls → NumberedRule BlockRule 0 blocks (b ∷ bs) → GroupsRule 1 0 groups gs
       → all ≡ said (codes "class") p ∷ said x q ∷ said (codes "returns") r ∷ (of ++ (said (codes "params") s ∷ number_at params u ∷ sign_at sign.OpenCurly v
-          ∷ (slots ++ (locals ++ (blocks ++ (groups ++ sign_at sign.CloseCurly w ∷ []))))))
+      ∷ (slots ++ (locals ++ (blocks ++ (groups ++ sign_at sign.CloseCurly w ∷ []))))))
       → ClassRule all (record { name = x; returns = t; params = params; slots = ss; locals = ls; blocks = b ∷ bs; groups = gs })
 
 -- things one after another
