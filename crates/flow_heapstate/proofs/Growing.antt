@@ -1,22 +1,14 @@
 -- Waiters, elements and callbacks that come one after another.
-use Rattle.std.proofs.Common.{◌≡◌, List, [], ◌∷◌, ◌++◌, ap}
+use Rattle.std.proofs.Common.{◌≡◌, List, [], ◌∷◌, ap}
 use Rattle.std.proofs.lemmas.List.{append_assoc, append-nil}
 use Rattle.flow_value.specs.declared.value.Value.{Value}
 use Rattle.flow_value.specs.declared.value.Outcome.{Outcome}
 use Rattle.flow_cell.specs.declared.waiter.Waiter.{Waiter}
 use Rattle.flow_cell.specs.Cells.{CellTree}
+use Rattle.flow_heapstate.specs.Restoring.{waiters_more, queue_more, callbacks_more}
 use Rattle.flow_stream.specs.Streams.{StreamTree}
 use Rattle.flow_frame.specs.declared.held.Held.{Held}
 use Rattle.flow_frame.specs.Frames.{FrameTree}
-
-abbrev pub waiters_more : CellTree Outcome → List Waiter → CellTree Outcome
-waiters_more c ws = record c { waiters = c.waiters ++ ws }
-
-abbrev pub queue_more : StreamTree Value → List Value → StreamTree Value
-queue_more s vs = record s { queue = s.queue ++ vs }
-
-abbrev pub callbacks_more : FrameTree Value → List Held → FrameTree Value
-callbacks_more f hs = record f { callbacks = f.callbacks ++ hs }
 
 pub waiters_both : (c : CellTree Outcome) (w : Waiter) (ws : List Waiter) → waiters_more (waiters_more c (w ∷ [])) ws ≡ waiters_more c (w ∷ ws)
 waiters_both c w ws = ap (λ xs. record c { waiters = xs }) (append_assoc c.waiters (w ∷ []) ws)

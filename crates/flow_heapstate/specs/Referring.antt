@@ -1,5 +1,5 @@
 -- What counts as a reference in a heap that rests.
-use Rattle.std.specs.Prelude.{ℕ, suc, nat_eq, Bool, true, false, ◌&&◌, List, [], ◌∷◌, ◌++◌, if◌then◌else◌}
+use Rattle.std.specs.Prelude.{◌≡◌, ℕ, suc, nat_eq, Bool, true, false, ◌&&◌, List, [], ◌∷◌, ◌++◌, map, if◌then◌else◌}
 use Rattle.std.specs.List.{flat_map}
 use Rattle.std.specs.declared.option.Option.{Option}
 use Rattle.std.specs.declared.option.Option.TheVariants.{None, Some}
@@ -7,6 +7,7 @@ use Rattle.flow_base.specs.declared.ids.CellId.{CellId}
 use Rattle.flow_value.specs.declared.value.Kind.{Kind}
 use Rattle.flow_value.specs.declared.value.Kind.TheVariants.{Promise, Future, PromiseStream, FutureStream}
 use Rattle.flow_value.specs.Values.{ValueTree, OutcomeTree, GoodOutcome, BadOutcome, refs_of}
+use Rattle.flow_value.specs.View.{ref_of}
 use Rattle.flow_cell.specs.declared.waiter.Waiter.{Waiter}
 use Rattle.flow_heapstate.specs.State.{CellPart, StreamPart, ActorPart, Parts}
 
@@ -58,10 +59,15 @@ result_refs a = named a.result Promise
 -- what is stored or noted, and what the process holds of `main`
 abbrev pub stored_refs : Parts → List Ref
 stored_refs p =
-    flat_map cell_refs p.cells ++ (flat_map stream_refs p.streams ++ (flat_map actor_refs p.actors ++ named p.main Future))
+    flat_map cell_refs p.cells
+    ++ (flat_map stream_refs p.streams ++ (flat_map actor_refs p.actors ++ named p.main Future))
 
 abbrev pub references : Parts → List Ref
 references p = flat_map result_refs p.actors ++ stored_refs p
+
+-- these references come behind those that were found
+abbrev pub Adds : List (Kind × CellId) → List Ref → List (Kind × CellId) → Type 0
+Adds old rs new = map ref_of new ≡ map ref_of old ++ rs
 
 -- how often a reference is among them
 abbrev pub same_kind : Kind → Kind → Bool

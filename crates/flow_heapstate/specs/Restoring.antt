@@ -1,13 +1,16 @@
 -- A heap made from a state that was kept.
-use Rattle.std.specs.Prelude.{◌<◌, ℕ, nat_lt, max, map, ◌^◌, ◌&&◌, Bool, true, false, List, [], ◌∷◌, ◌++◌, length, if◌then◌else◌}
+use Rattle.std.specs.Prelude.{◌≡◌, ◌<◌, ℕ, nat_lt, max, map, ◌^◌, ◌&&◌, Bool, true, false, List, [], ◌∷◌, ◌++◌, length, if◌then◌else◌}
+use Rattle.std.specs.Option.{ForSome}
 use Rattle.std.specs.declared.option.Option.{Option}
 use Rattle.std.specs.declared.option.Option.TheVariants.{None, Some}
+use Rattle.flow_base.specs.declared.ids.ErrorCode.{ErrorCode}
 use Rattle.flow_value.specs.declared.value.Kind.TheVariants as kind
 use Rattle.flow_value.specs.declared.value.Value.{Value}
 use Rattle.flow_value.specs.declared.value.Outcome.{Outcome}
 use Rattle.flow_numbered.specs.Numbered.{Store, thing, with_thing}
 use Rattle.flow_cell.specs.declared.counts.Side.{Side}
 use Rattle.flow_cell.specs.declared.counts.Side.TheVariants.{Promise, Future}
+use Rattle.flow_cell.specs.declared.waiter.Waiter.{Waiter}
 use Rattle.flow_cell.specs.Cells.{CellTree, no_counts, held}
 use Rattle.flow_stream.specs.Streams.{StreamTree}
 use Rattle.flow_frame.specs.declared.held.Held.{Held}
@@ -37,9 +40,33 @@ frame_of s = record {
   callbacks = s.callbacks.items;
 }
 
+-- more waiters, elements and callbacks behind those that are there
+abbrev pub waiters_more : CellTree Outcome → List Waiter → CellTree Outcome
+waiters_more c ws = record c { waiters = c.waiters ++ ws }
+
+abbrev pub queue_more : StreamTree Value → List Value → StreamTree Value
+queue_more s vs = record s { queue = s.queue ++ vs }
+
+abbrev pub callbacks_more : FrameTree Value → List Held → FrameTree Value
+callbacks_more f hs = record f { callbacks = f.callbacks ++ hs }
+
 -- a frame with a state and more callbacks
 abbrev pub stood : ℕ → List Held → FrameTree Value → FrameTree Value
-stood state hs f = record (in_state state f) { callbacks = (in_state state f).callbacks ++ hs }
+stood state hs f = callbacks_more (in_state state f) hs
+
+-- a thing that is there changes like this
+abbrev pub Turns : {A : Type 0} → Store A → ℕ → (A → A) → Store A → Type 0
+Turns old n f new = ForSome (thing old.things n) (λ a. new ≡ with_thing old n (f a))
+
+-- other content, another end and another waiter
+abbrev pub with_content : Option Outcome → CellTree Outcome → CellTree Outcome
+with_content o c = record c { content = o }
+
+abbrev pub with_end : Option ErrorCode → StreamTree Value → StreamTree Value
+with_end o s = record s { end = o }
+
+abbrev pub with_wait : Option Waiter → StreamTree Value → StreamTree Value
+with_wait o s = record s { waiter = o }
 
 abbrev pub noted_if : Bool → ℕ → List ℕ → List ℕ
 noted_if false n ns = ns
@@ -66,8 +93,8 @@ abbrev pub with_streams : List StreamState → HeapTree → HeapTree
 with_streams [] h = h
 with_streams (s ∷ ss) h = with_streams ss (with_stream s h)
 
--- An actor comes in where it may start with its result, of which it counts as a promise, and where its places are few
--- enough for a frame.
+-- An actor comes in where it may start with its result, of which it counts as a promise, and where its
+-- places are few enough for a frame.
 abbrev pub can_begin : ActorState → HeapTree → Bool
 can_begin s h = nat_lt (length s.places.items) (2 ^ 32) && may_start s.result h
 
@@ -86,11 +113,13 @@ with_actors [] h = h
 with_actors (s ∷ ss) h = with_actors ss (with_actor s h)
 
 -- A reference counts where its cell is.
-abbrev pub cell_held : Side → ℕ → Option (CellTree Outcome) → Store (CellTree Outcome) → Store (CellTree Outcome)
+abbrev pub cell_held : Side → ℕ → Option (CellTree Outcome) → Store (CellTree Outcome)
+    → Store (CellTree Outcome)
 cell_held side n None s = s
 cell_held side n (Some c) s = with_thing s n (record c { references = held side c.references })
 
-abbrev pub stream_held : Side → ℕ → Option (StreamTree Value) → Store (StreamTree Value) → Store (StreamTree Value)
+abbrev pub stream_held : Side → ℕ → Option (StreamTree Value) → Store (StreamTree Value)
+    → Store (StreamTree Value)
 stream_held side n None s = s
 stream_held side n (Some c) s = with_thing s n (record c { references = held side c.references })
 
@@ -116,7 +145,10 @@ filled s = with_actors s.actors.items (with_streams s.streams.items (with_cells 
 
 abbrev pub uncounted : HeapState → HeapTree
 uncounted s =
-    record (skipped_actors s.actors_made (filled s)) { made = max (filled s).made s.cells_made; main = s.main }
+    record (skipped_actors s.actors_made (filled s)) {
+      made = max (filled s).made s.cells_made;
+      main = s.main;
+    }
 
 abbrev pub restored : HeapState → HeapTree
 restored s = held_all (stored_refs (parts_kept s)) (uncounted s)

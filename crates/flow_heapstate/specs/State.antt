@@ -61,10 +61,21 @@ place_of p = option_map value_of p
 
 -- a state that is kept
 abbrev pub cell_kept : CellState → CellPart
-cell_kept s = record { cell = s.cell.0; content = option_map outcome_of s.content; waiters = s.waiters.items; requested = s.requested }
+cell_kept s = record {
+  cell = s.cell.0;
+  content = option_map outcome_of s.content;
+  waiters = s.waiters.items;
+  requested = s.requested;
+}
 
 abbrev pub stream_kept : StreamState → StreamPart
-stream_kept s = record { cell = s.cell.0; queue = map value_of s.queue.items; end = s.end; waiter = s.waiter; port = s.port }
+stream_kept s = record {
+  cell = s.cell.0;
+  queue = map value_of s.queue.items;
+  end = s.end;
+  waiter = s.waiter;
+  port = s.port;
+}
 
 abbrev pub actor_kept : ActorState → ActorPart
 actor_kept s = record {
@@ -129,10 +140,13 @@ parts_of h = record {
   actors = map (actor_part h.actors.things) h.frames.things;
 }
 
--- A heap rests: there is no task; each unfinished actor is suspended and not marked, and has a frame, and no other actor
--- has one; numbers rise; and what is noted of ports and requests is noted of streams and single results.
+-- A heap rests: there is no task; each unfinished actor is suspended and not marked, and has a frame,
+-- and no other actor has one; numbers rise; and what is noted of ports and requests is noted of streams
+-- and single results.
 abbrev pub IsAtRest : HeapTree → ℕ × FrameTree Value → Type 0
-IsAtRest h x = (n : Note) × (thing h.actors.things x.0 ≡ Some n) × (n.marked ≡ false) × (suspended_in (Some x.1) ≡ true)
+IsAtRest h x =
+    (n : Note) × (thing h.actors.things x.0 ≡ Some n) × (n.marked ≡ false)
+    × (suspended_in (Some x.1) ≡ true)
 
 pub record Rests (h : HeapTree) : Type 0 where
   pub no_task : h.tasks ≡ []

@@ -5,7 +5,7 @@ ghost use Rattle.std.specs.List.{flat_map};
 ghost use Rattle.flow_value.specs.Values.{refs_of};
 ghost use Rattle.flow_value.specs.View.{value_of, outcome_of, ref_of};
 ghost use Rattle.flow_heapstate.specs.State.{place_of, cell_kept, stream_kept, actor_kept, parts_kept};
-ghost use Rattle.flow_heapstate.specs.Referring.{waits_of, content_refs, place_refs, cell_refs, stream_refs, actor_refs, named, stored_refs};
+ghost use Rattle.flow_heapstate.specs.Referring.{Adds, waits_of, content_refs, place_refs, cell_refs, stream_refs, actor_refs, named, stored_refs};
 
 use crate::state::{ActorState, CellState, HeapState, StreamState};
 use flow_base::ids::CellId;
@@ -16,7 +16,7 @@ use std::alloc::Global;
 
 // Adds the references of a value.
 fn add_value(alloc: Global, value: &Value, found: &mut Vec<(Kind, CellId)>) -> Result<(), NoMemory>
-    ensures { OnOk result (map ref_of found.new.items ≡ map ref_of found.old.items ++ refs_of (value_of value.now)) }
+    ensures { OnOk result (Adds found.old.items (refs_of (value_of value.now)) found.new.items) }
 {
     let more = value.refs(alloc)?;
     found.extend_from_slice(&more)?;
@@ -29,7 +29,8 @@ fn add_content(
     content: &Option<Outcome>,
     found: &mut Vec<(Kind, CellId)>,
 ) -> Result<(), NoMemory>
-    ensures { OnOk result (map ref_of found.new.items ≡ map ref_of found.old.items ++ content_refs (option_map outcome_of content.now)) }
+    ensures { OnOk result (Adds found.old.items (content_refs (option_map outcome_of content.now))
+        found.new.items) }
 {
     if let Some(Outcome::Value(value)) = content {
         add_value(alloc, value, found)?;
@@ -43,7 +44,7 @@ fn add_waits(
     waiters: &[Waiter],
     found: &mut Vec<(Kind, CellId)>,
 ) -> Result<(), NoMemory>
-    ensures { OnOk result (map ref_of found.new.items ≡ map ref_of found.old.items ++ waits_of cell.0 waiters.now) }
+    ensures { OnOk result (Adds found.old.items (waits_of cell.0 waiters.now) found.new.items) }
 {
     for _waiter in waiters {
         found.push((Kind::Future, cell))?;
@@ -57,7 +58,7 @@ fn add_cell(
     part: &CellState,
     found: &mut Vec<(Kind, CellId)>,
 ) -> Result<(), NoMemory>
-    ensures { OnOk result (map ref_of found.new.items ≡ map ref_of found.old.items ++ cell_refs (cell_kept part.now)) }
+    ensures { OnOk result (Adds found.old.items (cell_refs (cell_kept part.now)) found.new.items) }
 {
     add_content(alloc, &part.content, found)?;
     if part.requested {
@@ -72,7 +73,8 @@ fn add_elements(
     queue: &[Value],
     found: &mut Vec<(Kind, CellId)>,
 ) -> Result<(), NoMemory>
-    ensures { OnOk result (map ref_of found.new.items ≡ map ref_of found.old.items ++ flat_map refs_of (map value_of queue.now)) }
+    ensures { OnOk result (Adds found.old.items (flat_map refs_of (map value_of queue.now))
+        found.new.items) }
 {
     for value in queue {
         add_value(alloc, value, found)?;
@@ -86,7 +88,7 @@ fn add_stream(
     part: &StreamState,
     found: &mut Vec<(Kind, CellId)>,
 ) -> Result<(), NoMemory>
-    ensures { OnOk result (map ref_of found.new.items ≡ map ref_of found.old.items ++ stream_refs (stream_kept part.now)) }
+    ensures { OnOk result (Adds found.old.items (stream_refs (stream_kept part.now)) found.new.items) }
 {
     add_elements(alloc, &part.queue, found)?;
     if part.port {
@@ -104,7 +106,8 @@ fn add_places(
     places: &[Option<Value>],
     found: &mut Vec<(Kind, CellId)>,
 ) -> Result<(), NoMemory>
-    ensures { OnOk result (map ref_of found.new.items ≡ map ref_of found.old.items ++ flat_map place_refs (map place_of places.now)) }
+    ensures { OnOk result (Adds found.old.items (flat_map place_refs (map place_of places.now))
+        found.new.items) }
 {
     for place in places {
         if let Some(value) = place {
@@ -120,7 +123,8 @@ fn add_cells(
     parts: &[CellState],
     found: &mut Vec<(Kind, CellId)>,
 ) -> Result<(), NoMemory>
-    ensures { OnOk result (map ref_of found.new.items ≡ map ref_of found.old.items ++ flat_map cell_refs (map cell_kept parts.now)) }
+    ensures { OnOk result (Adds found.old.items (flat_map cell_refs (map cell_kept parts.now))
+        found.new.items) }
 {
     for part in parts {
         add_cell(alloc, part, found)?;
@@ -134,7 +138,8 @@ fn add_streams(
     parts: &[StreamState],
     found: &mut Vec<(Kind, CellId)>,
 ) -> Result<(), NoMemory>
-    ensures { OnOk result (map ref_of found.new.items ≡ map ref_of found.old.items ++ flat_map stream_refs (map stream_kept parts.now)) }
+    ensures { OnOk result (Adds found.old.items (flat_map stream_refs (map stream_kept parts.now))
+        found.new.items) }
 {
     for part in parts {
         add_stream(alloc, part, found)?;
@@ -148,7 +153,8 @@ fn add_actors(
     parts: &[ActorState],
     found: &mut Vec<(Kind, CellId)>,
 ) -> Result<(), NoMemory>
-    ensures { OnOk result (map ref_of found.new.items ≡ map ref_of found.old.items ++ flat_map actor_refs (map actor_kept parts.now)) }
+    ensures { OnOk result (Adds found.old.items (flat_map actor_refs (map actor_kept parts.now))
+        found.new.items) }
 {
     for part in parts {
         add_places(alloc, &part.places, found)?;

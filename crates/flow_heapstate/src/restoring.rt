@@ -3,12 +3,12 @@
 ghost use Rattle.std.specs.Prelude.{◌≡◌, ◌<◌, ◌++◌, ◌^◌, max, true, length, map, None, IsSome, OnOk, IfOk};
 ghost use Rattle.std.specs.Option.{ForSome};
 ghost use Rattle.flow_value.specs.View.{ref_of};
-ghost use Rattle.flow_numbered.specs.Numbered.{thing, with_thing, IsRising};
+ghost use Rattle.flow_numbered.specs.Numbered.{thing, IsRising};
 ghost use Rattle.flow_cell.specs.Cells.{no_counts};
 ghost use Rattle.flow_cancel.specs.Heap.{last_actor, may_start, with_new, side_of};
 ghost use Rattle.flow_heapstate.specs.State.{parts_kept, parts_of};
 ghost use Rattle.flow_heapstate.specs.Sound.{SoundHeap, RestsWith};
-ghost use Rattle.flow_heapstate.specs.Restoring.{with_cell, with_cells, with_stream, with_streams, stood, begun, with_actor, with_actors, held_in_cells, held_in_streams, held_one, held_all, restored, RisesFrom, InOrder};
+ghost use Rattle.flow_heapstate.specs.Restoring.{Turns, waiters_more, queue_more, callbacks_more, with_content, with_end, with_wait, with_cell, with_cells, with_stream, with_streams, stood, begun, with_actor, with_actors, held_in_cells, held_in_streams, held_one, held_all, restored, RisesFrom, InOrder};
 
 use crate::listing::state;
 use crate::references::references;
@@ -28,7 +28,7 @@ use std::alloc::Global;
 // Waiters come behind those of a single result.
 fn add_waiters(cells: &mut Cells<Outcome>, cell: CellId, waiters: &[Waiter]) -> Result<(), NoMemory>
     requires { IsSome (thing cells.old.things cell.0) }
-    ensures { ForSome (thing cells.old.things cell.0) (λ c. OnOk result (cells.new ≡ with_thing cells.old cell.0 (record c { waiters = c.waiters ++ waiters.now }))) }
+    ensures { OnOk result (Turns cells.old cell.0 (λ c. waiters_more c waiters.now) cells.new) }
 {
     for waiter in waiters {
         cells.add_waiter(cell, *waiter)?;
@@ -41,7 +41,7 @@ fn add_waiters(cells: &mut Cells<Outcome>, cell: CellId, waiters: &[Waiter]) -> 
 fn set_cell(cells: &mut Cells<Outcome>, cell: CellId, content: Option<Outcome>)
     requires there { IsSome (thing cells.old.things cell.0) }
     requires unset { ForSome (thing cells.old.things cell.0) (λ c. c.content ≡ None) }
-    ensures { ForSome (thing cells.old.things cell.0) (λ c. cells.new ≡ with_thing cells.old cell.0 (record c { content = content })) }
+    ensures { Turns cells.old cell.0 (with_content content) cells.new }
 {
     if let Some(outcome) = content {
         cells.set(cell, outcome);
@@ -57,7 +57,11 @@ fn make_cell(
 ) -> Result<(), NoMemory>
     requires rising { IsRising 0 cells.old.things cells.old.greatest }
     requires above { cells.old.greatest < cell.0 }
-    ensures { OnOk result (cells.new ≡ with_new cells.old cell.0 (record { content = content; references = no_counts; waiters = waiters.now })) }
+    ensures { OnOk result (cells.new ≡ with_new cells.old cell.0 (record {
+      content = content;
+      references = no_counts;
+      waiters = waiters.now;
+    })) }
 {
     cells.make(cell)?;
     set_cell(cells, cell, content);
@@ -100,7 +104,7 @@ fn add_elements(
 ) -> Result<(), NoMemory>
     requires there { IsSome (thing streams.old.things cell.0) }
     requires endless { ForSome (thing streams.old.things cell.0) (λ s. s.end ≡ None) }
-    ensures { ForSome (thing streams.old.things cell.0) (λ s. OnOk result (streams.new ≡ with_thing streams.old cell.0 (record s { queue = s.queue ++ queue.items }))) }
+    ensures { OnOk result (Turns streams.old cell.0 (λ s. queue_more s queue.items) streams.new) }
 {
     for value in queue {
         streams.push(cell, value)?;
@@ -113,7 +117,7 @@ fn add_elements(
 fn end_stream(streams: &mut Streams<Value>, cell: CellId, end: Option<ErrorCode>)
     requires there { IsSome (thing streams.old.things cell.0) }
     requires endless { ForSome (thing streams.old.things cell.0) (λ s. s.end ≡ None) }
-    ensures { ForSome (thing streams.old.things cell.0) (λ s. streams.new ≡ with_thing streams.old cell.0 (record s { end = end })) }
+    ensures { Turns streams.old cell.0 (with_end end) streams.new }
 {
     if let Some(error) = end {
         streams.end(cell, error);
@@ -125,7 +129,7 @@ fn end_stream(streams: &mut Streams<Value>, cell: CellId, end: Option<ErrorCode>
 fn await_stream(streams: &mut Streams<Value>, cell: CellId, waiter: Option<Waiter>)
     requires there { IsSome (thing streams.old.things cell.0) }
     requires alone { ForSome (thing streams.old.things cell.0) (λ s. s.waiter ≡ None) }
-    ensures { ForSome (thing streams.old.things cell.0) (λ s. streams.new ≡ with_thing streams.old cell.0 (record s { waiter = waiter })) }
+    ensures { Turns streams.old cell.0 (with_wait waiter) streams.new }
 {
     if let Some(waiter) = waiter {
         streams.add_waiter(cell, waiter);
@@ -142,7 +146,12 @@ fn make_stream(
 ) -> Result<(), NoMemory>
     requires rising { IsRising 0 streams.old.things streams.old.greatest }
     requires above { streams.old.greatest < cell.0 }
-    ensures { OnOk result (streams.new ≡ with_new streams.old cell.0 (record { references = no_counts; queue = queue.items; end = end; waiter = waiter })) }
+    ensures { OnOk result (streams.new ≡ with_new streams.old cell.0 (record {
+      references = no_counts;
+      queue = queue.items;
+      end = end;
+      waiter = waiter;
+    })) }
 {
     streams.make(cell)?;
     add_elements(streams, cell, queue)?;
@@ -185,7 +194,7 @@ fn add_callbacks(
     callbacks: &[Held],
 ) -> Result<(), NoMemory>
     requires { IsSome (thing frames.old.things actor.0) }
-    ensures { ForSome (thing frames.old.things actor.0) (λ f. OnOk result (frames.new ≡ with_thing frames.old actor.0 (record f { callbacks = f.callbacks ++ callbacks.now }))) }
+    ensures { OnOk result (Turns frames.old actor.0 (λ f. callbacks_more f callbacks.now) frames.new) }
 {
     for held in callbacks {
         frames.add_callback(actor, *held)?;
@@ -201,7 +210,7 @@ fn stand(
     callbacks: &[Held],
 ) -> Result<(), NoMemory>
     requires { IsSome (thing frames.old.things actor.0) }
-    ensures { ForSome (thing frames.old.things actor.0) (λ f. OnOk result (frames.new ≡ with_thing frames.old actor.0 (stood state callbacks.now f))) }
+    ensures { OnOk result (Turns frames.old actor.0 (stood state callbacks.now) frames.new) }
 {
     frames.set_state(actor, state);
     add_callbacks(frames, actor, callbacks)?;
@@ -297,7 +306,8 @@ fn hold_all(heap: &mut Heap, found: &[(Kind, CellId)]) -> Result<(), NoMemory>
     Ok(())
 }
 
-// The heap of a state whose parts are in the order of their numbers: what the state tells, and each reference counted.
+// The heap of a state whose parts are in the order of their numbers: what the state tells, and each
+// reference counted.
 fn filled(alloc: Global, state: HeapState) -> Result<Heap, NoMemory>
     requires { InOrder state }
     ensures { IfOk result (λ h. h ≡ restored state) }
@@ -322,8 +332,8 @@ fn filled(alloc: Global, state: HeapState) -> Result<Heap, NoMemory>
     Ok(heap)
 }
 
-/// The heap of a state: it rests, holds what the state tells, and counts each reference in it and no other. The next
-/// numbers of cells and actors are those that the state's heap would have given.
+/// The heap of a state: it rests, holds what the state tells, and counts each reference in it and no
+/// other. The next numbers of cells and actors are those that the state's heap would have given.
 pub fn restore(alloc: Global, state: HeapState) -> Result<Heap, NoMemory>
     requires { SoundHeap (parts_kept state) }
     ensures { IfOk result (λ h. RestsWith (parts_kept state) h) }

@@ -3,7 +3,8 @@ use Rattle.std.proofs.Math.ListN.{drop_of_length-le}
 use Rattle.flow_numbered.specs.Numbered.{thing}
 use Rattle.flow_heapstate.proofs.Reading.{what_is}
 use Rattle.flow_heapstate.proofs.Building.{more, more_step, more_there, more_none, drop_next}
-use Rattle.flow_heapstate.proofs.Growing.{callbacks_more, callbacks_both, callbacks_none}
+use Rattle.flow_heapstate.specs.Restoring.{callbacks_more}
+use Rattle.flow_heapstate.proofs.Growing.{callbacks_both, callbacks_none}
 use Rattle.flow_heapstate.proofs.restoring.add_callbacks.Goals as goal
 
 pub loop-held-preserved : goal.loop-held-preserved

@@ -1,7 +1,7 @@
 use Rattle.std.proofs.Common.{◌≡◌, IsSome, drop}
 use Rattle.flow_numbered.specs.Numbered.{thing}
 use Rattle.flow_heapstate.proofs.Building.{more}
-use Rattle.flow_heapstate.proofs.Growing.{callbacks_more}
+use Rattle.flow_heapstate.specs.Restoring.{callbacks_more}
 use Rattle.flow_heapstate.proofs.restoring.add_callbacks.Given as goal
 
 abbrev pub invariant-loop-held : goal.invariant-loop-held

@@ -3,7 +3,8 @@ use Rattle.std.proofs.lemmas.Grind.{common_steps}
 use Rattle.flow_numbered.specs.Numbered.{thing}
 use Rattle.flow_heapstate.proofs.Reading.{what_is}
 use Rattle.flow_heapstate.proofs.Building.{more, more_next, more_there, more_none, with_thing_is}
-use Rattle.flow_heapstate.proofs.Growing.{queue_more, queue_both, queue_none}
+use Rattle.flow_heapstate.specs.Restoring.{queue_more}
+use Rattle.flow_heapstate.proofs.Growing.{queue_both, queue_none}
 use Rattle.flow_heapstate.proofs.restoring.add_elements.Goals as goal
 
 pub loop-value-preserved : goal.loop-value-preserved

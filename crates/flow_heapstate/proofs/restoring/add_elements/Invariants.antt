@@ -2,7 +2,7 @@ use Rattle.std.proofs.Common.{◌≡◌, None, IsSome}
 use Rattle.std.specs.Option.{ForSome}
 use Rattle.flow_numbered.specs.Numbered.{thing}
 use Rattle.flow_heapstate.proofs.Building.{more}
-use Rattle.flow_heapstate.proofs.Growing.{queue_more}
+use Rattle.flow_heapstate.specs.Restoring.{queue_more}
 use Rattle.flow_heapstate.proofs.restoring.add_elements.Given as goal
 
 abbrev pub invariant-loop-value : goal.invariant-loop-value

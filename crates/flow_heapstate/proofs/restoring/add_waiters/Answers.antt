@@ -3,7 +3,8 @@ use Rattle.std.proofs.Math.ListN.{drop_of_length-le}
 use Rattle.flow_numbered.specs.Numbered.{thing}
 use Rattle.flow_heapstate.proofs.Reading.{what_is}
 use Rattle.flow_heapstate.proofs.Building.{more, more_step, more_there, more_none, drop_next}
-use Rattle.flow_heapstate.proofs.Growing.{waiters_more, waiters_both, waiters_none}
+use Rattle.flow_heapstate.specs.Restoring.{waiters_more}
+use Rattle.flow_heapstate.proofs.Growing.{waiters_both, waiters_none}
 use Rattle.flow_heapstate.proofs.restoring.add_waiters.Goals as goal
 
 pub loop-waiter-preserved : goal.loop-waiter-preserved

@@ -1,7 +1,7 @@
 use Rattle.std.proofs.Common.{◌≡◌, IsSome, drop}
 use Rattle.flow_numbered.specs.Numbered.{thing}
 use Rattle.flow_heapstate.proofs.Building.{more}
-use Rattle.flow_heapstate.proofs.Growing.{waiters_more}
+use Rattle.flow_heapstate.specs.Restoring.{waiters_more}
 use Rattle.flow_heapstate.proofs.restoring.add_waiters.Given as goal
 
 abbrev pub invariant-loop-waiter : goal.invariant-loop-waiter
