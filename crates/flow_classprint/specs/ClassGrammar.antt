@@ -48,8 +48,8 @@ abbrev pub place_at : Slotted → Place → Marked
 place_at p at = opens [] (token.Name (place_name p)) at
 
 -- the variables of an expression are such names
-mutual
-  abbrev pub AreFree : ExprTree → Type 0
+abbrev mutual
+  pub AreFree : ExprTree → Type 0
   AreFree (IntExpr n) = Unit {0}
   AreFree (TextExpr t) = Unit {0}
   AreFree (BoolExpr b) = Unit {0}
@@ -63,7 +63,7 @@ mutual
   AreFree (BinaryExpr op a b) = AreFree a × AreFree b
   AreFree (ParenExpr e) = AreFree e
 
-  abbrev pub AllAreFree : ExprTrees → Type 0
+  pub AllAreFree : ExprTrees → Type 0
   AllAreFree NoExprs = Unit {0}
   AllAreFree (MoreExprs e es) = AreFree e × AllAreFree es
 

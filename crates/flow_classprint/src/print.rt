@@ -11,6 +11,7 @@ use flow_base::memory::NoMemory;
 use flow_class::class::{Class, RawClasses};
 use flow_show::source::Source;
 use flow_tree::decl::{FunctionDecl, RecordDecl};
+use flow_valid::program::ClassProgram;
 use std::alloc::Global;
 
 // Adds the records.
@@ -54,9 +55,10 @@ pub fn put_front(out: &mut Source, raw: &RawClasses) -> Result<(), NoMemory>
 }
 
 /// The canonical text of classes, with the records and functions of their program.
-pub fn print_classes(alloc: Global, raw: &RawClasses) -> Result<Vec<u8>, NoMemory>
-    ensures { IfOk result (λ v. v.items ≡ ClassText (raw_of raw.now)) }
+pub fn print_classes(alloc: Global, classes: &ClassProgram) -> Result<Vec<u8>, NoMemory>
+    ensures { IfOk result (λ v. v.items ≡ ClassText (raw_of classes.now)) }
 {
+    let raw = classes.raw();
     let mut out = Source::new(alloc);
     put_front(&mut out, raw)?;
     put_classes(&mut out, &raw.classes)?;

@@ -1,21 +1,17 @@
 use flow_base::fault::OutFault;
 use flow_base::ids::{CellId, ProcId};
 use flow_base::memory::NoMemory;
-use flow_base::name::Name;
-use flow_base::place::Place;
 use flow_base::text::Text;
-use flow_class::class::{Block, Callback, Class, Group, Last, RawClasses};
-use flow_class::program::ClassProgram;
 use flow_code::program::Code;
-use flow_machine::host::{Burst, Host, RunFault};
+use flow_compile::{compile, front};
+use flow_machine::host::{Burst, Host};
 use flow_machine::machine::Machine;
 use flow_simdisk::DiskAsk;
 use flow_trace::line::Line;
 use flow_trace::out::{LineOut, LineVec};
-use flow_tree::expr::Expr;
-use flow_tree::ty::{Ident, Ty};
 use flow_value::value::{Outcome, Value};
 use std::alloc::Global;
+use std::test::Fail;
 
 /// A host that keeps the lines and the cell of the last timer, and nothing else.
 #[derive(Drop)]
@@ -74,78 +70,41 @@ impl Host for Lines {
     }
 }
 
-// A program of one class, `main`, which has a local for its number.
-fn program(alloc: Global, blocks: Vec<Block>, groups: Vec<Group>) -> Result<Code, NoMemory> {
-    let class = Class {
-        name: Name::new(alloc, b"main")?,
-        returns: Ty::Void,
-        params: 1,
-        slots: Vec::new(alloc),
-        locals: vec![in alloc; Ty::Int]?,
-        blocks,
-        groups,
+// The code of a program that the front accepts.
+fn code(alloc: Global, text: &[u8]) -> Result<Code, Fail> {
+    let Ok(sound) = front(alloc, text) else {
+        return Err(Fail::from("no program"));
     };
-    let raw = RawClasses {
-        records: Vec::new(alloc),
-        functions: Vec::new(alloc),
-        classes: vec![in alloc; class]?,
+    let Ok(classes) = compile(alloc, &sound) else {
+        return Err(Fail::from("no classes"));
     };
-    Code::new(alloc, ClassProgram::unjudged(alloc, raw)?)
-}
-
-fn block(alloc: Global, last: Last) -> Block {
-    Block {
-        catcher: None,
-        body: Vec::new(alloc),
-        last,
-    }
+    Ok(Code::new(alloc, classes)?)
 }
 
 // `main` returns at once.
-fn returning(alloc: Global) -> Result<Code, NoMemory> {
-    let block = block(alloc, Last::Return(Expr::VoidValue));
-    program(alloc, vec![in alloc; block]?, Vec::new(alloc))
+fn returning(alloc: Global) -> Result<Code, Fail> {
+    code(alloc, b"ACTOR Future<Void> main(int p) { return Void(); }")
 }
 
 // `main` waits for a delay of five ticks, and returns.
-fn delaying(alloc: Global) -> Result<Code, NoMemory> {
-    let name = Ident {
-        name: Name::new(alloc, b"delay")?,
-        at: Place {
-            line: 1,
-            column: 1,
-            byte: 0,
-        },
-    };
-    let callback = Callback {
-        next: false,
-        operand: Expr::Call(name, vec![in alloc; Expr::Int(5)]?),
-        into: None,
-        block: 1,
-    };
-    let group = Group {
-        callbacks: vec![in alloc; callback]?,
-    };
-    let first = block(alloc, Last::Choose(1));
-    let second = block(alloc, Last::Return(Expr::VoidValue));
-    program(
+fn delaying(alloc: Global) -> Result<Code, Fail> {
+    code(
         alloc,
-        vec![in alloc; first, second]?,
-        vec![in alloc; group]?,
+        b"ACTOR Future<Void> main(int p) { wait(delay(5)); return Void(); }",
     )
 }
 
 // How `main` of a program that returns at once ends, with so many turns.
-fn boots(alloc: Global, turns: u32) -> Result<Burst, RunFault> {
+fn boots(alloc: Global, turns: u32) -> Result<Burst, Fail> {
     let classes = returning(alloc)?;
     let mut host = new_host(alloc);
     let mut machine = Machine::new(alloc, ProcId(0), 1)?;
-    machine.start_main(&classes, 0, turns, &mut host)
+    Ok(machine.start_main(&classes, 0, turns, &mut host)?)
 }
 
 // A start, the end of an actor, and its result that is set: three turns.
 #[test]
-fn a_burst_needs_its_turns(rt: HostRuntime) -> Result<(), RunFault> {
+fn a_burst_needs_its_turns(rt: HostRuntime) -> Result<(), Fail> {
     assert!(rt; boots(rt.alloc(), 3)? == Burst::Rested);
     assert!(rt; boots(rt.alloc(), 2)? == Burst::Spent);
     Ok(())
@@ -153,7 +112,7 @@ fn a_burst_needs_its_turns(rt: HostRuntime) -> Result<(), RunFault> {
 
 // The lines of a start and of an end; the result of `main` is held until a stop.
 #[test]
-fn main_is_held_until_a_stop(rt: HostRuntime) -> Result<(), RunFault> {
+fn main_is_held_until_a_stop(rt: HostRuntime) -> Result<(), Fail> {
     let alloc = rt.alloc();
     let classes = returning(alloc)?;
     let mut host = new_host(alloc);
@@ -169,7 +128,7 @@ fn main_is_held_until_a_stop(rt: HostRuntime) -> Result<(), RunFault> {
 
 // An actor waits with one callback, which takes its branch once the timer sets its cell.
 #[test]
-fn a_delay_ends_a_wait(rt: HostRuntime) -> Result<(), RunFault> {
+fn a_delay_ends_a_wait(rt: HostRuntime) -> Result<(), Fail> {
     let alloc = rt.alloc();
     let classes = delaying(alloc)?;
     let mut host = new_host(alloc);
@@ -186,7 +145,7 @@ fn a_delay_ends_a_wait(rt: HostRuntime) -> Result<(), RunFault> {
 
 // A loss of power leaves neither an actor nor a held result.
 #[test]
-fn a_loss_of_power_leaves_nothing(rt: HostRuntime) -> Result<(), RunFault> {
+fn a_loss_of_power_leaves_nothing(rt: HostRuntime) -> Result<(), Fail> {
     let alloc = rt.alloc();
     let classes = delaying(alloc)?;
     let mut host = new_host(alloc);

@@ -3,8 +3,6 @@
 
 mod ending;
 mod frames;
-#[cfg(test)]
-mod tests;
 mod to_sink;
 pub mod trace;
 

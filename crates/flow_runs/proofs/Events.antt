@@ -52,9 +52,9 @@ pub record Around (r : RawTree) (places : List (Place Frame)) (count n : ℕ) (w
 
 module _ (r : RawTree) (valid : IsValid r) (actors : List RoutineTree) (rules : ClassRules r actors) (leads : LeadOn r) (steps_fit : StepsKeepFitting r) where
   -- the process and what is around it
-  record Good (places : List (Place Frame)) (count n : ℕ) (l : Live Outside Frame) : Type 0 where
-    own : NowFits r leads steps_fit n l
-    around : Around r places count n l.out
+  pub record Good (places : List (Place Frame)) (count n : ℕ) (l : Live Outside Frame) : Type 0 where
+    pub own : NowFits r leads steps_fit n l
+    pub around : Around r places count n l.out
 
   module _ (places : List (Place Frame)) (count n : ℕ) where
     -- what the world does for a step
@@ -81,7 +81,7 @@ module _ (r : RawTree) (valid : IsValid r) (actors : List RoutineTree) (rules : 
         by_step None q b = absurd (no_thing b)
         by_step (Some t) q b = subst (λ (z : Live Outside Frame). Around r places count n z.out) (same_of b) (around_asked s t a q)
 
-    next_good : (s l : Live Outside Frame) → Good places count n s → advance (classes r) host s ≡ Some l → Good places count n l
+    pub next_good : (s l : Live Outside Frame) → Good places count n s → advance (classes r) host s ≡ Some l → Good places count n l
     next_good s l g e = record { own = by_halt s.proc.core.halted refl g.own; around = around_advanced s l g.around e }
       where
         by_halt : (h : Option Halt) → s.proc.core.halted ≡ h → Meant h (FitsAmong r n s.out.events.pending s.proc) → NowFits r leads steps_fit n l
@@ -92,7 +92,7 @@ module _ (r : RawTree) (valid : IsValid r) (actors : List RoutineTree) (rules : 
     reached_good s t here g = g
     reached_good s t (onward next e k) g = reached_good next t k (next_good s next g e)
 
-    burst_good : (s t : Live Outside Frame) → Burst (classes r) host s t → Good places count n s → Good places count n t
+    pub burst_good : (s t : Live Outside Frame) → Burst (classes r) host s t → Good places count n s → Good places count n t
     burst_good s t (rests e) g = g
     burst_good s t (steps next e k) g = burst_good next t k (next_good s next g e)
 
@@ -107,7 +107,7 @@ module _ (r : RawTree) (valid : IsValid r) (actors : List RoutineTree) (rules : 
   abbrev InNow : Place Frame → Type 0
   InNow a = UnlessStopped a.proc.core.halted (InPlace r a.proc.core a.proc.actors)
 
-  abbrev BeginsGood : World Frame → ℕ → Begun Frame → Type 0
+  abbrev pub BeginsGood : World Frame → ℕ → Begun Frame → Type 0
   BeginsGood w n b = Good w.places w.out.file.processes n (before b)
 
   around_start : (w : World Frame) (n : ℕ) (v : Outside) → WorldFits r w → n < w.out.file.processes → v.active ≡ n → v.file ≡ w.out.file → ((m : ℕ) → (m ≡ n → ⊥) → Fewer m w.out.events.pending v.events.pending)
@@ -121,7 +121,7 @@ module _ (r : RawTree) (valid : IsValid r) (actors : List RoutineTree) (rules : 
     script = script;
   }
 
-  at_process : (w : World Frame) (n : ℕ) → WorldFits r w → n < w.out.file.processes → FitsAmong r n w.out.events.pending (ready w n).proc
+  pub at_process : (w : World Frame) (n : ℕ) → WorldFits r w → n < w.out.file.processes → FitsAmong r n w.out.events.pending (ready w n).proc
   at_process w n h is =
       let a : Place Frame = record { up = false; proc = Rattle.flow_meaning.specs.Deliver.idle } in
       let p = slice_index_or w.places n a in
@@ -237,17 +237,17 @@ module _ (r : RawTree) (valid : IsValid r) (actors : List RoutineTree) (rules : 
         }
 
   -- any event
-  record Begun_well (w : World Frame) (b : Begun Frame) : Type 0 where
-    process : ℕ
-    good : BeginsGood w process b
+  pub record BegunWell (w : World Frame) (b : Begun Frame) : Type 0 where
+    pub process : ℕ
+    pub good : BeginsGood w process b
 
   in_now : (w : World Frame) (b : Begun Frame) → WorldFits r w → begun_by (classes r) w (next_of w.out) ≡ Some b → InNow b.place
   in_now w b h g = begun_begins r (next_of w.out) w b (all_in_place r w.places 0 w.out.events.pending h.places) g
 
-  event_begins : (w : World Frame) (b : Begun Frame) → WorldFits r w → begun_by (classes r) w (next_of w.out) ≡ Some b → Begun_well w b
+  pub event_begins : (w : World Frame) (b : Begun Frame) → WorldFits r w → begun_by (classes r) w (next_of w.out) ≡ Some b → BegunWell w b
   event_begins w b h g = by_next (next_of w.out) g (next_in w.out.file.processes w.out h.script) (in_now w b h g)
     where
-      by_next : (x : Next) → begun_by (classes r) w x ≡ Some b → NextIn w.out.file.processes w.out.events.pending x → InNow b.place → Begun_well w b
+      by_next : (x : Next) → begun_by (classes r) w x ≡ Some b → NextIn w.out.file.processes w.out.events.pending x → InNow b.place → BegunWell w b
       by_next Nothing e k i = absurd (no_thing e)
       by_next (Script t o left) e k i =
           let s = k.script t o left refl in

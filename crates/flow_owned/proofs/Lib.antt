@@ -1,0 +1,5 @@
+pub mod Fills
+pub mod Steps
+pub mod Brought
+pub mod Owns
+pub mod Worlds

@@ -1,0 +1,12 @@
+pub mod Sizes
+pub mod Answers
+pub mod Counting
+pub mod PlaceNames
+pub mod Following
+pub mod Entered
+pub mod Standing
+pub mod Small
+pub mod Apart
+pub mod Verdicts
+pub mod Rows
+pub mod Gathered
