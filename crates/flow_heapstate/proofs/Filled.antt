@@ -24,25 +24,28 @@ abbrev pub last_of : {S : Type 0} → (S → ℕ) → ℕ → List S → ℕ
 last_of number low [] = low
 last_of number low (s ∷ ss) = last_of number (number s) ss
 
-abbrev pub cells_noted : List CellState → List ℕ → List ℕ
-cells_noted [] ns = ns
-cells_noted (s ∷ ss) ns = cells_noted ss (noted_if s.requested s.cell.0 ns)
+-- the numbers that are noted of some, as these come in
+abbrev pub all_noted : {S : Type 0} → (S → ℕ) → (S → Bool) → List S → List ℕ → List ℕ
+all_noted number flag [] ns = ns
+all_noted number flag (s ∷ ss) ns = all_noted number flag ss (noted_if (flag s) (number s) ns)
 
-abbrev pub streams_noted : List StreamState → List ℕ → List ℕ
-streams_noted [] ns = ns
-streams_noted (s ∷ ss) ns = streams_noted ss (noted_if s.port s.cell.0 ns)
+abbrev pub requested : CellState → Bool
+requested s = s.requested
+
+abbrev pub ported : StreamState → Bool
+ported s = s.port
 
 -- single results and streams
 abbrev pub more_cells : List CellState → HeapTree → HeapTree
 more_cells ss h = record h {
   cells = record { things = h.cells.things ++ recounted cell_number cell_counted no_count ss; greatest = last_of cell_number h.cells.greatest ss };
-  requests = cells_noted ss h.requests;
+  requests = all_noted cell_number requested ss h.requests;
 }
 
 abbrev pub more_streams : List StreamState → HeapTree → HeapTree
 more_streams ss h = record h {
   streams = record { things = h.streams.things ++ recounted stream_number stream_counted no_count ss; greatest = last_of stream_number h.streams.greatest ss };
-  ports = streams_noted ss h.ports;
+  ports = all_noted stream_number ported ss h.ports;
 }
 
 nothing_more : {A : Type 0} (xs : List A) → xs ≡ xs ++ []
@@ -55,7 +58,7 @@ cells_filled (s ∷ ss) h =
     cells_filled ss (with_cell s h)
     ∙ ap (λ xs. record h {
       cells = record { things = xs; greatest = last_of cell_number s.cell.0 ss };
-      requests = cells_noted ss (noted_if s.requested s.cell.0 h.requests);
+      requests = all_noted cell_number requested ss (noted_if s.requested s.cell.0 h.requests);
     }) (append_assoc h.cells.things ((s.cell.0, cell_counted no_counts s) ∷ []) (recounted cell_number cell_counted no_count ss))
 
 pub streams_filled : (ss : List StreamState) (h : HeapTree) → with_streams ss h ≡ more_streams ss h
@@ -64,7 +67,7 @@ streams_filled (s ∷ ss) h =
     streams_filled ss (with_stream s h)
     ∙ ap (λ xs. record h {
       streams = record { things = xs; greatest = last_of stream_number s.cell.0 ss };
-      ports = streams_noted ss (noted_if s.port s.cell.0 h.ports);
+      ports = all_noted stream_number ported ss (noted_if s.port s.cell.0 h.ports);
     }) (append_assoc h.streams.things ((s.cell.0, stream_counted no_counts s) ∷ []) (recounted stream_number stream_counted no_count ss))
 
 -- actors

@@ -6,11 +6,9 @@ use Rattle.std.specs.List.{AllByRecursion, flat_map}
 use Rattle.flow_base.specs.declared.ids.CellId.{CellId}
 use Rattle.flow_value.specs.declared.value.Kind.{Kind}
 use Rattle.flow_value.specs.declared.value.Kind.TheVariants as kind
-use Rattle.flow_value.specs.declared.value.Value.{Value}
 use Rattle.flow_value.specs.declared.value.Outcome.{Outcome}
 use Rattle.flow_numbered.specs.Numbered.{thing}
-use Rattle.flow_cell.specs.Cells.{Counts, CellTree, no_counts}
-use Rattle.flow_stream.specs.Streams.{StreamTree}
+use Rattle.flow_cell.specs.Cells.{Counts, no_counts}
 use Rattle.flow_cell.specs.declared.counts.Side.TheVariants.{Promise}
 use Rattle.flow_cancel.specs.Heap.{HeapTree, no_heap, skipped_actors}
 use Rattle.flow_heapstate.specs.State.{Parts, CellPart, place_of, parts_kept, cell_kept, stream_kept, actor_kept}
@@ -18,11 +16,10 @@ use Rattle.flow_heapstate.specs.Referring.{Ref, named, result_refs, stored_refs,
 use Rattle.flow_heapstate.specs.Restoring.{with_streams, with_actors, filled, restored, held_all, RisesFrom, InOrder}
 use Rattle.flow_heapstate.specs.Sound.{cell_times, stream_times, RiseTo, at_number, results, SoundActor, OwnResult, SoundHeap}
 use Rattle.flow_heapstate.specs.declared.state.CellState.{CellState}
-use Rattle.flow_heapstate.specs.declared.state.StreamState.{StreamState}
 use Rattle.flow_heapstate.specs.declared.state.ActorState.{ActorState}
 use Rattle.flow_heapstate.specs.declared.state.HeapState.{HeapState}
-use Rattle.flow_heapstate.proofs.Recounting.{bumped, recounted, cell_number, stream_number, cell_counted, stream_counted, cells_with, streams_with, in_cells, all_in_cells, in_streams, all_in_streams, all_held, cells_counted, streams_counted, added_counts, counts_same}
-use Rattle.flow_heapstate.proofs.Filled.{no_count, last_of, cells_noted, streams_noted, more_cells, more_streams, cells_filled, streams_filled, actor_number, frames_of, notes_of, promised_counts, all_promised, more_actors, at_state, IsUnset, IsFree, Differ, NoneLater, AreReady, AreFree, actors_filled}
+use Rattle.flow_heapstate.proofs.Recounting.{bumped, recounted, cell_number, stream_number, cells_with, streams_with, in_cells, all_in_cells, in_streams, all_in_streams, all_held, cells_counted, streams_counted, added_counts, counts_same}
+use Rattle.flow_heapstate.proofs.Filled.{no_count, last_of, all_noted, requested, ported, more_cells, more_streams, cells_filled, streams_filled, actor_number, frames_of, notes_of, promised_counts, all_promised, more_actors, at_state, IsUnset, IsFree, Differ, NoneLater, AreReady, AreFree, actors_filled}
 
 -- the order of the parts
 rises : {S P : Type 0} (kept : S → P) (number : P → ℕ) (low : ℕ) (ss : List S) (most : ℕ) → RiseTo low (map number (map kept ss)) most → RisesFrom low (map (λ s. number (kept s)) ss)
@@ -158,8 +155,8 @@ module _ (s : HeapState) where
     actors = record { things = notes_of s.actors.items; greatest = last_of actor_number 0 s.actors.items };
     made = max 0 s.cells_made;
     main = s.main;
-    ports = streams_noted s.streams.items [];
-    requests = cells_noted s.cells.items [];
+    ports = all_noted stream_number ported s.streams.items [];
+    requests = all_noted cell_number requested s.cells.items [];
   }
 
   abbrev pub placed : HeapTree
@@ -177,27 +174,17 @@ module _ (s : HeapState) where
       (all_promised s.actors.items no_count) no_count
 
 -- what counts
-pub counted_at : (f : ℕ → Counts) (cs : List CellState) (n : ℕ) (c : CellTree Outcome) → thing (recounted cell_number cell_counted f cs) n ≡ Some c → c.references ≡ f n
-counted_at f [] n c e = absurd (cc)
-counted_at f (s ∷ cs) n c e = at_head (nat_eq n s.cell.0) refl (λ x. counted_at f cs n c x)
-  where
-    at_head : (t : Bool) → nat_eq n s.cell.0 ≡ t → (thing (recounted cell_number cell_counted f cs) n ≡ Some c → c.references ≡ f n) → c.references ≡ f n
-    at_head true g rest =
-        let same : s.cell.0 ≡ n = grind (arith, nat_tests) in
-        let is : cell_counted (f s.cell.0) s ≡ c = cc (rw g at e) in
-        sym (ap (λ (x : CellTree Outcome). x.references) is) ∙ ap f same
-    at_head false g rest = rest (rw g at e)
-
-pub stream_counted_at : (f : ℕ → Counts) (ss : List StreamState) (n : ℕ) (c : StreamTree Value) → thing (recounted stream_number stream_counted f ss) n ≡ Some c → c.references ≡ f n
-stream_counted_at f [] n c e = absurd (cc)
-stream_counted_at f (s ∷ ss) n c e = at_head (nat_eq n s.cell.0) refl (λ x. stream_counted_at f ss n c x)
-  where
-    at_head : (t : Bool) → nat_eq n s.cell.0 ≡ t → (thing (recounted stream_number stream_counted f ss) n ≡ Some c → c.references ≡ f n) → c.references ≡ f n
-    at_head true g rest =
-        let same : s.cell.0 ≡ n = grind (arith, nat_tests) in
-        let is : stream_counted (f s.cell.0) s ≡ c = cc (rw g at e) in
-        sym (ap (λ (x : StreamTree Value). x.references) is) ∙ ap f same
-    at_head false g rest = rest (rw g at e)
+module _ {S A : Type 0} (number : S → ℕ) (tree : Counts → S → A) (refs : A → Counts) (is : (c : Counts) (s : S) → refs (tree c s) ≡ c) where
+  pub counted_at : (f : ℕ → Counts) (ss : List S) (n : ℕ) (a : A) → thing (recounted number tree f ss) n ≡ Some a → refs a ≡ f n
+  counted_at f [] n a e = absurd (cc)
+  counted_at f (s ∷ ss) n a e = at_head (nat_eq n (number s)) refl (λ x. counted_at f ss n a x)
+    where
+      at_head : (t : Bool) → nat_eq n (number s) ≡ t → (thing (recounted number tree f ss) n ≡ Some a → refs a ≡ f n) → refs a ≡ f n
+      at_head true g rest =
+          let same : number s ≡ n = grind (arith, nat_tests) in
+          let here : tree (f (number s)) s ≡ a = cc (rw g at e) in
+          sym (ap refs here) ∙ is (f (number s)) s ∙ ap f same
+      at_head false g rest = rest (rw g at e)
 
 none_yet : (c : Counts) → added_counts no_counts c ≡ c
 none_yet c = counts_same (added_counts no_counts c) c (omega arith) (omega arith)

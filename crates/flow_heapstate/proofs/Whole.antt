@@ -9,14 +9,12 @@ use Rattle.flow_cancel.specs.Heap.{has_number, new_note}
 use Rattle.flow_heapstate.specs.State.{Parts, cell_part, stream_part, actor_part, parts_of, parts_kept, cell_kept, stream_kept, actor_kept, result_noted, IsAtRest, Rests}
 use Rattle.flow_heapstate.specs.Restoring.{frame_of, noted_if, restored, RisesFrom}
 use Rattle.flow_heapstate.specs.Sound.{RiseTo, SoundActor, SoundHeap, RestsWith}
-use Rattle.flow_heapstate.specs.declared.state.CellState.{CellState}
-use Rattle.flow_heapstate.specs.declared.state.StreamState.{StreamState}
 use Rattle.flow_heapstate.specs.declared.state.ActorState.{ActorState}
 use Rattle.flow_heapstate.specs.declared.state.HeapState.{HeapState}
 use Rattle.flow_heapstate.proofs.Numbers.{has_with, all_there}
 use Rattle.flow_heapstate.proofs.Recounting.{recounted, cell_number, stream_number, cell_counted, stream_counted}
-use Rattle.flow_heapstate.proofs.Filled.{last_of, cells_noted, streams_noted, actor_number, frames_of, notes_of}
-use Rattle.flow_heapstate.proofs.Restored.{in_order, whole, restored_is, cell_counts, stream_counts, cells_count, streams_count, counted_at, stream_counted_at}
+use Rattle.flow_heapstate.proofs.Filled.{last_of, all_noted, requested, ported, actor_number, frames_of, notes_of}
+use Rattle.flow_heapstate.proofs.Restored.{in_order, whole, restored_is, cell_counts, stream_counts, cells_count, streams_count, counted_at}
 
 -- numbers rise
 rising_recounted : {S A : Type 0} (number : S → ℕ) (tree : Counts → S → A) (f : ℕ → Counts) (low : ℕ) (ss : List S) → RisesFrom low (map number ss)
@@ -33,95 +31,71 @@ last_within kept number low [] most h = h
 last_within kept number low (s ∷ ss) most h = last_within kept number (number (kept s)) ss most h.1
 
 -- which numbers are noted
-is_requested : List CellState → ℕ → Bool
-is_requested [] n = false
-is_requested (s ∷ ss) n = (s.requested && nat_eq n s.cell.0) || is_requested ss n
-
-is_ported : List StreamState → ℕ → Bool
-is_ported [] n = false
-is_ported (s ∷ ss) n = (s.port && nat_eq n s.cell.0) || is_ported ss n
-
 or_both : (a b c : Bool) → (a || (b || c)) ≡ ((b || a) || c)
 or_both true true c = refl
 or_both true false c = refl
 or_both false true c = refl
 or_both false false c = refl
 
-noted_has : (t : Bool) (k : ℕ) (ns : List ℕ) (n : ℕ) → has_number (noted_if t k ns) n ≡ ((t && nat_eq n k) || has_number ns n)
-noted_has true k ns n = has_with n k ns
-noted_has false k ns n = refl
-
-requests_are : (ss : List CellState) (ns : List ℕ) (n : ℕ) → has_number (cells_noted ss ns) n ≡ (is_requested ss n || has_number ns n)
-unfolding is_requested
-requests_are [] ns n = refl
-requests_are (s ∷ ss) ns n =
-    requests_are ss (noted_if s.requested s.cell.0 ns) n ∙ ap (λ t. is_requested ss n || t) (noted_has s.requested s.cell.0 ns n) ∙ or_both (is_requested ss n) (s.requested && nat_eq n s.cell.0) (has_number ns n)
-
-ports_are : (ss : List StreamState) (ns : List ℕ) (n : ℕ) → has_number (streams_noted ss ns) n ≡ (is_ported ss n || has_number ns n)
-unfolding is_ported
-ports_are [] ns n = refl
-ports_are (s ∷ ss) ns n =
-    ports_are ss (noted_if s.port s.cell.0 ns) n ∙ ap (λ t. is_ported ss n || t) (noted_has s.port s.cell.0 ns n) ∙ or_both (is_ported ss n) (s.port && nat_eq n s.cell.0) (has_number ns n)
-
-none_requested : (ss : List CellState) (low n : ℕ) → RisesFrom low (map cell_number ss) → n ≤ low → is_requested ss n ≡ false
-unfolding is_requested
-none_requested [] low n h l = refl
-none_requested (s ∷ ss) low n h l =
-    let other : nat_eq n s.cell.0 ≡ false = grind (arith, nat_tests, h.0, l) in
-    rw (other, none_requested ss s.cell.0 n h.1 (omega (arith, h.0, l))) (neither s.requested)
-  where
-    neither : (t : Bool) → ((t && false) || false) ≡ false
-    neither true = refl
-    neither false = refl
-
-none_ported : (ss : List StreamState) (low n : ℕ) → RisesFrom low (map stream_number ss) → n ≤ low → is_ported ss n ≡ false
-unfolding is_ported
-none_ported [] low n h l = refl
-none_ported (s ∷ ss) low n h l =
-    let other : nat_eq n s.cell.0 ≡ false = grind (arith, nat_tests, h.0, l) in
-    rw (other, none_ported ss s.cell.0 n h.1 (omega (arith, h.0, l))) (neither s.port)
-  where
-    neither : (t : Bool) → ((t && false) || false) ≡ false
-    neither true = refl
-    neither false = refl
-
 or_false : (t : Bool) → ((t && true) || false) ≡ t
 or_false true = refl
 or_false false = refl
 
-cells_told : (requests : List ℕ) (f : ℕ → Counts) (low : ℕ) (ss : List CellState) → RisesFrom low (map cell_number ss)
-    → ((n : ℕ) → low < n → has_number requests n ≡ is_requested ss n) → map (cell_part requests) (recounted cell_number cell_counted f ss) ≡ map cell_kept ss
-unfolding is_requested
-cells_told requests f low [] h e = refl
-cells_told requests f low (s ∷ ss) h e =
-    let here : nat_eq s.cell.0 s.cell.0 ≡ true = grind (arith, nat_tests) in
-    let told : has_number requests s.cell.0 ≡ s.requested =
-    e s.cell.0 h.0 ∙ ap₂ (λ t u. (s.requested && t) || u) here (none_requested ss s.cell.0 s.cell.0 h.1 (omega arith)) ∙ or_false s.requested in
-    let rest : (n : ℕ) → s.cell.0 < n → has_number requests n ≡ is_requested ss n =
-    λ n l. let other : nat_eq n s.cell.0 ≡ false = grind (arith, nat_tests, l) in
-    e n (omega (arith, l, h.0)) ∙ ap (λ t. (s.requested && t) || is_requested ss n) other ∙ passed s.requested (is_requested ss n) in
-    ap₂ (λ t xs. record (cell_kept s) { requested = t } ∷ xs) told (cells_told requests f s.cell.0 ss h.1 rest)
-  where
-    passed : (t u : Bool) → ((t && false) || u) ≡ u
-    passed true u = refl
-    passed false u = refl
+or_no : (t : Bool) → (t || false) ≡ t
+or_no true = refl
+or_no false = refl
 
-streams_told : (ports : List ℕ) (f : ℕ → Counts) (low : ℕ) (ss : List StreamState) → RisesFrom low (map stream_number ss)
-    → ((n : ℕ) → low < n → has_number ports n ≡ is_ported ss n) → map (stream_part ports) (recounted stream_number stream_counted f ss) ≡ map stream_kept ss
-unfolding is_ported
-streams_told ports f low [] h e = refl
-streams_told ports f low (s ∷ ss) h e =
-    let here : nat_eq s.cell.0 s.cell.0 ≡ true = grind (arith, nat_tests) in
-    let told : has_number ports s.cell.0 ≡ s.port =
-    e s.cell.0 h.0 ∙ ap₂ (λ t u. (s.port && t) || u) here (none_ported ss s.cell.0 s.cell.0 h.1 (omega arith)) ∙ or_false s.port in
-    let rest : (n : ℕ) → s.cell.0 < n → has_number ports n ≡ is_ported ss n =
-    λ n l. let other : nat_eq n s.cell.0 ≡ false = grind (arith, nat_tests, l) in
-    e n (omega (arith, l, h.0)) ∙ ap (λ t. (s.port && t) || is_ported ss n) other ∙ passed s.port (is_ported ss n) in
-    ap₂ (λ t xs. record (stream_kept s) { port = t } ∷ xs) told (streams_told ports f s.cell.0 ss h.1 rest)
-  where
-    passed : (t u : Bool) → ((t && false) || u) ≡ u
-    passed true u = refl
-    passed false u = refl
+passed : (t u : Bool) → ((t && false) || u) ≡ u
+passed true u = refl
+passed false u = refl
+
+noted_has : (t : Bool) (k : ℕ) (ns : List ℕ) (n : ℕ) → has_number (noted_if t k ns) n ≡ ((t && nat_eq n k) || has_number ns n)
+noted_has true k ns n = has_with n k ns
+noted_has false k ns n = refl
+
+module _ {S : Type 0} (number : S → ℕ) (flag : S → Bool) where
+  abbrev pub is_noted : List S → ℕ → Bool
+  is_noted [] n = false
+  is_noted (s ∷ ss) n = (flag s && nat_eq n (number s)) || is_noted ss n
+
+  noted_are : (ss : List S) (ns : List ℕ) (n : ℕ) → has_number (all_noted number flag ss ns) n ≡ (is_noted ss n || has_number ns n)
+  noted_are [] ns n = refl
+  noted_are (s ∷ ss) ns n =
+      noted_are ss (noted_if (flag s) (number s) ns) n ∙ ap (λ t. is_noted ss n || t) (noted_has (flag s) (number s) ns n) ∙ or_both (is_noted ss n) (flag s && nat_eq n (number s)) (has_number ns n)
+
+  noted_first : (ss : List S) (n : ℕ) → has_number (all_noted number flag ss []) n ≡ is_noted ss n
+  noted_first ss n = noted_are ss [] n ∙ or_no (is_noted ss n)
+
+  none_noted : (ss : List S) (low n : ℕ) → RisesFrom low (map number ss) → n ≤ low → is_noted ss n ≡ false
+  none_noted [] low n h l = refl
+  none_noted (s ∷ ss) low n h l =
+      let other : nat_eq n (number s) ≡ false = grind (arith, nat_tests, h.0, l) in
+      ap₂ (λ t u. (flag s && t) || u) other (none_noted ss (number s) n h.1 (omega (arith, h.0, l))) ∙ passed (flag s) false
+
+  -- what is told of each
+  told : {A P : Type 0} (tree : Counts → S → A) (kept : S → P) (part : List ℕ → ℕ × A → P)
+      → ((ns : List ℕ) (c : Counts) (s : S) → has_number ns (number s) ≡ flag s → part ns (number s, tree c s) ≡ kept s)
+      → (ns : List ℕ) (f : ℕ → Counts) (low : ℕ) (ss : List S) → RisesFrom low (map number ss) → ((n : ℕ) → low < n → has_number ns n ≡ is_noted ss n)
+      → map (part ns) (recounted number tree f ss) ≡ map kept ss
+  told tree kept part same ns f low [] h e = refl
+  told tree kept part same ns f low (s ∷ ss) h e =
+      let here : nat_eq (number s) (number s) ≡ true = grind (arith, nat_tests) in
+      let this : has_number ns (number s) ≡ flag s =
+      e (number s) h.0 ∙ ap₂ (λ t u. (flag s && t) || u) here (none_noted ss (number s) (number s) h.1 (omega arith)) ∙ or_false (flag s) in
+      let rest : (n : ℕ) → number s < n → has_number ns n ≡ is_noted ss n =
+      λ n l. let other : nat_eq n (number s) ≡ false = grind (arith, nat_tests, l) in
+      e n (omega (arith, l, h.0)) ∙ ap (λ t. (flag s && t) || is_noted ss n) other ∙ passed (flag s) (is_noted ss n) in
+      ap₂ (λ x xs. x ∷ xs) (same ns (f (number s)) s this) (told tree kept part same ns f (number s) ss h.1 rest)
+
+  -- what is noted is there
+  noted_there : {A : Type 0} (tree : Counts → S → A) (f : ℕ → Counts) (ss : List S) (n : ℕ) → is_noted ss n ≡ true → IsSome (thing (recounted number tree f ss) n)
+  noted_there tree f [] n e = absurd (cc)
+  noted_there {A} tree f (s ∷ ss) n e = at_head (nat_eq n (number s)) e (λ x. noted_there tree f ss n x)
+    where
+      at_head : (t : Bool) → ((flag s && t) || is_noted ss n) ≡ true → (is_noted ss n ≡ true → IsSome (thing (recounted number tree f ss) n))
+          → IsSome (if t then Some (tree (f (number s)) s) else thing (recounted number tree f ss) n)
+      at_head true e rest = refl
+      at_head false e rest = rest (sym (passed (flag s) (is_noted ss n)) ∙ e)
 
 -- actors: what is noted of each
 -- in a list of notes that has these among those above a number
@@ -163,39 +137,6 @@ module _ (s : HeapState) where
           let here : nat_eq a.actor.0 a.actor.0 ≡ true = grind (arith, nat_tests) in
           e a.actor.0 h.0 ∙ ap (λ t. if t then Some (frame_of a) else thing (frames_of ss) a.actor.0) here
 
-  -- ports and requests are noted of what is there
-  cell_is_there : (f : ℕ → Counts) (cs : List CellState) (n : ℕ) → is_requested cs n ≡ true → IsSome (thing (recounted cell_number cell_counted f cs) n)
-  unfolding is_requested
-  cell_is_there f [] n e = absurd (cc)
-  cell_is_there f (c ∷ cs) n e = at_head (nat_eq n c.cell.0) e (λ x. cell_is_there f cs n x)
-    where
-      at_head : (t : Bool) → ((c.requested && t) || is_requested cs n) ≡ true → (is_requested cs n ≡ true → IsSome (thing (recounted cell_number cell_counted f cs) n))
-          → IsSome (if t then Some (cell_counted (f c.cell.0) c) else thing (recounted cell_number cell_counted f cs) n)
-      at_head true e rest = refl
-      at_head false e rest = rest (sym (passed c.requested (is_requested cs n)) ∙ e)
-        where
-          passed : (t u : Bool) → ((t && false) || u) ≡ u
-          passed true u = refl
-          passed false u = refl
-
-  stream_is_there : (f : ℕ → Counts) (cs : List StreamState) (n : ℕ) → is_ported cs n ≡ true → IsSome (thing (recounted stream_number stream_counted f cs) n)
-  unfolding is_ported
-  stream_is_there f [] n e = absurd (cc)
-  stream_is_there f (c ∷ cs) n e = at_head (nat_eq n c.cell.0) e (λ x. stream_is_there f cs n x)
-    where
-      at_head : (t : Bool) → ((c.port && t) || is_ported cs n) ≡ true → (is_ported cs n ≡ true → IsSome (thing (recounted stream_number stream_counted f cs) n))
-          → IsSome (if t then Some (stream_counted (f c.cell.0) c) else thing (recounted stream_number stream_counted f cs) n)
-      at_head true e rest = refl
-      at_head false e rest = rest (sym (passed c.port (is_ported cs n)) ∙ e)
-        where
-          passed : (t u : Bool) → ((t && false) || u) ≡ u
-          passed true u = refl
-          passed false u = refl
-
-  or_no : (t : Bool) → (t || false) ≡ t
-  or_no true = refl
-  or_no false = refl
-
   pub whole_rests : SoundHeap (parts_kept s) → Rests (whole s)
   whole_rests h =
       let order = in_order s h in
@@ -206,10 +147,10 @@ module _ (s : HeapState) where
         frames_rise = rising_frames 0 s.actors.items s.actors_made order.actors;
         at_rest = resting 0 s.actors.items order.actors (λ n l. refl) h.actors;
         framed = framed 0 s.actors.items order.actors (λ n l. refl);
-        ports = all_there (streams_noted s.streams.items []) (λ k. IsSome (thing (whole s).streams.things k))
-            (λ k e. stream_is_there (stream_counts s) s.streams.items k (sym (ports_are s.streams.items [] k ∙ or_no (is_ported s.streams.items k)) ∙ e));
-        requests = all_there (cells_noted s.cells.items []) (λ k. IsSome (thing (whole s).cells.things k))
-            (λ k e. cell_is_there (cell_counts s) s.cells.items k (sym (requests_are s.cells.items [] k ∙ or_no (is_requested s.cells.items k)) ∙ e));
+        ports = all_there (all_noted stream_number ported s.streams.items []) (λ k. IsSome (thing (whole s).streams.things k))
+            (λ k e. noted_there stream_number ported stream_counted (stream_counts s) s.streams.items k (sym (noted_first stream_number ported s.streams.items k) ∙ e));
+        requests = all_there (all_noted cell_number requested s.cells.items []) (λ k. IsSome (thing (whole s).cells.things k))
+            (λ k e. noted_there cell_number requested cell_counted (cell_counts s) s.cells.items k (sym (noted_first cell_number requested s.cells.items k) ∙ e));
       }
 
   pub whole_parts : SoundHeap (parts_kept s) → parts_of (whole s) ≡ parts_kept s
@@ -219,8 +160,10 @@ module _ (s : HeapState) where
       let streams : last_of stream_number 0 s.streams.items ≤ s.cells_made = last_within stream_kept (λ c. c.cell) 0 s.streams.items s.cells_made h.streams_rise in
       let actors : last_of actor_number 0 s.actors.items ≤ s.actors_made = last_within actor_kept (λ a. a.actor) 0 s.actors.items s.actors_made h.actors_rise in
       parts_same (parts_of (whole s)) (parts_kept s) (grind (arith, cells, streams)) (grind (arith, actors)) refl
-      (cells_told (whole s).requests (cell_counts s) 0 s.cells.items order.cells (λ n l. requests_are s.cells.items [] n ∙ or_no (is_requested s.cells.items n)))
-      (streams_told (whole s).ports (stream_counts s) 0 s.streams.items order.streams (λ n l. ports_are s.streams.items [] n ∙ or_no (is_ported s.streams.items n)))
+      (told cell_number requested cell_counted cell_kept cell_part (λ ns c x e. ap (λ t. record (cell_kept x) { requested = t }) e) (whole s).requests (cell_counts s) 0 s.cells.items order.cells
+      (λ n l. noted_first cell_number requested s.cells.items n))
+      (told stream_number ported stream_counted stream_kept stream_part (λ ns c x e. ap (λ t. record (stream_kept x) { port = t }) e) (whole s).ports (stream_counts s) 0 s.streams.items order.streams
+      (λ n l. noted_first stream_number ported s.streams.items n))
       (actors_told 0 (whole s).actors.things s.actors.items order.actors (λ n l. refl))
     where
       parts_same : (p q : Parts) → p.cells_made ≡ q.cells_made → p.actors_made ≡ q.actors_made → p.main ≡ q.main → p.cells ≡ q.cells → p.streams ≡ q.streams → p.actors ≡ q.actors → p ≡ q
@@ -233,8 +176,8 @@ module _ (s : HeapState) where
   whole_restored h = record {
     rests = whole_rests h;
     parts = whole_parts h;
-    cells = λ n c e. counted_at (cell_counts s) s.cells.items n c e ∙ cells_count s n;
-    streams = λ n c e. stream_counted_at (stream_counts s) s.streams.items n c e ∙ streams_count s n;
+    cells = λ n c e. counted_at cell_number cell_counted (λ x. x.references) (λ k x. refl) (cell_counts s) s.cells.items n c e ∙ cells_count s n;
+    streams = λ n c e. counted_at stream_number stream_counted (λ x. x.references) (λ k x. refl) (stream_counts s) s.streams.items n c e ∙ streams_count s n;
   }
 
   pub is_restored : SoundHeap (parts_kept s) → RestsWith (parts_kept s) (restored s)
