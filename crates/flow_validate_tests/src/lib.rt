@@ -1,0 +1,11 @@
+//! Tests of flow_validate: class programs, written as class text, with the rule that each breaks first.
+#![tactic(auto)]
+
+#[cfg(test)]
+mod broken;
+pub mod classes;
+#[cfg(test)]
+mod kept;
+pub mod reader;
+#[cfg(test)]
+mod tests;
