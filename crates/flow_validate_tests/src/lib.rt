@@ -4,8 +4,10 @@
 #[cfg(test)]
 mod broken;
 pub mod classes;
+pub mod judged;
 #[cfg(test)]
 mod kept;
+pub mod large;
 pub mod reader;
 #[cfg(test)]
 mod tests;
