@@ -37,7 +37,10 @@ fn wanted(text: &str) -> Option<Option<(u8, Option<u32>)>> {
 
 /// Whether the verdict on a class program is this rule and class, or, where none is wanted, that it is valid.
 pub fn is_judged(alloc: Global, raw: RawClasses, wanted: Option<(u8, Option<u32>)>) -> bool {
-    if raw.classes.len() > 1_000_000 || !are_few(&raw.classes) {
+    if raw.classes.len() > 1_000_000 {
+        return false;
+    }
+    if !are_few(&raw.classes) {
         return false;
     }
     match validate(alloc, raw) {
