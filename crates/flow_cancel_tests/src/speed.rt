@@ -95,7 +95,7 @@ fn settle(frames: &mut Frames<Value>, actor: ActorId, cell: CellId) -> Result<bo
 // Adds a suspended actor whose frame has four filled slots, and a callback at a cell of its own.
 fn add_suspended(heap: &mut Heap) -> Result<bool, NoMemory> {
     let cell = heap.new_result()?;
-    let actor = heap.start(4, 6, None)?;
+    let actor = heap.start(4, 4, None)?;
     if !add_wait(heap.cells_mut(), actor, cell)? {
         return Ok(false);
     }

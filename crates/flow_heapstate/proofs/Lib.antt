@@ -1,1 +1,9 @@
 pub mod Reading
+pub mod Building
+pub mod Growing
+pub mod Filling
+pub mod Numbers
+pub mod Recounting
+pub mod Filled
+pub mod Restored
+pub mod Whole

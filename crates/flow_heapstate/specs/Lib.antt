@@ -1,1 +1,4 @@
 pub mod State
+pub mod Referring
+pub mod Restoring
+pub mod Sound

@@ -1,5 +1,5 @@
 -- The state of a heap that rests, as plain data.
-use Rattle.std.specs.Prelude.{◌≡◌, ◌≤◌, ℕ, max, Bool, true, false, List, [], map, IsSome}
+use Rattle.std.specs.Prelude.{◌≡◌, ℕ, Bool, true, false, List, [], map, IsSome}
 use Rattle.std.specs.Option.{option_map}
 use Rattle.std.specs.declared.option.Option.{Option}
 use Rattle.std.specs.declared.option.Option.TheVariants.{None, Some}
@@ -17,7 +17,7 @@ use Rattle.flow_stream.specs.Streams.{StreamTree}
 use Rattle.flow_frame.specs.declared.held.Held.{Held}
 use Rattle.flow_frame.specs.Frames.{FrameTree}
 use Rattle.flow_cancel.specs.declared.actors.Note.{Note}
-use Rattle.flow_cancel.specs.Heap.{HeapTree, has_number}
+use Rattle.flow_cancel.specs.Heap.{HeapTree, has_number, last_cell, last_actor}
 use Rattle.flow_cancel.specs.Leaving.{suspended_in}
 use Rattle.flow_heapstate.specs.declared.state.CellState.{CellState}
 use Rattle.flow_heapstate.specs.declared.state.StreamState.{StreamState}
@@ -61,10 +61,21 @@ place_of p = option_map value_of p
 
 -- a state that is kept
 abbrev pub cell_kept : CellState → CellPart
-cell_kept s = record { cell = s.cell.0; content = option_map outcome_of s.content; waiters = s.waiters.items; requested = s.requested }
+cell_kept s = record {
+  cell = s.cell.0;
+  content = option_map outcome_of s.content;
+  waiters = s.waiters.items;
+  requested = s.requested;
+}
 
 abbrev pub stream_kept : StreamState → StreamPart
-stream_kept s = record { cell = s.cell.0; queue = map value_of s.queue.items; end = s.end; waiter = s.waiter; port = s.port }
+stream_kept s = record {
+  cell = s.cell.0;
+  queue = map value_of s.queue.items;
+  end = s.end;
+  waiter = s.waiter;
+  port = s.port;
+}
 
 abbrev pub actor_kept : ActorState → ActorPart
 actor_kept s = record {
@@ -121,19 +132,21 @@ actor_part notes x = record {
 
 abbrev pub parts_of : HeapTree → Parts
 parts_of h = record {
-  cells_made = max h.cells.greatest h.streams.greatest;
-  actors_made = h.frames.greatest;
+  cells_made = last_cell h;
+  actors_made = last_actor h;
   main = h.main;
   cells = map (cell_part h.requests) h.cells.things;
   streams = map (stream_part h.ports) h.streams.things;
   actors = map (actor_part h.actors.things) h.frames.things;
 }
 
--- A heap rests: there is no task; each unfinished actor is suspended and not marked, and has a frame, and no other actor
--- has one; no number was given but to what was made; numbers rise; and what is noted of ports and requests is noted of
--- streams and single results.
+-- A heap rests: there is no task; each unfinished actor is suspended and not marked, and has a frame,
+-- and no other actor has one; numbers rise; and what is noted of ports and requests is noted of streams
+-- and single results.
 abbrev pub IsAtRest : HeapTree → ℕ × FrameTree Value → Type 0
-IsAtRest h x = (n : Note) × (thing h.actors.things x.0 ≡ Some n) × (n.marked ≡ false) × (suspended_in (Some x.1) ≡ true)
+IsAtRest h x =
+    (n : Note) × (thing h.actors.things x.0 ≡ Some n) × (n.marked ≡ false)
+    × (suspended_in (Some x.1) ≡ true)
 
 pub record Rests (h : HeapTree) : Type 0 where
   pub no_task : h.tasks ≡ []
@@ -142,7 +155,5 @@ pub record Rests (h : HeapTree) : Type 0 where
   pub frames_rise : IsRising 0 h.frames.things h.frames.greatest
   pub at_rest : AllByRecursion (IsAtRest h) h.frames.things
   pub framed : AllByRecursion (λ x. IsSome (thing h.frames.things x.0)) h.actors.things
-  pub made : h.made ≤ max h.cells.greatest h.streams.greatest
-  pub started : h.actors.greatest ≤ h.frames.greatest
   pub ports : AllByRecursion (λ k. IsSome (thing h.streams.things k)) h.ports
   pub requests : AllByRecursion (λ k. IsSome (thing h.cells.things k)) h.requests

@@ -3,4 +3,6 @@
 
 pub mod listing;
 pub mod parts;
+mod references;
+pub mod restoring;
 pub mod state;

@@ -59,8 +59,8 @@ pub fn state(alloc: Global, heap: &Heap) -> Result<HeapState, NoMemory>
     ensures { IfOk result (λ s. parts_kept s ≡ parts_of heap.now) }
 {
     Ok(HeapState {
-        cells_made: heap.cells().greatest().max(heap.streams().greatest()),
-        actors_made: heap.frames().greatest(),
+        cells_made: heap.last_cell(),
+        actors_made: heap.last_actor(),
         main: heap.main(),
         cells: cells(alloc, heap)?,
         streams: streams(alloc, heap)?,

@@ -7,10 +7,10 @@ ghost use Rattle.flow_run.specs.Ends.{PutLast, end_line};
 
 use crate::ending::Ending;
 use crate::frames::put_frames;
-use flow_valid::program::ClassProgram;
 use flow_machine::host::RunFault;
 use flow_trace::line::Line;
 use flow_trace::out::LineOut;
+use flow_valid::program::ClassProgram;
 use flow_world::put::put;
 use flow_world::{Event, World};
 use flow_worldfile::World0;

@@ -1,5 +1,5 @@
 -- Bits of words, as truth values.
-use Rattle.std.proofs.Common.{◌≡◌, ◌≢◌, ℕ, zero, suc, ◌+◌, ◌-◌, ◌*◌, ◌^◌, ◌%◌, ◌<◌, ◌≤◌, nat_eq, nat_le, Bool, true, false, not, ◌&&◌, ◌||◌, max, min, bit_and, bit_or, refl, sym, ap, ap₂, ◌∙◌, arith}
+use Rattle.std.proofs.Common.{◌≡◌, ℕ, zero, suc, ◌+◌, ◌-◌, ◌*◌, ◌^◌, ◌%◌, ◌<◌, nat_eq, nat_le, Bool, true, false, not, ◌&&◌, ◌||◌, max, min, bit_and, bit_or, refl, sym, ap, ◌∙◌, arith}
 use Rattle.std.specs.Int.{bit_at, w64}
 use Rattle.std.proofs.lemmas.Nat.Bits.{bit_at-zero, bit_at_ones, bit_at_ones_above, bit_at-pow_same, bit_at-pow_other, bit_at_and, bit_at_or, bit_at_not, bit_at-lt}
 use Rattle.std.proofs.lemmas.Nat.{one_shl}

@@ -1,20 +1,20 @@
 -- Where all blocks are passed to which a walk leads, no walk reads a place while it is empty.
-use Rattle.std.proofs.Common.{◌≡◌, ◌⊎◌, inl, inr, ℕ, zero, suc, ◌+◌, ◌<◌, Bool, true, false, not, ◌&&◌, ◌||◌, List, [], ◌∷◌, ◌++◌, map, length, drop, slice_get, Contains, refl, sym, subst, ap, ap₂, ◌∙◌, arith}
-use Rattle.std.proofs.lemmas.Bool.{and_parts, or_cases, false≢true}
+use Rattle.std.proofs.Common.{◌≡◌, ◌⊎◌, inl, inr, ℕ, zero, suc, Bool, true, false, not, ◌&&◌, ◌||◌, List, [], ◌∷◌, ◌++◌, map, drop, slice_get, Contains, refl, sym, subst, ap, ◌∙◌}
+use Rattle.std.proofs.lemmas.Bool.{false≢true}
 use Rattle.std.proofs.lemmas.Option.{slice_get_within}
 use Rattle.std.specs.declared.option.Option.{Option}
 use Rattle.std.specs.declared.option.Option.TheVariants.{None, Some}
 use Rattle.flow_class.specs.declared.class.Slotted.{Slotted}
-use Rattle.flow_class.specs.Classes.{CatcherTree, InstrTree, LastTree, GotoLast, PassLast, TestLast, ChooseLast, ReturnLast, ThrowLast, BlockTree, CallbackTree, ClassTree}
-use Rattle.flow_class.specs.Code.{Fetched, Body, Last, Nothing, fetch_in, fetch_at, fetch, catcher_in, catcher_at, callback_at, group_at}
+use Rattle.flow_class.specs.Classes.{CatcherTree, InstrTree, LastTree, GotoLast, PassLast, TestLast, ChooseLast, ReturnLast, ThrowLast, BlockTree, ClassTree}
+use Rattle.flow_class.specs.Code.{Fetched, Body, Last, Nothing, fetch_in, fetch_at, fetch, catcher_in, catcher_at, group_at}
 use Rattle.flow_validate.specs.declared.touch.Touch.{Touch}
-use Rattle.flow_validate.specs.declared.touch.Touch.TheVariants.{Throws, Reads, Fills, Empties, Waits}
+use Rattle.flow_validate.specs.declared.touch.Touch.TheVariants.{Throws, Reads, Waits}
 use Rattle.flow_valid.specs.Named.{listed, last_places, targets}
-use Rattle.flow_valid.specs.Filling.{among, is_local, dropped, reads, group_reads, instr_reads, instr_fills, behind, waited, taken, handled, is_parameter, is_error, Comes, begins, goes_on, jumps, is_taken, fails, wait_fails}
-use Rattle.flow_validate.specs.Following.{Passing, entering, touched, passed, emptied_by, instr_touches, body_touches, last_touches, block_touches}
-use Rattle.flow_validate.specs.Entered.{Covers, Enters, empty_handled, empty_taken, IsPassed, AreFollowed}
-use Rattle.flow_validate.proofs.Touching.{throwing, reading, waiting, instructed, passed_both, passed_instr, passed_wait, passed_end, filled_behind}
-use Rattle.flow_validate.proofs.Sound.{rest_throws, thrown_kept, misread_kept, still_empty, waited_empty}
+use Rattle.flow_valid.specs.Filling.{among, is_local, dropped, reads, group_reads, instr_reads, instr_fills, behind, waited, is_parameter, is_error, Comes, begins, goes_on, jumps, is_taken, fails, wait_fails}
+use Rattle.flow_validate.specs.Following.{Passing, entering, passed, instr_touches, body_touches, last_touches, block_touches}
+use Rattle.flow_validate.specs.Entered.{Covers, Enters, IsPassed, AreFollowed}
+use Rattle.flow_validate.proofs.Touching.{passed_both, passed_instr, passed_wait, passed_end, filled_behind}
+use Rattle.flow_validate.proofs.Sound.{rest_throws, misread_kept, still_empty, waited_empty}
 
 no_body : (l : LastTree) (i : InstrTree) → Last l ≡ Body i → ⊥
 no_body l i e = cc

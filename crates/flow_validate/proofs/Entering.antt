@@ -1,17 +1,17 @@
 -- How entries widen.
-use Rattle.std.proofs.Common.{Result, Ok, Err, IfOk, ◌≡◌, ◌⊎◌, inl, inr, ℕ, zero, suc, ◌+◌, ◌-◌, ◌*◌, ◌^◌, ◌<◌, ◌≤◌, nat_eq, Bool, true, false, not, ◌&&◌, ◌||◌, List, [], ◌∷◌, ◌++◌, map, length, set, get_or, slice_get, Contains, bit_or, if◌then◌else◌, refl, sym, subst, ap, ap₂, ◌∙◌, arith}
+use Rattle.std.proofs.Common.{Result, Ok, Err, IfOk, ◌≡◌, ◌⊎◌, inl, inr, ℕ, zero, suc, ◌+◌, ◌*◌, ◌^◌, ◌<◌, ◌≤◌, nat_eq, Bool, true, false, ◌||◌, List, [], ◌∷◌, ◌++◌, length, set, get_or, slice_get, Contains, bit_or, if◌then◌else◌, refl, sym, subst, ap, ◌∙◌, arith}
 use Rattle.std.specs.List.{sum_by}
-use Rattle.std.proofs.lemmas.Bool.{cases_eq, eqb-false, eqb-true, false≢true}
+use Rattle.std.proofs.lemmas.Bool.{cases_eq, eqb-false, eqb-true}
 use Rattle.std.proofs.lemmas.Nat.{le_or_l}
 use Rattle.std.proofs.lemmas.List.{length-set}
 use Rattle.std.proofs.lemmas.List.Sums.{sum_by-set}
 use Rattle.std.proofs.lemmas.List.Elements.{Contains-push, Contains-append_left}
-use Rattle.std.proofs.lemmas.Option.{slice_get_within, slice_get-get_or, get_or_from_slice_get}
+use Rattle.std.proofs.lemmas.Option.{slice_get_within, get_or_from_slice_get}
 use Rattle.std.specs.declared.option.Option.{Option}
 use Rattle.std.specs.declared.option.Option.TheVariants.{None, Some}
 use Rattle.flow_validate.specs.Entered.{Covers}
 use Rattle.flow_validate.specs.Following.{has_bit}
-use Rattle.flow_validate.specs.Standing.{Standing, widened, entry_bit, entry_of, Way, plain_way, Widens, room, work, Grows, IsCovered, AreCovered, Led, Entered}
+use Rattle.flow_validate.specs.Standing.{Standing, widened, entry_bit, entry_of, Way, plain_way, Widens, room, work, Grows, AreCovered, Led, Entered}
 use Rattle.flow_validate.proofs.Bits.{has_or}
 
 same_some : {A : Type 0} (a b : A) → Some a ≡ Some b → a ≡ b
@@ -89,9 +89,6 @@ same_grows s = record {
   changed = λ b. inl refl;
   less = omega arith;
 }
-
-pub none_entered : (s : Standing) → Entered s s []
-none_entered s = record { grows = same_grows s; covers = tt; from = λ b y j h lt. inl (y, h, refl) }
 
 -- a block that isn't there, and one whose entry says so already
 pub beyond : (s : Standing) (empty b : ℕ) → length s.entries ≤ b → Entered s s (plain_way empty b ∷ [])

@@ -1,19 +1,17 @@
 -- The places of all windows are all the places that are read.
-use Rattle.std.proofs.Common.{◌≡◌, ◌⊎◌, inl, inr, ℕ, zero, suc, ◌+◌, ◌-◌, ◌*◌, ◌<◌, ◌≤◌, Bool, true, false, not, ◌&&◌, ◌||◌, List, [], ◌∷◌, ◌++◌, map, length, slice_get, if◌then◌else◌, refl, sym, subst, ap, ap₂, ◌∙◌, arith}
-use Rattle.std.specs.List.{list_all, list_any}
-use Rattle.std.specs.Option.{option_map}
-use Rattle.std.proofs.lemmas.Bool.{and_parts, false≢true, cases_lt, eqb-true}
+use Rattle.std.proofs.Common.{◌≡◌, ◌⊎◌, inl, inr, ℕ, zero, suc, ◌+◌, ◌-◌, ◌*◌, ◌<◌, ◌≤◌, Bool, true, false, ◌||◌, List, [], ◌∷◌, length, slice_get, if◌then◌else◌, refl, sym, subst, ap, ◌∙◌, arith}
+use Rattle.std.specs.List.{list_all}
+use Rattle.std.proofs.lemmas.Bool.{and_parts, cases_lt, eqb-true}
 use Rattle.std.specs.declared.option.Option.{Option}
 use Rattle.std.specs.declared.option.Option.TheVariants.{None, Some}
 use Rattle.flow_tree.specs.Decls.{SlotTree}
 use Rattle.flow_class.specs.declared.class.Slotted.{Slotted}
 use Rattle.flow_class.specs.declared.class.Slotted.TheVariants.{Slot, Local}
-use Rattle.flow_class.specs.Classes.{InstrTree, LastTree, GotoLast, PassLast, TestLast, ChooseLast, ReturnLast, ThrowLast, BlockTree, CallbackTree, ClassTree}
-use Rattle.flow_class.specs.Code.{Fetched, Body, Last, Nothing, fetch_in, fetch_at, fetch, group_at}
-use Rattle.flow_validate.specs.declared.window.Window.{Window}
+use Rattle.flow_class.specs.Classes.{InstrTree, LastTree, GotoLast, PassLast, TestLast, ChooseLast, ReturnLast, ThrowLast, BlockTree, ClassTree}
+use Rattle.flow_class.specs.Code.{fetch_in, fetch_at, fetch}
 use Rattle.flow_valid.specs.Named.{has_place, has_last, instr_places, names_exist}
 use Rattle.flow_validate.specs.Sizes.{HasFewPlaces}
-use Rattle.flow_valid.specs.Filling.{same_place, among, instr_reads, reads, Comes, ReadsFilled}
+use Rattle.flow_valid.specs.Filling.{same_place, among, reads, Comes, ReadsFilled}
 use Rattle.flow_validate.specs.Following.{place_in}
 use Rattle.flow_validate.specs.Standing.{IsFilled, AreFilledBelow, FilledOr}
 use Rattle.flow_validate.proofs.Plain.{reads_there, group_there, last_there, block_named, groups_named, there_below, there_mapped}

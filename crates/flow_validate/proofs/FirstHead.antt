@@ -1,16 +1,13 @@
 -- The first class whose head doesn't stand, one class after another.
-use Rattle.std.proofs.Common.{◌≡◌, ℕ, suc, ◌+◌, ◌≤◌, ◌<◌, Bool, true, false, List, [], ◌∷◌, ◌++◌, map, take, drop, length, get_or, if◌then◌else◌, refl, sym, ap, ◌∙◌, arith, append_assoc}
+use Rattle.std.proofs.Common.{◌≡◌, ℕ, suc, ◌+◌, ◌<◌, true, false, List, [], ◌∷◌, ◌++◌, map, take, drop, length, get_or, if◌then◌else◌, sym, ap, ◌∙◌, arith, append_assoc}
 use Rattle.std.specs.declared.option.Option.{Option}
-use Rattle.std.specs.declared.option.Option.TheVariants.{None, Some}
-use Rattle.std.proofs.lemmas.List.{map-append, map_more, drop_more, drop_all}
-use denote.Ref.{Bor}
-use Rattle.flow_tree.specs.declared.decl.Decl.{Decl}
+use Rattle.std.specs.declared.option.Option.TheVariants.{Some}
+use Rattle.std.proofs.lemmas.List.{map-append, map_more, drop_more}
 use Rattle.flow_tree.specs.Decls.{DeclTree}
 use Rattle.flow_rules.specs.Known.{Meaning, known}
 use Rattle.flow_class.specs.declared.class.Class.{Class}
 use Rattle.flow_class.specs.View.{class_of}
 use Rattle.flow_valid.specs.Heads.{head_of, head_kept, first_head}
-use Rattle.flow_validate.specs.Apart.{AreTaken}
 
 -- the declarations before a class
 abbrev pub before : List DeclTree → List Class → ℕ → List DeclTree
@@ -38,7 +35,3 @@ module _ (all : List ℕ → Option Meaning) (ds : List DeclTree) (cs : List Cla
   pub first_found : (total : Option ℕ) → head_kept (known (before ds cs i)) all (class_of c) ≡ false → first_head all (before ds cs i) i (map class_of (drop i cs)) ≡ total → Some i ≡ total
   first_found total kept h =
       sym (by_kept ∙ ap (λ b. if b then first_head all (before ds cs i ++ head_of (class_of c) ∷ []) (suc i) (map class_of (drop (i + 1) cs)) else Some i) kept) ∙ h
-
-pub first_none : (all : List ℕ → Option Meaning) (ds : List DeclTree) (cs : List Class) (i : ℕ) (total : Option ℕ) → length cs ≤ i
-    → first_head all ds i (map class_of (drop i cs)) ≡ total → None ≡ total
-first_none all ds cs i total le h = ap (λ l. first_head all ds i (map class_of l)) (sym (drop_all i cs le)) ∙ h

@@ -1,18 +1,18 @@
 -- All blocks are passed to which a walk leads, one after another.
-use Rattle.std.proofs.Common.{◌≡◌, ◌⊎◌, inl, inr, ℕ, zero, suc, ◌+◌, ◌-◌, ◌*◌, ◌^◌, ◌<◌, ◌≤◌, Bool, true, false, not, nat_lt, List, [], ◌∷◌, ◌++◌, map, length, slice_get, Contains, refl, sym, subst, ap, ap₂, ◌∙◌, arith}
+use Rattle.std.proofs.Common.{◌≡◌, ◌⊎◌, inl, inr, ℕ, zero, suc, ◌+◌, ◌*◌, ◌<◌, Bool, not, List, [], ◌∷◌, ◌++◌, length, slice_get, Contains, refl, sym, subst, ap, ◌∙◌, arith}
 use Rattle.std.specs.List.{sum_by}
 use Rattle.std.proofs.lemmas.List.Elements.{Contains-push_cases}
 use Rattle.std.specs.declared.option.Option.{Option}
 use Rattle.std.specs.declared.option.Option.TheVariants.{None, Some}
 use Rattle.flow_class.specs.declared.class.Slotted.{Slotted}
 use Rattle.flow_class.specs.declared.class.Slotted.TheVariants.{Slot, Local}
-use Rattle.flow_class.specs.Classes.{CatcherTree, LastTree, BlockTree, CallbackTree, ClassTree}
+use Rattle.flow_class.specs.Classes.{BlockTree, ClassTree}
 use Rattle.flow_validate.specs.declared.window.Window.{Window}
 use Rattle.flow_validate.specs.Apart.{is_parameter_of}
 use Rattle.flow_valid.specs.Filling.{is_parameter, Comes, begins}
 use Rattle.flow_validate.specs.Following.{Passing, entering, passed, block_touches, place_in, has_bit, AreBits}
 use Rattle.flow_validate.specs.Entered.{Covers, Enters, IsPassed, AreFollowed}
-use Rattle.flow_validate.specs.Standing.{Standing, Way, entry_bit, entry_of, plain_way, room, work, Grows, Led, Entered, AreSound, AllPassed, Passes, AreWalks, IsFilled, nothing_entered}
+use Rattle.flow_validate.specs.Standing.{Standing, entry_bit, entry_of, plain_way, room, work, Grows, Led, Entered, AreSound, AllPassed, Passes, AreWalks, IsFilled, nothing_entered}
 use Rattle.flow_validate.proofs.Bits.{twice_not}
 use Rattle.flow_validate.proofs.Entering.{covers_then}
 use Rattle.flow_validate.proofs.Closed.{read_filled}

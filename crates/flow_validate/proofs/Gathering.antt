@@ -1,15 +1,15 @@
 -- What a loop gathers from the elements of a list, one after another.
-use Rattle.std.proofs.Common.{◌≡◌, ℕ, zero, suc, ◌+◌, ◌<◌, ◌≤◌, List, [], ◌∷◌, ◌++◌, map, filter, length, drop, get_or, refl, sym, ap, ◌∙◌, append_assoc, arith, add-one}
-use Rattle.std.proofs.lemmas.List.{append-nil, map-append}
+use Rattle.std.proofs.Common.{◌≡◌, ℕ, zero, suc, ◌<◌, ◌≤◌, List, [], ◌∷◌, ◌++◌, map, length, drop, get_or, refl, ap, ◌∙◌, arith}
+use Rattle.std.proofs.lemmas.List.{map-append}
 use Rattle.std.proofs.lemmas.List.Elements.{filter-append}
 use Rattle.flow_tree.specs.declared.expr.Expr.{Expr}
-use Rattle.flow_tree.specs.View.{expr_of, exprs_of}
+use Rattle.flow_tree.specs.View.{exprs_of}
 use Rattle.flow_class.specs.declared.class.Slotted.{Slotted}
 use Rattle.flow_class.specs.declared.class.Callback.{Callback}
 use Rattle.flow_class.specs.View.{callback_of}
 use Rattle.flow_validate.specs.declared.touch.Touch.{Touch}
 use Rattle.flow_validate.specs.declared.touch.Touch.TheVariants.{Reads}
-use Rattle.flow_valid.specs.Named.{expr_places, exprs_places}
+use Rattle.flow_valid.specs.Named.{exprs_places}
 use Rattle.flow_valid.specs.Filling.{operands}
 use Rattle.flow_validate.specs.Small.{is_small, small_places, reads_of}
 
@@ -24,29 +24,11 @@ dropped_all [] (suc i) le = refl
 dropped_all (x ∷ xs) zero le = absurd (omega arith)
 dropped_all (x ∷ xs) (suc i) le = let m : length xs ≤ i = omega arith in dropped_all xs i m
 
-pub gathered_more : {A T : Type 0} (f : List A → List T) (g : A → List T) → ((x : A) (xs : List A) → f (x ∷ xs) ≡ g x ++ f xs)
-    → (xs : List A) (i : ℕ) (d : A) (before new total : List T) → i < length xs → new ≡ before ++ g (get_or xs i d)
-    → before ++ f (drop i xs) ≡ total → new ++ f (drop (i + 1) xs) ≡ total
-gathered_more f g law xs i d before new total lt e h =
-    rw add-one
-    (ap (λ l. l ++ f (drop (suc i) xs)) e ∙ append_assoc before (g (get_or xs i d)) (f (drop (suc i) xs))
-    ∙ ap (λ l. before ++ l) (sym (law (get_or xs i d) (drop (suc i) xs))) ∙ ap (λ l. before ++ f l) (sym (drop_next xs i d lt)) ∙ h)
-
-pub gathered_all : {A T : Type 0} (f : List A → List T) → f [] ≡ [] → (xs : List A) (i : ℕ) (before total : List T) → length xs ≤ i
-    → before ++ f (drop i xs) ≡ total → before ≡ total
-gathered_all f none xs i before total le h = sym (append-nil before) ∙ ap (λ l. before ++ l) (sym none) ∙ ap (λ l. before ++ f l) (sym (dropped_all xs i le)) ∙ h
-
 pub reads_both : (ps qs : List Slotted) → reads_of (ps ++ qs) ≡ reads_of ps ++ reads_of qs
 reads_both ps qs = ap (map Reads) (filter-append is_small ps qs) ∙ map-append Reads (small_places ps) (small_places qs)
 
 abbrev pub args_read : List Expr → List Touch
 args_read es = reads_of (exprs_places (exprs_of es))
 
-pub args_law : (e : Expr) (es : List Expr) → args_read (e ∷ es) ≡ reads_of (expr_places (expr_of e)) ++ args_read es
-args_law e es = reads_both (expr_places (expr_of e)) (exprs_places (exprs_of es))
-
 abbrev pub operands_read : List Callback → List Touch
 operands_read cs = reads_of (operands (map callback_of cs))
-
-pub operands_law : (c : Callback) (cs : List Callback) → operands_read (c ∷ cs) ≡ reads_of (expr_places (expr_of c.operand)) ++ operands_read cs
-operands_law c cs = reads_both (expr_places (expr_of c.operand)) (operands (map callback_of cs))

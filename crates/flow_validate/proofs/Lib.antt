@@ -14,7 +14,6 @@ pub mod Everywhere
 pub mod Leading
 pub mod Parting
 pub mod Taken
-pub mod Keeping
 pub mod Rows
 pub mod Most
 pub mod FirstHead

@@ -1,5 +1,5 @@
 -- Declarations that are taken apart, one more at a time.
-use Rattle.std.proofs.Common.{◌≡◌, List, [], ◌∷◌, ◌++◌, map, refl, sym, ap, ap₂, ◌∙◌, append_assoc}
+use Rattle.std.proofs.Common.{◌≡◌, List, [], ◌∷◌, ◌++◌, map, refl, sym, ap, ◌∙◌, append_assoc}
 use Rattle.std.proofs.lemmas.List.{append-nil, map-append}
 use Rattle.flow_tree.specs.declared.decl.Decl.{Decl}
 use Rattle.flow_tree.specs.declared.decl.Decl.TheVariants.{Struct, Function, Actor}
@@ -7,7 +7,7 @@ use Rattle.flow_tree.specs.declared.decl.RecordDecl.{RecordDecl}
 use Rattle.flow_tree.specs.declared.decl.FunctionDecl.{FunctionDecl}
 use Rattle.flow_tree.specs.declared.decl.ActorDecl.{ActorDecl}
 use Rattle.flow_tree.specs.Decls as tree
-use Rattle.flow_tree.specs.DeclView.{record_of, function_of, actor_of, decl_of}
+use Rattle.flow_tree.specs.DeclView.{record_of, function_of, decl_of}
 use Rattle.flow_validate.specs.Apart.{records_in, functions_in}
 
 pub records_both : (ds es : List tree.DeclTree) → records_in (ds ++ es) ≡ records_in ds ++ records_in es

@@ -1,7 +1,7 @@
 -- A block is passed, 64 places at a time.
-use Rattle.std.proofs.Common.{◌≡◌, ◌≢◌, ◌⊎◌, inl, inr, ℕ, zero, suc, ◌+◌, ◌-◌, ◌^◌, ◌<◌, ◌≤◌, nat_eq, Bool, true, false, not, ◌&&◌, ◌||◌, List, [], ◌∷◌, ◌++◌, map, length, slice_get, Contains, if◌then◌else◌, refl, sym, subst, ap, ap₂, ◌∙◌, arith}
+use Rattle.std.proofs.Common.{◌≡◌, ◌⊎◌, inl, inr, ℕ, zero, suc, ◌+◌, ◌-◌, ◌^◌, ◌<◌, nat_eq, Bool, true, false, not, List, [], ◌∷◌, ◌++◌, map, length, slice_get, Contains, if◌then◌else◌, refl, sym, subst, ap, ap₂, ◌∙◌, arith}
 use Rattle.std.specs.Option.{option_and_then}
-use Rattle.std.proofs.lemmas.Bool.{false≢true, cases_eq}
+use Rattle.std.proofs.lemmas.Bool.{cases_eq}
 use Rattle.std.proofs.lemmas.Nat.Bits.{same_from_bits_below, bit_at-zero, bit_at-lt}
 use Rattle.std.specs.Int.{bit_at}
 use Rattle.std.specs.declared.option.Option.{Option}
@@ -13,8 +13,8 @@ use Rattle.flow_class.specs.Code.{catcher_in, catcher_at, callback_at, group_at}
 use Rattle.flow_validate.specs.declared.touch.Touch.{Touch}
 use Rattle.flow_validate.specs.declared.window.Window.{Window}
 use Rattle.flow_validate.specs.declared.window.Passage.{Passage}
-use Rattle.flow_valid.specs.Named.{listed, targets}
-use Rattle.flow_valid.specs.Filling.{among, reads, Comes, ReadsEmpty}
+use Rattle.flow_valid.specs.Named.{targets}
+use Rattle.flow_valid.specs.Filling.{Comes, ReadsEmpty}
 use Rattle.flow_validate.specs.Following.{Passing, entering, passed, block_touches, place_in, has_bit, ArePassing}
 use Rattle.flow_validate.specs.Entered.{Covers, Enters, empty_handled, empty_taken, IsPassed}
 use Rattle.flow_validate.specs.Standing.{Standing, Way, AnyBit, entry_of, handler_ways, branch_way, group_ways, plain_way, last_ways, IsCovered, AreCovered, Led, Entered, AreSound, AllPassed, Passes}

@@ -7,7 +7,7 @@ use Rattle.flow_validate.specs.declared.touch.Touch.TheVariants.{Throws, Reads, 
 use Rattle.flow_validate.specs.declared.window.Window.{Window}
 use Rattle.flow_validate.specs.declared.window.Passage.{Passage}
 use Rattle.flow_valid.specs.Filling.{same_place, is_local, dropped}
-use Rattle.flow_validate.specs.Following.{Passing, passed, place_in, AreBits, ArePassing, has_bit, touched}
+use Rattle.flow_validate.specs.Following.{Passing, passed, place_in, AreBits, ArePassing, touched}
 use Rattle.flow_validate.proofs.Bits.{has_or, has_and, has_not, eq_turned}
 
 throws_plain : (w : Window) (p : Passage) (s : Slotted → Passing) → ArePassing w p s → ArePassing w (record p { thrown = bit_or p.thrown p.empty }) (λ q. touched q Throws (s q))

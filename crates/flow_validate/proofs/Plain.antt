@@ -1,7 +1,7 @@
 -- Where all that is named exists and places are few, the code's touches are those of the definition.
-use Rattle.std.proofs.Common.{◌≡◌, ℕ, zero, suc, ◌<◌, ◌≤◌, ◌^◌, Bool, true, false, not, ◌&&◌, ◌||◌, nat_lt, List, [], ◌∷◌, ◌++◌, map, filter, length, slice_get, refl, sym, ap, ap₂, ◌∙◌, arith}
+use Rattle.std.proofs.Common.{◌≡◌, ℕ, zero, suc, ◌<◌, ◌^◌, Bool, true, ◌&&◌, List, [], ◌∷◌, ◌++◌, map, filter, length, slice_get, refl, sym, ap, ap₂, ◌∙◌, arith}
 use Rattle.std.specs.List.{list_all}
-use Rattle.std.proofs.lemmas.Bool.{and_parts, and_from, lt-ltb, false≢true}
+use Rattle.std.proofs.lemmas.Bool.{and_parts, and_from, lt-ltb}
 use Rattle.std.proofs.lemmas.List.Folds.{list_all-append}
 use Rattle.std.specs.Option.{option_map}
 use Rattle.std.specs.declared.option.Option.{Option}
@@ -15,7 +15,7 @@ use Rattle.flow_class.specs.Classes.{InstrTree, SetInstr, EffectInstr, NewInstr,
 use Rattle.flow_class.specs.Code.{group_at}
 use Rattle.flow_validate.specs.declared.touch.Touch.{Touch}
 use Rattle.flow_validate.specs.declared.touch.Touch.TheVariants.{Throws, Reads, Fills, Empties, Waits}
-use Rattle.flow_valid.specs.Named.{listed, expr_places, exprs_places, path_place, base_place, instr_places, last_places, has_place, has_group, has_last, has_named, has_operand, has_block, has_catcher, targets, names_exist}
+use Rattle.flow_valid.specs.Named.{listed, expr_places, path_place, base_place, instr_places, last_places, has_place, has_group, has_last, has_named, has_operand, has_block, has_catcher, targets, names_exist}
 use Rattle.flow_valid.specs.Filling.{filled_path, instr_reads, instr_fills, operands, group_reads}
 use Rattle.flow_validate.specs.Following.{emptied_by, instr_touches, body_touches, last_touches, block_touches}
 use Rattle.flow_validate.specs.Small.{is_small, small_places, reads_of, small_fills, small_instr, small_body, small_last, small_block}

@@ -1,10 +1,8 @@
 -- The places of a class become variables by their names, one more at a time: no two places have one name.
-use Rattle.std.proofs.Common.{◌≡◌, ◌≢◌, ℕ, zero, suc, ◌+◌, ◌<◌, ◌≤◌, ◌^◌, Bool, true, false, List, [], ◌∷◌, ◌++◌, length, map, take, get_or, decimal, append_assoc, if◌then◌else◌, refl, sym, ap, ap₂, ◌∙◌, arith}
+use Rattle.std.proofs.Common.{◌≡◌, ℕ, suc, ◌+◌, ◌<◌, ◌≤◌, ◌^◌, Bool, true, false, List, [], ◌∷◌, ◌++◌, length, map, take, get_or, decimal, append_assoc, if◌then◌else◌, refl, sym, ap, ap₂, ◌∙◌, arith}
 use Rattle.std.specs.Str.{bytes_eq}
 use Rattle.std.specs.Str.Parse.{digits_value}
-use Rattle.std.specs.declared.option.Option.{Option}
 use Rattle.std.specs.declared.option.Option.TheVariants.{None, Some}
-use Rattle.std.proofs.lemmas.Bool.{false≢true}
 use Rattle.std.proofs.lemmas.Fmt.{decimal_is_IsNumeral}
 use Rattle.std.proofs.lemmas.List.{map_more, length-map, length-take-le}
 use Rattle.std.proofs.lemmas.Option.{get_or_from_slice_get}
@@ -21,7 +19,6 @@ use Rattle.flow_ast.specs.TypingNames.{named}
 use Rattle.flow_rules.specs.declared.found.Found as code
 use Rattle.flow_rules.specs.View.{found_of}
 use Rattle.flow_rules.specs.MapView.{bound}
-use Rattle.flow_class.specs.declared.class.Slotted.{Slotted}
 use Rattle.flow_class.specs.declared.class.Slotted.TheVariants.{Slot, Local}
 use Rattle.flow_class.specs.Places.{place_name}
 use Rattle.flow_valid.specs.Validity.{slot_rows, local_rows}

@@ -1,18 +1,17 @@
 -- What a block's touches tell of a place is so on some walk.
-use Rattle.std.proofs.Common.{◌≡◌, ◌⊎◌, inl, inr, ℕ, zero, suc, ◌+◌, ◌<◌, Bool, true, false, not, ◌&&◌, ◌||◌, List, [], ◌∷◌, ◌++◌, map, length, slice_get, Contains, refl, sym, subst, ap, ap₂, ◌∙◌, arith}
+use Rattle.std.proofs.Common.{◌≡◌, ◌⊎◌, inl, inr, ℕ, suc, ◌+◌, ◌<◌, Bool, true, false, not, ◌&&◌, ◌||◌, List, [], ◌∷◌, ◌++◌, map, slice_get, Contains, refl, sym, subst, ap, ◌∙◌, arith}
 use Rattle.std.proofs.lemmas.Bool.{and_parts, or_cases, false≢true}
-use Rattle.std.specs.declared.option.Option.{Option}
-use Rattle.std.specs.declared.option.Option.TheVariants.{None, Some}
+use Rattle.std.specs.declared.option.Option.TheVariants.{Some}
 use Rattle.flow_class.specs.declared.class.Slotted.{Slotted}
 use Rattle.flow_class.specs.Classes.{CatcherTree, InstrTree, LastTree, GotoLast, PassLast, TestLast, ChooseLast, ReturnLast, ThrowLast, BlockTree, CallbackTree, ClassTree}
-use Rattle.flow_class.specs.Code.{Fetched, Body, Last, Nothing, fetch_in, fetch_at, fetch, catcher_at, callback_at, group_at}
+use Rattle.flow_class.specs.Code.{Body, Last, fetch_in, fetch_at, fetch, catcher_at, callback_at, group_at}
 use Rattle.flow_validate.specs.declared.touch.Touch.{Touch}
 use Rattle.flow_validate.specs.declared.touch.Touch.TheVariants.{Throws, Reads, Fills, Empties, Waits}
 use Rattle.flow_valid.specs.Named.{listed, last_places, targets}
-use Rattle.flow_valid.specs.Filling.{among, is_local, dropped, reads, group_reads, instr_reads, instr_fills, behind, waited, taken, handled, is_error, Comes, goes_on, jumps, is_taken, fails, wait_fails, ReadsEmpty}
+use Rattle.flow_valid.specs.Filling.{among, is_local, dropped, reads, group_reads, instr_reads, instr_fills, handled, is_error, Comes, goes_on, jumps, is_taken, fails, wait_fails, ReadsEmpty}
 use Rattle.flow_validate.specs.Following.{Passing, entering, touched, passed, emptied_by, instr_touches, body_touches, last_touches, block_touches}
 use Rattle.flow_validate.specs.Entered.{empty_handled, empty_taken}
-use Rattle.flow_validate.proofs.Touching.{throwing, reading, waiting, instructed, passed_both, passed_instr, passed_wait, passed_end, filled_behind, filled_waited}
+use Rattle.flow_validate.proofs.Touching.{passed_both, passed_instr, passed_wait, passed_end, filled_behind}
 
 either_true : (a b : Bool) → a ≡ true → (a || b) ≡ true
 either_true true b h = refl

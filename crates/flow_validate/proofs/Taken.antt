@@ -9,7 +9,6 @@ use Rattle.std.proofs.lemmas.List.{map-append, map_more}
 use denote.Ref.{Bor}
 use Rattle.indexmap.specs.IndexSet.{insert_key}
 use Rattle.flow_tree.specs.declared.decl.Decl.{Decl}
-use Rattle.flow_tree.specs.Tree.{TypeTree}
 use Rattle.flow_tree.specs.Decls.{SlotTree, DeclTree}
 use Rattle.flow_tree.specs.DeclView.{decl_of}
 use Rattle.flow_ast.specs.TypingNames.{named}
@@ -70,10 +69,6 @@ named_last (u ∷ ts) t x =
 
 known_last : (ds : List DeclTree) (d : DeclTree) (x : List ℕ) → is_there (known (ds ++ d ∷ []) x) ≡ (bytes_eq x (row_of d).0 || is_there (known ds x))
 known_last ds d x = ap (λ l. is_there (named (packet_row ∷ l) x)) (map-append row_of ds (d ∷ [])) ∙ named_last (packet_row ∷ map row_of ds) (row_of d) x
-
-pub taken_first : (ks : List (Bor (List ℕ))) (k : Bor (List ℕ)) → ks ≡ put [] k → k.now ≡ packet_row.0 → AreTaken (texts ks) []
-taken_first ks k is name x =
-    ap (λ l. among (texts l) x) is ∙ among_put [] k x ∙ ap (λ y. bytes_eq x y || false) name ∙ sym (there_if (bytes_eq x packet_row.0) packet_row.1 None)
 
 pub taken_more : (ks new : List (Bor (List ℕ))) (k : Bor (List ℕ)) (ds : List DeclTree) (d : DeclTree) → new ≡ put ks k → k.now ≡ (row_of d).0
     → AreTaken (texts ks) ds → AreTaken (texts new) (ds ++ d ∷ [])

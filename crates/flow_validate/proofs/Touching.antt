@@ -1,15 +1,12 @@
 -- What several touches of one kind do to a place on its way.
-use Rattle.std.proofs.Common.{◌≡◌, ℕ, nat_eq, Bool, true, false, not, ◌&&◌, ◌||◌, List, [], ◌∷◌, ◌++◌, map, refl, sym, ap, ◌∙◌}
-use Rattle.std.specs.List.{list_any}
+use Rattle.std.proofs.Common.{◌≡◌, ℕ, Bool, true, false, not, ◌&&◌, ◌||◌, List, [], ◌∷◌, ◌++◌, map, refl, sym, ap, ◌∙◌}
 use Rattle.flow_class.specs.declared.class.Slotted.{Slotted}
 use Rattle.flow_class.specs.declared.class.Slotted.TheVariants.{Slot, Local}
-use Rattle.flow_class.specs.Classes.{InstrTree, SetInstr, EffectInstr, NewInstr, ActInstr, DropInstr, LastTree, GotoLast, PassLast, TestLast, ChooseLast, ReturnLast, ThrowLast, ClassTree}
-use Rattle.flow_class.specs.Code.{group_at}
+use Rattle.flow_class.specs.Classes.{InstrTree, SetInstr, EffectInstr, NewInstr, ActInstr, DropInstr, ClassTree}
 use Rattle.flow_validate.specs.declared.touch.Touch.{Touch}
 use Rattle.flow_validate.specs.declared.touch.Touch.TheVariants.{Throws, Reads, Fills, Empties, Waits}
-use Rattle.flow_valid.specs.Named.{last_places}
-use Rattle.flow_valid.specs.Filling.{same_place, among, is_local, dropped, instr_reads, instr_fills, instr_empties, behind, waited, group_reads}
-use Rattle.flow_validate.specs.Following.{Passing, touched, passed, emptied_by, instr_touches, last_touches}
+use Rattle.flow_valid.specs.Filling.{same_place, among, is_local, dropped, instr_reads, instr_fills, behind, waited}
+use Rattle.flow_validate.specs.Following.{Passing, touched, passed, emptied_by, instr_touches}
 use Rattle.flow_validate.proofs.Bits.{eq_turned}
 
 pub same_turned : (p q : Slotted) → same_place p q ≡ same_place q p

@@ -1,8 +1,7 @@
 -- What calls on parts of a class program tell of the whole.
-use Rattle.std.proofs.Common.{◌≡◌, ◌≢◌, eqb, ℕ, suc, ◌+◌, ◌<◌, ◌≤◌, Bool, true, false, List, [], ◌∷◌, ◌++◌, ◌⊎◌, inl, inr, map, take, get_or, length, codes, is_none, Result, Ok, Err, refl, sym, ap, ap₂, subst, ◌∙◌, arith}
+use Rattle.std.proofs.Common.{◌≡◌, ◌≢◌, eqb, ℕ, suc, ◌+◌, ◌<◌, ◌≤◌, Bool, true, false, List, [], ◌∷◌, ◌++◌, ◌⊎◌, inl, inr, map, get_or, length, codes, is_none, Result, Ok, Err, sym, ap, ap₂, subst, ◌∙◌, arith}
 use Rattle.std.specs.List.{slice_get}
 use Rattle.std.specs.Result.{IfOk}
-use Rattle.std.specs.Option.{option_map}
 use Rattle.std.specs.declared.option.Option.{Option}
 use Rattle.std.specs.declared.option.Option.TheVariants.{None, Some}
 use Rattle.std.proofs.lemmas.Bool.Decides.{eqb_tells}
@@ -22,9 +21,7 @@ use Rattle.flow_rules.specs.ProgramView.{setting_by}
 use Rattle.flow_class.specs.Classes.{ClassTree, RawTree}
 use Rattle.flow_valid.specs.Heads.{plain_decls, all_decls, declarations_kept, first_head, broken_head, has_main}
 use Rattle.flow_valid.specs.Named.{names_exist}
-use Rattle.flow_valid.specs.Filling.{ReadsEmpty, ReadsFilled}
-use Rattle.flow_valid.specs.Validity.{slot_rows, local_rows, class_setting, leads_forward, groups_chosen, catchers_kept, types_fit, first_broken, broken_rule, IsSoundClass, IsValid, BreaksIn, Breaks, tested, unfilled, declaration, head, main, class}
-use Rattle.flow_validate.specs.Apart.{types_fit_in}
+use Rattle.flow_valid.specs.Validity.{slot_rows, local_rows, class_setting, leads_forward, groups_chosen, catchers_kept, types_fit, first_broken, broken_rule, IsSoundClass, IsValid, BreaksIn, Breaks, class}
 use Rattle.flow_validate.specs.Verdicts.{Sees, AreHeadsKept, AreSoundClasses, AreSoundBelow}
 
 -- the setting of a class, by the names that the code sees

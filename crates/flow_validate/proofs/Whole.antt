@@ -1,35 +1,19 @@
 -- A class program that is gathered and let go again.
-use Rattle.std.proofs.Common.{◌≡◌, ℕ, ◌+◌, ◌≤◌, List, [], ◌∷◌, ◌++◌, map, take, length, refl, sym, ap, ap₂, ◌∙◌, arith, length-append}
-use Rattle.std.specs.declared.alloc.Global.{Global}
-use Rattle.std.specs.declared.vec.Vec.{Vec}
-use Rattle.std.proofs.lemmas.List.{length-map, take_at, append-nil}
+use Rattle.std.proofs.Common.{◌≡◌, ◌+◌, ◌≤◌, List, [], ◌∷◌, ◌++◌, map, length, refl, sym, ap, ap₂, ◌∙◌, arith, length-append}
+use Rattle.std.proofs.lemmas.List.{length-map, append-nil}
 use Rattle.flow_tree.specs.declared.decl.Decl.{Decl}
 use Rattle.flow_tree.specs.declared.decl.RecordDecl.{RecordDecl}
 use Rattle.flow_tree.specs.declared.decl.FunctionDecl.{FunctionDecl}
-use Rattle.flow_tree.specs.Decls.{RecordTree, RoutineTree, DeclTree, StructDecl, FunctionDecl as function_decl}
+use Rattle.flow_tree.specs.Decls.{RecordTree, RoutineTree, StructDecl, FunctionDecl as function_decl}
 use Rattle.flow_tree.specs.DeclView.{record_of, function_of, decl_of}
-use Rattle.flow_class.specs.declared.class.Class.{Class}
 use Rattle.flow_class.specs.declared.class.RawClasses.{RawClasses}
 use Rattle.flow_class.specs.Classes.{ClassTree, RawTree}
-use Rattle.flow_class.specs.View.{class_of, raw_of}
+use Rattle.flow_class.specs.View.{class_of}
 use Rattle.flow_valid.specs.Heads.{head_of, plain_decls, all_decls}
 use Rattle.flow_validate.specs.declared.validate.Gathered.{Gathered}
 use Rattle.flow_validate.specs.Apart.{records_in, functions_in}
 use Rattle.flow_validate.specs.Gathered.{AreParts}
 use Rattle.flow_validate.proofs.Parting.{records_both, functions_both}
-
-pub are_parts : (raw : RawClasses) (g : Gathered) (first plain : List Decl) → map decl_of first ≡ map StructDecl (map record_of raw.records.items)
-    → map decl_of plain ≡ map decl_of first ++ map function_decl (map function_of raw.functions.items) → g.count ≡ length plain
-    → map decl_of g.decls.items ≡ map decl_of plain ++ map head_of (map class_of raw.classes.items) → g.classes ≡ raw.classes → AreParts (raw_of raw) g
-are_parts raw g first plain f p n a cl =
-    let both : map decl_of plain ≡ plain_decls (raw_of raw) = p ∙ ap (λ l. l ++ map function_decl (map function_of raw.functions.items)) f in
-    let whole : all_decls (raw_of raw) ≡ map decl_of g.decls.items = ap (λ l. l ++ map head_of (map class_of raw.classes.items)) (sym both) ∙ sym a in
-    let many : length (map decl_of plain) ≡ g.count = length-map plain decl_of ∙ sym n in
-    record {
-      all = whole;
-      plain = sym both ∙ sym (ap (take g.count) a ∙ take_at (map decl_of plain) (map head_of (map class_of raw.classes.items)) g.count many);
-      kept = ap (λ (v : Vec Class Global). map class_of v.items) (sym cl);
-    }
 
 records_of_structs : (rs : List RecordTree) → records_in (map StructDecl rs) ≡ rs
 records_of_structs [] = refl

@@ -1,10 +1,10 @@
 -- What it takes that all walks of a class are followed: by entries, which say of each block to which a walk leads whether a
 -- place may be empty where it begins.
-use Rattle.std.specs.Prelude.{◌≡◌, ℕ, ◌<◌, Bool, true, false, not, ◌&&◌, ◌||◌, List, length, slice_get, Contains}
+use Rattle.std.specs.Prelude.{◌≡◌, ℕ, ◌<◌, Bool, true, false, not, ◌&&◌, ◌||◌, length, slice_get, Contains}
 use Rattle.std.specs.declared.option.Option.{Option}
 use Rattle.std.specs.declared.option.Option.TheVariants.{None, Some}
 use Rattle.flow_class.specs.declared.class.Slotted.{Slotted}
-use Rattle.flow_class.specs.Classes.{CatcherTree, LastTree, ChooseLast, BlockTree, CallbackTree, ClassTree}
+use Rattle.flow_class.specs.Classes.{CatcherTree, ChooseLast, BlockTree, CallbackTree, ClassTree}
 use Rattle.flow_class.specs.Code.{callback_at}
 use Rattle.flow_valid.specs.Named.{listed, targets}
 use Rattle.flow_valid.specs.Filling.{among, dropped, is_parameter, is_error}

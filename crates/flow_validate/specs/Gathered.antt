@@ -1,5 +1,5 @@
 -- What the code gathers of a class program before it judges it.
-use Rattle.std.specs.Prelude.{◌≡◌, ℕ, ◌^◌, ◌<◌, ◌≤◌, List, map, take, length}
+use Rattle.std.specs.Prelude.{◌≡◌, ◌^◌, ◌<◌, ◌≤◌, map, take, length}
 use Rattle.flow_tree.specs.DeclView.{params_of, decl_of}
 use Rattle.flow_ast.specs.Typing.{packet_fields}
 use Rattle.flow_rules.specs.Known.{field_row}

@@ -1,5 +1,5 @@
 -- Places with numbers below 2^32, which are those that the code can name.
-use Rattle.std.specs.Prelude.{ℕ, ◌^◌, nat_lt, Bool, List, [], ◌∷◌, ◌++◌, map, filter}
+use Rattle.std.specs.Prelude.{◌^◌, nat_lt, Bool, List, [], ◌∷◌, ◌++◌, map, filter}
 use Rattle.flow_class.specs.declared.class.Slotted.{Slotted}
 use Rattle.flow_class.specs.declared.class.Slotted.TheVariants.{Slot, Local}
 use Rattle.flow_class.specs.Classes.{InstrTree, NewInstr, LastTree, ChooseLast, BlockTree, ClassTree}

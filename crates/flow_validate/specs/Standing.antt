@@ -1,20 +1,20 @@
 -- How far the code has followed 64 places: for each block which of them may be empty where it begins, where a walk leads to it, and
 -- the blocks that are still to be passed.
-use Rattle.std.specs.Prelude.{◌≡◌, ◌⊎◌, ℕ, ◌+◌, ◌-◌, ◌*◌, ◌^◌, ◌<◌, ◌≤◌, Bool, true, false, not, nat_eq, List, [], ◌∷◌, ◌++◌, map, length, slice_get, Contains, bit_or, if◌then◌else◌}
+use Rattle.std.specs.Prelude.{◌≡◌, ◌⊎◌, ℕ, ◌+◌, ◌-◌, ◌*◌, ◌^◌, ◌<◌, ◌≤◌, Bool, true, false, not, nat_eq, List, [], ◌∷◌, map, length, slice_get, Contains, bit_or, if◌then◌else◌}
 use Rattle.std.specs.List.{sum_by}
 use Rattle.std.specs.declared.alloc.Global.{Global}
 use Rattle.std.specs.declared.vec.Vec.{Vec}
 use Rattle.std.specs.declared.option.Option.{Option}
 use Rattle.std.specs.declared.option.Option.TheVariants.{None, Some}
 use Rattle.flow_class.specs.declared.class.Slotted.{Slotted}
-use Rattle.flow_class.specs.Classes.{CatcherTree, LastTree, GotoLast, PassLast, TestLast, ChooseLast, ReturnLast, ThrowLast, BlockTree, CallbackTree, ClassTree}
+use Rattle.flow_class.specs.Classes.{CatcherTree, LastTree, ChooseLast, BlockTree, CallbackTree, ClassTree}
 use Rattle.flow_class.specs.Code.{group_at}
 use Rattle.flow_validate.specs.declared.touch.Touch.{Touch}
 use Rattle.flow_validate.specs.declared.window.Window.{Window}
 use Rattle.flow_validate.specs.declared.filling.Walks.{Walks}
 use Rattle.flow_valid.specs.Named.{targets}
 use Rattle.flow_valid.specs.Filling.{among, reads, is_parameter, Comes, ReadsEmpty}
-use Rattle.flow_validate.specs.Following.{Passing, entering, passed, block_touches, place_in, has_bit}
+use Rattle.flow_validate.specs.Following.{entering, passed, block_touches, place_in, has_bit}
 use Rattle.flow_validate.specs.Entered.{Covers, Enters, empty_handled, empty_taken, IsPassed}
 use Rattle.flow_class.specs.Code.{fetch}
 use Rattle.flow_class.specs.declared.class.Slotted.TheVariants.{Slot, Local}

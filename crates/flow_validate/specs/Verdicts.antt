@@ -1,12 +1,10 @@
 -- What the code tells of classes, one after another.
-use Rattle.std.specs.Prelude.{◌≡◌, ℕ, ◌<◌, ◌++◌, true, List, map, slice_get}
+use Rattle.std.specs.Prelude.{◌≡◌, ℕ, ◌<◌, true, List, slice_get}
 use Rattle.std.specs.declared.option.Option.{Option}
 use Rattle.std.specs.declared.option.Option.TheVariants.{None, Some}
-use Rattle.flow_tree.specs.Decls.{DeclTree}
 use Rattle.flow_rules.specs.declared.known.Names.{Names}
 use Rattle.flow_rules.specs.ProgramView.{setting_by}
 use Rattle.flow_rules.specs.Rules.{setting_of}
-use Rattle.flow_rules.specs.Judged.{Setting}
 use Rattle.flow_class.specs.Classes.{ClassTree, RawTree}
 use Rattle.flow_validate.specs.declared.invalid.Invalid.{Invalid}
 use Rattle.flow_validate.specs.declared.invalid.Invalid.TheVariants as invalid

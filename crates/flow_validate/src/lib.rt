@@ -9,6 +9,7 @@ pub mod filling;
 pub mod heads;
 pub mod invalid;
 pub mod named;
+pub mod sizes;
 pub mod touch;
 pub mod types;
 pub mod validate;

@@ -17,7 +17,6 @@ use flow_base::errors::DISK_FAILED;
 use flow_base::ids::{CellId, ProcId};
 use flow_base::memory::NoMemory;
 use flow_base::text::Text;
-use flow_valid::program::ClassProgram;
 use flow_code::program::Code;
 use flow_draw::Draws;
 use flow_machine::host::{Burst, Host, RunFault};
@@ -28,6 +27,7 @@ use flow_simnet::{Net, Packet};
 use flow_timers::Timers;
 use flow_trace::line::Line;
 use flow_trace::out::LineOut;
+use flow_valid::program::ClassProgram;
 use flow_value::value::{Outcome, RecordId, Value};
 use flow_worldfile::{Act, World0};
 use std::alloc::Global;
@@ -386,7 +386,11 @@ impl World {
             cell,
         )?;
         put(out, &line)?;
-        self.runs(p, Deed::Delivers(cell, disk_outcome(self.alloc, reply)?), out)
+        self.runs(
+            p,
+            Deed::Delivers(cell, disk_outcome(self.alloc, reply)?),
+            out,
+        )
     }
 
     /// A process does what follows of a deed.

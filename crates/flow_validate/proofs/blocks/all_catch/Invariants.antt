@@ -1,10 +1,7 @@
 use Rattle.std.proofs.Common.{◌≡◌, drop, map}
-use Rattle.std.specs.List.{list_all}
-use Rattle.flow_class.specs.View.{class_of, block_of, instr_of, callback_of, group_of}
-use Rattle.flow_class.specs.Classes.{InstrTree}
-use Rattle.flow_class.specs.declared.class.Slotted.TheVariants.{Local}
+use Rattle.flow_class.specs.View.{class_of, block_of}
 use Rattle.flow_class.specs.Classes.{BlockTree}
-use Rattle.flow_valid.specs.Validity.{all_blocks, leads_on, catches, distinct}
+use Rattle.flow_valid.specs.Validity.{all_blocks, catches}
 use Rattle.flow_validate.proofs.blocks.all_catch.Given as goal
 
 abbrev pub invariant-loop-number : goal.invariant-loop-number

@@ -3,7 +3,7 @@ use Rattle.std.specs.List.{list_all}
 use Rattle.std.proofs.lemmas.List.{length-map}
 use Rattle.flow_class.specs.declared.class.Block.{Block}
 use Rattle.flow_class.specs.View.{class_of, block_of, group_of}
-use Rattle.flow_validate.specs.Counting.{counted, zeros}
+use Rattle.flow_validate.specs.Counting.{counted}
 use Rattle.flow_validate.proofs.Leading.{chosen_once}
 use Rattle.flow_validate.proofs.blocks.groups_chosen.Goals as goal
 

@@ -1,9 +1,8 @@
-use Rattle.std.proofs.Common.{◌≡◌, ℕ, List, map, take, refl, sym, ap, ap₂, ◌∙◌}
+use Rattle.std.proofs.Common.{◌≡◌, List, map, take, sym, ap, ap₂, ◌∙◌}
 use Rattle.std.proofs.lemmas.List.{take-map}
 use Rattle.flow_tree.specs.declared.ty.Ident.{Ident}
 use Rattle.flow_tree.specs.Tree.{TypeTree}
 use Rattle.flow_tree.specs.Canon.{first_place}
-use Rattle.flow_tree.specs.Body.{End}
 use Rattle.flow_tree.specs.Decls.{ParamTree, DeclTree, ActorDecl}
 use Rattle.flow_tree.specs.declared.decl.Slot.{Slot}
 use Rattle.flow_tree.specs.declared.stmt.Stmt.{Stmt}

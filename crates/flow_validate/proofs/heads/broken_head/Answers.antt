@@ -1,4 +1,4 @@
-use Rattle.std.proofs.Common.{◌≡◌, length, map, sym, ap, ◌∙◌}
+use Rattle.std.proofs.Common.{map, sym, ap, ◌∙◌}
 use Rattle.flow_tree.specs.DeclView.{decl_of}
 use Rattle.flow_ast.specs.Typing.{is_there}
 use Rattle.flow_rules.specs.Known.{known}

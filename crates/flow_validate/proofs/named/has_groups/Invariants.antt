@@ -1,9 +1,7 @@
 use Rattle.std.proofs.Common.{◌≡◌, drop, map}
 use Rattle.std.specs.List.{list_all}
-use Rattle.flow_class.specs.View.{class_of, block_of, instr_of, callback_of, group_of}
-use Rattle.flow_class.specs.Classes.{InstrTree}
-use Rattle.flow_class.specs.declared.class.Slotted.TheVariants.{Local}
-use Rattle.flow_valid.specs.Named.{has_place, has_named, has_operand, instr_places}
+use Rattle.flow_class.specs.View.{class_of, group_of}
+use Rattle.flow_valid.specs.Named.{has_operand}
 use Rattle.flow_validate.proofs.named.has_groups.Given as goal
 
 abbrev pub invariant-loop-group : goal.invariant-loop-group

@@ -1,7 +1,4 @@
-use Rattle.std.proofs.Common.{◌≡◌, ◌++◌, drop, map}
-use Rattle.flow_class.specs.View.{instr_of}
-use Rattle.flow_validate.specs.declared.touch.Touch.TheVariants.{Empties}
-use Rattle.flow_validate.specs.Small.{small_body}
+use Rattle.std.proofs.Common.{◌≡◌, ◌++◌, drop}
 use Rattle.flow_validate.proofs.Gathering.{operands_read}
 use Rattle.flow_validate.proofs.touch.add_operands.Given as goal
 

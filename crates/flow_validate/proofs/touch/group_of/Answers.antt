@@ -1,4 +1,4 @@
-use Rattle.std.proofs.Common.{◌≡◌, ◌<◌, ◌≤◌, ◌-◌, length, get_or, sym, ap, ◌∙◌, arith}
+use Rattle.std.proofs.Common.{◌<◌, ◌≤◌, ◌-◌, length, get_or, sym, ap, ◌∙◌, arith}
 use Rattle.flow_validate.proofs.Groups.{group_there, group_none}
 use Rattle.flow_validate.proofs.touch.group_of.Goals as goal
 

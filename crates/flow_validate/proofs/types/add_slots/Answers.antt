@@ -1,4 +1,4 @@
-use Rattle.std.proofs.Common.{length, sym, ap, ◌∙◌, rules, ◌++◌, ◌∷◌, [], take, map, get_or}
+use Rattle.std.proofs.Common.{length, sym, ap, ◌∙◌, rules, take, map}
 use Rattle.std.proofs.lemmas.List.{length_push}
 use Rattle.std.proofs.lemmas.Slice.Zip.{zip_turn}
 use Rattle.flow_tree.specs.DeclView.{slot_of}

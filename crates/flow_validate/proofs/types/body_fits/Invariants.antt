@@ -1,8 +1,8 @@
 use Rattle.std.proofs.Common.{◌≡◌, drop, map}
 use Rattle.std.specs.List.{list_all}
-use Rattle.flow_class.specs.View.{class_of, block_of, instr_of, callback_of, group_of}
+use Rattle.flow_class.specs.View.{class_of, instr_of}
 use Rattle.flow_rules.specs.SettingView.{setting_view}
-use Rattle.flow_valid.specs.Validity.{instr_fits, block_fits, callback_fits}
+use Rattle.flow_valid.specs.Validity.{instr_fits}
 use Rattle.flow_validate.proofs.types.body_fits.Given as goal
 
 abbrev pub invariant-loop-instr : goal.invariant-loop-instr

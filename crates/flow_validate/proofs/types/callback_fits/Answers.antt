@@ -1,7 +1,5 @@
-use Rattle.std.proofs.Common.{◌≡◌, true, sym, ap, ◌∙◌}
+use Rattle.std.proofs.Common.{true, sym, ap, ◌∙◌}
 use Rattle.std.specs.Option.{option_map}
-use Rattle.std.specs.declared.option.Option.TheVariants.{None, Some}
-use Rattle.flow_tree.specs.View.{expr_of}
 use Rattle.flow_rules.specs.View.{inner_of}
 use Rattle.flow_rules.specs.SettingView.{setting_view}
 use Rattle.flow_class.specs.View.{class_of, callback_of}

@@ -1,5 +1,4 @@
-use Rattle.std.proofs.Common.{◌≡◌, ℕ, ◌<◌, ◌+◌, nat_eq, ap, sym, ◌∙◌, arith}
-use Rattle.flow_validate.specs.Following.{has_bit}
+use Rattle.std.proofs.Common.{◌≡◌, ◌+◌, nat_eq, ap, sym, ◌∙◌, arith}
 use Rattle.flow_validate.proofs.Bits.{has_shifted, eq_shifted}
 use Rattle.flow_validate.proofs.window.bit_from.Goals as goal
 

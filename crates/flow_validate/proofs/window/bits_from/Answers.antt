@@ -1,4 +1,4 @@
-use Rattle.std.proofs.Common.{◌≡◌, ℕ, ◌<◌, ◌+◌, ◌-◌, ◌*◌, ◌^◌, ◌%◌, ◌≤◌, nat_le, true, not, ap, sym, ◌∙◌, arith}
+use Rattle.std.proofs.Common.{◌≡◌, ◌<◌, ◌+◌, ◌-◌, ◌^◌, ◌≤◌, nat_le, not, ap, sym, ◌∙◌, arith}
 use Rattle.std.proofs.lemmas.Nat.{one_shl, pow_below}
 use Rattle.flow_validate.specs.Following.{has_bit}
 use Rattle.flow_validate.proofs.Bits.{has_max, has_not, has_ones, le_shifted, twice_not}

@@ -1,8 +1,7 @@
-use Rattle.std.proofs.Common.{[], ◌∷◌, ◌+◌, ℕ, map, take, length, List, ap, subst, sym, ◌∙◌}
+use Rattle.std.proofs.Common.{[], ◌∷◌, map, take, List, subst, sym}
 use Rattle.flow_class.specs.View.{callback_of}
 use Rattle.flow_validate.specs.Standing.{Way, standing, branch_way, Entered}
 use Rattle.flow_validate.proofs.Entering.{entered_then}
-use Rattle.flow_validate.proofs.Passing.{taken_all}
 use Rattle.flow_validate.proofs.Ways.{more_mapped}
 use Rattle.flow_validate.proofs.filling.Walks.enter_branches.Goals as goal
 

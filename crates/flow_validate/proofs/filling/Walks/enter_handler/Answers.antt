@@ -1,5 +1,4 @@
-use Rattle.std.proofs.Common.{[], ◌∷◌, ◌-◌, Bool, List, ℕ, bit_and, bit_or, Some, sym, subst}
-use Rattle.flow_class.specs.declared.class.Slotted.{Slotted}
+use Rattle.std.proofs.Common.{[], ◌∷◌, ◌-◌, List, ℕ, bit_and, bit_or, sym, subst}
 use Rattle.flow_class.specs.View.{class_of, catcher_of}
 use Rattle.flow_valid.specs.Filling.{dropped}
 use Rattle.flow_validate.specs.Following.{AreBits}

@@ -1,4 +1,4 @@
-use Rattle.std.proofs.Common.{◌≡◌, ◌<◌, ℕ, Some, map, length, refl, sym, subst, ap, ◌∙◌, arith}
+use Rattle.std.proofs.Common.{◌≡◌, ◌<◌, Some, length, refl, sym, subst, ap, ◌∙◌, arith}
 use Rattle.std.specs.declared.alloc.Global.{Global}
 use Rattle.std.specs.declared.vec.Vec.{Vec}
 use Rattle.std.proofs.lemmas.Option.{slice_get_read}
@@ -7,7 +7,7 @@ use Rattle.flow_class.specs.View.{class_of, block_of}
 use Rattle.flow_validate.specs.declared.touch.Touch.{Touch}
 use Rattle.flow_validate.specs.declared.window.Passage.{Passage}
 use Rattle.flow_validate.specs.Following.{ArePassing}
-use Rattle.flow_validate.specs.Standing.{AnyBit, standing, items_of}
+use Rattle.flow_validate.specs.Standing.{AnyBit, standing}
 use Rattle.flow_validate.proofs.Groups.{found_at}
 use Rattle.flow_validate.proofs.Entering.{there}
 use Rattle.flow_validate.proofs.Passes.{seen, entered_passing, misreads, block_passes}

@@ -1,7 +1,7 @@
-use Rattle.std.proofs.Common.{◌≡◌, ℕ, Bool, List, [], ◌∷◌, length, refl, subst, arith}
+use Rattle.std.proofs.Common.{◌≡◌, ℕ, List, [], ◌∷◌, length, refl, subst, arith}
 use Rattle.flow_class.specs.View.{class_of}
 use Rattle.flow_validate.specs.Standing.{Standing, standing, PassesOr}
-use Rattle.flow_validate.proofs.Followed.{passed_more, all_filled, popped_work}
+use Rattle.flow_validate.proofs.Followed.{passed_more, all_filled}
 use Rattle.flow_validate.proofs.filling.Walks.pass_all.Goals as goal
 
 none_left : (xs : List ℕ) → length xs ≡ 0 → xs ≡ []

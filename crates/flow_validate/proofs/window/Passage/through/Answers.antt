@@ -1,6 +1,5 @@
 use Rattle.std.proofs.Common.{◌+◌, get_or, sym, ap, take}
-use Rattle.flow_class.specs.declared.class.Slotted as place
-use Rattle.flow_validate.specs.Following.{Passing, passed, touched}
+use Rattle.flow_validate.specs.Following.{passed, touched}
 use Rattle.flow_validate.proofs.Passing.{passed_more, taken_all, seen_as}
 use Rattle.flow_validate.proofs.window.Passage.through.Goals as goal
 

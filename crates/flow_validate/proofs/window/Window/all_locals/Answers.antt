@@ -1,4 +1,4 @@
-use Rattle.std.proofs.Common.{◌≡◌, ℕ, ◌<◌, ◌+◌, if◌then◌else◌, ap, sym, ◌∙◌}
+use Rattle.std.proofs.Common.{◌+◌, if◌then◌else◌, ap, sym, ◌∙◌}
 use Rattle.flow_class.specs.declared.class.Slotted.TheVariants as place
 use Rattle.flow_valid.specs.Filling.{is_local}
 use Rattle.flow_validate.proofs.Bits.{has_max}

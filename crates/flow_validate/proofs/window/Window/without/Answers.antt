@@ -1,4 +1,4 @@
-use Rattle.std.proofs.Common.{◌≡◌, ℕ, ◌<◌, ◌+◌, not, if◌then◌else◌, ap, sym, ◌∙◌}
+use Rattle.std.proofs.Common.{◌+◌, not, if◌then◌else◌, ap, sym, ◌∙◌}
 use Rattle.flow_class.specs.declared.class.Slotted.TheVariants as place
 use Rattle.flow_validate.specs.Apart.{is_parameter_of}
 use Rattle.flow_validate.proofs.Bits.{has_max}

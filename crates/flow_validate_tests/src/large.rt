@@ -1,0 +1,139 @@
+// Large class programs.
+
+use crate::classes::raw_classes;
+use flow_base::name::Name;
+use flow_base::place::Place;
+use flow_class::class::{Block, Class, Instr, Last, RawClasses};
+use flow_tree::decl::Slot;
+use flow_tree::expr::Expr;
+use flow_tree::fault::SourceFault;
+use flow_tree::stmt::Target;
+use flow_tree::ty::{Ident, Ty};
+use itoa::Buffer;
+use std::alloc::Global;
+
+const FIRST_PLACE: Place = Place {
+    line: 1,
+    column: 1,
+    byte: 0,
+};
+
+// The name of a local.
+fn local(alloc: Global, number: u32) -> Result<Ident, SourceFault> {
+    let mut buffer = Buffer::new();
+    let mut bytes = Vec::new(alloc);
+    bytes.push(b'l')?;
+    bytes.extend_from_slice(buffer.format(number).as_bytes())?;
+    if !flow_base::name::is_name(&bytes) {
+        return Err(SourceFault::OutOfMemory);
+    }
+    Ok(Ident {
+        name: Name::new(alloc, &bytes)?,
+        at: FIRST_PLACE,
+    })
+}
+
+// A local is filled with what another has, and the next block follows.
+fn step(alloc: Global, number: u32) -> Result<Block, SourceFault> {
+    let value = if number == 0 {
+        Expr::Int(1)
+    } else {
+        Expr::Var(local(alloc, number.saturating_sub(1))?)
+    };
+    let mut path = Vec::new(alloc);
+    path.push(local(alloc, number)?)?;
+    let mut body = Vec::new(alloc);
+    body.push(Instr::Set(Target { path }, value))?;
+    Ok(Block {
+        catcher: None,
+        body,
+        last: Last::Goto(number.saturating_add(1)),
+    })
+}
+
+/// A class program of which `main` has so many locals, and a block that fills each from the one before.
+pub fn many_blocks(alloc: Global, count: u32) -> Result<RawClasses, SourceFault> {
+    let mut locals = Vec::new(alloc);
+    let mut blocks = Vec::new(alloc);
+    for number in 0..count {
+        locals.push(Ty::Int)?;
+        blocks.push(step(alloc, number)?)?;
+    }
+    blocks.push(Block {
+        catcher: None,
+        body: Vec::new(alloc),
+        last: Last::Return(Expr::VoidValue),
+    })?;
+    let mut slots = Vec::new(alloc);
+    slots.push(Slot {
+        ty: Ty::Int,
+        name: Name::new(alloc, b"p")?,
+    })?;
+    let mut classes = Vec::new(alloc);
+    classes.push(Class {
+        name: Name::new(alloc, b"main")?,
+        returns: Ty::Void,
+        params: 1,
+        slots,
+        locals,
+        blocks,
+        groups: Vec::new(alloc),
+    })?;
+    Ok(RawClasses {
+        records: Vec::new(alloc),
+        functions: Vec::new(alloc),
+        classes,
+    })
+}
+
+// What stands before and behind the name of an ordinary class: what an actor with a loop, a `try` and waits is compiled to.
+const CLASS: &str = "class ask";
+
+const INSIDE: &str =
+    " returns int params 2 { slot 0 PromiseStream<R> to; slot 1 int n; slot 2 int sum; slot 3 Promise<int> reply; \
+    local 0 int; local 1 Error; local 2 int; \
+    block 0 { set s2 = f(s1 * 2) + 1; new s3; act s0.send(R(s2, s3)); goto 1; } \
+    block 1 catch 4 error l1 drop (l0) { choose 1; } \
+    block 2 catch 4 error l1 drop (l0) { set s2 = s2 + l0; drop l0; goto 3; } \
+    block 3 { choose 2; } \
+    block 4 { act trace(l1.code()); drop l1; goto 5; } \
+    block 5 { set s2 = s2 + 1; goto 7; } \
+    block 6 { throw end_of_stream(); } \
+    block 7 { set l2 = 0; test (l2 < s1 && s2 % 7 != 3) goto 8 else 10; } \
+    block 8 { act trace(to_string(s2) + \" of \" + to_string(s1)); set s2 = f(s2 - 1); goto 9; } \
+    block 9 { test (s2 > 1000) goto 10 else 11; } \
+    block 10 { return s2; } \
+    block 11 { pass 7; } \
+    group 1 { callback 0 wait(s3.getFuture()) into l0 goto 2; } \
+    group 2 { callback 1 wait(delay(s1)) goto 5; callback 2 wait(Never()) goto 6; } }";
+
+const PLAIN: &str = "struct R { int n; Promise<int> reply; }; int f(int n) { return n; }";
+
+const MAIN: &str = "class main returns Void params 1 { slot 0 int p; block 0 { return Void(); } }";
+
+/// An ordinary class.
+fn ordinary_class(alloc: Global, number: u32) -> Result<String, SourceFault> {
+    let mut buffer = Buffer::new();
+    let mut text = String::new(alloc);
+    text.push_str(CLASS)?;
+    text.push_str(buffer.format(number))?;
+    text.push_str(INSIDE)?;
+    Ok(text)
+}
+
+/// A class program of as many ordinary classes as have so many bytes of text.
+pub fn ordinary(alloc: Global, bytes: usize) -> Result<RawClasses, SourceFault> {
+    let mut raw = raw_classes(alloc, PLAIN, MAIN)?;
+    let mut size: usize = 0;
+    for number in 0..1_000_000 {
+        if size >= bytes {
+            break;
+        }
+        let text = ordinary_class(alloc, number)?;
+        size = size.saturating_add(text.len());
+        for class in raw_classes(alloc, "", &text)?.classes {
+            raw.classes.push(class)?;
+        }
+    }
+    Ok(raw)
+}
