@@ -93,13 +93,13 @@ module _ (k : ℕ) (r : RawTree) (types : CellTypes) (c : Core) (xs : Numbered F
               let same : result ≡ k = grind (arith, q) in (
                 λ z. absurd (subst IsThere (removed_none c.cells 0 c.made k p.numbered) (subst (λ n. IsThere (thing (removed c.cells n) k)) same (subst (λ x. IsThere (thing x k)) cs z))),
                 λ w. absurd (
-                  let g = to_gone w in
-                  let m = wants_counts k r types c xs p o.numbered t (removed c.entries i) g.0 g.1 g.2 g.4 in
-                  let n = results i result a.entry a.at a.owner.owns in
-                  let n2 : refs k PromiseSide c xs ≡ 1 = subst (λ z. Occ (frames_hold xs) PromiseSide z c ≡ 1) same n in
-                  let x = counted PromiseSide in
-                  let y : one PromiseSide k PromiseSide result ≡ 1 = ap (λ z. one PromiseSide k PromiseSide z) same ∙ ap (λ (b : Bool). if b then 1 else 0) (same_number k) in
-                  let less : in_entries PromiseSide k (removed c.entries i) ≤ refs k PromiseSide gone ys = omega arith in omega (arith, m, n2, x, y, less)),
+                    let g = to_gone w in
+                    let m = wants_counts k r types c xs p o.numbered t (removed c.entries i) g.0 g.1 g.2 g.4 in
+                    let n = results i result a.entry a.at a.owner.owns in
+                    let n2 : refs k PromiseSide c xs ≡ 1 = subst (λ z. Occ (frames_hold xs) PromiseSide z c ≡ 1) same n in
+                    let x = counted PromiseSide in
+                    let y : one PromiseSide k PromiseSide result ≡ 1 = ap (λ z. one PromiseSide k PromiseSide z) same ∙ ap (λ (b : Bool). if b then 1 else 0) (same_number k) in
+                    let less : in_entries PromiseSide k (removed c.entries i) ≤ refs k PromiseSide gone ys = omega arith in omega (arith, m, n2, x, y, less)),
               )
           by_test false q =
               let other : result ≡ k → ⊥ = (λ z. let f : ⊥ = grind (arith, q, z) in f) in

@@ -167,8 +167,8 @@ module _ (k : ℕ) (r : RawTree) (actors : List RoutineTree) (rules : Rattle.flo
               let z = leave_for i kept (lose f).0 (Give i b o) d in
               let m = taking_onward k q.1 cell o low ys found got in
               let l = replaced_onward k a i e kept (lose f).0 (Give i b o) d ys at (inr (refl, refl)) (λ s. kept_holds s spot q e awake)
-                  (taken_agrees (record c { entries = put c.entries i kept }) q.1 cell found agree) (taken_kinds c q.1 cell found kept.operands kinds)
-                  (Rattle.flow_meaning.proofs.Order.rising_put c.cells 0 c.made q.1 (after_taking cell) p.numbered) in
+              (taken_agrees (record c { entries = put c.entries i kept }) q.1 cell found agree) (taken_kinds c q.1 cell found kept.operands kinds)
+              (Rattle.flow_meaning.proofs.Order.rising_put c.cells 0 c.made q.1 (after_taking cell) p.numbered) in
               fine_on z ys (onward_on k no_refs g no_refs c xs low ys z ys so_far ((λ w. m.0 (l.0 w)), (λ s. let x = m.1 s in let y = l.1 s in let w : in_task s k (Give i b o) ≡ in_task s k (Give 0 0 o) = refl in omega (arith, x, y, w)), (λ w. m.2 (l.2 w))))
 
       by_verdict : (b : ℕ) (v : Verdict) → Fine (keep_by (classes r) i b v q kept f (proc now xs)).0.core (keep_by (classes r) i b v q kept f (proc now xs)).0.actors

@@ -97,8 +97,7 @@ module _ (k : ℕ) (r : RawTree) (types : CellTypes) (c : Core) (xs : Numbered F
       let d = record c { ports = removed c.ports port } in
       let e = record d { cells = removed c.cells j } in
       let a = gone_onward k j cell d xs at other in
-      let b = drop_onward k (held cell) e xs in
-      (
+      let b = drop_onward k (held cell) e xs in (
         (λ z. a.0 z),
         (λ s. let x = a.1 s in let y = b.1 s in let z = of_port_gone (proc c xs) s k port j there in let w = Rattle.flow_picture.proofs.Keeping.no_one s j k PromiseSide other in omega (arith, x, y, z, w)),
         (λ w. w),

@@ -141,7 +141,7 @@ module _ (k : ℕ) (ys : Numbered Frame) (i : ℕ) where
               let d = record (writes (take_line i there.spot.group m) (record c { left = n })) { cells = put c.cells j (after_taking cell) } in
               let x = taking_onward k j cell o c ys found got in
               let l = replaced_onward k no_refs i e there vs (Give i m o) d ys at (inr (refl, refl)) (λ s. omega arith)
-                  (taken_agrees (record c { entries = put c.entries i there }) j cell found agree_there) (taken_kinds c j cell found e.operands kinds) (rising_put c.cells 0 c.made j (after_taking cell) up) in
+              (taken_agrees (record c { entries = put c.entries i there }) j cell found agree_there) (taken_kinds c j cell found e.operands kinds) (rising_put c.cells 0 c.made j (after_taking cell) up) in
               finish (leave_for i there vs (Give i m o) d) ((λ w. x.0 (l.0 w)), (λ s. let y = x.1 s in let z = l.1 s in let w : in_task s k (Give i m o) ≡ in_task s k (Give 0 0 o) = refl in omega (arith, y, z, w)), (λ w. x.2 (l.2 w)))
 
       abbrev asleep : Core
