@@ -1,3 +1,4 @@
 pub mod Doing
 pub mod Drops
+pub mod Holding
 pub mod Seen
