@@ -107,3 +107,7 @@ given_all g i v t p held on all is e f q = record {
   giving = is;
   given_by = q ∙ ap (doing t) (f ∙ ap (doing (task.Run i)) e);
 }
+
+-- nothing but the heap is changed
+pub kept_but_heap : (p q r : Process) (f : HeapTree → HeapTree) → q ≡ record p { heap = q.heap } → r ≡ on_heap f q → r ≡ record p { heap = r.heap }
+kept_but_heap p q r f e g = g ∙ ap (λ (x : Process). record x { heap = f q.heap }) e ∙ sym (ap (λ (x : Process). record p { heap = x.heap }) g)
