@@ -118,7 +118,7 @@ owner_of (Some k) notes = owner k.0 notes
 -- that may rise.
 abbrev pub may_start_at : Option ℕ → Option (CellTree Outcome) → Bool
 may_start_at o None = false
-may_start_at o (Some c) = nat_lt c.references.promises (2 ^ 100 - 1) && is_none c.content && is_none o
+may_start_at o (Some c) = nat_lt c.references.promises (2 ^ 64 - 1) && is_none c.content && is_none o
 
 abbrev pub may_start : Option CellId → HeapTree → Bool
 may_start None h = true

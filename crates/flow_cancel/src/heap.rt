@@ -32,9 +32,6 @@ use std::marker::Model;
 /// Each number given is below this.
 const NUMBERS: u64 = 1 << 63;
 
-/// A count of references may rise where it is below this: then it stays below 2^100.
-const COUNTS: u128 = (1 << 100) - 1;
-
 /// For so many tasks there may be room where none is left.
 const ROOM: usize = 256;
 
@@ -265,7 +262,7 @@ impl Heap {
         };
         match self.cells.references(cell) {
             Some(references) => {
-                references.count(Side::Promise) < COUNTS
+                references.count(Side::Promise) < u64::MAX
                     && self.cells.content(cell).is_none()
                     && self.actors.owner(cell).is_none()
             }

@@ -1,3 +1,4 @@
 pub mod Queues
+pub mod Lines
 pub mod SeenLemmas
 pub mod Places

@@ -7,6 +7,9 @@ use Rattle.flow_numbered.specs.Numbered.{Numbered, thing, added, put, removed, n
 use Rattle.flow_numbered.proofs.Things.{put_same, above, nothing_above, thing_put, thing_added, thing_removed}
 use Rattle.flow_cell.specs.Cells.{CellTree}
 use Rattle.flow_cell.specs.Waiting.{waiters_in}
+use Rattle.flow_cell.specs.Lines.{list_ends, waiters_at}
+use Rattle.flow_cell.specs.declared.waiters.Waiters.{Waiters}
+use Rattle.flow_cell.specs.declared.waiters.Waiters.TheVariants.{Nobody, One, Listed}
 use Rattle.flow_cell.specs.Seen.{tree, seen, ends_of, ends_in}
 use Rattle.flow_cell.specs.declared.queue.Waiting.{Waiting}
 use Rattle.flow_cell.specs.declared.cell.Cell.{Cell}
@@ -59,7 +62,7 @@ module _ {T : Type 0} (at : Slots Waiting) where
 -- the waiters of the other cells stay
 module _ {T : Type 0} (at new : Slots Waiting) where
   abbrev pub Stays : Cell T → Type 0
-  Stays d = waiters_in new d.waiting ≡ waiters_in at d.waiting
+  Stays d = waiters_at new d.waiters ≡ waiters_at at d.waiters
 
   tree_stays : (d : Cell T) → Stays d → tree new d ≡ tree at d
   tree_stays d e = ap (λ ws. record { content = d.content; references = d.references; waiters = ws }) e
@@ -104,15 +107,26 @@ module _ {T : Type 0} (at new : Slots Waiting) where
   written xs greatest n old c x f h e is change stays =
       ap (λ ys. record { things = ys; greatest = greatest }) (seen_changed 0 xs greatest n c h stays ∙ ap (put (seen at xs) n) (change ∙ ap f (sym (the_cell at xs n old x e is))))
 
-  -- nothing was written
-  pub unwritten : (xs : Numbered (Cell T)) (greatest n : ℕ) (old c : Cell T) → IsRising 0 xs greatest → thing xs n ≡ Some old → c ≡ old
-      → ((m : ℕ) (d : Cell T) → thing xs m ≡ Some d → Stays d) → seen new (put xs n c) ≡ seen at xs
+  -- one was written, and nothing that is seen
+  pub unwritten : (xs : Numbered (Cell T)) (greatest n : ℕ) (old c : Cell T) → IsRising 0 xs greatest → thing xs n ≡ Some old → tree new c ≡ tree at old
+      → ((m : ℕ) (d : Cell T) → thing xs m ≡ Some d → m ≢ n → Stays d) → seen new (put xs n c) ≡ seen at xs
   unwritten xs greatest n old c h e same stays =
-      ap (seen new) (ap (put xs n) same ∙ put_same xs n old e) ∙ seen_stays 0 xs greatest h stays
+      seen_changed 0 xs greatest n c h stays ∙ ap (put (seen at xs) n) same ∙ put_same (seen at xs) n (tree at old) (seen_is at xs n old e)
+
+-- waiters stay where those of the list do, and nobody waits where nobody is in it
+waiters_stay : (at new : Slots Waiting) (ws : Waiters) → waiters_in new (list_ends ws) ≡ waiters_in at (list_ends ws) → waiters_at new ws ≡ waiters_at at ws
+waiters_stay at new Nobody e = refl
+waiters_stay at new (One w) e = refl
+waiters_stay at new (Listed b) e = e
+
+pub no_waiters : (at : Slots Waiting) (ws : Waiters) → waiters_at at ws ≡ [] → waiters_in at (list_ends ws) ≡ []
+no_waiters at Nobody e = refl
+no_waiters at (One w) e = refl
+no_waiters at (Listed b) e = e
 
 -- the ends of the lists of waiters
 module _ {T : Type 0} where
-  ends_if : (t : Bool) (c : Cell T) (o : Option (Cell T)) → ends_of (if t then Some c else o) ≡ (if t then Some c.waiting else ends_of o)
+  ends_if : (t : Bool) (c : Cell T) (o : Option (Cell T)) → ends_of (if t then Some c else o) ≡ (if t then Some (list_ends c.waiters) else ends_of o)
   ends_if true c o = refl
   ends_if false c o = refl
 
@@ -120,23 +134,23 @@ module _ {T : Type 0} where
   none_if true o = refl
   none_if false o = refl
 
-  pub ends_are : (xs : Numbered (Cell T)) (n : ℕ) (c : Cell T) → thing xs n ≡ Some c → ends_in xs n ≡ Some c.waiting
+  pub ends_are : (xs : Numbered (Cell T)) (n : ℕ) (c : Cell T) → thing xs n ≡ Some c → ends_in xs n ≡ Some (list_ends c.waiters)
   ends_are xs n c e = ap ends_of e
 
-  pub ends_put : (xs : Numbered (Cell T)) (n : ℕ) (old c : Cell T) (m : ℕ) → thing xs n ≡ Some old → ends_in (put xs n c) m ≡ (if nat_eq m n then Some c.waiting else ends_in xs m)
+  pub ends_put : (xs : Numbered (Cell T)) (n : ℕ) (old c : Cell T) (m : ℕ) → thing xs n ≡ Some old → ends_in (put xs n c) m ≡ (if nat_eq m n then Some (list_ends c.waiters) else ends_in xs m)
   ends_put xs n old c m e = ap ends_of (thing_put xs n old c m e) ∙ ends_if (nat_eq m n) c (thing xs m)
 
   -- a cell changes, and not its waiters
-  pub ends_stay : (xs : Numbered (Cell T)) (n : ℕ) (old c : Cell T) (m : ℕ) → thing xs n ≡ Some old → c.waiting ≡ old.waiting → ends_in (put xs n c) m ≡ ends_in xs m
+  pub ends_stay : (xs : Numbered (Cell T)) (n : ℕ) (old c : Cell T) (m : ℕ) → thing xs n ≡ Some old → list_ends c.waiters ≡ list_ends old.waiters → ends_in (put xs n c) m ≡ ends_in xs m
   ends_stay xs n old c m e same = ends_put xs n old c m e ∙ by_case (nat_eq m n) refl
     where
-      by_case : (t : Bool) → nat_eq m n ≡ t → (if t then Some c.waiting else ends_in xs m) ≡ ends_in xs m
+      by_case : (t : Bool) → nat_eq m n ≡ t → (if t then Some (list_ends c.waiters) else ends_in xs m) ≡ ends_in xs m
       by_case false g = refl
       by_case true g =
           let is : m ≡ n = grind (arith, nat_tests) in
           ap (λ w. Some w) same ∙ sym (ends_are xs n old e) ∙ sym (ap (ends_in xs) is)
 
-  pub ends_added : (xs : Numbered (Cell T)) (most n : ℕ) (c : Cell T) (m : ℕ) → IsRising 0 xs most → most < n → ends_in (added xs n c) m ≡ (if nat_eq m n then Some c.waiting else ends_in xs m)
+  pub ends_added : (xs : Numbered (Cell T)) (most n : ℕ) (c : Cell T) (m : ℕ) → IsRising 0 xs most → most < n → ends_in (added xs n c) m ≡ (if nat_eq m n then Some (list_ends c.waiters) else ends_in xs m)
   ends_added xs most n c m h l = ap ends_of (thing_added 0 xs most n c m h l) ∙ ends_if (nat_eq m n) c (thing xs m)
 
   pub no_ends : (xs : Numbered (Cell T)) (most n : ℕ) → IsRising 0 xs most → most < n → ends_in xs n ≡ None
@@ -145,7 +159,6 @@ module _ {T : Type 0} where
   pub ends_removed : (xs : Numbered (Cell T)) (most n m : ℕ) → IsRising 0 xs most → ends_in (removed xs n) m ≡ (if nat_eq m n then None else ends_in xs m)
   ends_removed xs most n m h = ap ends_of (thing_removed 0 xs most n m h) ∙ none_if (nat_eq m n) (thing xs m)
 
-  -- the waiters that joined_others and left_others keep
   pub stays_by_ends : (at new : Slots Waiting) (xs : Numbered (Cell T)) (n : ℕ) → ((m : ℕ) (d : Ends) → ends_in xs m ≡ Some d → m ≢ n → waiters_in new d ≡ waiters_in at d)
-      → (m : ℕ) (d : Cell T) → thing xs m ≡ Some d → m ≢ n → waiters_in new d.waiting ≡ waiters_in at d.waiting
-  stays_by_ends at new xs n keeps m d e other = keeps m d.waiting (ends_are xs m d e) other
+      → (m : ℕ) (d : Cell T) → thing xs m ≡ Some d → m ≢ n → waiters_at new d.waiters ≡ waiters_at at d.waiters
+  stays_by_ends at new xs n keeps m d e other = waiters_stay at new d.waiters (keeps m (list_ends d.waiters) (ends_are xs m d e) other)

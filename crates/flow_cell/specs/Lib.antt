@@ -1,3 +1,4 @@
 pub mod Cells
 pub mod Waiting
+pub mod Lines
 pub mod Seen

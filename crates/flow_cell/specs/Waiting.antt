@@ -1,4 +1,4 @@
--- The waiters of all cells: a list for each cell in one slab, and for each waiter at a cell its newest link there.
+-- Lists of waiters: one for each cell, which may be empty, in one slab, and for each waiter in a list its newest link there.
 use Rattle.std.specs.Prelude.{◌≡◌, ℕ, nat_eq, Bool, false, ◌&&◌, ◌||◌, List, [], ◌∷◌, map, if◌then◌else◌}
 use Rattle.std.specs.declared.option.Option.{Option}
 use Rattle.std.specs.declared.option.Option.TheVariants.{None, Some}

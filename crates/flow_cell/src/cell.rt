@@ -1,12 +1,12 @@
 // One cell.
 
 use crate::counts::References;
-use flow_numbered::links::Ends;
+use crate::waiters::Waiters;
 
-/// A cell: what it holds, how many references count, and the ends of the list of its waiters.
+/// A cell: what it holds, how many references count, and who waits for it.
 #[derive(Drop)]
 pub(crate) struct Cell<T> {
     pub(crate) content: Option<T>,
     pub(crate) references: References,
-    pub(crate) waiting: Ends,
+    pub(crate) waiters: Waiters,
 }

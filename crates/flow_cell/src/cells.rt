@@ -8,15 +8,12 @@ ghost use Rattle.flow_cell.specs.Waiting.{has_waiter, waits_at, without_newest};
 
 use crate::cell::Cell;
 use crate::counts::{Loss, References, Side};
-use crate::queue::{Spot, Waiting, join, leave, waiter_from};
 use crate::waiter::Waiter;
+use crate::waiters::{Lists, Waiters};
 use flow_base::ids::CellId;
 use flow_base::memory::NoMemory;
-use flow_numbered::links::{Ends, Link};
 use flow_numbered::numbered::Numbered;
-use slab::Slab;
 use std::alloc::Global;
-use std::collections::HashMap;
 use std::marker::Model;
 
 /// Cells by number. Contracts see the list of numbers and cells, by rising number, and the greatest number that was
@@ -24,24 +21,22 @@ use std::marker::Model;
 #[derive(Drop)]
 pub struct Cells<T> {
     cells: Numbered<Cell<T>>,
-    links: Slab<Link<Waiting>>,
-    newest: HashMap<Spot, usize>,
+    lists: Lists,
 }
 
 impl<T> Model for Cells<T> {
-    ghost use Rattle.std.specs.HashMap as hash;
-    ghost use Rattle.slab.specs.Slab as slab;
     ghost use Rattle.flow_numbered.specs.Numbered.{Store};
     ghost use Rattle.flow_cell.specs.Cells.{CellTree};
 
     ghost Value = { Store (CellTree T) };
 
-    ghost use Rattle.flow_cell.specs.Waiting.{same_spot, AreQueues};
+    ghost use Rattle.flow_cell.specs.Waiting.{AreQueues};
+    ghost use Rattle.flow_cell.specs.Lines.{links_of, newest_of};
     ghost use Rattle.flow_cell.specs.Seen.{seen, ends_in};
 
-    ghost view = { λ s. record { things = seen (λ k. slab.get s.links k) s.cells.things; greatest = s.cells.greatest } };
+    ghost view = { λ s. record { things = seen (links_of s.lists) s.cells.things; greatest = s.cells.greatest } };
 
-    ghost invariant = { λ s. AreQueues (ends_in s.cells.things) (λ k. slab.get s.links k) (λ p. hash.get same_spot s.newest p) };
+    ghost invariant = { λ s. AreQueues (ends_in s.cells.things) (links_of s.lists) (newest_of s.lists) };
 }
 
 impl<T> Cells<T> {
@@ -51,8 +46,7 @@ impl<T> Cells<T> {
     {
         Ok(Cells {
             cells: Numbered::new(alloc),
-            links: Slab::new(alloc),
-            newest: HashMap::new(alloc),
+            lists: Lists::new(alloc),
         })
     }
 
@@ -70,7 +64,7 @@ impl<T> Cells<T> {
             Cell {
                 content: None,
                 references: References::new(),
-                waiting: Ends::new(),
+                waiters: Waiters::Nobody,
             },
         )?;
         Ok(())
@@ -86,10 +80,10 @@ impl<T> Cells<T> {
         }
     }
 
-    /// Counts one more reference of a side, which stays below 2^100.
+    /// Counts one more reference of a side, which stays below 2^64.
     pub fn hold(&mut self, cell: CellId, side: Side)
         requires there { IsSome (thing self.old.things cell.0) }
-        requires fits { ForSome (thing self.old.things cell.0) (λ c. count_of side c.references + 1 < 2 ^ 100) }
+        requires fits { ForSome (thing self.old.things cell.0) (λ c. count_of side c.references + 1 < 2 ^ 64) }
         ensures { ForSome (thing self.old.things cell.0) (λ c. self.new ≡ with_thing self.old cell.0 (record c { references = held side c.references })) }
     {
         self.cells.get_mut(cell.0).references.hold(side);
@@ -140,9 +134,8 @@ impl<T> Cells<T> {
         ensures ok { ForSome (thing self.old.things cell.0) (λ c. OnOk result (self.new ≡ with_thing self.old cell.0 (record c { waiters = c.waiters ++ waiter ∷ [] }))) }
         ensures err { OnErr result (self.new ≡ self.old) }
     {
-        let spot = Spot::new(cell, waiter);
         let entry = self.cells.get_mut(cell.0);
-        join(&mut self.links, &mut self.newest, &mut entry.waiting, spot)?;
+        self.lists.enter(&mut entry.waiters, cell, waiter)?;
         Ok(())
     }
 
@@ -150,7 +143,10 @@ impl<T> Cells<T> {
     pub fn waits(&self, cell: CellId, waiter: Waiter) -> bool
         ensures { result ≡ waits_at (thing self.now.things cell.0) waiter }
     {
-        self.newest.contains_key(&Spot::new(cell, waiter))
+        match self.cells.get(cell.0) {
+            Some(found) => self.lists.has(&found.waiters, cell, waiter),
+            None => false,
+        }
     }
 
     /// Removes a waiter that waits at a cell, in constant time; the newest, where it waits there more than once.
@@ -159,9 +155,8 @@ impl<T> Cells<T> {
         requires waits { ForSome (thing self.old.things cell.0) (λ c. has_waiter c.waiters waiter ≡ true) }
         ensures { ForSome (thing self.old.things cell.0) (λ c. self.new ≡ with_thing self.old cell.0 (record c { waiters = without_newest c.waiters waiter })) }
     {
-        let spot = Spot::new(cell, waiter);
         let entry = self.cells.get_mut(cell.0);
-        leave(&mut self.links, &mut self.newest, &mut entry.waiting, spot);
+        self.lists.exit(&mut entry.waiters, cell, waiter);
     }
 
     /// The waiter of a cell at a place from 0, the oldest first: `None` past the last.
@@ -169,8 +164,8 @@ impl<T> Cells<T> {
         requires { IsSome (thing self.now.things cell.0) }
         ensures { ForSome (thing self.now.things cell.0) (λ c. result ≡ slice_get c.waiters place) }
     {
-        let waiting = self.cells.get(cell.0).unwrap().waiting;
-        waiter_from(&self.links, waiting.first, waiting.length, place)
+        let found = self.cells.get(cell.0).unwrap();
+        self.lists.at(&found.waiters, place)
     }
 
     /// The oldest waiter of a cell: `None` where nobody waits.
@@ -199,7 +194,7 @@ impl<T> Cells<T> {
         let Cell {
             content,
             references: _,
-            waiting: _,
+            waiters: _,
         } = self.cells.remove(cell.0);
         content
     }
@@ -218,7 +213,6 @@ impl<T> Cells<T> {
         ensures { self.new ≡ record self.old { things = [] } }
     {
         self.cells.clear();
-        self.links.clear();
-        self.newest.clear();
+        self.lists.clear();
     }
 }

@@ -25,8 +25,8 @@ pub enum Loss {
 /// How many references of each side of a cell count.
 #[derive(Clone, Copy)]
 pub struct References {
-    promises: u128,
-    futures: u128,
+    promises: u64,
+    futures: u64,
 }
 
 impl Model for References {
@@ -51,7 +51,7 @@ impl References {
     }
 
     /// How many of a side count.
-    pub fn count(self, side: Side) -> u128
+    pub fn count(self, side: Side) -> u64
         ensures { result ≡ count_of side self }
     {
         match side {
@@ -60,9 +60,9 @@ impl References {
         }
     }
 
-    /// Counts one more reference of a side, which stays below 2^100.
+    /// Counts one more reference of a side, which stays below 2^64.
     pub fn hold(&mut self, side: Side)
-        requires { count_of side self.old + 1 < 2 ^ 100 }
+        requires { count_of side self.old + 1 < 2 ^ 64 }
         ensures { self.new ≡ held side self.old }
     {
         match side {

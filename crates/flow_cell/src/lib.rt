@@ -9,3 +9,4 @@ mod queue;
 #[cfg(test)]
 mod tests;
 pub mod waiter;
+mod waiters;

@@ -1,4 +1,4 @@
-// The waiters of all cells: a list for each cell in one slab, and for each waiter at a cell its newest link there.
+// Lists of waiters: one for each cell that has any, in one slab, and for each waiter in a list its newest link there.
 
 ghost use Rattle.std.specs.Prelude.{◌≡◌, ℕ, IsSome, OnErr, IfOk, Some, None, map, slice_get, if◌then◌else◌};
 ghost use Rattle.std.specs.Option.{ForSome};

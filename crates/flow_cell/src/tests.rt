@@ -61,6 +61,42 @@ fn waiters_stand_oldest_first(rt: HostRuntime) -> Result<(), NoMemory> {
 }
 
 #[test]
+fn a_lone_waiter_leaves(rt: HostRuntime) -> Result<(), NoMemory> {
+    let cell = CellId(1);
+    let one = Waiter {
+        actor: ActorId(1),
+        callback: 3,
+    };
+    let mut cells: Cells<u64> = Cells::new(rt.alloc())?;
+    cells.make(cell)?;
+    assert!(rt; !cells.waits(cell, one));
+    cells.add_waiter(cell, one)?;
+    assert!(rt; cells.waits(cell, one));
+    cells.remove_waiter(cell, one);
+    assert!(rt; !cells.waits(cell, one));
+    assert!(rt; !cells.waits(CellId(2), one));
+    Ok(())
+}
+
+#[test]
+fn the_newest_of_a_waiter_leaves(rt: HostRuntime) -> Result<(), NoMemory> {
+    let cell = CellId(1);
+    let one = Waiter {
+        actor: ActorId(1),
+        callback: 3,
+    };
+    let mut cells: Cells<u64> = Cells::new(rt.alloc())?;
+    cells.make(cell)?;
+    cells.add_waiter(cell, one)?;
+    cells.add_waiter(cell, one)?;
+    cells.remove_waiter(cell, one);
+    assert!(rt; cells.waits(cell, one));
+    assert_eq!(rt; cells.waiter_at(cell, 0), Some(one));
+    assert_eq!(rt; cells.waiter_at(cell, 1), None);
+    Ok(())
+}
+
+#[test]
 fn the_next_cell_skips_none(rt: HostRuntime) -> Result<(), NoMemory> {
     let mut cells: Cells<u64> = Cells::new(rt.alloc())?;
     cells.make(CellId(2))?;

@@ -4,7 +4,8 @@ use Rattle.std.specs.Option.{option_map}
 use Rattle.std.specs.declared.option.Option.{Option}
 use Rattle.std.specs.declared.option.Option.TheVariants.{None, Some}
 use Rattle.flow_tree.specs.declared.ty.Ident.{Ident}
-use Rattle.flow_resolved.proofs.Maps.{drop_more, drop_all}
+use Rattle.std.proofs.lemmas.List.{drop_all}
+use Rattle.flow_resolved.proofs.Maps.{drop_more}
 use Rattle.flow_code.specs.Coding.{one_more, fields_of}
 
 -- fields before those of the names from a place on
@@ -48,4 +49,4 @@ module _ (field : List ℕ → Option ℕ) (xs : List Ident) (all : Option (List
       ∙ inv
 
   pub fields_end : (i : ℕ) (old : List ℕ) → length xs ≤ i → before old (fields_of field (drop i xs)) ≡ all → Some old ≡ all
-  fields_end i old le inv = ap Some (sym (empty_after old)) ∙ ap (λ l. before old (fields_of field l)) (sym (drop_all xs i le)) ∙ inv
+  fields_end i old le inv = ap Some (sym (empty_after old)) ∙ ap (λ l. before old (fields_of field l)) (sym (drop_all i xs le)) ∙ inv

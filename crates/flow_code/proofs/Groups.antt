@@ -3,10 +3,11 @@ use Rattle.std.proofs.Common.{◌≡◌, ℕ, suc, ◌+◌, ◌<◌, ◌≤◌, 
 use Rattle.flow_class.specs.declared.class.Group as text
 use Rattle.flow_class.specs.View as view
 use Rattle.flow_class.specs.Classes.{CallbackTree}
-use Rattle.flow_resolved.proofs.Maps.{drop_more, drop_all}
+use Rattle.std.proofs.lemmas.List.{drop_all}
+use Rattle.flow_resolved.proofs.Maps.{drop_more}
 use Rattle.flow_code.specs.declared.class.Group.{Group}
 use Rattle.flow_code.specs.View.{branch_of, group_of}
-use Rattle.flow_code.specs.Classes.{GroupCode, BranchCode}
+use Rattle.flow_code.specs.Classes.{GroupCode}
 use Rattle.flow_code.specs.Coding.{Coding, coded_branch, coded_groups}
 
 length_map : {A B : Type 0} (f : A → B) (xs : List A) → length (map f xs) ≡ length xs
@@ -64,5 +65,5 @@ module _ (c : Coding) (gs : List text.Group) (hs : List ℕ) (all : List GroupCo
   groups_end i first old le inv =
       sym (empty_after (map group_of old))
       ∙ ap (λ l. map group_of old ++ l) (sym (no_groups c first (drop i hs)))
-      ∙ ap (λ l. map group_of old ++ coded_groups c first (drop i hs) (map view.group_of l)) (sym (drop_all gs i le))
+      ∙ ap (λ l. map group_of old ++ coded_groups c first (drop i hs) (map view.group_of l)) (sym (drop_all i gs le))
       ∙ inv

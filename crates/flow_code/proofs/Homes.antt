@@ -1,8 +1,9 @@
 -- The homes of groups, block by block.
-use Rattle.std.proofs.Common.{◌≡◌, ℕ, suc, ◌+◌, ◌<◌, ◌≤◌, List, [], ◌∷◌, map, drop, get_or, length, sym, ap, ◌∙◌, refl, add-one}
+use Rattle.std.proofs.Common.{◌≡◌, ℕ, suc, ◌+◌, ◌<◌, ◌≤◌, List, map, drop, get_or, length, sym, ap, ◌∙◌, add-one}
 use Rattle.flow_class.specs.declared.class.Block.{Block}
 use Rattle.flow_class.specs.View as text
-use Rattle.flow_resolved.proofs.Maps.{drop_more, drop_all}
+use Rattle.std.proofs.lemmas.List.{drop_all}
+use Rattle.flow_resolved.proofs.Maps.{drop_more}
 use Rattle.flow_code.specs.Coding.{home_noted, homes_from}
 
 pub homes_step : (bs : List Block) (i : ℕ) (d : Block) (old new all : List ℕ) → i < length bs
@@ -16,4 +17,4 @@ homes_step bs i d old new all lt put inv =
     ∙ inv)
 
 pub homes_end : (bs : List Block) (i : ℕ) (old all : List ℕ) → length bs ≤ i → homes_from i (map text.block_of (drop i bs)) old ≡ all → old ≡ all
-homes_end bs i old all le inv = ap (λ l. homes_from i (map text.block_of l) old) (sym (drop_all bs i le)) ∙ inv
+homes_end bs i old all le inv = ap (λ l. homes_from i (map text.block_of l) old) (sym (drop_all i bs le)) ∙ inv

@@ -1,18 +1,17 @@
 // How classes are coded.
 
-ghost use Rattle.std.specs.Prelude.{◌≡◌, ◌+◌, ℕ, List, [], ◌∷◌, IfOk, OnOk, length, map, Some, None, if◌then◌else◌};
+ghost use Rattle.std.specs.Prelude.{◌≡◌, ◌+◌, ℕ, List, ◌∷◌, IfOk, OnOk, length, map, Some, None, if◌then◌else◌};
 ghost use Rattle.std.specs.Option.{option_map, option_and_then};
 ghost use Rattle.std.specs.Str.{bytes_eq};
 ghost use Rattle.flow_tree.specs.View.{expr_of, exprs_of, type_of};
-ghost use Rattle.flow_ast.specs.TypingNames.{named, call_names};
-ghost use Rattle.flow_class.specs.Classes.{CallbackTree};
+ghost use Rattle.flow_ast.specs.TypingNames.{named, call_names, method_names};
 ghost use Rattle.flow_class.specs.Code.{type_at};
 ghost use Rattle.flow_class.specs.View as text;
 ghost use Rattle.flow_resolved.specs.Named.{at_name, first_from, or_else};
 ghost use Rattle.flow_resolved.specs.Resolving.{resolved, resolved_all};
 ghost use Rattle.flow_resolved.specs.View.{node_of, nodes_of};
 ghost use Rattle.flow_code.specs.Places.{place_of, place_in};
-ghost use Rattle.flow_code.specs.Coding.{Coding, is_effect, promise_kind, fields_of, aimed, effect_named, effect_in, act_named, set_code, effect_code, new_code, operand_code, act_code, places, coded_instruction, ended, caught, coded_block, coded_branch, homes_of, home_noted, coded_groups, coded_class};
+ghost use Rattle.flow_code.specs.Coding.{is_effect, promise_kind, fields_of, aimed, effect_named, effect_in, act_named, set_code, effect_code, new_code, operand_code, method_code, act_code, places, coded_instruction, ended, caught, coded_block, coded_branch, homes_of, home_noted, coded_groups, coded_class};
 ghost use Rattle.flow_code.specs.Coder.{coding_of, name_of_class};
 ghost use Rattle.flow_code.specs.View.{aim_of, instruction_of, end_of, catcher_of, block_of, operand_of, branch_of, group_of, code_of};
 
@@ -280,7 +279,26 @@ impl<'n, 'a> Coder<'n, 'a> {
         }
     }
 
-    #[tactic(auto, using(crate::proofs::Paths::method_is))]
+    // A method of the reference at a path, its arguments resolved.
+    fn method(
+        &self,
+        first: &Ident,
+        path: &[Ident],
+        name: &[u8],
+        args: Vec<Resolved>,
+    ) -> Result<Instruction, NoMemory>
+        ensures { IfOk result (λ i. instruction_of i ≡ method_code (aimed (coding_of self.now) (first.now ∷ path.now)) (named method_names name.now) (nodes_of args.items)) }
+    {
+        let Some(aim) = self.aim(first, path)? else {
+            return Ok(Instruction::Invalid);
+        };
+        match predefined_method(name) {
+            Some(method) => Ok(Instruction::Method(aim, method, args)),
+            None => Ok(Instruction::Invalid),
+        }
+    }
+
+    #[tactic(auto, using(crate::proofs::Paths::method_coded))]
     // A call statement, its arguments resolved.
     fn act(&self, target: &Target, args: Vec<Resolved>) -> Result<Instruction, NoMemory>
         ensures { IfOk result (λ i. instruction_of i ≡ act_code (coding_of self.now) target.now.path.items (nodes_of args.items)) }
@@ -295,10 +313,7 @@ impl<'n, 'a> Coder<'n, 'a> {
                 None => Ok(Instruction::Invalid),
             };
         };
-        match (self.aim(first, path)?, predefined_method(name)) {
-            (Some(aim), Some(method)) => Ok(Instruction::Method(aim, method, args)),
-            _ => Ok(Instruction::Invalid),
-        }
+        Ok(self.method(first, path, name, args)?)
     }
 
     // The numbers of locals in their frame.

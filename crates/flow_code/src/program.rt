@@ -77,7 +77,7 @@ impl Code {
     /// A program with its names resolved.
     pub fn new(alloc: Global, program: ClassProgram) -> Result<Code, NoMemory>
         ensures program { IfOk result (λ c. c.program ≡ program) }
-        ensures coded { IfOk result (λ c. IsCoded (raw_of program.raw) c.fields c.classes.items c.main) }
+        ensures coded { IfOk result (λ c. IsCoded (raw_of program) c.fields c.classes.items c.main) }
     {
         let (fields, classes, main) = coded(alloc, program.raw())?;
         Ok(Code {

@@ -1,4 +1,1 @@
-pub mod Verdict
-pub mod Compiled
-pub mod Laws
-pub mod Weighing
+pub mod Right

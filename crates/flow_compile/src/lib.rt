@@ -1,11 +1,8 @@
-//! From a program text to its classes: the whole verdict on a text, and the classes of a program that is accepted.
+//! Compiling: the valid classes of a program that the front accepts, which do what its text says.
 #![tactic(auto)]
 
 mod compiling;
-pub mod laws;
-mod verdict;
-mod weighing;
 
-pub use compiling::{CompileFault, compile, first_heavy};
-pub use verdict::{front, read_program};
-pub use weighing::weight;
+pub use compiling::compile;
+pub use flow_front::{front, read_program};
+pub use flow_lower::{CompileFault, first_heavy, weight};

@@ -23,8 +23,8 @@ use Rattle.flow_rules.specs.Known.{Meaning, known}
 use Rattle.flow_rules.specs.Judged.{Setting}
 use Rattle.flow_rules.specs.Items.{slot_names, item, body_refusal}
 use Rattle.flow_rules.specs.Rules.{setting_of, header_fault, param_name, body_env, routine_refusal, decl_refusal, decls_refusal}
-use Rattle.flow_compile.specs.Compiled.{class_in}
-use Rattle.flow_compile.specs.Verdict.{IsTyped}
+use Rattle.flow_lower.specs.Compiled.{class_in}
+use Rattle.flow_front.specs.Verdict.{IsTyped}
 use Rattle.flow_lowered.specs.Parts.{HasParts}
 use Rattle.flow_lowered.specs.InPlace.{InPlace}
 use Rattle.flow_lowered.specs.Laws.{IsSmall}

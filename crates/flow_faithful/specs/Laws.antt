@@ -6,8 +6,8 @@ use Rattle.flow_tree.specs.DeclView.{program_of}
 use Rattle.flow_class.specs.Classes.{ClassTree}
 use Rattle.flow_meaning.specs.Shape.{Shape}
 use Rattle.flow_meaning.specs.Carries.{CarriesProgram}
-use Rattle.flow_compile.specs.Compiled.{compiled}
-use Rattle.flow_compile.specs.Verdict.{IsTyped}
+use Rattle.flow_lower.specs.Compiled.{compiled}
+use Rattle.flow_front.specs.Verdict.{IsTyped}
 
 -- Few enough slots and locals for their numbers to be written: decimal digits stand for a number below 2^64.
 pub record HasFewPlaces (c : ClassTree) : Type 0 where

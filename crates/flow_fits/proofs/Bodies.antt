@@ -223,7 +223,7 @@ module _ (ds : List DeclTree) (apart : Distinct ds) where
       let q = no_item f.close (unless (not (closing.ways f.body).end) FALLS_OFF) (neither_second (body_refusal e f.body) _ l) in
       (b, (same_ends (records_in ds) (functions_in ds) (actors_in ds) f.returns f.body false None f.params b).ends ∙ not_true (closing.ways f.body).end (holds (not (closing.ways f.body).end) FALLS_OFF q))
 
-  functions_fit : (before rest : List DeclTree) → decls_refusal (setting_of ds) before rest ≡ None → AllHaveSimpleParts rest → AllHavePaths rest → (k : ℕ) (f : RoutineTree) → slice_get (functions_in rest) k ≡ Some f
+  pub functions_fit : (before rest : List DeclTree) → decls_refusal (setting_of ds) before rest ≡ None → AllHaveSimpleParts rest → AllHavePaths rest → (k : ℕ) (f : RoutineTree) → slice_get (functions_in rest) k ≡ Some f
       → FunctionFits (records_in ds) (functions_in ds) (actors_in ds) f
   functions_fit before [] h s p k f e = absurd (none_some e)
   functions_fit before (StructDecl r ∷ rest) h s p k f e = functions_fit (before ++ StructDecl r ∷ []) rest (neither_second (decl_refusal (setting_of ds) (known before) (StructDecl r)) _ h) s.1 p.1 k f e

@@ -16,7 +16,7 @@ use Rattle.flow_rules.specs.Judged.{Setting}
 use Rattle.flow_rules.specs.Items.{item, written}
 use Rattle.flow_rules.specs.Rules.{setting_of, name_fault, with_name, fields_fault, record_fault, params_fault, header_fault, routine_refusal, decl_refusal, decls_refusal, Size, packet_size, record_size, too_large, large_record, with_size, first_large, is_main, refusal_of}
 use Rattle.flow_meaning.specs.Source.{functions_in}
-use Rattle.flow_compile.specs.Compiled.{compiled}
+use Rattle.flow_lower.specs.Compiled.{compiled}
 use Rattle.flow_valid.specs.Heads.{all_decls, declarations_kept, has_main}
 use Rattle.flow_fits.proofs.Names.{bytes_sym, some_none, no_first, no_second, holds}
 use Rattle.flow_fits.proofs.Agreement.{neither_first, neither_second, no_item, not_true, neither_left, neither_right, Apart, Distinct, distinct}

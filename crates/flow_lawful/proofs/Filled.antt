@@ -25,8 +25,8 @@ use Rattle.flow_meaning.specs.Source.{names_of}
 use Rattle.flow_split.specs.Around.{whole}
 use Rattle.flow_split.specs.Counts.{Next, blocks_in, groups_in}
 use Rattle.flow_split.specs.Lowered.{lowered}
-use Rattle.flow_compile.specs.Compiled.{class_in, compiled}
-use Rattle.flow_compile.specs.Verdict.{IsSound}
+use Rattle.flow_lower.specs.Compiled.{class_in, compiled}
+use Rattle.flow_front.specs.Verdict.{IsSound}
 use Rattle.flow_valid.specs.Filling.{among, is_parameter, ReadsFilled}
 use Rattle.flow_valid.specs.Validity.{IsValid}
 use Rattle.flow_walks.proofs.SimpleParts.{program_parts}

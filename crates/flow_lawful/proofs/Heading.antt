@@ -15,7 +15,7 @@ use Rattle.flow_rules.specs.Items.{item, written, body_refusal}
 use Rattle.flow_rules.specs.Rules.{setting_of, with_name, name_fault, param_fault, params_fault, header_fault, body_env, decl_refusal, decls_refusal}
 use Rattle.flow_meaning.specs.Evaluating.{Names}
 use Rattle.flow_meaning.specs.Source.{actors_in, names_of}
-use Rattle.flow_compile.specs.Compiled.{class_in, compiled}
+use Rattle.flow_lower.specs.Compiled.{class_in, compiled}
 use Rattle.flow_valid.specs.Heads.{head_of, head_kept, first_head, broken_head}
 use Rattle.flow_fits.proofs.Names.{no_first, no_second, holds}
 use Rattle.flow_fits.proofs.Agreement.{neither_first, neither_second, no_item, Distinct}

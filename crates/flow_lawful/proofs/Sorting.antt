@@ -13,7 +13,7 @@ use Rattle.flow_rules.specs.Known.{Meaning, ActorOf, row_of, packet_row, known, 
 use Rattle.flow_rules.specs.Rules.{setting_of}
 use Rattle.flow_meaning.specs.Evaluating.{Names}
 use Rattle.flow_meaning.specs.Source.{records_in, functions_in, actors_in, names_of}
-use Rattle.flow_compile.specs.Compiled.{class_in, compiled}
+use Rattle.flow_lower.specs.Compiled.{class_in, compiled}
 use Rattle.flow_valid.specs.Heads.{slot_param, head_of, plain_decls, all_decls}
 use Rattle.flow_fits.proofs.Names.{bytes_same}
 use Rattle.flow_fits.proofs.Agreement.{Apart, Distinct}

@@ -17,8 +17,8 @@ use Rattle.flow_meaning.specs.Evaluating.{Names}
 use Rattle.flow_meaning.specs.Source.{actors_in, names_of}
 use Rattle.flow_split.specs.Around.{whole}
 use Rattle.flow_split.specs.Lowered.{block_with, lowered}
-use Rattle.flow_compile.specs.Compiled.{class_in, compiled}
-use Rattle.flow_compile.specs.Verdict.{IsTyped}
+use Rattle.flow_lower.specs.Compiled.{class_in, compiled}
+use Rattle.flow_front.specs.Verdict.{IsTyped}
 use Rattle.flow_valid.specs.Named.{names_exist}
 use Rattle.flow_valid.specs.Validity.{leads_forward, groups_chosen, catchers_kept, class_setting, block_fits, callback_fits, types_fit, first_broken, broken_rule}
 use Rattle.flow_lowered.specs.Parts.{HasParts}

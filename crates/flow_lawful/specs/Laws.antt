@@ -4,8 +4,8 @@ use Rattle.std.specs.declared.option.Option.TheVariants.{None, Some}
 use Rattle.flow_tree.specs.declared.decl.Program.{Program}
 use Rattle.flow_tree.specs.DeclView.{program_of}
 use Rattle.flow_class.specs.Classes.{ClassTree, RawTree}
-use Rattle.flow_compile.specs.Compiled.{compiled}
-use Rattle.flow_compile.specs.Verdict.{IsTyped, IsSound}
+use Rattle.flow_lower.specs.Compiled.{compiled}
+use Rattle.flow_front.specs.Verdict.{IsTyped, IsSound}
 use Rattle.flow_valid.specs.Heads.{declarations_kept, broken_head, has_main}
 use Rattle.flow_valid.specs.Validity.{broken_rule, IsValid}
 

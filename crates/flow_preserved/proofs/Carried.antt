@@ -4,7 +4,7 @@ use Rattle.std.specs.List.{AllByRecursion}
 use Rattle.flow_tree.specs.declared.decl.Program.{Program}
 use Rattle.flow_tree.specs.DeclView.{program_of}
 use Rattle.flow_class.specs.Classes.{ClassTree}
-use Rattle.flow_compile.specs.Compiled.{compiled}
+use Rattle.flow_lower.specs.Compiled.{compiled}
 use Rattle.flow_faithful.specs.Laws.{HasFewPlaces, IsFaithful}
 use Rattle.flow_carried.specs.Memories.{IsNumbered}
 use Rattle.flow_carried.specs.Carried.{AreCarried}

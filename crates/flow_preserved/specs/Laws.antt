@@ -6,8 +6,8 @@ use Rattle.flow_trace.specs.declared.line.Line.{Line}
 use Rattle.flow_worldfile.specs.Worlds as file
 use Rattle.flow_meaning.specs.Runs.{SourceTrace, ClassTrace}
 use Rattle.flow_meaning.specs.Sights.{Sight, SourceSeen, ClassSeen}
-use Rattle.flow_compile.specs.Compiled.{compiled}
-use Rattle.flow_compile.specs.Verdict.{IsTyped}
+use Rattle.flow_lower.specs.Compiled.{compiled}
+use Rattle.flow_front.specs.Verdict.{IsTyped}
 
 -- Of each text that is a program, in which no rule K1 to K12 or L8 fails, the classes have in every world the traces that
 -- the text says, and no others.

@@ -15,9 +15,6 @@ use flow_cell::counts::Side;
 use flow_trace::line::Line;
 use flow_value::value::{Kind, Outcome, Value};
 
-/// A count of references may rise where it is below this.
-const COUNTS: u128 = (1 << 100) - 1;
-
 impl Process {
     /// Takes a turn, and says whether one was left; where none was, the event is spent.
     pub(crate) fn turn(&mut self) -> bool
@@ -55,7 +52,7 @@ impl Process {
         let Some(references) = self.heap.cells().references(cell) else {
             return Err(Fault::Astray);
         };
-        if references.count(side) >= COUNTS {
+        if references.count(side) == u64::MAX {
             return Err(Fault::OutOfMemory);
         }
         self.heap.cells_mut().hold(cell, side);
@@ -67,7 +64,7 @@ impl Process {
         let Some(references) = self.heap.streams().references(cell) else {
             return Err(Fault::Astray);
         };
-        if references.count(side) >= COUNTS {
+        if references.count(side) == u64::MAX {
             return Err(Fault::OutOfMemory);
         }
         self.heap.streams_mut().hold(cell, side);
@@ -252,7 +249,7 @@ impl Process {
     }
 
     /// How many futures of a single result count.
-    pub(crate) fn futures(&self, cell: CellId) -> u128 {
+    pub(crate) fn futures(&self, cell: CellId) -> u64 {
         match self.heap.cells().references(cell) {
             Some(references) => references.count(Side::Future),
             None => 0,

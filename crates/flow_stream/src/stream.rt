@@ -56,7 +56,7 @@ impl<T> Stream<T> {
     }
 
     pub(crate) fn hold(&mut self, side: Side)
-        requires { count_of side self.old.references + 1 < 2 ^ 100 }
+        requires { count_of side self.old.references + 1 < 2 ^ 64 }
         ensures { self.new ≡ record self.old { references = held side self.old.references } }
     {
         self.references.hold(side);

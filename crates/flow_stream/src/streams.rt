@@ -76,10 +76,10 @@ impl<T> Streams<T> {
         }
     }
 
-    /// Counts one more reference of a side, which stays below 2^100.
+    /// Counts one more reference of a side, which stays below 2^64.
     pub fn hold(&mut self, cell: CellId, side: Side)
         requires there { IsSome (thing self.old.things cell.0) }
-        requires fits { ForSome (thing self.old.things cell.0) (λ s. count_of side s.references + 1 < 2 ^ 100) }
+        requires fits { ForSome (thing self.old.things cell.0) (λ s. count_of side s.references + 1 < 2 ^ 64) }
         ensures { ForSome (thing self.old.things cell.0) (λ s. self.new ≡ with_thing self.old cell.0 (record s { references = held side s.references })) }
     {
         self.streams.get_mut(cell.0).hold(side);

@@ -18,11 +18,13 @@ use Rattle.flow_tree.specs.declared.fault.SourceFault.{SourceFault}
 use Rattle.flow_tree.specs.declared.fault.SourceFault.TheVariants as source
 use Rattle.flow_tree.specs.DeclView.{program_of}
 use Rattle.flow_tree.specs.Decls.{ProgramTree}
-use Rattle.flow_class.specs.declared.program.ClassProgram.{ClassProgram}
+use Rattle.flow_class.specs.declared.class.RawClasses.{RawClasses}
+use Rattle.flow_class.specs.View.{raw_of}
 use Rattle.flow_staterule.specs.declared.sound.Sound.{Sound}
-use Rattle.flow_compile.specs.Verdict.{Reading, Verdict}
-use Rattle.flow_compile.specs.Weighing.{first_heavy}
-use Rattle.flow_compile.specs.Compiled.{Has}
+use Rattle.flow_front.specs.Verdict.{Reading, Verdict}
+use Rattle.flow_lower.specs.Weighing.{first_heavy}
+use Rattle.flow_compile.specs.Right.{IsAccepted}
+use Rattle.flow_lower.specs.Compiled.{Has}
 use Rattle.flow_worldfile.specs.declared.world.World0.{World0}
 use Rattle.flow_top.specs.declared.outcome.Outcome.{Outcome}
 use Rattle.flow_top.specs.declared.outcome.Outcome.TheVariants.{Told, Run}
@@ -117,6 +119,10 @@ loaded {v = v} {s = s} (is_read w is asked same) verdict = is_loaded s (record {
 pub has_sound : {before after : FilesSeen} {name : List ℕ} {s : Sound} → Loaded name before after (Ok s) → HasSound before.content name s.typed.program
 has_sound (is_loaded s has asked same) = has
 
+-- a program that passed the rules is one that the front accepts
+pub accepted : {before after : FilesSeen} {name : List ℕ} {s : Sound} → Loaded name before after (Ok s) → IsAccepted s.typed.program
+accepted (is_loaded s has asked same) = (has.text, has.sound)
+
 -- and where no actor weighs too much
 has_passing : {before after : FilesSeen} {name : List ℕ} {s : Sound} → Loaded name before after (Ok s) → first_heavy (program_of s.typed.program).decls ≡ None
     → HasPassing before.content name s.typed.program
@@ -142,13 +148,13 @@ pub without_classes : {words : List (List ℕ)} {before after : FilesSeen} {name
 without_classes {name = n} judges l (is_heavy at is) = too_heavy at refl judges l is
 without_classes {name = n} judges l no_classes = no_memory (n ∷ []) (program n (of_judged judges)) (was_asked l) (no_fault l)
 
-pub has_classes : {p : ProgramTree} {c : ClassProgram} → ClassesOf p (Ok c) → Has p c
+pub has_classes : {p : ProgramTree} {c : RawClasses} → ClassesOf p (Ok c) → Has p (raw_of c)
 has_classes (are_classes c h light) = h
 
-pub are_light : {p : ProgramTree} {c : ClassProgram} → ClassesOf p (Ok c) → first_heavy p.decls ≡ None
+pub are_light : {p : ProgramTree} {c : RawClasses} → ClassesOf p (Ok c) → first_heavy p.decls ≡ None
 are_light (are_classes c h light) = light
 
-pub compiles : {words : List (List ℕ)} {before after : FilesSeen} {name : List ℕ} {s : Sound} {c : ClassProgram}
+pub compiles : {words : List (List ℕ)} {before after : FilesSeen} {name : List ℕ} {s : Sound} {c : RawClasses}
     → AreCompile words name → Loaded name before after (Ok s) → ClassesOf (program_of s.typed.program) (Ok c) → Decided words before after (Told (Compiled c))
 compiles {name = n} {s = s} {c = c} are l cs = due _ _ (compiled n s.typed.program c are (has_passing l (are_light cs)) (has_classes cs)) (was_asked l) (no_fault l)
 
@@ -212,18 +218,18 @@ asks_both name world before mid after b e = record {
 }
 
 -- the world isn't there, or the texts have no room, or what is done in it
-pub without_world_of : {frames : Bool} {text : List ℕ} {p : Program} {c : ClassProgram} {o : told.Told} → WorldOf text (Err o) → RunIn frames text p c (Err o)
+pub without_world_of : {frames : Bool} {text : List ℕ} {p : Program} {c : RawClasses} {o : told.Told} → WorldOf text (Err o) → RunIn frames text p c (Err o)
 without_world_of (is_none fault answered) = not_there fault answered
 without_world_of no_room_for_it = no_room_to_run
 
-pub without_printed : {frames : Bool} {text : List ℕ} {p : Program} {c : ClassProgram} {o : told.Told} → PrintedOf frames text p (Err o) → RunIn frames text p c (Err o)
+pub without_printed : {frames : Bool} {text : List ℕ} {p : Program} {c : RawClasses} {o : told.Told} → PrintedOf frames text p (Err o) → RunIn frames text p c (Err o)
 without_printed no_room_for_texts = no_room_to_run
 
-pub prints_it : {frames : Bool} {text : List ℕ} {p : Program} {c : ClassProgram} {texts : Vec (List ℕ) Global} → PrintedOf frames text p (Ok (Some texts))
+pub prints_it : {frames : Bool} {text : List ℕ} {p : Program} {c : RawClasses} {texts : Vec (List ℕ) Global} → PrintedOf frames text p (Ok (Some texts))
     → RunIn frames text p c (Ok (Told (Printed texts)))
 prints_it (are_texts texts f e prints) = it_prints texts f e prints
 
-pub runs_it : {frames : Bool} {text : List ℕ} {p : Program} {c : ClassProgram} {w : World0} → WorldOf text (Ok w) → PrintedOf frames text p (Ok None)
+pub runs_it : {frames : Bool} {text : List ℕ} {p : Program} {c : RawClasses} {w : World0} → WorldOf text (Ok w) → PrintedOf frames text p (Ok None)
     → RunIn frames text p c (Ok (Run c w frames))
 runs_it (is_world w answered) (is_another other) = it_runs w answered other
 
@@ -269,7 +275,7 @@ world_text : (content : List ℕ → Option (List ℕ)) {mid after : FilesSeen} 
 world_text content {world = w} {v = v} e r = subst (λ k. IsText k w v.items) e (text_is r)
 
 -- what a run in that world comes to
-pub ran : {words : List (List ℕ)} {name world : List ℕ} {before mid after : FilesSeen} {s : Sound} {frames : Bool} {c : ClassProgram} {v : Vec ℕ Global} {o : Outcome}
+pub ran : {words : List (List ℕ)} {name world : List ℕ} {before mid after : FilesSeen} {s : Sound} {frames : Bool} {c : RawClasses} {v : Vec ℕ Global} {o : Outcome}
     → AreRun words name world frames → Loaded name before mid (Ok s) → ClassesOf (program_of s.typed.program) (Ok c) → Between name world before mid after
     → FileRead world mid after (Ok v) → RunIn frames v.items s.typed.program c (Ok o) → Decided words before after o
 ran {words} {name = n} {world = w} {before = b} {mid = m} {after = a} {s = s} {v = v} are l cs bt r (it_prints texts f e prints) =
@@ -279,7 +285,7 @@ ran {name = n} {world = w} {before = b} {mid = m} {after = a} {s = s} {frames = 
     due _ _ (run n w f s.typed.program c world are (has_passing l (are_light cs)) (has_classes cs) (record { text = v.items; is = world_text b.content bt.content r; answered = answered }) other)
     (asks_both n w b m a bt (asked_it r).asked) (same_faults r ∙ no_fault l)
 
-pub not_ran : {words : List (List ℕ)} {name world : List ℕ} {before mid after : FilesSeen} {s : Sound} {frames : Bool} {c : ClassProgram} {v : Vec ℕ Global} {o : told.Told}
+pub not_ran : {words : List (List ℕ)} {name world : List ℕ} {before mid after : FilesSeen} {s : Sound} {frames : Bool} {c : RawClasses} {v : Vec ℕ Global} {o : told.Told}
     → AreRun words name world frames → Loaded name before mid (Ok s) → ClassesOf (program_of s.typed.program) (Ok c)
     → Between name world before mid after → FileRead world mid after (Ok v) → RunIn frames v.items s.typed.program c (Err o) → Decided words before after (Told o)
 not_ran {name = n} {world = w} {before = b} {mid = m} {after = a} {s = s} {frames = f} {v = v} are l cs bt r (not_there fault answered) =

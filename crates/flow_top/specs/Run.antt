@@ -31,13 +31,13 @@ use Rattle.flow_worldfile.specs.Reading as reading
 use Rattle.flow_worldfile.specs.Worlds.{IsInRange, seen}
 use Rattle.flow_machine.specs.declared.host.RunFault.{RunFault}
 use Rattle.flow_machine.specs.declared.host.RunFault.TheVariants as broken
-use Rattle.flow_class.specs.declared.program.ClassProgram.{ClassProgram}
+use Rattle.flow_class.specs.declared.class.RawClasses.{RawClasses}
 use Rattle.flow_class.specs.View.{raw_of}
 use Rattle.flow_classprint.specs.ClassText.{ClassText}
 use Rattle.flow_staterule.specs.declared.rule.Lost.{Lost}
-use Rattle.flow_compile.specs.Verdict.{IsUnread, IsRefused, IsProgram, IsSound, IsLost}
-use Rattle.flow_compile.specs.Weighing.{first_heavy}
-use Rattle.flow_compile.specs.Compiled.{Has}
+use Rattle.flow_front.specs.Verdict.{IsUnread, IsRefused, IsProgram, IsSound, IsLost}
+use Rattle.flow_lower.specs.Weighing.{first_heavy}
+use Rattle.flow_lower.specs.Compiled.{Has}
 use Rattle.flow_run.specs.declared.ending.Ending.{Ending}
 use Rattle.flow_run.specs.declared.ending.Ending.TheVariants.{Idle, Bound, Spent}
 use Rattle.flow_run.specs.Ends.{end_line}
@@ -72,7 +72,7 @@ text_of OutOfMemory = []
 text_of (Refused fault) = refusal_text fault
 text_of (NoWorld fault) = world_refusal fault
 text_of Passed = codes "ok" ++ 10 ∷ []
-text_of (Compiled classes) = ClassText (raw_of classes.raw)
+text_of (Compiled classes) = ClassText (raw_of classes)
 text_of (Formatted program) = Canon (program_of program)
 text_of (Printed texts) = bytes_of (trace_of texts.items)
 
@@ -189,7 +189,7 @@ pub data Due (words : List (List ℕ)) (content : List ℕ → Option (List ℕ)
   heavy : (name : List ℕ) (p : Program) (at : Place) → JudgeProgram words name → HasSound content name p
       → first_heavy (program_of p).decls ≡ Some at → Due words content (Told (heavy_outcome at)) (name ∷ [])
   passed : (name : List ℕ) (p : Program) → AreCheck words name → HasPassing content name p → Due words content (Told Passed) (name ∷ [])
-  compiled : (name : List ℕ) (p : Program) (classes : ClassProgram) → AreCompile words name → HasPassing content name p → Has (program_of p) classes
+  compiled : (name : List ℕ) (p : Program) (classes : RawClasses) → AreCompile words name → HasPassing content name p → Has (program_of p) (raw_of classes)
       → Due words content (Told (Compiled classes)) (name ∷ [])
   -- the world is refused
   no_world : (name world : List ℕ) (frames : Bool) (p : Program) (fault : WorldFault) → AreRun words name world frames → HasPassing content name p
@@ -198,8 +198,8 @@ pub data Due (words : List (List ℕ)) (content : List ℕ → Option (List ℕ)
   printed : (name file : List ℕ) (p : Program) (texts : Vec (List ℕ) Global) → AreRun words name file false → HasPassing content name p
       → PrintsOnly (program_of p) texts.items → IsText content file [] → Due words content (Told (Printed texts)) (name ∷ (file ∷ []))
   -- another program, or in another world: its classes are run in the world
-  run : (name file : List ℕ) (frames : Bool) (p : Program) (classes : ClassProgram) (world : World0) → AreRun words name file frames
-      → HasPassing content name p → Has (program_of p) classes → (has : HasWorld content file (Ok world)) → IsNoPrint frames has.text p
+  run : (name file : List ℕ) (frames : Bool) (p : Program) (classes : RawClasses) (world : World0) → AreRun words name file frames
+      → HasPassing content name p → Has (program_of p) (raw_of classes) → (has : HasWorld content file (Ok world)) → IsNoPrint frames has.text p
       → Due words content (Run classes world frames) (name ∷ (file ∷ []))
 
 -- each of these files was read to one byte past the limit at most

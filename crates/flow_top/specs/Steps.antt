@@ -12,10 +12,11 @@ use Rattle.flow_tree.specs.declared.fault.SourceFault.TheVariants as source
 use Rattle.flow_tree.specs.declared.fault.Rule.{Rule}
 use Rattle.flow_tree.specs.DeclView.{program_of}
 use Rattle.flow_tree.specs.Decls.{ProgramTree}
-use Rattle.flow_class.specs.declared.program.ClassProgram.{ClassProgram}
-use Rattle.flow_compile.specs.Verdict.{IsRefused}
-use Rattle.flow_compile.specs.Weighing.{first_heavy}
-use Rattle.flow_compile.specs.Compiled.{Has}
+use Rattle.flow_class.specs.declared.class.RawClasses.{RawClasses}
+use Rattle.flow_class.specs.View.{raw_of}
+use Rattle.flow_front.specs.Verdict.{IsRefused}
+use Rattle.flow_lower.specs.Weighing.{first_heavy}
+use Rattle.flow_lower.specs.Compiled.{Has}
 use Rattle.flow_staterule.specs.declared.sound.Sound.{Sound}
 use Rattle.flow_staterule.specs.declared.rule.Lost.{Lost}
 use Rattle.flow_worldfile.specs.declared.world.World0.{World0}
@@ -50,8 +51,8 @@ pub data Loaded (name : List ℕ) (before after : FilesSeen) : Result Sound told
       → Loaded name before after (Err OutOfMemory)
 
 -- the classes of a program, or that an actor weighs too much
-pub data ClassesOf (p : ProgramTree) : Result ClassProgram told.Told → Type 0 where
-  are_classes : (c : ClassProgram) → Has p c → first_heavy p.decls ≡ None → ClassesOf p (Ok c)
+pub data ClassesOf (p : ProgramTree) : Result RawClasses told.Told → Type 0 where
+  are_classes : (c : RawClasses) → Has p (raw_of c) → first_heavy p.decls ≡ None → ClassesOf p (Ok c)
   is_heavy : (at : Place) → first_heavy p.decls ≡ Some at → ClassesOf p (Err (heavy_outcome at))
   no_classes : ClassesOf p (Err OutOfMemory)
 
@@ -69,7 +70,7 @@ pub data PrintedOf (frames : Bool) (world : List ℕ) (p : Program) : Result (Op
   no_room_for_texts : PrintedOf frames world p (Err OutOfMemory)
 
 -- what a run of classes in the world of a text comes to
-pub data RunIn (frames : Bool) (text : List ℕ) (p : Program) (classes : ClassProgram) : Result Outcome told.Told → Type 0 where
+pub data RunIn (frames : Bool) (text : List ℕ) (p : Program) (classes : RawClasses) : Result Outcome told.Told → Type 0 where
   it_prints : (texts : Vec (List ℕ) Global) → frames ≡ false → text ≡ [] → PrintsOnly (program_of p) texts.items
       → RunIn frames text p classes (Ok (Told (Printed texts)))
   it_runs : (w : World0) → reading.Answers text (Ok w) → IsNoPrint frames text p → RunIn frames text p classes (Ok (Run classes w frames))

@@ -4,6 +4,7 @@ ghost use Rattle.std.specs.Prelude.{◌≡◌, ◌+◌, ℕ, Bool, false, List, 
 ghost use Rattle.flow_tree.specs.declared.limits.TheConstants.{PROGRAM_BYTES};
 ghost use Rattle.flow_base.specs.Seen.{MovesOnly, ReadsWithin};
 ghost use Rattle.flow_tree.specs.DeclView.{program_of};
+ghost use Rattle.flow_compile.specs.Right.{IsAccepted};
 ghost use Rattle.flow_top.specs.Form.{PrintsOnly};
 ghost use Rattle.flow_top.specs.Words.{AreFormat, AreCheck, AreCompile, AreRun};
 ghost use Rattle.flow_worldfile.specs.Worlds.{IsInRange, seen};
@@ -18,7 +19,7 @@ use flow_base::files::Files;
 use flow_base::input::read_file;
 use flow_base::place::Place;
 use flow_base::text::Text;
-use flow_class::program::ClassProgram;
+use flow_valid::program::ClassProgram;
 use flow_compile::{CompileFault, compile, first_heavy, front, read_program};
 use flow_staterule::Sound;
 use flow_tree::decl::Program;
@@ -103,6 +104,7 @@ fn too_heavy(at: Place) -> Told
 
 // The classes of a program, or what the command comes to without them.
 fn classes_of(alloc: Global, sound: &Sound) -> Result<ClassProgram, Told>
+    requires { IsAccepted sound.now.typed.program }
     ensures { ClassesOf (program_of sound.now.typed.program) result }
 {
     match compile(alloc, sound) {

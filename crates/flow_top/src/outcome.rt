@@ -1,7 +1,7 @@
 // What a command line comes to.
 
 use flow_base::text::Text;
-use flow_class::program::ClassProgram;
+use flow_valid::program::ClassProgram;
 use flow_tree::decl::Program;
 use flow_tree::fault::SourceFault;
 use flow_worldfile::{World0, WorldFault};

@@ -18,7 +18,7 @@ use flow_base::name::Name;
 use flow_base::output::write_whole;
 use flow_base::sink::Sink;
 use flow_base::text::Text;
-use flow_class::program::ClassProgram;
+use flow_valid::program::ClassProgram;
 use flow_classprint::write_classes;
 use flow_machine::host::RunFault;
 use flow_refusal::{refusal_line, refusal_status, world_line};

@@ -5,7 +5,6 @@ use Rattle.std.specs.declared.option.Option.TheVariants.{None, Some}
 use Rattle.flow_class.specs.Classes.{RawTree}
 use Rattle.flow_meaning.specs.Deliver.{idle_core, stop_main}
 use Rattle.flow_unstuck.specs.Fitting.{ProcessFits}
-use Rattle.flow_unstuck.specs.Keeping.{FitsSome}
 use Rattle.flow_unstuck.specs.Beginning.{IdleFits, VanishedFits, StoppedFits}
 
 nothing_fits : (r : RawTree) (m n : ℕ) → ProcessFits r (λ k. None) (record idle_core { made = m; started = n }) []
@@ -29,23 +28,19 @@ pub vanished_fits : (r : RawTree) → VanishedFits r
 vanished_fits r p = (λ k. None, nothing_fits r p.core.made p.core.started)
 
 pub stopped_fits : (r : RawTree) → StoppedFits r
-stopped_fits r c xs h = by_main c.main refl
+stopped_fits r types c xs p = by_main c.main refl
   where
-    by_main : (o : Option ℕ) → c.main ≡ o → FitsSome r (stop_main o c) xs
-    by_main None e = h
-    by_main (Some k) e =
-        let p = h.1 in (
-          h.0,
-          record {
-            cells = p.cells;
-            waiting = p.waiting;
-            actors = p.actors;
-            work = (p.main k e, p.work);
-            ports = p.ports;
-            main = λ n f. absurd cc;
-            requests = p.requests;
-            numbered = p.numbered;
-            framed = p.framed;
-            registered = p.registered;
-          },
-        )
+    by_main : (o : Option ℕ) → c.main ≡ o → ProcessFits r types (stop_main o c) xs
+    by_main None e = p
+    by_main (Some k) e = record {
+      cells = p.cells;
+      waiting = p.waiting;
+      actors = p.actors;
+      work = (p.main k e, p.work);
+      ports = p.ports;
+      main = λ n f. absurd cc;
+      requests = p.requests;
+      numbered = p.numbered;
+      framed = p.framed;
+      registered = p.registered;
+    }

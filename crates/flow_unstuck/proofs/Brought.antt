@@ -40,11 +40,11 @@ module _ (r : RawTree) (types : CellTypes) (xs : Numbered Frame) where
       by_test false f = (h.0, f)
 
 pub arrivals_fit : (r : RawTree) → ArrivalsFit r
-arrivals_fit r c xs port k from at text h go e =
+arrivals_fit r types c xs port k from at text p go e =
     let v = packet from at text in
     let t = FutureStreamType (NamedType (codes "Packet")) in
-    fine_turn r (λ d. fill k (GoodOutcome v) d) c xs
-    (λ n. fill_fits r h.0 k (GoodOutcome v) (record c { left = n }) xs t (NamedType (codes "Packet")) go (h.1.ports port k e) (inr refl) (packet_fits r h.0 from at text) (lined r h.0 xs c n h.1))
+    fine_turn r types (λ d. fill k (GoodOutcome v) d) c xs
+    (λ n. fill_fits r types k (GoodOutcome v) (record c { left = n }) xs t (NamedType (codes "Packet")) go (p.ports port k e) (inr refl) (packet_fits r types from at text) (lined r types xs c n p))
 
 pub deliveries_fit : (r : RawTree) → DeliveriesFit r
 deliveries_fit r types c xs k o u p go e f =
@@ -61,4 +61,4 @@ deliveries_fit r types c xs k o u p go e f =
       framed = p.framed;
       registered = p.registered;
     } in
-    fine_turn r (λ d. fill k o d) d xs (λ n. fill_fits r types k o (record d { left = n }) xs (FutureType u) u go e (inl refl) f (lined r types xs d n state))
+    fine_turn r types (λ d. fill k o d) d xs (λ n. fill_fits r types k o (record d { left = n }) xs (FutureType u) u go e (inl refl) f (lined r types xs d n state))

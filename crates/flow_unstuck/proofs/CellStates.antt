@@ -17,7 +17,7 @@ use Rattle.flow_meaning.proofs.Posture.{each_number, thing_put_other, thing_put,
 use Rattle.flow_meaning.proofs.Order.{rising_put, filled_waiters, taking_waiters}
 use Rattle.flow_unstuck.specs.Asking.{HaveSome, OutcomeFits}
 use Rattle.flow_unstuck.specs.Fitting.{CellTypes, typed_by, Fits, QueueFits, CellFits, CellAt, AllWaitFor, WaitersAt, ActorFits, ActorAt, ProcessFits}
-use Rattle.flow_unstuck.proofs.States.{Fine, fine_of, FitsBut, put_back, own_fits, RefsExist, some_refs, drops_fit}
+use Rattle.flow_unstuck.proofs.States.{Fine, fine_same, FitsBut, put_back, own_fits, RefsExist, some_refs, drops_fit}
 use Rattle.flow_unstuck.specs.Registering.{Among}
 use Rattle.flow_unstuck.proofs.Registered.{awake_registered, entry_registered, cells_registered, put_keeps, left_keeps}
 
@@ -91,11 +91,11 @@ module _ (r : RawTree) (types : CellTypes) where
   }
 
   pub fill_fits : (k : ℕ) (o : OutcomeTree) (c : Core) (xs : Numbered Frame) (t u : TypeTree) → c.halted ≡ None → types k ≡ Some t → IsOfType t u → OutcomeFits r.records (typed_by types) o u → ProcessFits r types c xs
-      → Fine r (fill k o c).halted (fill k o c) xs
+      → Fine r types (fill k o c).halted (fill k o c) xs
   fill_fits k o c xs t u go e i f p =
       let x = cell_there k t (thing c.cells k) e (p.cells k) in
-      subst (λ y. Fine r (fill_cell k o y c).halted (fill_cell k o y c) xs) (sym x.1)
-      (fine_of r c.halted (fill_cell k o (Some x.0) c) xs go (types, filled_state k o c xs t u x.0 x.1 e i f p x.2))
+      subst (λ y. Fine r types (fill_cell k o y c).halted (fill_cell k o y c) xs) (sym x.1)
+      (fine_same r types c.halted (fill_cell k o (Some x.0) c) xs go (filled_state k o c xs t u x.0 x.1 e i f p x.2))
 
   -- what a branch takes from a cell that is ready
   pub taken_fits : (cell : Cell) (t u : TypeTree) → CellFits r types cell t → IsOfType t u → is_ready cell ≡ true → (o : OutcomeTree) × (taken cell ≡ Some o) × OutcomeFits r.records (typed_by types) o u

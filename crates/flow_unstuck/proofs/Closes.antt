@@ -25,7 +25,7 @@ use Rattle.flow_unstuck.specs.Alone.{frames_scan}
 use Rattle.flow_unstuck.proofs.Ones.{ResultsGone}
 use Rattle.flow_unstuck.specs.Keeping.{Fine}
 use Rattle.flow_unstuck.proofs.Retyped.{outcome_retyped}
-use Rattle.flow_unstuck.proofs.States.{fine_of, fine_turn, FitsBut, dropping_fits}
+use Rattle.flow_unstuck.proofs.States.{fine_of, all_still, fine_turn, FitsBut, dropping_fits}
 use Rattle.flow_unstuck.proofs.CellStates.{fill_fits}
 use Rattle.flow_unstuck.proofs.StepFits.{Actor}
 use Rattle.flow_unstuck.proofs.Unseen.{Off, outcome_off}
@@ -84,27 +84,30 @@ module _ (r : RawTree) (types : CellTypes) where
 module _ (r : RawTree) (types : CellTypes) (k : ℕ) (o : OutcomeTree) (t : TypeTree) (d : Core) (ys : Numbered Frame) (p : ProcessFits r types d ys) (go : d.halted ≡ None) (has : types k ≡ Some (FutureType t)) (fits : OutcomeFits r.records (typed_by types) o t) where
   -- a result that no future refers to
   gone : Occ (frames_scan ys) PromiseSide k d ≡ 0 → Occ (frames_scan ys) FutureSide k d ≡ 0 → count PromiseSide k (refs_in (value_in o)) ≡ 0 → count FutureSide k (refs_in (value_in o)) ≡ 0
-      → Fine r (set_result k o zero d).halted (set_result k o zero d) ys
+      → Fine r types (set_result k o zero d).halted (set_result k o zero d) ys
   gone a b x y =
       let u = others r types k in
       let e = record d { cells = removed d.cells k } in
-      fine_of r d.halted (dropping_values (value_in o) e) ys go (
+      let sees = unseen k d ys p.registered a b in
+      fine_of r types None d.halted (dropping_values (value_in o) e) ys go (
         u,
-        dropping_fits r u (value_in o) e ys (value_some r u o t (outcome_retyped r types u (Off k) (moves r types k) o t (outcome_off k o (x, y)) fits)) (removed_state r types k d ys p (unseen k d ys p.registered a b)),
+        dropping_fits r u (value_in o) e ys (value_some r u o t (outcome_retyped r types u (Off k) (moves r types k) o t (outcome_off k o (x, y)) fits)) (removed_state r types k d ys p sees),
+        all_still types u (Off k) (moves r types k) d.requests sees.requests,
+        tt,
       )
 
   lined : (n : ℕ) → ProcessFits r types (record d { left = n }) ys
   lined n = record { cells = p.cells; waiting = p.waiting; actors = p.actors; work = p.work; ports = p.ports; main = p.main; requests = p.requests; numbered = p.numbered; framed = p.framed; registered = p.registered }
 
   result_set : (n : ℕ) → Occ (frames_scan ys) FutureSide k d ≡ n → Occ (frames_scan ys) PromiseSide k d ≡ 0 → count PromiseSide k (refs_in (value_in o)) ≡ 0 → count FutureSide k (refs_in (value_in o)) ≡ 0
-      → Fine r (set_result k o n d).halted (set_result k o n d) ys
+      → Fine r types (set_result k o n d).halted (set_result k o n d) ys
   result_set zero b a x y = gone a b x y
-  result_set (suc f) b a x y = fine_turn r (λ d. fill k o d) d ys (λ n. fill_fits r types k o (record d { left = n }) ys (FutureType t) t go has (inl refl) fits (lined n))
+  result_set (suc f) b a x y = fine_turn r types (λ d. fill k o d) d ys (λ n. fill_fits r types k o (record d { left = n }) ys (FutureType t) t go has (inl refl) fits (lined n))
 
 module _ (r : RawTree) (types : CellTypes) (i : ℕ) (o : OutcomeTree) (ts : List Task) (c : Core) (xs : Numbered Frame) (order : Orderly c) (go : c.halted ≡ None) (top : c.tasks ≡ Close i o ∷ ts) (p : ProcessFits r types c xs) (alone : ResultsGone c xs) where
-  pub close_fits : (a : Actor r types i (Close i o) ts c xs) → Fine r (close (frames_scan (removed xs i)) i a.entry.result o (record c { tasks = ts })).halted (close (frames_scan (removed xs i)) i a.entry.result o (record c { tasks = ts })) (removed xs i)
+  pub close_fits : (a : Actor r types i (Close i o) ts c xs) → Fine r types (close (frames_scan (removed xs i)) i a.entry.result o (record c { tasks = ts })).halted (close (frames_scan (removed xs i)) i a.entry.result o (record c { tasks = ts })) (removed xs i)
   close_fits a =
-      fine_turn r (λ d. give_result (frames_scan (removed xs i)) a.entry.result o (writes (end_line i o) d)) (record c { tasks = ts; entries = removed c.entries i }) (removed xs i) by_turns
+      fine_turn r types (λ d. give_result (frames_scan (removed xs i)) a.entry.result o (writes (end_line i o) d)) (record c { tasks = ts; entries = removed c.entries i }) (removed xs i) by_turns
     where
       result : ℕ
       result = a.owner.result
@@ -113,7 +116,7 @@ module _ (r : RawTree) (types : CellTypes) (i : ℕ) (o : OutcomeTree) (ts : Lis
       all_zero : Occ (frames_scan (removed xs i)) PromiseSide result (record c { entries = removed c.entries i; tasks = Close i o ∷ ts }) ≡ 0
       all_zero = subst (λ us. Occ (frames_scan (removed xs i)) PromiseSide result (record c { entries = removed c.entries i; tasks = us }) ≡ 0) top (alone.alone i result a.entry a.at a.owner.owns)
 
-      by_turns : (n : ℕ) → Fine r (give_result (frames_scan (removed xs i)) a.entry.result o (writes (end_line i o) (record c { tasks = ts; entries = removed c.entries i; left = n }))).halted
+      by_turns : (n : ℕ) → Fine r types (give_result (frames_scan (removed xs i)) a.entry.result o (writes (end_line i o) (record c { tasks = ts; entries = removed c.entries i; left = n }))).halted
           (give_result (frames_scan (removed xs i)) a.entry.result o (writes (end_line i o) (record c { tasks = ts; entries = removed c.entries i; left = n }))) (removed xs i)
       by_turns n =
           let d = writes (end_line i o) (record c { tasks = ts; entries = removed c.entries i; left = n }) in
@@ -127,6 +130,6 @@ module _ (r : RawTree) (types : CellTypes) (i : ℕ) (o : OutcomeTree) (ts : Lis
           let pa = in_ports PromiseSide result c.ports in
           let ra = in_requests PromiseSide result c.requests in
           let ma = count_maybe PromiseSide result FutureSide c.main in
-          subst (λ x. Fine r (give_result (frames_scan ys) x o d).halted (give_result (frames_scan ys) x o d) ys) (sym a.owner.owns)
+          subst (λ x. Fine r types (give_result (frames_scan ys) x o d).halted (give_result (frames_scan ys) x o d) ys) (sym a.owner.owns)
           (result_set r types result o a.class.returns d ys state go a.owner.gives a.doing (Occ (frames_scan ys) FutureSide result d) refl (other_tasks q ca ea va ta pa ra ma all_zero) (first_task q ca ea va ta pa ra ma all_zero)
           (alone.apart i result a.entry o ts top a.at a.owner.owns))

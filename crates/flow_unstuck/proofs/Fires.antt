@@ -43,7 +43,7 @@ suspended_of (Some e) h = (e, refl, same e.suspended h)
 
 module _ (r : RawTree) (types : CellTypes) (c : Core) (xs : Numbered Frame) (p : ProcessFits r types c xs) (o : Orderly c) (go : c.halted ≡ None) (alone : PortsGone c xs) where
   abbrev Ok : Core → Type 0
-  Ok d = Fine r d.halted d xs
+  Ok d = Fine r types d.halted d xs
 
   -- a drop
   drop_popped : (kind : Kind) (k : ℕ) (ts : List Task) (n : ℕ) → c.tasks ≡ Drop kind k ∷ ts → ProcessFits r types (record c { tasks = ts; left = n }) xs
@@ -62,7 +62,7 @@ module _ (r : RawTree) (types : CellTypes) (c : Core) (xs : Numbered Frame) (p :
 
   pub drop_fits : (kind : Kind) (k : ℕ) (ts : List Task) → c.tasks ≡ Drop kind k ∷ ts → Ok (drop (frames_scan xs) kind k (record c { tasks = ts }))
   drop_fits kind k ts top =
-      fine_turn r (λ d. lose_ref (frames_scan xs) (side_of kind) k d) (record c { tasks = ts }) xs
+      fine_turn r types (λ d. lose_ref (frames_scan xs) (side_of kind) k d) (record c { tasks = ts }) xs
       (λ n. lose_fits r types xs (record c { tasks = ts; left = n }) (drop_popped kind k ts n top) go o.numbered (popped_alone c xs (Drop kind k) ts n top alone) (side_of kind) k (subst (TasksFit r types) top p.work).0)
 
   -- a fire

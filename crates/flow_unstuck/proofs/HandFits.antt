@@ -14,7 +14,7 @@ use Rattle.flow_meaning.specs.Effects.{result_task, push_result, gives}
 use Rattle.flow_valid.specs.Validity.{operand_type}
 use Rattle.flow_meaning.specs.Numbered.{Numbered, thing, put}
 use Rattle.flow_meaning.specs.Cells.{Ref, Cell, is_ready, taken, after_taking}
-use Rattle.flow_meaning.specs.Asks.{Goal, Stored, Kept}
+use Rattle.flow_meaning.specs.Asks.{Goal, Stored, Kept, Request}
 use Rattle.flow_meaning.specs.Process.{Task, Run, Give, Throw, Catch, Store, Keep, Close, Fire, Drop, Entry, Core}
 use Rattle.flow_meaning.specs.Lines.{take_line, cancel_line}
 use Rattle.flow_meaning.specs.Work.{writes, pushed, running, leave_for, give, take_branch, marked, cancel_by, cancel}
@@ -25,8 +25,9 @@ use Rattle.flow_meaning.proofs.Shifts.{run_of, give_of, throw_of, store_of, keep
 use Rattle.flow_unstuck.specs.Places.{class_vars}
 use Rattle.flow_unstuck.specs.Asking.{NextOperand, HaveSome, OutcomeFits, Wanted}
 use Rattle.flow_unstuck.specs.Fitting.{CellTypes, typed_by, Fits, CellFits, CellAt, OperandsFit, Standing, Waiting, GivenFits, DoingFits, PostureFits, ActorFits, ActorAt, ProcessFits}
+use Rattle.flow_unstuck.specs.Keeping.{AskFits, FineAsking}
 use Rattle.flow_unstuck.proofs.Given.{operand_ref}
-use Rattle.flow_unstuck.proofs.States.{Fine, fine_of, fine_turn, FitsBut, put_back, all_but, push_fits, actor_at, actor_of, operands_exist}
+use Rattle.flow_unstuck.proofs.States.{Fine, fine_of, fine_same, still_same, fine_turn, FitsBut, put_back, all_but, push_fits, actor_at, actor_of, operands_exist}
 use Rattle.flow_unstuck.proofs.CellStates.{type_there, IsOfType, taken_fits, taking_state, leave_state}
 use Rattle.flow_unstuck.proofs.Registered.{awake_registered, entry_registered}
 
@@ -117,12 +118,13 @@ module _ (r : RawTree) (types : CellTypes) where
         goes_by_two i (Keep i spot q.0) k xs e g c h (keep_of i spot q.0) (λ ts. (code, s, operands_more g 0 e.operands q.0 t ops (subst (λ m. NextOperand g m t) (sym zero_plus) w) f2)),
       )
 
-  pub gives_task : (i : ℕ) (goal : Goal) (v : ValueTree) (t : TypeTree) (k : Core) (xs : Numbered Frame) (e : Entry) (g : Frame) (c : ClassTree) → HandFits r types i k xs e g c → k.halted ≡ None → g.code ≡ c → Standing r types g
-      → OperandsFit r types g 0 e.operands → (goal ≡ Stored → e.operands ≡ []) → Wanted r (class_vars g.code) (typed_by types) goal g (length e.operands) t → Fits r types v t
-      → Fine r (gives i goal v k).halted (gives i goal v k) xs
-  gives_task i goal v t k xs e g c h go code s ops none w f =
+  pub gives_task : (ask : Option Request) (i : ℕ) (goal : Goal) (v : ValueTree) (t : TypeTree) (k : Core) (xs : Numbered Frame) (e : Entry) (g : Frame) (c : ClassTree) → HandFits r types i k xs e g c → k.halted ≡ None → g.code ≡ c → Standing r types g
+      → OperandsFit r types g 0 e.operands → (goal ≡ Stored → e.operands ≡ []) → Wanted r (class_vars g.code) (typed_by types) goal g (length e.operands) t → Fits r types v t → AskFits types ask
+      → FineAsking r types ask (gives i goal v k).halted (gives i goal v k) xs
+  gives_task ask i goal v t k xs e g c h go code s ops none w f asks =
       let x = gives_state i goal v t k xs e g c h code s ops none w f in
-      subst (λ z. Fine r (push_result i z k).halted (push_result i z k) xs) (sym x.1) (fine_of r k.halted (pushed x.0 (pushed (Run i) k)) xs go (types, x.2))
+      subst (λ z. FineAsking r types ask (push_result i z k).halted (push_result i z k) xs) (sym x.1)
+      (fine_of r types ask k.halted (pushed x.0 (pushed (Run i) k)) xs go (types, x.2, still_same types k.requests, asks))
 
   -- an actor is cancelled
   cancelled_state : (b : Bool) (i : ℕ) (e : Entry) (c : Core) (xs : Numbered Frame) (o : Option Frame) → thing c.entries i ≡ Some e → thing xs i ≡ o → e.suspended ≡ b → ProcessFits r types c xs → ProcessFits r types (cancel_by b i e c) xs
@@ -174,10 +176,10 @@ module _ (r : RawTree) (types : CellTypes) where
   -- a branch is taken from a cell that is ready
   pub branch_fits : (i b n : ℕ) (en e0 : Entry) (vs : List ValueTree) (c : Core) (xs : Numbered Frame) (f : Frame) (cls : ClassTree) (t : TypeTree) (cell : Cell) → thing c.cells n ≡ Some cell → is_ready cell ≡ true → c.halted ≡ None
       → thing c.entries i ≡ Some e0 → thing xs i ≡ Some f → FitsBut r types i c xs → Owner r types (running en) cls → f.code ≡ cls → Waiting r types f → NextOperand f b t → types n ≡ Some t
-      → OperandsFit r types f 0 en.operands → HaveSome r.records (typed_by types) vs → Fine r (take_branch i b n en vs (thing c.cells n) c).halted (take_branch i b n en vs (thing c.cells n) c) xs
+      → OperandsFit r types f 0 en.operands → HaveSome r.records (typed_by types) vs → Fine r types (take_branch i b n en vs (thing c.cells n) c).halted (take_branch i b n en vs (thing c.cells n) c) xs
   branch_fits i b n en e0 vs c xs f cls t cell at ready go entry fr rest owner code s next has ops some =
-      subst (λ x. Fine r (take_branch i b n en vs x c).halted (take_branch i b n en vs x c) xs) (sym at)
-      (fine_turn r (λ d. give i b en vs (taken cell) (record (writes (take_line i en.spot.group b) d) { cells = put d.cells n (after_taking cell) })) c xs by_turns)
+      subst (λ x. Fine r types (take_branch i b n en vs x c).halted (take_branch i b n en vs x c) xs) (sym at)
+      (fine_turn r types (λ d. give i b en vs (taken cell) (record (writes (take_line i en.spot.group b) d) { cells = put d.cells n (after_taking cell) })) c xs by_turns)
     where
       there : (u : TypeTree) × (types n ≡ Some u) × CellFits r types cell u
       there = type_there r types n cell (types n) (subst (CellAt r types (types n)) at (rest.cells n))
@@ -204,15 +206,12 @@ module _ (r : RawTree) (types : CellTypes) where
         outcome = got.2;
       }
 
-      by_turns : (m : ℕ) → Fine r (give i b en vs (taken cell) (record (writes (take_line i en.spot.group b) (record c { left = m })) { cells = put c.cells n (after_taking cell) })).halted
+      by_turns : (m : ℕ) → Fine r types (give i b en vs (taken cell) (record (writes (take_line i en.spot.group b) (record c { left = m })) { cells = put c.cells n (after_taking cell) })).halted
           (give i b en vs (taken cell) (record (writes (take_line i en.spot.group b) (record c { left = m })) { cells = put c.cells n (after_taking cell) })) xs
       by_turns m =
           let d = record (writes (take_line i en.spot.group b) (record c { left = m })) { cells = put c.cells n (after_taking cell) } in
           let p = taking_state r types n cell t i c xs at has cell_fits rest in
           let q : FitsBut r types i d xs = record { cells = p.cells; waiting = p.waiting; actors = p.actors; work = p.work; ports = p.ports; main = p.main; requests = p.requests; numbered = p.numbered; framed = p.framed; registered = p.registered } in
-          subst (λ o. Fine r (give i b en vs o d).halted (give i b en vs o d) xs) (sym got.1)
-          (fine_of r c.halted (leave_for i en vs (Give i b got.0) d) xs go (
-            types,
-            leave_state r types i en e0 vs (Give i b got.0) d xs f q entry fr (give_of i b got.0) (operands_exist r types f 0 en.operands ops) some
-                (λ ts. doing_actor (running en) f cls (Give i b got.0 ∷ ts) owner refl (code, given, refl)),
-          ))
+          subst (λ o. Fine r types (give i b en vs o d).halted (give i b en vs o d) xs) (sym got.1)
+          (fine_same r types c.halted (leave_for i en vs (Give i b got.0) d) xs go (leave_state r types i en e0 vs (Give i b got.0) d xs f q entry fr (give_of i b got.0) (operands_exist r types f 0 en.operands ops) some
+          (λ ts. doing_actor (running en) f cls (Give i b got.0 ∷ ts) owner refl (code, given, refl))))

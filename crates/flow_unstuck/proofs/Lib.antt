@@ -51,3 +51,5 @@ pub mod Places
 pub mod Depths
 pub mod Begun
 pub mod Brought
+pub mod Functions
+pub mod Boots

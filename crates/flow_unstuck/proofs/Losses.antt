@@ -22,7 +22,7 @@ use Rattle.flow_unstuck.specs.Fitting.{CellTypes, Exists, CellFits, ProcessFits}
 use Rattle.flow_unstuck.specs.Alone.{frames_scan}
 use Rattle.flow_unstuck.proofs.Ones.{PortsGone}
 use Rattle.flow_unstuck.specs.Keeping.{Fine}
-use Rattle.flow_unstuck.proofs.States.{fine_of, fine_turn}
+use Rattle.flow_unstuck.proofs.States.{fine_same, fine_turn}
 use Rattle.flow_unstuck.proofs.CellStates.{cell_there, IsOfType, fill_fits}
 use Rattle.flow_unstuck.proofs.HandFits.{cancel_state}
 use Rattle.flow_unstuck.proofs.Unseen.{zero_first, zero_second}
@@ -51,10 +51,10 @@ module _ (r : RawTree) (types : CellTypes) (xs : Numbered Frame) where
   lined : (c : Core) (n : ℕ) (ls : List Line) → ProcessFits r types c xs → ProcessFits r types (record c { left = n; lines = ls }) xs
   lined c n ls p = record { cells = p.cells; waiting = p.waiting; actors = p.actors; work = p.work; ports = p.ports; main = p.main; requests = p.requests; numbered = p.numbered; framed = p.framed; registered = p.registered }
 
-  broken_fits : (k : ℕ) (c : Core) (cell : Cell) (t : TypeTree) → c.halted ≡ None → types k ≡ Some t → CellFits r types cell t → ProcessFits r types c xs → Fine r (break_cell k c).halted (break_cell k c) xs
+  broken_fits : (k : ℕ) (c : Core) (cell : Cell) (t : TypeTree) → c.halted ≡ None → types k ≡ Some t → CellFits r types cell t → ProcessFits r types c xs → Fine r types (break_cell k c).halted (break_cell k c) xs
   broken_fits k c cell t go e h p =
       let u = is_of_type cell t h in
-      fine_turn r (λ d. fill k (BadOutcome broken_promise) (writes (broken_line k) d)) c xs
+      fine_turn r types (λ d. fill k (BadOutcome broken_promise) (writes (broken_line k) d)) c xs
       (λ n. let d = writes (broken_line k) (record c { left = n }) in fill_fits r types k (BadOutcome broken_promise) d xs t u.0 go e u.1 tt (lined c n d.lines p))
 
   cancel_goes : (b : Bool) (j : ℕ) (x : Entry) (d : Core) → d.halted ≡ None → (cancel_by b j x d).halted ≡ None
@@ -62,13 +62,13 @@ module _ (r : RawTree) (types : CellTypes) (xs : Numbered Frame) where
   cancel_goes false j x d go = go
 
   module _ (c : Core) (p : ProcessFits r types c xs) (go : c.halted ≡ None) (up : Rising 0 c.started c.entries) (alone : PortsGone c xs) where
-    freed : (k : ℕ) (cell : Cell) (t : TypeTree) → thing c.cells k ≡ Some cell → CellFits r types cell t → Occ (frames_scan xs) PromiseSide k c ≡ 0 → Occ (frames_scan xs) FutureSide k c ≡ 0 → Fine r (free k c).halted (free k c) xs
+    freed : (k : ℕ) (cell : Cell) (t : TypeTree) → thing c.cells k ≡ Some cell → CellFits r types cell t → Occ (frames_scan xs) PromiseSide k c ≡ 0 → Occ (frames_scan xs) FutureSide k c ≡ 0 → Fine r types (free k c).halted (free k c) xs
     freed k cell t at h a b =
-        subst (λ x. Fine r (free_cell k x c).halted (free_cell k x c) xs) (sym at) (freed_fits r types k c xs p (unseen k c xs p.registered a b) cell t go at h)
+        subst (λ x. Fine r types (free_cell k x c).halted (free_cell k x c) xs) (sym at) (freed_fits r types k c xs p (unseen k c xs p.registered a b) cell t go at h)
 
     -- a port that nobody hears
     unheard : (port k : ℕ) (cell : Cell) (t : TypeTree) → port_of k c.ports ≡ Some port → thing c.cells k ≡ Some cell → CellFits r types cell t → Occ (frames_scan xs) FutureSide k c ≡ 0
-        → Fine r (suffer k (futures_gone None (Some port)) c).halted (suffer k (futures_gone None (Some port)) c) xs
+        → Fine r types (suffer k (futures_gone None (Some port)) c).halted (suffer k (futures_gone None (Some port)) c) xs
     unheard port k cell t q at h b =
         let d = record c { ports = removed c.ports port } in
         let z = ports_of_zero (frames_scan xs FutureSide k) (in_cells FutureSide k c.cells) (in_entries FutureSide k c.entries) (in_tasks FutureSide k c.tasks) (in_ports FutureSide k c.ports) (in_requests FutureSide k c.requests)
@@ -88,36 +88,36 @@ module _ (r : RawTree) (types : CellTypes) (xs : Numbered Frame) where
           framed = p.framed;
           registered = p.registered;
         } in
-        subst (λ x. Fine r (free_cell k x d).halted (free_cell k x d) xs) (sym at) (freed_fits r types k d xs pd (unseen k d xs p.registered (alone.alone port k q) b2) cell t go at h)
+        subst (λ x. Fine r types (free_cell k x d).halted (free_cell k x d) xs) (sym at) (freed_fits r types k d xs pd (unseen k d xs p.registered (alone.alone port k q) b2) cell t go at h)
       where
         none_there : (o : Option ℕ) (n : ℕ) → o ≡ None → o ≡ Some n → ⊥
         none_there o n e f = cc
 
     gone_fits : (k : ℕ) (cell : Cell) (t : TypeTree) (o : Option (ℕ × Entry)) (port : Option ℕ) → owner k c.entries ≡ o → port_of k c.ports ≡ port → thing c.cells k ≡ Some cell → CellFits r types cell t → Occ (frames_scan xs) FutureSide k c ≡ 0
-        → Fine r (suffer k (futures_gone o port) c).halted (suffer k (futures_gone o port) c) xs
+        → Fine r types (suffer k (futures_gone o port) c).halted (suffer k (futures_gone o port) c) xs
     gone_fits k cell t (Some o) port own q at h b =
-        fine_of r (cancel o.0 o.1 c).halted (cancel o.0 o.1 c) xs (cancel_goes o.1.suspended o.0 o.1 (writes (cancel_line o.0) c) go) (types, cancel_state r types o.0 o.1 c xs (owned k c (Some o) up own) p)
+        fine_same r types (cancel o.0 o.1 c).halted (cancel o.0 o.1 c) xs (cancel_goes o.1.suspended o.0 o.1 (writes (cancel_line o.0) c) go) (cancel_state r types o.0 o.1 c xs (owned k c (Some o) up own) p)
     gone_fits k cell t None (Some port) own q at h b = unheard port k cell t q at h b
-    gone_fits k cell t None None own q at h b = fine_of r c.halted c xs go (types, p)
+    gone_fits k cell t None None own q at h b = fine_same r types c.halted c xs go (p)
 
     -- by what still refers to the cell
     loss_fits : (s : Side) (k m n : ℕ) (cell : Cell) (t : TypeTree) → Occ (frames_scan xs) PromiseSide k c ≡ m → Occ (frames_scan xs) FutureSide k c ≡ n → thing c.cells k ≡ Some cell → types k ≡ Some t → CellFits r types cell t
-        → Fine r (suffer k (loss s m n cell (owner k c.entries) (port_of k c.ports)) c).halted (suffer k (loss s m n cell (owner k c.entries) (port_of k c.ports)) c) xs
+        → Fine r types (suffer k (loss s m n cell (owner k c.entries) (port_of k c.ports)) c).halted (suffer k (loss s m n cell (owner k c.entries) (port_of k c.ports)) c) xs
     loss_fits PromiseSide k zero zero cell t a b at e h = freed k cell t at h a b
     loss_fits FutureSide k zero zero cell t a b at e h = freed k cell t at h a b
     loss_fits PromiseSide k zero (suc f) cell t a b at e h = by_test (is_complete cell)
       where
-        by_test : (x : Bool) → Fine r (suffer k (promises_gone x) c).halted (suffer k (promises_gone x) c) xs
-        by_test true = fine_of r c.halted c xs go (types, p)
+        by_test : (x : Bool) → Fine r types (suffer k (promises_gone x) c).halted (suffer k (promises_gone x) c) xs
+        by_test true = fine_same r types c.halted c xs go (p)
         by_test false = broken_fits k c cell t go e h p
-    loss_fits PromiseSide k (suc m) zero cell t a b at e h = fine_of r c.halted c xs go (types, p)
-    loss_fits PromiseSide k (suc m) (suc f) cell t a b at e h = fine_of r c.halted c xs go (types, p)
+    loss_fits PromiseSide k (suc m) zero cell t a b at e h = fine_same r types c.halted c xs go (p)
+    loss_fits PromiseSide k (suc m) (suc f) cell t a b at e h = fine_same r types c.halted c xs go (p)
     loss_fits FutureSide k (suc m) zero cell t a b at e h = gone_fits k cell t (owner k c.entries) (port_of k c.ports) refl refl at h b
-    loss_fits FutureSide k zero (suc f) cell t a b at e h = fine_of r c.halted c xs go (types, p)
-    loss_fits FutureSide k (suc m) (suc f) cell t a b at e h = fine_of r c.halted c xs go (types, p)
+    loss_fits FutureSide k zero (suc f) cell t a b at e h = fine_same r types c.halted c xs go (p)
+    loss_fits FutureSide k (suc m) (suc f) cell t a b at e h = fine_same r types c.halted c xs go (p)
 
-    pub lose_fits : (s : Side) (k : ℕ) → Exists r types k → Fine r (lose_ref (frames_scan xs) s k c).halted (lose_ref (frames_scan xs) s k c) xs
+    pub lose_fits : (s : Side) (k : ℕ) → Exists r types k → Fine r types (lose_ref (frames_scan xs) s k c).halted (lose_ref (frames_scan xs) s k c) xs
     lose_fits s k x =
         let there = cell_there r types k x.0 (thing c.cells k) x.1 (p.cells k) in
-        subst (λ o. Fine r (lose_cell (frames_scan xs) s k o c).halted (lose_cell (frames_scan xs) s k o c) xs) (sym there.1)
+        subst (λ o. Fine r types (lose_cell (frames_scan xs) s k o c).halted (lose_cell (frames_scan xs) s k o c) xs) (sym there.1)
         (loss_fits s k (Occ (frames_scan xs) PromiseSide k c) (Occ (frames_scan xs) FutureSide k c) there.0 x.0 refl refl there.1 x.1 there.2)

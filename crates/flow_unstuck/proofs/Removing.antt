@@ -21,7 +21,7 @@ use Rattle.flow_unstuck.specs.Alone.{frames_scan}
 use Rattle.flow_unstuck.specs.Keeping.{Fine}
 use Rattle.flow_unstuck.proofs.Retyped.{CellSees, MemorySees, OperandsSee, TasksSee, AllSeen, FirstSees, cell_retyped, actor_retyped, tasks_retyped, all_exist_retyped}
 use Rattle.flow_unstuck.proofs.Registered.{cells_registered, removed_keeps}
-use Rattle.flow_unstuck.proofs.States.{fine_of, dropping_fits}
+use Rattle.flow_unstuck.proofs.States.{fine_of, all_still, dropping_fits}
 use Rattle.flow_unstuck.proofs.Unseen.{Off, zero_first, zero_second, refs_off, cell_off, memory_off, tasks_off, requests_off, maybe_off, main_off, ports_off, entry_zero, cell_zero, none_wait, frame_zero}
 
 -- nothing in a process refers to a cell
@@ -171,8 +171,12 @@ module _ (r : RawTree) (types : CellTypes) (k : ℕ) where
     held_some (Single (Some (BadOutcome e)) ws) t h = tt
     held_some (Stream q end w) t h = queue_some q h.0 h.2
 
-    pub freed_fits : (cell : Cell) (t : TypeTree) → c.halted ≡ None → thing c.cells k ≡ Some cell → CellFits r types cell t → Fine r (free_cell k (Some cell) c).halted (free_cell k (Some cell) c) xs
+    pub freed_fits : (cell : Cell) (t : TypeTree) → c.halted ≡ None → thing c.cells k ≡ Some cell → CellFits r types cell t → Fine r types (free_cell k (Some cell) c).halted (free_cell k (Some cell) c) xs
     freed_fits cell t go at h =
         let d = record c { cells = removed c.cells k } in
-        fine_of r c.halted (free_cell k (Some cell) c) xs go
-        (others, dropping_fits r others (held cell) d xs (held_some cell t (cell_retyped r types others (Off k) moves cell t (s.cells k cell at) h)) removed_state)
+        fine_of r types None c.halted (free_cell k (Some cell) c) xs go (
+          others,
+          dropping_fits r others (held cell) d xs (held_some cell t (cell_retyped r types others (Off k) moves cell t (s.cells k cell at) h)) removed_state,
+          all_still types others (Off k) moves c.requests s.requests,
+          tt,
+        )

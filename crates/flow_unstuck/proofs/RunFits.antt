@@ -29,7 +29,7 @@ use Rattle.flow_unstuck.specs.Fitting.{CellTypes, typed_by, OperandsFit, Standin
 use Rattle.flow_unstuck.proofs.Asks.{next_fits}
 use Rattle.flow_unstuck.proofs.Handed.{args_many, begun_fits}
 use Rattle.flow_unstuck.proofs.Retyped.{all_retyped, all_sees_any}
-use Rattle.flow_unstuck.proofs.States.{Fine, fine_of, fine_turn, FitsBut, put_back, all_but, frame_but, actor_at, dropping_fits}
+use Rattle.flow_unstuck.proofs.States.{Fine, fine_same, fine_since, fine_turn, FitsBut, put_back, all_but, frame_but, actor_at, dropping_fits}
 use Rattle.flow_unstuck.proofs.NewCells.{with_type, Any, new_type, kept_types}
 use Rattle.flow_unstuck.proofs.KeptNone.{OfWait, AsksOfWaitAt, none_kept, still_kept}
 use Rattle.flow_unstuck.proofs.HandFits.{HandFits, doing_actor, goes_by, gives_state}
@@ -44,11 +44,11 @@ module _ (r : RawTree) (actors : List RoutineTree) (rules : ClassRules r actors)
       (st : Standing r types g) (o : OperandsFit r types g 0 e.operands) (up : Rising 0 k.started k.entries) where
     started_fits : (goal : Goal) (class : ℕ) (args : List ValueTree) (t : TypeTree) (d : ClassTree) → (goal ≡ Stored → e.operands ≡ []) → Wanted r (class_vars g.code) (typed_by types) goal g (length e.operands) t
         → slice_get r.classes class ≡ Some d → HaveTypes r.records (typed_by types) (values_of_list args) (first_types d.params d.slots) → t ≡ FutureType d.returns
-        → After r actors rules s (start (classes r) i goal class (Some (begun d args)) (proc k xs))
+        → After r actors rules s types (start (classes r) i goal class (Some (begun d args)) (proc k xs))
     started_fits goal class args t d none w is fits q =
         let name = (classes r).label class in
         let a = begun d args in
-        fine_turn r (λ z. enrol class name (push_result i (result_task i goal (RefValue kind.Future (suc z.made))) z)) k (added xs (suc k.started) a)
+        fine_turn r types (λ z. enrol class name (push_result i (result_task i goal (RefValue kind.Future (suc z.made))) z)) k (added xs (suc k.started) a)
         (λ m. let k2 = record k { left = m } in
         let p = h.rest in
         let h2 : HandFits r types i k2 xs e g c = record {
@@ -80,12 +80,13 @@ module _ (r : RawTree) (actors : List RoutineTree) (rules : ClassRules r actors)
         } in
         let args2 = all_retyped r types ts Any keeps (values_of_list args) (first_types d.params d.slots) (all_sees_any Any (λ n. tt) (values_of_list args)) fits in
         let st4 = begun_fits r actors (class_vars d) (typed_by ts) d (rules.classes class d is) args args2 in
-        subst (λ z. Fine r (enrol class name (push_result i z k2)).halted (enrol class name (push_result i z k2)) (added xs (suc k.started) a)) (sym x.1)
-        (fine_of r k.halted (enrol class name (pushed x.0 (pushed (Run i) k2))) (added xs (suc k.started) a) go
-        (ts, add_actor r actors rules s ts k4 xs class (suc k.made) d a up p4 is (new_type types (suc k.made) future) refl st4)))
+        subst (λ z. Fine r types (enrol class name (push_result i z k2)).halted (enrol class name (push_result i z k2)) (added xs (suc k.started) a)) (sym x.1)
+        (fine_since r types ts None k.halted (enrol class name (pushed x.0 (pushed (Run i) k2))) (added xs (suc k.started) a) (λ n v q. keeps n v tt q)
+        (fine_same r ts k.halted (enrol class name (pushed x.0 (pushed (Run i) k2))) (added xs (suc k.started) a) go
+        (add_actor r actors rules s ts k4 xs class (suc k.made) d a up p4 is (new_type types (suc k.made) future) refl st4))))
 
     abbrev starts : Goal → ℕ → List ValueTree → Type 0
-    starts goal class args = After r actors rules s (start (classes r) i goal class ((classes r).fresh class args) (proc k xs))
+    starts goal class args = After r actors rules s types (start (classes r) i goal class ((classes r).fresh class args) (proc k xs))
 
     pub start_fits : (goal : Goal) (class : ℕ) (args : List ValueTree) (t : TypeTree) → (goal ≡ Stored → e.operands ≡ []) → Wanted r (class_vars g.code) (typed_by types) goal g (length e.operands) t → Gives r (typed_by types) (Start class args) t
         → starts goal class args
@@ -94,17 +95,17 @@ module _ (r : RawTree) (actors : List RoutineTree) (rules : ClassRules r actors)
         let many = args_many r actors (class_vars d) (typed_by types) args d.slots d.params (rules.classes class d y.1).params y.2 in
         let same : nat_eq (length args) d.params ≡ true = grind (arith, many) in
         let fresh : (classes r).fresh class args ≡ Some (begun d args) = ap (λ o. fresh_from o args) y.1 ∙ ap (λ b. if b then Some (begun d args) else None) same in
-        subst (λ o. After r actors rules s (start (classes r) i goal class o (proc k xs))) (sym fresh) (started_fits goal class args t d none w y.1 y.2 y.3)
+        subst (λ o. After r actors rules s types (start (classes r) i goal class o (proc k xs))) (sym fresh) (started_fits goal class args t d none w y.1 y.2 y.3)
 
   -- an actor asks
   module _ (types : CellTypes) (i : ℕ) (k : Core) (xs : Numbered Frame) (e : Entry) (g : Frame) (c : ClassTree) (go : k.halted ≡ None) (h : HandFits r types i k xs e g c) (up : Rising 0 k.started k.entries) where
-    end_fits : (v : ValueTree) (vs : List ValueTree) → OutcomeFits r.records (typed_by types) (GoodOutcome v) c.returns → HaveSome r.records (typed_by types) vs → After r actors rules s (answer (classes r) s i (Returns v vs) (proc k xs))
+    end_fits : (v : ValueTree) (vs : List ValueTree) → OutcomeFits r.records (typed_by types) (GoodOutcome v) c.returns → HaveSome r.records (typed_by types) vs → After r actors rules s types (answer (classes r) s i (Returns v vs) (proc k xs))
     end_fits v vs f some =
         let t = Close i (GoodOutcome v) in
-        fine_of r k.halted (dropping_values vs (pushed t k)) xs go (types, dropping_fits r types vs (pushed t k) xs some (goes_by r types i t k xs e g c h (close_of i (GoodOutcome v)) (λ ts. f)))
+        fine_same r types k.halted (dropping_values vs (pushed t k)) xs go (dropping_fits r types vs (pushed t k) xs some (goes_by r types i t k xs e g c h (close_of i (GoodOutcome v)) (λ ts. f)))
 
     effect_asked : (goal : Goal) (eff : Effect) → g.code ≡ c → ActFits r (class_vars g.code) (typed_by types) c (length e.operands) (Effects goal eff) g → OperandsFit r types g 0 e.operands → ((OfWait (Effects goal eff) → ⊥) → e.operands ≡ [])
-        → After r actors rules s (answer_effect (classes r) s i goal eff (proc k xs))
+        → After r actors rules s types (answer_effect (classes r) s i goal eff (proc k xs))
     effect_asked goal (Start class args) code f o none =
         start_fits types i k xs e g c go h code f.0 o up goal class args f.1.0 (λ q. none (λ w. stored_waits goal (Start class args) q w)) f.1.1 f.1.2
       where
@@ -114,7 +115,7 @@ module _ (r : RawTree) (actors : List RoutineTree) (rules : ClassRules r actors)
     effect_asked goal eff code f o none = react_fits r i xs e g c code types s (Effects goal eff) k go h up f o none (λ z class args q. cc) (λ v vs q. cc)
 
     pub asked_fits : (act : Act) → StaysIn r (class_vars g.code) (typed_by types) c act g → ActFits r (class_vars g.code) (typed_by types) c (length e.operands) act g → OperandsFit r types g 0 e.operands → ((OfWait act → ⊥) → e.operands ≡ [])
-        → After r actors rules s (answer (classes r) s i act (proc k xs))
+        → After r actors rules s types (answer (classes r) s i act (proc k xs))
     asked_fits (Returns v vs) stays f o none = end_fits v vs f.0 f.1
     asked_fits (Effects goal eff) stays f o none = effect_asked goal eff stays f o none
     asked_fits act stays f o none = react_fits r i xs e g c stays types s act k go h up f o none (λ z class args q. cc) (λ v vs q. cc)
@@ -143,11 +144,11 @@ module _ (r : RawTree) (actors : List RoutineTree) (rules : ClassRules r actors)
         (awake_registered i c.entries c.cells a.entry a.at a.awake)
 
     answered_fits : (a : Actor r types i (Run i) ts c xs) (q : Option Ask × Frame) → next_step (class_names r) (view s i c) a.frame ≡ q → AsksFit r (class_vars a.frame.code) (typed_by types) a.frame.code (view s i c).kept q
-        → After r actors rules s (run_next (classes r) s i ts q (proc c xs))
+        → After r actors rules s types (run_next (classes r) s i ts q (proc c xs))
     answered_fits a (None, g) e fit =
         let f = a.frame in
         let none = none_kept r types (class_names r) (view s i c) f a.entry.operands a.doing.2 (λ w. subst (AsksOfWaitAt f) e w) in
-        fine_of r c.halted c (put xs i g) go (types, quiet_fits a g (fit.1 ∙ a.doing.0) fit.0 none)
+        fine_same r types c.halted c (put xs i g) go (quiet_fits a g (fit.1 ∙ a.doing.0) fit.0 none)
     answered_fits a (Some ask, g) e fit =
         let f = a.frame in
         let v = view s i c in
@@ -164,10 +165,10 @@ module _ (r : RawTree) (actors : List RoutineTree) (rules : ClassRules r actors)
         (record { entry = a.at; awake = a.awake; frame = thing_put xs i f g a.stands; owner = a.owner; rest = rest2 })
         o.numbered ask.act acts.1 acts.0 o2 none
 
-    pub run_fits : After r actors rules s (run (classes r) s i ts (thing xs i) (proc c xs))
+    pub run_fits : After r actors rules s types (run (classes r) s i ts (thing xs i) (proc c xs))
     run_fits =
         let a = actor_here r types i (Run i) ts c xs o top (run_of i) p in
         let f = a.frame in
         let v = view s i c in
         let fit = next_fits r actors (class_vars f.code) (typed_by types) v f (frame_rules r actors rules s types a.entry a.class f a.owner a.doing.0) rules.functions (cells_seen r types s i c xs p) a.doing.1 in
-        subst (λ x. After r actors rules s (run (classes r) s i ts x (proc c xs))) (sym a.stands) (answered_fits a (next_step (class_names r) v f) refl fit)
+        subst (λ x. After r actors rules s types (run (classes r) s i ts x (proc c xs))) (sym a.stands) (answered_fits a (next_step (class_names r) v f) refl fit)

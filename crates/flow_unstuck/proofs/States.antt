@@ -9,7 +9,8 @@ use Rattle.flow_eval.specs.Typed.{HaveTypes}
 use Rattle.flow_class.specs.Classes.{RawTree}
 use Rattle.flow_meaning.specs.Numbered.{Numbered, thing, put}
 use Rattle.flow_meaning.specs.Cells.{Ref, Waiter, Cell, waiters}
-use Rattle.flow_meaning.specs.Process.{Task, Run, Give, Throw, Catch, Store, Keep, Close, Fire, Drop, Entry, Halt, Core}
+use Rattle.flow_meaning.specs.Process.{Task, Run, Give, Throw, Catch, Store, Keep, Close, Fire, Drop, Entry, Halt, Spent, NoMeaning, Core}
+use Rattle.flow_meaning.specs.Asks.{Request}
 use Rattle.flow_meaning.specs.Occ.{refs_in}
 use Rattle.flow_meaning.specs.Work.{turn_of, turn, pushed, drops, dropping_values}
 use Rattle.flow_meaning.specs.Orderly.{is_of, tasks_of, is_suspended, AllWait, CellsWait, Rising}
@@ -18,18 +19,48 @@ use Rattle.flow_meaning.proofs.Posture.{each_number, thing_put_other, drops_task
 use Rattle.flow_meaning.proofs.Shifts.{cell_waits}
 use Rattle.flow_meaning.proofs.Order.{rising_put}
 use Rattle.flow_unstuck.specs.Asking.{HaveSome}
-pub use Rattle.flow_unstuck.specs.Keeping.{FitsSome, Fine}
+pub use Rattle.flow_unstuck.specs.Keeping.{Fine}
+use Rattle.flow_unstuck.specs.Keeping.{StillTyped, AskFits, FitsStill, FineAsking}
+use Rattle.flow_unstuck.proofs.Retyped.{AllSeen}
 use Rattle.flow_unstuck.specs.Registering.{IsRegistered}
 use Rattle.flow_unstuck.specs.Fitting.{CellTypes, typed_by, Fits, Exists, CellAt, AllWaitFor, WaitersAt, OperandsFit, ActorFits, ActorAt, TasksFit, AllExist, ProcessFits}
 
-pub fine_of : (r : RawTree) (o : Option Halt) (c : Core) (xs : Numbered Frame) → o ≡ None → FitsSome r c xs → Fine r o c xs
-fine_of r None c xs e h = h
-fine_of r (Some x) c xs e h = absurd cc
+pub fine_of : (r : RawTree) (before : CellTypes) (q : Option Request) (o : Option Halt) (c : Core) (xs : Numbered Frame) → o ≡ None → FitsStill r before q c xs → FineAsking r before q o c xs
+fine_of r before q None c xs e h = h
+fine_of r before q (Some x) c xs e h = absurd cc
 
-pub fine_turn : (r : RawTree) (f : Core → Core) (c : Core) (xs : Numbered Frame) → ((n : ℕ) → Fine r (f (record c { left = n })).halted (f (record c { left = n })) xs) → Fine r (turn c f).halted (turn c f) xs
-fine_turn r f c xs h = by_left c.left
+-- types that stay, of cells that are seen
+pub all_still : (before after : CellTypes) (P : ℕ → Type 0) → ((k : ℕ) (t : TypeTree) → P k → before k ≡ Some t → after k ≡ Some t) → (ks : List ℕ) → AllSeen P ks → StillTyped before after ks
+all_still before after P moves [] s = tt
+all_still before after P moves (k ∷ ks) s = ((λ t e. moves k t s.0 e), all_still before after P moves ks s.1)
+
+pub still_same : (types : CellTypes) (ks : List ℕ) → StillTyped types types ks
+still_same types [] = tt
+still_same types (k ∷ ks) = ((λ t e. e), still_same types ks)
+
+pub fine_same : (r : RawTree) (types : CellTypes) (o : Option Halt) (c : Core) (xs : Numbered Frame) → o ≡ None → ProcessFits r types c xs → Fine r types o c xs
+fine_same r types o c xs e p = fine_of r types None o c xs e (types, p, still_same types c.requests, tt)
+
+-- since earlier types
+still_since : (first before after : CellTypes) → ((k : ℕ) (t : TypeTree) → first k ≡ Some t → before k ≡ Some t) → (ks : List ℕ) → StillTyped before after ks → StillTyped first after ks
+still_since first before after h [] s = tt
+still_since first before after h (k ∷ ks) s = ((λ t e. s.0 t (h k t e)), still_since first before after h ks s.1)
+
+pub fine_since : (r : RawTree) (first before : CellTypes) (q : Option Request) (o : Option Halt) (c : Core) (xs : Numbered Frame) → ((k : ℕ) (t : TypeTree) → first k ≡ Some t → before k ≡ Some t) → FineAsking r before q o c xs → FineAsking r first q o c xs
+fine_since r first before q None c xs h f = (f.0, f.1, still_since first before f.0 h c.requests f.2, f.3)
+fine_since r first before q (Some Spent) c xs h f = tt
+fine_since r first before q (Some NoMeaning) c xs h f = f
+
+-- and something is asked of the world
+pub fine_asking : (r : RawTree) (before : CellTypes) (q : Option Request) (o : Option Halt) (c : Core) (xs : Numbered Frame) → ((types : CellTypes) → AskFits types q) → Fine r before o c xs → FineAsking r before q o c xs
+fine_asking r before q None c xs h f = (f.0, f.1, f.2, h f.0)
+fine_asking r before q (Some Spent) c xs h f = tt
+fine_asking r before q (Some NoMeaning) c xs h f = f
+
+pub fine_turn : (r : RawTree) (before : CellTypes) (f : Core → Core) (c : Core) (xs : Numbered Frame) → ((n : ℕ) → Fine r before (f (record c { left = n })).halted (f (record c { left = n })) xs) → Fine r before (turn c f).halted (turn c f) xs
+fine_turn r before f c xs h = by_left c.left
   where
-    by_left : (l : ℕ) → Fine r (turn_of l c f).halted (turn_of l c f) xs
+    by_left : (l : ℕ) → Fine r before (turn_of l c f).halted (turn_of l c f) xs
     by_left zero = tt
     by_left (suc n) = h n
 

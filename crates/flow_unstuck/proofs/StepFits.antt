@@ -22,8 +22,9 @@ use Rattle.flow_meaning.proofs.TaskShifts.{Popped, popped_at, beyond_none, thing
 use Rattle.flow_unstuck.specs.Places.{class_vars}
 use Rattle.flow_unstuck.specs.Rules.{KeepsRules, ClassRules}
 use Rattle.flow_unstuck.specs.Asking.{OutcomeFits}
+use Rattle.flow_unstuck.specs.Keeping.{FineAsking}
 use Rattle.flow_unstuck.specs.Fitting.{CellTypes, typed_by, Fits, CellFits, AllWaitFor, WaitersAt, Standing, DoingFits, PostureFits, ActorFits, ActorAt, ProcessFits}
-use Rattle.flow_unstuck.proofs.States.{Fine, FitsBut, popped_but, actor_at, actor_of}
+use Rattle.flow_unstuck.proofs.States.{FitsBut, popped_but, actor_at, actor_of}
 use Rattle.flow_unstuck.proofs.CellStates.{cell_there}
 use Rattle.flow_unstuck.proofs.HandFits.{Owner}
 use Rattle.flow_unstuck.specs.Registering.{IsRegistered}
@@ -81,8 +82,8 @@ cells_seen r types s i c xs p k t v has e =
     by_cell (Stream q end w) f e = absurd cc
 
 module _ (r : RawTree) (actors : List RoutineTree) (rules : ClassRules r actors) (s : Supply) where
-  abbrev pub After : Stepped Frame → Type 0
-  After q = Fine r q.0.core.halted q.0.core q.0.actors
+  abbrev pub After : CellTypes → Stepped Frame → Type 0
+  After types q = FineAsking r types q.1 q.0.core.halted q.0.core q.0.actors
 
   -- the rules of a frame's class
   pub frame_rules : (types : CellTypes) (e : Entry) (c : ClassTree) (f : Frame) → Owner r types e c → f.code ≡ c → KeepsRules r actors f.code (class_vars f.code)

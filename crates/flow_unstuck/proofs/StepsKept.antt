@@ -12,7 +12,8 @@ use Rattle.flow_meaning.specs.Frame.{Frame}
 use Rattle.flow_meaning.specs.Class.{classes}
 use Rattle.flow_meaning.proofs.Shifts.{close_of}
 use Rattle.flow_unstuck.specs.Rules.{ClassRules}
-use Rattle.flow_unstuck.specs.Keeping.{FitsSome, IsFine}
+use Rattle.flow_unstuck.specs.Fitting.{CellTypes, ProcessFits}
+use Rattle.flow_unstuck.specs.Keeping.{IsFine}
 use Rattle.flow_unstuck.specs.Alone.{PortsAlone, ResultsAlone, StepsKeepFitting}
 use Rattle.flow_valid.specs.Validity.{IsValid}
 use Rattle.flow_unstuck.proofs.Aparts.{ends_apart}
@@ -22,21 +23,21 @@ use Rattle.flow_unstuck.proofs.ActorsFit.{by_tasks}
 use Rattle.flow_unstuck.proofs.Fires.{drop_fits, fire_fits}
 use Rattle.flow_unstuck.proofs.Closes.{close_fits}
 
-module _ (r : RawTree) (valid : IsValid r) (actors : List RoutineTree) (rules : ClassRules r actors) (s : Supply) (c : Core) (xs : Numbered Frame) (o : Orderly c) (go : c.halted ≡ None) (p : FitsSome r c xs) (ports : PortsAlone c xs) (results : ResultsAlone c xs) where
-  all_tasks : (ts : List Task) → c.tasks ≡ ts → IsFine r (step_tasks (classes r) s ts (proc c xs))
+module _ (r : RawTree) (valid : IsValid r) (actors : List RoutineTree) (rules : ClassRules r actors) (s : Supply) (c : Core) (xs : Numbered Frame) (o : Orderly c) (go : c.halted ≡ None) (types : CellTypes) (p : ProcessFits r types c xs) (ports : PortsAlone c xs) (results : ResultsAlone c xs) where
+  all_tasks : (ts : List Task) → c.tasks ≡ ts → IsFine r types (step_tasks (classes r) s ts (proc c xs))
   all_tasks [] e = tt
-  all_tasks (Run i ∷ ts) e = by_tasks r actors rules s c xs o go p (Run i ∷ ts) e tt
-  all_tasks (Give i b v ∷ ts) e = by_tasks r actors rules s c xs o go p (Give i b v ∷ ts) e tt
-  all_tasks (Throw i err ∷ ts) e = by_tasks r actors rules s c xs o go p (Throw i err ∷ ts) e tt
-  all_tasks (Catch i err ∷ ts) e = by_tasks r actors rules s c xs o go p (Catch i err ∷ ts) e tt
-  all_tasks (Store i v ∷ ts) e = by_tasks r actors rules s c xs o go p (Store i v ∷ ts) e tt
-  all_tasks (Keep i spot q ∷ ts) e = by_tasks r actors rules s c xs o go p (Keep i spot q ∷ ts) e tt
+  all_tasks (Run i ∷ ts) e = by_tasks r actors rules s c xs o go types p (Run i ∷ ts) e tt
+  all_tasks (Give i b v ∷ ts) e = by_tasks r actors rules s c xs o go types p (Give i b v ∷ ts) e tt
+  all_tasks (Throw i err ∷ ts) e = by_tasks r actors rules s c xs o go types p (Throw i err ∷ ts) e tt
+  all_tasks (Catch i err ∷ ts) e = by_tasks r actors rules s c xs o go types p (Catch i err ∷ ts) e tt
+  all_tasks (Store i v ∷ ts) e = by_tasks r actors rules s c xs o go types p (Store i v ∷ ts) e tt
+  all_tasks (Keep i spot q ∷ ts) e = by_tasks r actors rules s c xs o go types p (Keep i spot q ∷ ts) e tt
   all_tasks (Close i v ∷ ts) e =
-      let a = actor_here r p.0 i (Close i v) ts c xs o e (close_of i v) p.1 in
-      subst (λ x. IsFine r (Some (close_actor (classes r) i v x (proc (record c { tasks = ts }) xs)))) (sym a.at) (close_fits r p.0 i v ts c xs o go e p.1 (results_gone c xs results (ends_apart r valid p.0 c xs p.1 o)) a)
-  all_tasks (Fire k ∷ ts) e = fire_fits r p.0 c xs p.1 o go (ports_gone c xs ports) k ts e
-  all_tasks (Drop kind k ∷ ts) e = drop_fits r p.0 c xs p.1 o go (ports_gone c xs ports) kind k ts e
+      let a = actor_here r types i (Close i v) ts c xs o e (close_of i v) p in
+      subst (λ x. IsFine r types (Some (close_actor (classes r) i v x (proc (record c { tasks = ts }) xs)))) (sym a.at) (close_fits r types i v ts c xs o go e p (results_gone c xs results (ends_apart r valid types c xs p o)) a)
+  all_tasks (Fire k ∷ ts) e = fire_fits r types c xs p o go (ports_gone c xs ports) k ts e
+  all_tasks (Drop kind k ∷ ts) e = drop_fits r types c xs p o go (ports_gone c xs ports) kind k ts e
 
 pub steps_keep : (r : RawTree) → IsValid r → (actors : List RoutineTree) → ClassRules r actors → StepsKeepFitting r
-steps_keep r valid actors rules s p o go f ports results =
-    subst (λ x. IsFine r (step_if (classes r) s x p)) (sym go) (all_tasks r valid actors rules s p.core p.actors o go f ports results p.core.tasks refl)
+steps_keep r valid actors rules s types p o go f ports results =
+    subst (λ x. IsFine r types (step_if (classes r) s x p)) (sym go) (all_tasks r valid actors rules s p.core p.actors o go types f ports results p.core.tasks refl)

@@ -27,7 +27,7 @@ use Rattle.flow_unstuck.specs.Asking.{NextOperand, HaveSome}
 use Rattle.flow_unstuck.specs.Fitting.{CellTypes, typed_by, Fits, OperandsFit, Standing, Waiting, DoingFits, ActorFits, ActorAt, TasksFit, ProcessFits}
 use Rattle.flow_unstuck.proofs.Asks.{everything_some}
 use Rattle.flow_unstuck.proofs.Handed.{Onward, store_fits, lose_fits, take_fits, caught_standing, caught_waiting}
-use Rattle.flow_unstuck.proofs.States.{Fine, fine_of, FitsBut, put_back, frame_but, actor_at, operands_exist, dropping_fits}
+use Rattle.flow_unstuck.proofs.States.{Fine, fine_same, FitsBut, put_back, frame_but, actor_at, operands_exist, dropping_fits}
 use Rattle.flow_unstuck.proofs.CellStates.{leave_state}
 use Rattle.flow_unstuck.proofs.KeptNone.{SamePoint, next_moved, operands_moved}
 use Rattle.flow_unstuck.proofs.HandFits.{HandFits, doing_actor, goes_by, branch_fits}
@@ -61,7 +61,7 @@ ready_cell (Some cell) h = (cell, refl, h)
 
 module _ (r : RawTree) (actors : List RoutineTree) (rules : ClassRules r actors) (s : Supply) (types : CellTypes) (i : ℕ) (ts : List Task) (c : Core) (xs : Numbered Frame) (o : Orderly c) (go : c.halted ≡ None) (p : ProcessFits r types c xs) where
   abbrev Fits_after : Stepped Frame → Type 0
-  Fits_after q = After r actors rules s q
+  Fits_after q = After r actors rules s types q
 
   abbrev popped_core : Core
   popped_core = record c { tasks = ts }
@@ -82,8 +82,7 @@ module _ (r : RawTree) (actors : List RoutineTree) (rules : ClassRules r actors)
       by_outcome : (v : OutcomeTree) (a : Actor r types i (Give i b v) ts c xs) → Fits_after (give (classes r) i b v (thing xs i) (proc popped_core xs))
       by_outcome (BadOutcome err) a =
           subst (λ x. Fits_after (give (classes r) i b (BadOutcome err) x (proc popped_core xs))) (sym a.stands)
-          (fine_of r c.halted (pushed (Throw i err) popped_core) xs go
-          (types, goes_by r types i (Throw i err) popped_core xs a.entry a.frame a.class (same_hand (Give i b (BadOutcome err)) a) (throw_of i err) (λ us. (a.doing.0, inr a.doing.1.waiting, no_operands a.frame a.entry a.doing.2))))
+          (fine_same r types c.halted (pushed (Throw i err) popped_core) xs go (goes_by r types i (Throw i err) popped_core xs a.entry a.frame a.class (same_hand (Give i b (BadOutcome err)) a) (throw_of i err) (λ us. (a.doing.0, inr a.doing.1.waiting, no_operands a.frame a.entry a.doing.2))))
       by_outcome (GoodOutcome u) a =
           let f = a.frame in
           let d = a.doing.1 in
@@ -91,11 +90,8 @@ module _ (r : RawTree) (actors : List RoutineTree) (rules : ClassRules r actors)
           let out = take_fits r actors (class_vars f.code) (typed_by types) f k d.waiting b d.callback u d.takes d.there d.into d.outcome in
           let z = (classes r).take b u f in
           subst (λ x. Fits_after (give (classes r) i b (GoodOutcome u) x (proc popped_core xs))) (sym a.stands)
-          (fine_of r c.halted (dropping_values z.0 (pushed (Run i) popped_core)) (put xs i z.1) go (
-            types,
-            dropping_fits r types z.0 (pushed (Run i) popped_core) (put xs i z.1) out.1
-                (goes_by r types i (Run i) popped_core (put xs i z.1) a.entry z.1 a.class (put_hand (Give i b (GoodOutcome u)) a z.1) (run_of i) (λ us. (out.2 ∙ a.doing.0, out.0, no_operands z.1 a.entry a.doing.2))),
-          ))
+          (fine_same r types c.halted (dropping_values z.0 (pushed (Run i) popped_core)) (put xs i z.1) go (dropping_fits r types z.0 (pushed (Run i) popped_core) (put xs i z.1) out.1
+          (goes_by r types i (Run i) popped_core (put xs i z.1) a.entry z.1 a.class (put_hand (Give i b (GoodOutcome u)) a z.1) (run_of i) (λ us. (out.2 ∙ a.doing.0, out.0, no_operands z.1 a.entry a.doing.2)))))
 
   pub store_keeps : (v : ValueTree) → c.tasks ≡ Store i v ∷ ts → Fits_after (store (classes r) i v (thing xs i) (proc popped_core xs))
   store_keeps v top =
@@ -111,9 +107,9 @@ module _ (r : RawTree) (actors : List RoutineTree) (rules : ClassRules r actors)
       (subst (ActorFits r types a.entry z.1) (sym pop.rest) (doing_actor r types a.entry z.1 a.class (Run i ∷ []) a.owner a.awake (out.2 ∙ a.doing.0, out.0, no_operands z.1 a.entry a.doing.3))))
       (awake_registered i c.entries c.cells a.entry a.at a.awake) in
       subst (λ x. Fits_after (store (classes r) i v x (proc popped_core xs))) (sym a.stands)
-      (fine_of r c.halted (dropping_values z.0 popped_core) (put xs i z.1) go (types, dropping_fits r types z.0 popped_core (put xs i z.1) out.1 state))
+      (fine_same r types c.halted (dropping_values z.0 popped_core) (put xs i z.1) go (dropping_fits r types z.0 popped_core (put xs i z.1) out.1 state))
 
-  pub catch_fits : (err : ℕ) → c.tasks ≡ Catch i err ∷ ts → Fine r (handle i err popped_core).halted (handle i err popped_core) xs
+  pub catch_fits : (err : ℕ) → c.tasks ≡ Catch i err ∷ ts → Fine r types (handle i err popped_core).halted (handle i err popped_core) xs
   catch_fits err top =
       let a = actor_here r types i (Catch i err) ts c xs o top (catch_of i err) p in
       let d = writes (catch_line i err) popped_core in
@@ -125,14 +121,14 @@ module _ (r : RawTree) (actors : List RoutineTree) (rules : ClassRules r actors)
         owner = a.owner;
         rest = record { cells = b.cells; waiting = b.waiting; actors = b.actors; work = b.work; ports = b.ports; main = b.main; requests = b.requests; numbered = b.numbered; framed = b.framed; registered = b.registered };
       } in
-      fine_of r c.halted (pushed (Run i) d) xs go (types, goes_by r types i (Run i) d xs a.entry a.frame a.class h (run_of i) (λ us. (a.doing.0, a.doing.1, no_operands a.frame a.entry a.doing.2)))
+      fine_same r types c.halted (pushed (Run i) d) xs go (goes_by r types i (Run i) d xs a.entry a.frame a.class h (run_of i) (λ us. (a.doing.0, a.doing.1, no_operands a.frame a.entry a.doing.2)))
 
   -- an error is thrown
   pub throw_fits : (err : ℕ) → c.tasks ≡ Throw i err ∷ ts → Fits_after (throw (classes r) i err (thing xs i) (proc popped_core xs))
   throw_fits err top =
       let a = actor_here r types i (Throw i err) ts c xs o top (throw_of i err) p in
       subst (λ x. Fits_after (throw (classes r) i err x (proc popped_core xs))) (sym a.stands)
-      (subst (λ x. Fine r (throw_core i err (raise err a.frame).0 x popped_core).halted (throw_core i err (raise err a.frame).0 x popped_core) (put xs i (raise err a.frame).1)) (sym a.at)
+      (subst (λ x. Fine r types (throw_core i err (raise err a.frame).0 x popped_core).halted (throw_core i err (raise err a.frame).0 x popped_core) (put xs i (raise err a.frame).1)) (sym a.at)
       (by_catcher a (catcher_at a.frame.code a.frame.block) refl))
     where
       holds_of : (f : Frame) → Standing r types f ⊎ Waiting r types f → HoldsTypes r.records (typed_by types) f.code f.mem
@@ -141,17 +137,14 @@ module _ (r : RawTree) (actors : List RoutineTree) (rules : ClassRules r actors)
 
       -- the actor leaves with these values, and this is first to be done
       leaves : (a : Actor r types i (Throw i err) ts c xs) (g : Frame) (vs : List ValueTree) (t : Task) → IsOf i t → HaveSome r.records (typed_by types) vs → ((us : List Task) → DoingFits r types a.class (running a.entry) g (t ∷ us))
-          → Fine r c.halted (leave_for i a.entry vs t (writes (throw_line i err) popped_core)) (put xs i g)
+          → Fine r types c.halted (leave_for i a.entry vs t (writes (throw_line i err) popped_core)) (put xs i g)
       leaves a g vs t own some d =
           let h = put_hand (Throw i err) a g in
           let b = h.rest in
           let k = writes (throw_line i err) popped_core in
           let rest : FitsBut r types i k (put xs i g) = record { cells = b.cells; waiting = b.waiting; actors = b.actors; work = b.work; ports = b.ports; main = b.main; requests = b.requests; numbered = b.numbered; framed = b.framed; registered = b.registered } in
-          fine_of r c.halted (leave_for i a.entry vs t k) (put xs i g) go (
-            types,
-            leave_state r types i a.entry a.entry vs t k (put xs i g) g rest a.at h.frame own (operands_exist r types a.frame 0 a.entry.operands a.doing.2) some
-                (λ us. doing_actor r types (running a.entry) g a.class (t ∷ us) (record { is = a.owner.is; result = a.owner.result; owns = a.owner.owns; gives = a.owner.gives }) refl (d us)),
-          )
+          fine_same r types c.halted (leave_for i a.entry vs t k) (put xs i g) go (leave_state r types i a.entry a.entry vs t k (put xs i g) g rest a.at h.frame own (operands_exist r types a.frame 0 a.entry.operands a.doing.2) some
+          (λ us. doing_actor r types (running a.entry) g a.class (t ∷ us) (record { is = a.owner.is; result = a.owner.result; owns = a.owner.owns; gives = a.owner.gives }) refl (d us)))
 
       caught : (a : Actor r types i (Throw i err) ts c xs) (x : CatcherTree) → catcher_at a.frame.code a.frame.block ≡ Some x → Standing r types a.frame ⊎ Waiting r types a.frame
           → Onward r actors (class_vars a.frame.code) (typed_by types) a.frame.code ((raised err a.frame (Some x)).0.values, (raised err a.frame (Some x)).1)
@@ -159,7 +152,7 @@ module _ (r : RawTree) (actors : List RoutineTree) (rules : ClassRules r actors)
       caught a x q (inr h) = caught_waiting r actors (class_vars a.frame.code) (typed_by types) a.frame (frame_rules r actors rules s types a.entry a.class a.frame a.owner a.doing.0) err x q h.holds h
 
       by_catcher : (a : Actor r types i (Throw i err) ts c xs) (x : Option CatcherTree) → catcher_at a.frame.code a.frame.block ≡ x
-          → Fine r (throw_core i err (raised err a.frame x).0 (Some a.entry) popped_core).halted (throw_core i err (raised err a.frame x).0 (Some a.entry) popped_core) (put xs i (raised err a.frame x).1)
+          → Fine r types (throw_core i err (raised err a.frame x).0 (Some a.entry) popped_core).halted (throw_core i err (raised err a.frame x).0 (Some a.entry) popped_core) (put xs i (raised err a.frame x).1)
       by_catcher a None q =
           leaves a (raised err a.frame None).1 (everything a.frame.mem) (Close i (BadOutcome err)) (close_of i (BadOutcome err)) (everything_some r.records (typed_by types) a.frame.code a.frame.mem (holds_of a.frame a.doing.1)) (λ us. tt)
       by_catcher a (Some x) q =
@@ -225,24 +218,18 @@ module _ (r : RawTree) (actors : List RoutineTree) (rules : ClassRules r actors)
             framed = b.framed;
             registered = λ j n. entry_registered i j c.entries c.cells e n (b.registered j n);
           } in
-          fine_of r c.halted d xs go (
-            types,
-            put_back r types i d xs rest
-                (actor_at r types e a.frame (thing (put c.entries i e) i) (thing xs i) (tasks_of i ts) (thing_put c.entries i a.entry e a.at) a.stands
-                (subst (ActorFits r types e a.frame) (sym pop.rest) (doing_actor r types e a.frame a.class (Run i ∷ []) (record { is = a.owner.is; result = a.owner.result; owns = a.owner.owns; gives = a.owner.gives }) a.awake a.doing)))
-                (awake_registered i (put c.entries i e) c.cells e (thing_put c.entries i a.entry e a.at) a.awake),
-          )
+          fine_same r types c.halted d xs go (put_back r types i d xs rest
+          (actor_at r types e a.frame (thing (put c.entries i e) i) (thing xs i) (tasks_of i ts) (thing_put c.entries i a.entry e a.at) a.stands
+          (subst (ActorFits r types e a.frame) (sym pop.rest) (doing_actor r types e a.frame a.class (Run i ∷ []) (record { is = a.owner.is; result = a.owner.result; owns = a.owner.owns; gives = a.owner.gives }) a.awake a.doing)))
+          (awake_registered i (put c.entries i e) c.cells e (thing_put c.entries i a.entry e a.at) a.awake))
       by_verdict a Cancelled ready =
           let g = (lose a.frame).1 in
           let e = with_operand spot q a.entry in
           let z = lost a in
           let t = Throw i operation_cancelled in
           let k = record popped_core { tasks = below ts } in
-          fine_of r c.halted (leave_for i e (lose a.frame).0 t k) (put xs i g) go (
-            types,
-            leave_state r types i e a.entry (lose a.frame).0 t k (put xs i g) g (stepless a g) a.at (thing_put xs i a.frame g a.stands) (throw_of i operation_cancelled) (operands_exist r types a.frame 0 e.operands a.doing.2) z.1
-                (λ us. doing_actor r types (running e) g a.class (t ∷ us) (record { is = a.owner.is; result = a.owner.result; owns = a.owner.owns; gives = a.owner.gives }) refl (a.doing.0, inr z.0, tt)),
-          )
+          fine_same r types c.halted (leave_for i e (lose a.frame).0 t k) (put xs i g) go (leave_state r types i e a.entry (lose a.frame).0 t k (put xs i g) g (stepless a g) a.at (thing_put xs i a.frame g a.stands) (throw_of i operation_cancelled) (operands_exist r types a.frame 0 e.operands a.doing.2) z.1
+          (λ us. doing_actor r types (running e) g a.class (t ∷ us) (record { is = a.owner.is; result = a.owner.result; owns = a.owner.owns; gives = a.owner.gives }) refl (a.doing.0, inr z.0, tt)))
       by_verdict a Ready ready =
           let g = (lose a.frame).1 in
           let e = with_operand spot q a.entry in

@@ -10,7 +10,7 @@ use Rattle.flow_eval.specs.Predefined.{natural}
 use Rattle.flow_class.specs.Classes.{ClassTree, RawTree}
 use Rattle.flow_meaning.specs.Numbered.{Numbered, thing, put}
 use Rattle.flow_meaning.specs.Cells.{Ref, Waiter, Cell, Single, Stream, is_ready, is_busy, waiters, with_waiter}
-use Rattle.flow_meaning.specs.Asks.{Spot, Act, Goes, Pass, Drops, Effects, Operand, Waits, Sends, Cancels, Prints, SendsTo, Returns, Throws, RunsOut, Stuck, Effect, Start, Goal, Stored, Kept, Supply}
+use Rattle.flow_meaning.specs.Asks.{Spot, Act, Goes, Pass, Drops, Effects, Operand, Waits, Sends, Cancels, Prints, SendsTo, Returns, Throws, RunsOut, Stuck, Effect, Start, Goal, Stored, Kept, Packet, Supply}
 use Rattle.flow_meaning.specs.Process.{Run, Throw, Keep, Entry, Core}
 use Rattle.flow_meaning.specs.Lines.{wait_line, print_line}
 use Rattle.flow_meaning.specs.Work.{writes, pushed, running, dropping_values, leave_for, is_ready_at, first_ready, Registration, Registered, Refused, Missing, register_at, register_one, register, owner}
@@ -24,13 +24,13 @@ use Rattle.flow_meaning.proofs.Shifts.{throw_of, keep_of, owned}
 use Rattle.flow_unstuck.specs.Places.{class_vars}
 use Rattle.flow_unstuck.specs.Asking.{NextOperand, HaveSome, ActFits}
 use Rattle.flow_unstuck.specs.Fitting.{CellTypes, typed_by, Fits, CellFits, CellAt, WaitsFor, AllWaitFor, WaitersAt, OperandsFit, Waiting, ActorAt, ProcessFits}
-use Rattle.flow_unstuck.proofs.States.{fine_of, fine_turn, FitsBut, put_back, actor_at, operands_exist, dropping_fits}
+use Rattle.flow_unstuck.proofs.States.{fine_same, fine_asking, fine_turn, FitsBut, put_back, actor_at, operands_exist, dropping_fits}
 use Rattle.flow_unstuck.proofs.CellStates.{cell_there, put_cells, put_waiters, leave_state}
 use Rattle.flow_unstuck.proofs.KeptNone.{OfWait}
 use Rattle.flow_unstuck.specs.Registering.{AtEach}
 use Rattle.flow_unstuck.proofs.Registered.{same_entry, entry_registered, cells_registered, Keeping, AllNow, all_keeping, all_now}
 use Rattle.flow_unstuck.proofs.HandFits.{HandFits, doing_actor, goes_by_two, operands_more, operand_cell, branch_fits}
-use Rattle.flow_unstuck.proofs.ReactFits.{Ok, runs, throws_fit, either_fits, rehand, effect_fits, send_in_fits, owner_fits, print_fits}
+use Rattle.flow_unstuck.proofs.ReactFits.{Ok, OkAsking, runs, throws_fit, either_fits, rehand, effect_fits, send_in_fits, owner_fits, print_fits}
 
 module _ (r : RawTree) (types : CellTypes) (g : Frame) where
   -- the cell of an operand
@@ -115,17 +115,14 @@ module _ (r : RawTree) (types : CellTypes) (g : Frame) where
 
 module _ (r : RawTree) (i : ℕ) (xs : Numbered Frame) (e : Entry) (g : Frame) (c : ClassTree) (code : g.code ≡ c) (types : CellTypes) where
   abbrev Good : Core → Type 0
-  Good d = Ok r i xs e g c code d
+  Good d = Ok r i xs e g c code types d
 
   suspend_fits : (spot : Spot) (vs : List ValueTree) (x : Registration) (k : Core) → k.halted ≡ None → (h : HandFits r types i k xs e g c) → Waiting r types g → OperandsFit r types g 0 e.operands → HaveSome r.records (typed_by types) vs
       → RegistrationOk r types g i k.made xs h.frame k x → ((j : ℕ) → Keeping j k.cells x) → AllNow i e.operands x → Good (suspend i spot (at_spot spot e) vs x k)
   suspend_fits spot vs Missing k go h s o some ok keep now = absurd ok
   suspend_fits spot vs Refused k go h s o some ok keep now =
-      fine_of r k.halted (leave_for i (at_spot spot e) vs (Throw i second_waiter) k) xs go (
-        types,
-        leave_state r types i (at_spot spot e) e vs (Throw i second_waiter) k xs g h.rest h.entry h.frame (throw_of i second_waiter) (operands_exist r types g 0 e.operands o) some
-            (λ ts. doing_actor r types (running (at_spot spot e)) g c (Throw i second_waiter ∷ ts) (record { is = h.owner.is; result = h.owner.result; owns = h.owner.owns; gives = h.owner.gives }) refl (code, inr s, tt)),
-      )
+      fine_same r types k.halted (leave_for i (at_spot spot e) vs (Throw i second_waiter) k) xs go (leave_state r types i (at_spot spot e) e vs (Throw i second_waiter) k xs g h.rest h.entry h.frame (throw_of i second_waiter) (operands_exist r types g 0 e.operands o) some
+      (λ ts. doing_actor r types (running (at_spot spot e)) g c (Throw i second_waiter ∷ ts) (record { is = h.owner.is; result = h.owner.result; owns = h.owner.owns; gives = h.owner.gives }) refl (code, inr s, tt)))
   suspend_fits spot vs (Registered cells) k go h s o some ok keep now =
       let asleep = record (at_spot spot e) { suspended = true } in
       let d = record (writes (wait_line i spot.group) k) { cells = cells; entries = put k.entries i asleep } in
@@ -144,7 +141,7 @@ module _ (r : RawTree) (i : ℕ) (xs : Numbered Frame) (e : Entry) (g : Frame) (
       }) (actor_at r types asleep g (thing (put k.entries i asleep) i) (thing xs i) (tasks_of i k.tasks) (thing_put k.entries i e asleep h.entry) h.frame
       (record { class = c; is = h.owner.is; result = h.owner.result; owns = h.owner.owns; gives = h.owner.gives; posture = (code, s, o) }))
       (λ x at q. subst (λ (z : Entry). AtEach i cells z.operands) (same_entry (sym (thing_put k.entries i e asleep h.entry) ∙ at)) now) in
-      fine_of r k.halted (dropping_values vs d) xs go (types, dropping_fits r types vs d xs some state)
+      fine_same r types k.halted (dropping_values vs d) xs go (dropping_fits r types vs d xs some state)
 
   wait_by_fits : (spot : Spot) (vs : List ValueTree) (x : Option (ℕ × ℕ)) (k : Core) → k.halted ≡ None → HandFits r types i k xs e g c → Waiting r types g → OperandsFit r types g 0 e.operands → HaveSome r.records (typed_by types) vs
       → first_ready k.cells 0 e.operands ≡ x → Good (wait_by i spot (at_spot spot e) vs x k)
@@ -163,16 +160,16 @@ module _ (r : RawTree) (i : ℕ) (xs : Numbered Frame) (e : Entry) (g : Frame) (
   -- each ask but the call of an actor, where operands are kept at a wait alone
   pub react_fits : (s : Supply) (act : Act) (k : Core) → k.halted ≡ None → HandFits r types i k xs e g c → Rising 0 k.started k.entries → ActFits r (class_vars g.code) (typed_by types) c (length e.operands) act g
       → OperandsFit r types g 0 e.operands → ((OfWait act → ⊥) → e.operands ≡ []) → ((goal : Goal) (class : ℕ) (args : List ValueTree) → act ≡ Effects goal (Start class args) → ⊥)
-      → ((v : ValueTree) (vs : List ValueTree) → act ≡ Returns v vs → ⊥) → Good (react s i act k).0
-  react_fits s Goes k go h up f o none no_start no_end = fine_of r k.halted (pushed (Run i) k) xs go (types, runs r i xs e g c code types k h f o)
+      → ((v : ValueTree) (vs : List ValueTree) → act ≡ Returns v vs → ⊥) → OkAsking r i xs e g c code types (react s i act k)
+  react_fits s Goes k go h up f o none no_start no_end = fine_same r types k.halted (pushed (Run i) k) xs go (runs r i xs e g c code types k h f o)
   react_fits s Pass k go h up f o none no_start no_end =
-      fine_turn r (pushed (Run i)) k xs
+      fine_turn r types (pushed (Run i)) k xs
       (λ m. let d = record k { left = m } in
       let p = h.rest in
       let rest : FitsBut r types i d xs = record { cells = p.cells; waiting = p.waiting; actors = p.actors; work = p.work; ports = p.ports; main = p.main; requests = p.requests; numbered = p.numbered; framed = p.framed; registered = p.registered } in
-      fine_of r k.halted (pushed (Run i) d) xs go (types, runs r i xs e g c code types d (rehand r i xs e g c code types k d h.entry rest h) f o))
+      fine_same r types k.halted (pushed (Run i) d) xs go (runs r i xs e g c code types d (rehand r i xs e g c code types k d h.entry rest h) f o))
   react_fits s (Drops vs) k go h up f o none no_start no_end =
-      fine_of r k.halted (dropping_values vs (pushed (Run i) k)) xs go (types, dropping_fits r types vs (pushed (Run i) k) xs f.1 (runs r i xs e g c code types k h f.0 o))
+      fine_same r types k.halted (dropping_values vs (pushed (Run i) k)) xs go (dropping_fits r types vs (pushed (Run i) k) xs f.1 (runs r i xs e g c code types k h f.0 o))
   react_fits s (Effects goal eff) k go h up f o none no_start no_end =
       effect_fits r i xs e g c code types s k goal eff f.1.0 go h f.0 o (λ q. none (λ w. stored_waits goal eff q w)) f.1.1 f.1.2 (λ class args q. no_start goal class args (ap (Effects goal) q))
     where
@@ -181,11 +178,8 @@ module _ (r : RawTree) (i : ℕ) (xs : Numbered Frame) (e : Entry) (g : Frame) (
       stored_waits (Kept spot) eff q w = cc
   react_fits s (Operand spot q) k go h up f o none no_start no_end =
       let zero_plus : 0 + length e.operands ≡ length e.operands = omega arith in
-      fine_of r k.halted (pushed (Keep i spot q) (pushed (Run i) k)) xs go (
-        types,
-        goes_by_two r types i (Keep i spot q) k xs e g c h (keep_of i spot q)
-            (λ ts. (code, f.0, operands_more r types g 0 e.operands q f.1.0 o (subst (λ m. NextOperand g m f.1.0) (sym zero_plus) f.1.1) f.1.2)),
-      )
+      fine_same r types k.halted (pushed (Keep i spot q) (pushed (Run i) k)) xs go (goes_by_two r types i (Keep i spot q) k xs e g c h (keep_of i spot q)
+      (λ ts. (code, f.0, operands_more r types g 0 e.operands q f.1.0 o (subst (λ m. NextOperand g m f.1.0) (sym zero_plus) f.1.1) f.1.2)))
   react_fits s (Waits spot vs) k go h up f o none no_start no_end = wait_fits spot vs k go h f.0 o f.1
   react_fits s (Sends n v) k go h up f o none no_start no_end = send_in_fits r i xs e g c code types n v k go h f.0 o f.1
   react_fits s (Cancels n) k go h up f o none no_start no_end =
@@ -193,8 +187,9 @@ module _ (r : RawTree) (i : ℕ) (xs : Numbered Frame) (e : Entry) (g : Frame) (
       owner_fits r i xs e g c code types (owner n k.entries) d go (owned n k (owner n k.entries) up refl) (runs r i xs e g c code types k h f o)
   react_fits s (Prints v) k go h up f o none no_start no_end = print_fits r i xs e g c code types (print_line i v) k (f.1 i) go h f.0 o
   react_fits s (SendsTo q port text) k go h up f o none no_start no_end =
-      either_fits r i xs e g c code (int_le (pos 0) q && nat_lt (natural q) s.processes && is_port port) _ (throws i bad_argument k)
-      (fine_of r k.halted (pushed (Run i) k) xs go (types, runs r i xs e g c code types k h f o)) (throws_fit r i xs e g c code types bad_argument k go h f o)
+      either_fits r i xs e g c code types (int_le (pos 0) q && nat_lt (natural q) s.processes && is_port port) _ (throws i bad_argument k)
+      (fine_asking r types (Some (Packet (natural q) (natural port) text)) k.halted (pushed (Run i) k) xs (λ z. tt) (fine_same r types k.halted (pushed (Run i) k) xs go (runs r i xs e g c code types k h f o)))
+      (throws_fit r i xs e g c code types bad_argument k go h f o)
   react_fits s (Returns v vs) k go h up f o none no_start no_end = absurd (no_end v vs refl)
   react_fits s (Throws err) k go h up f o none no_start no_end = throws_fit r i xs e g c code types err k go h f o
   react_fits s RunsOut k go h up f o none no_start no_end = tt

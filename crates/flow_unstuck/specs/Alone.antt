@@ -12,7 +12,8 @@ use Rattle.flow_meaning.specs.Orderly.{Orderly}
 use Rattle.flow_meaning.specs.Step.{step}
 use Rattle.flow_meaning.specs.Frame.{Frame, occ_memory}
 use Rattle.flow_meaning.specs.Class.{classes}
-use Rattle.flow_unstuck.specs.Keeping.{FitsSome, IsFine}
+use Rattle.flow_unstuck.specs.Fitting.{CellTypes, ProcessFits}
+use Rattle.flow_unstuck.specs.Keeping.{IsFine}
 
 -- the references in the variables of frames
 abbrev pub frames_scan : Numbered Frame → Side → ℕ → ℕ
@@ -30,5 +31,6 @@ ResultsAlone c xs = (i k : ℕ) (e : Entry) → thing c.entries i ≡ Some e →
 -- Where what is owned is owned alone, a step keeps a process fitting, and has a meaning.
 abbrev pub StepsKeepFitting : RawTree → Type 0
 StepsKeepFitting r =
-    (s : Supply) (p : Proc Frame) → Orderly p.core → p.core.halted ≡ None → FitsSome r p.core p.actors → PortsAlone p.core p.actors → ResultsAlone p.core p.actors
-    → IsFine r (step (classes r) s p)
+    (s : Supply) (types : CellTypes) (p : Proc Frame) → Orderly p.core → p.core.halted ≡ None
+    → ProcessFits r types p.core p.actors → PortsAlone p.core p.actors → ResultsAlone p.core p.actors
+    → IsFine r types (step (classes r) s p)

@@ -7,7 +7,8 @@ use Rattle.flow_class.specs.Classes.{InstrTree, SetInstr, EffectInstr, ActInstr,
 use Rattle.flow_class.specs.Code.{Body, Nothing, fetch}
 use Rattle.flow_valid.specs.Heads.{all_decls}
 use Rattle.flow_meaning.specs.Source.{actors_in}
-use Rattle.flow_fits.specs.Paths.{IsPath}
+use Rattle.flow_walks.specs.Laws.{HasSimpleParts}
+use Rattle.flow_fits.specs.Paths.{IsPath, HasPaths}
 
 -- a path that is written begins with a name
 abbrev pub HasPath : InstrTree → Type 0
@@ -25,6 +26,13 @@ pub record IsWritten (c : ClassTree) : Type 0 where
 
 abbrev pub AreWritten : RawTree → Type 0
 AreWritten r = (k : ℕ) (c : ClassTree) → slice_get r.classes k ≡ Some c → IsWritten c
+
+-- so the functions are written: each `for` has simple parts, and no path is empty
+abbrev pub HasBody : RoutineTree → Type 0
+HasBody f = HasSimpleParts f.body × HasPaths f.body
+
+abbrev pub FunctionsWritten : RawTree → Type 0
+FunctionsWritten r = (k : ℕ) (f : RoutineTree) → slice_get r.functions k ≡ Some f → HasBody f
 
 -- the heads of the actors that the classes are called as
 abbrev pub heads : RawTree → List RoutineTree

@@ -5,12 +5,12 @@ ghost use Rattle.flow_valid.specs.Validity.{IsValid};
 ghost use Rattle.std.specs.Prelude.{List};
 ghost use Rattle.flow_tree.specs.Decls.{RoutineTree};
 ghost use Rattle.flow_unstuck.specs.Rules.{ClassRules};
-ghost use Rattle.flow_unstuck.specs.Written.{AreWritten, heads, FunctionsKept};
+ghost use Rattle.flow_unstuck.specs.Written.{AreWritten, heads, FunctionsWritten, FunctionsKept};
 ghost use Rattle.flow_unstuck.specs.Frames.{FramesAskWhatFits};
 ghost use Rattle.flow_unstuck.specs.Ending.{BurstsEnd};
 ghost use Rattle.flow_unstuck.specs.Keeping.{ActorsKeepFitting, ResultsPlaced};
 ghost use Rattle.flow_unstuck.specs.Alone.{StepsKeepFitting};
-ghost use Rattle.flow_unstuck.specs.Beginning.{IdleFits, VanishedFits, StoppedFits, ArrivalsFit, DeliveriesFit};
+ghost use Rattle.flow_unstuck.specs.Beginning.{IdleFits, VanishedFits, BootsFit, StoppedFits, ArrivalsFit, DeliveriesFit};
 ghost use Rattle.flow_unstuck.specs.Existing.{RunsOrStrays, OneTrace};
 
 /// The world around a process.
@@ -38,6 +38,11 @@ pub fn runs_or_strays()
     ensures once { (r : RawTree) → IsValid r → OneTrace r }
 {}
 
+/// The functions of valid classes are well typed, where they are written as the grammar has them.
+pub fn functions_fit()
+    ensures { (r : RawTree) → IsValid r → FunctionsWritten r → FunctionsKept r }
+{}
+
 /// No frame of valid classes, whose functions are well typed, is stuck: one that fits asks for what fits, and stands
 /// afterwards where what every walk to there fills is filled. So it is of classes that keep the rules, written as what each
 /// instruction has to do with types, and valid classes do.
@@ -51,18 +56,20 @@ pub fn frames_ask_what_fits()
 /// the result of an effect that it stores, an operand that it keeps, a branch that it takes, an error that is thrown where it
 /// stands, and its handler. And each step does, also the end of an actor, a fire and a drop, where what is owned is owned
 /// alone: the promise sides of the streams of ports and of the results of actors. In a process that fits the result of an
-/// effect has a place.
+/// effect has a place. Cells of open requests keep their types, and a cell that a step asks the world to set is of what the world
+/// answers.
 pub fn steps_keep_fitting()
     ensures actors { (r : RawTree) → IsValid r → AreWritten r → FunctionsKept r → ActorsKeepFitting r }
     ensures placed { (r : RawTree) → IsValid r → AreWritten r → FunctionsKept r → ResultsPlaced r }
     ensures steps { (r : RawTree) → IsValid r → AreWritten r → FunctionsKept r → StepsKeepFitting r }
 {}
 
-/// A process in which nothing is fits, and one that was killed; and one that is stopped, to which a packet comes, or to whose
-/// timer or disk request an answer comes that has the type of what its cell holds, where it did before.
+/// A process in which nothing is fits, and one that was killed; and one that is booted or stopped, to which a packet comes, or
+/// to whose timer or disk request an answer comes that has the type of what its cell holds, where it did before.
 pub fn beginnings_fit()
     ensures idle { (r : RawTree) → IdleFits r }
     ensures vanished { (r : RawTree) → VanishedFits r }
+    ensures boots { (r : RawTree) → IsValid r → AreWritten r → FunctionsKept r → BootsFit r }
     ensures stopped { (r : RawTree) → StoppedFits r }
     ensures arrivals { (r : RawTree) → ArrivalsFit r }
     ensures deliveries { (r : RawTree) → DeliveriesFit r }

@@ -1,5 +1,5 @@
 use Rattle.flow_tree.specs.DeclView.{program_of}
-use Rattle.flow_compile.specs.Compiled.{compiled}
+use Rattle.flow_lower.specs.Compiled.{compiled}
 use Rattle.flow_preserved.proofs.Carried.{are_carried}
 use Rattle.flow_preserved.proofs.laws.compiled_alike.Goals as goal
 

@@ -1,6 +1,6 @@
 use Rattle.std.proofs.Common.{Err, subst, sym}
 use Rattle.flow_tree.specs.DeclView.{program_of}
-use Rattle.flow_compile.specs.Compiled.{Compiles}
+use Rattle.flow_lower.specs.Compiled.{Compiles}
 use Rattle.flow_top.specs.Steps.{ClassesOf, are_classes, is_heavy, no_classes}
 use Rattle.flow_top.proofs.decide.classes_of.Goals as goal
 

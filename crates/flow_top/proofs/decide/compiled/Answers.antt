@@ -1,6 +1,9 @@
 use Rattle.flow_top.specs.Words.{of_compile}
-use Rattle.flow_top.proofs.Deciding.{without_program, without_classes, compiles}
+use Rattle.flow_top.proofs.Deciding.{accepted, without_program, without_classes, compiles}
 use Rattle.flow_top.proofs.decide.compiled.Goals as goal
+
+pub classes_of-requires : goal.classes_of-requires
+classes_of-requires g c = accepted c.in-Ok.ensures.loaded
 
 pub returns-in-Err : goal.returns-in-Err
 returns-in-Err g c = λ words are. without_program (of_compile are) c.in-Err.ensures.loaded

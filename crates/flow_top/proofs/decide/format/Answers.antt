@@ -1,5 +1,5 @@
 use Rattle.std.proofs.Common.{Err, subst}
-use Rattle.flow_compile.specs.Verdict.{IsProgram, Reading}
+use Rattle.flow_front.specs.Verdict.{IsProgram, Reading}
 use Rattle.flow_top.specs.Words.{of_format}
 use Rattle.flow_top.specs.Run.{formatted, due}
 use Rattle.flow_top.proofs.Deciding.{without_file, unformatted, text_is, asked_it, same_faults}

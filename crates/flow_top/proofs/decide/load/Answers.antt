@@ -1,5 +1,5 @@
 use Rattle.std.proofs.Common.{Ok, Err, subst}
-use Rattle.flow_compile.specs.Verdict.{Verdict}
+use Rattle.flow_front.specs.Verdict.{Verdict}
 use Rattle.flow_top.proofs.Deciding.{unloaded, loaded, judged, text_is, asked_it, same_faults}
 use Rattle.flow_top.proofs.decide.load.Goals as goal
 

@@ -1,8 +1,11 @@
 use Rattle.std.proofs.Common.{Ok, Err, subst}
 use Rattle.flow_top.specs.Words.{of_run}
 use Rattle.flow_top.specs.Steps.{RunIn}
-use Rattle.flow_top.proofs.Deciding.{Between, without_program, without_classes, without_world, are_light, was_asked, ran, not_ran}
+use Rattle.flow_top.proofs.Deciding.{accepted, Between, without_program, without_classes, without_world, are_light, was_asked, ran, not_ran}
 use Rattle.flow_top.proofs.decide.run.Goals as goal
+
+pub classes_of-requires : goal.classes_of-requires
+classes_of-requires g c = accepted c.in-Ok.ensures.loaded
 
 pub returns-in-Err-clause-decided : goal.returns-in-Err-clause-decided
 returns-in-Err-clause-decided g c = λ words are. without_program (of_run c.args.world.now c.args.frames are) c.in-Err.ensures.loaded

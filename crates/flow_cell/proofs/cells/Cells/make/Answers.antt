@@ -1,8 +1,7 @@
-use Rattle.std.proofs.Common.{◌<◌, ℕ, nat_eq, Some, None, refl, ap, ap₂, ◌∙◌, arith, if◌then◌else◌}
-use Rattle.slab.specs.Slab.{get}
+use Rattle.std.proofs.Common.{◌<◌, [], None, refl, ap, ◌∙◌, arith}
+use Rattle.flow_cell.specs.Lines.{links_of}
 use Rattle.flow_numbered.specs.Numbered.{Store, added}
 use Rattle.flow_cell.specs.Cells.{CellTree}
-use Rattle.flow_cell.specs.Waiting.{waiters_in}
 use Rattle.flow_cell.specs.Seen.{seen, ends_in}
 use Rattle.flow_cell.specs.declared.cell.Cell.{Cell}
 use Rattle.flow_cell.proofs.SeenLemmas.{seen_added, ends_added, no_ends}
@@ -21,13 +20,13 @@ invariant_of-self-2 g c =
     let above : most < n = omega (arith, c.requires, ap (λ (s : Store (CellTree g.row.T.Denot)). s.greatest) c.self.view_is) in
     let rising = c.in_ok-insert.ensures.rising in
     made_queues _ _ _ c.self.invariant _ n (no_ends xs most n rising above)
-    (λ m. ap (λ (s : Store (Cell g.row.T.Denot)). ends_in s.things m) c.in_ok-insert.ensures.ok ∙ ends_added xs most n _ m rising above ∙ ap (λ e. if nat_eq m n then Some e else ends_in xs m) c.new-2.ensures)
+    (λ m. ap (λ (s : Store (Cell g.row.T.Denot)). ends_in s.things m) c.in_ok-insert.ensures.ok ∙ ends_added xs most n _ m rising above)
 
 pub returns-clause-ok : goal.returns-clause-ok
 returns-clause-ok g c =
-    let at = λ (k : ℕ). get c.self.inside.links k in
+    let at = links_of c.self.inside.lists in
     let xs = c.self.inside.cells.things in
     let n = c.args.cell.0 in
     rw (← c.self.view_is)
     (ap (λ (s : Store (Cell g.row.T.Denot)). record { things = seen at s.things; greatest = s.greatest }) c.in_ok-insert.ensures.ok ∙ ap (λ ys. record { things = ys; greatest = n }) (seen_added at xs n _
-    ∙ ap₂ (λ r e. added (seen at xs) n (record { content = None; references = r; waiters = waiters_in at e })) c.new.ensures c.new-2.ensures))
+    ∙ ap (λ r. added (seen at xs) n (record { content = None; references = r; waiters = [] })) c.new.ensures))

@@ -1,4 +1,0 @@
-mod Judging
-mod OneVerdict
-mod Collecting
-mod Weights

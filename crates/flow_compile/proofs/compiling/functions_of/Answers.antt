@@ -1,6 +1,0 @@
-use Rattle.flow_compile.proofs.Collecting.{functions_more}
-use Rattle.flow_compile.proofs.compiling.functions_of.Goals as goal
-
-pub loop-decl-preserved : goal.loop-decl-preserved
-loop-decl-preserved c =
-    functions_more _ _ c.args.decls.now c.loop-decl.decl-index c.decl-item.result _ c.loop-decl-test.true c.loop-decl.invariant c.decl-item.is c.in_ok-push_function.ensures

@@ -1,0 +1,6 @@
+use Rattle.flow_lower.proofs.Collecting.{functions_more}
+use Rattle.flow_lower.proofs.compiling.functions_of.Goals as goal
+
+pub loop-decl-preserved : goal.loop-decl-preserved
+loop-decl-preserved c =
+    functions_more _ _ c.args.decls.now c.loop-decl.decl-index c.decl-item.result _ c.loop-decl-test.true c.loop-decl.invariant c.decl-item.is c.in_ok-push_function.ensures
