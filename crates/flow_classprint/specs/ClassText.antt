@@ -100,10 +100,17 @@ slot_text n s = line 1 (codes "slot " ++ decimal n ++ codes " " ++ type_text s.t
 abbrev pub local_line : ℕ → TypeTree → List ℕ
 local_line n t = line 1 (codes "local " ++ decimal n ++ codes " " ++ type_text t ++ codes ";")
 
-abbrev pub class_text : ClassTree → List ℕ
-class_text c =
+-- what stands before the blocks of a class, and behind them
+abbrev pub class_front : ClassTree → List ℕ
+class_front c =
     line 0 (codes "class " ++ c.name ++ codes " returns " ++ type_text c.returns ++ codes " params " ++ decimal c.params ++ codes " {")
-    ++ numbered slot_text 0 c.slots ++ numbered local_line 0 c.locals ++ numbered block_text 0 c.blocks ++ groups_text 1 0 c.groups ++ line 0 (codes "}")
+    ++ numbered slot_text 0 c.slots ++ numbered local_line 0 c.locals
+
+abbrev pub class_back : ClassTree → List ℕ
+class_back c = groups_text 1 0 c.groups ++ line 0 (codes "}")
+
+abbrev pub class_text : ClassTree → List ℕ
+class_text c = class_front c ++ numbered block_text 0 c.blocks ++ class_back c
 
 abbrev pub record_text : RecordTree → List ℕ
 record_text r = decl_text (StructDecl r)

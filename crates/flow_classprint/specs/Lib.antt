@@ -1,1 +1,2 @@
 pub mod ClassText
+pub mod ClassGrammar

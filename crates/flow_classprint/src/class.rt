@@ -5,7 +5,7 @@ ghost use Rattle.flow_tree.specs.View.{type_of};
 ghost use Rattle.flow_tree.specs.DeclView.{slot_of};
 ghost use Rattle.flow_tree.specs.Canon.{type_text, line};
 ghost use Rattle.flow_class.specs.View.{block_of, group_of, class_of};
-ghost use Rattle.flow_classprint.specs.ClassText.{numbered, slot_text, local_line, block_text, groups_text, class_text};
+ghost use Rattle.flow_classprint.specs.ClassText.{numbered, slot_text, local_line, block_text, groups_text, class_front, class_back, class_text};
 
 use crate::block::{put_block, put_group};
 use crate::instr::{put_count, put_number, sum};
@@ -114,15 +114,31 @@ fn put_class_begin(out: &mut Source, class: &Class) -> Result<(), NoMemory>
     Ok(())
 }
 
-/// Adds a class.
-pub fn put_class(out: &mut Source, class: &Class) -> Result<(), NoMemory>
-    ensures { IfOk result (λ _. out.new ≡ out.old ++ class_text (class_of class.now)) }
+/// Adds what stands before the blocks of a class.
+pub fn put_class_front(out: &mut Source, class: &Class) -> Result<(), NoMemory>
+    ensures { IfOk result (λ _. out.new ≡ out.old ++ class_front (class_of class.now)) }
 {
     put_class_begin(out, class)?;
     put_slots(out, &class.slots)?;
     put_local_lines(out, &class.locals)?;
-    put_blocks(out, &class.blocks)?;
+    Ok(())
+}
+
+/// Adds what stands behind the blocks of a class.
+pub fn put_class_back(out: &mut Source, class: &Class) -> Result<(), NoMemory>
+    ensures { IfOk result (λ _. out.new ≡ out.old ++ class_back (class_of class.now)) }
+{
     put_groups(out, &class.groups)?;
     out.put(b"}\n")?;
+    Ok(())
+}
+
+/// Adds a class.
+pub fn put_class(out: &mut Source, class: &Class) -> Result<(), NoMemory>
+    ensures { IfOk result (λ _. out.new ≡ out.old ++ class_text (class_of class.now)) }
+{
+    put_class_front(out, class)?;
+    put_blocks(out, &class.blocks)?;
+    put_class_back(out, class)?;
     Ok(())
 }

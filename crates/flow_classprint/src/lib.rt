@@ -5,5 +5,7 @@ mod block;
 mod class;
 mod instr;
 mod print;
+mod write;
 
-pub use print::{print_classes, write_classes};
+pub use print::print_classes;
+pub use write::write_classes;

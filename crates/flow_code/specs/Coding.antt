@@ -11,6 +11,7 @@ use Rattle.flow_ast.specs.declared.predefined.Predefined.{Predefined}
 use Rattle.flow_ast.specs.declared.predefined.Predefined.TheVariants.{RandomInt, Delay, Never, Listen, ReadFile, WriteFile, SyncFile, FileSize}
 use Rattle.flow_ast.specs.declared.predefined.Method.{Method}
 use Rattle.flow_ast.specs.TypingNames.{named, call_names, method_names}
+use Rattle.flow_class.specs.declared.class.Slotted.{Slotted}
 use Rattle.flow_class.specs.Classes.{CatcherTree, InstrTree, SetInstr, EffectInstr, NewInstr, ActInstr, DropInstr, LastTree, GotoLast, PassLast, TestLast, ChooseLast, ReturnLast, ThrowLast, BlockTree, CallbackTree, ClassTree}
 use Rattle.flow_class.specs.Code.{type_at}
 use Rattle.flow_resolved.specs.Tree.{Node, Nodes}
@@ -46,6 +47,9 @@ abbrev pub promise_kind : TypeTree → Option Kind
 promise_kind (PromiseType t) = Some kind.Promise
 promise_kind (PromiseStreamType t) = Some kind.PromiseStream
 promise_kind _ = None
+
+abbrev pub kind_at : ClassTree → Slotted → Option Kind
+kind_at t p = option_and_then promise_kind (type_at t p)
 
 -- the numbers of the names of fields, where all are names of fields
 abbrev pub one_more : Option ℕ → Option (List ℕ) → Option (List ℕ)
@@ -130,19 +134,34 @@ module _ (c : Coding) where
   effect_in (CallExpr f es) = option_map (λ e. (e, resolved_all c.names es)) (effect_named (named call_names f.name) (c.class f.name))
   effect_in _ = None
 
+  abbrev pub coded_method : List Ident → (name : List ℕ) → Nodes → InstructionTree
+  coded_method xs m es = method_code (aimed xs) (named method_names m) es
+
   abbrev pub act_code : List Ident → Nodes → InstructionTree
   act_code [] es = NoCode
   act_code (f ∷ []) es = plain_code (act_named (named call_names f.name) (c.names.function f.name)) es
-  act_code (x ∷ y ∷ ys) es = method_code (aimed (x ∷ before_last y ys)) (named method_names (last_name y ys).name) es
+  act_code (x ∷ y ∷ ys) es = coded_method (x ∷ before_last y ys) (last_name y ys).name es
+
+  abbrev pub coded_set : List Ident → ExprTree → InstructionTree
+  coded_set xs e = set_code (aimed xs) (resolved c.names e)
+
+  abbrev pub coded_effect : List Ident → ExprTree → InstructionTree
+  coded_effect xs e = effect_code (aimed xs) (effect_in e)
+
+  abbrev pub coded_new : ClassTree → Slotted → InstructionTree
+  coded_new t p = new_code (place_of c.slots p) (kind_at t p)
+
+  abbrev pub coded_operand : ExprTree → OperandTree
+  coded_operand e = operand_code (effect_in e) (resolved c.names e)
 
   -- locals as places
   abbrev pub places : List ℕ → List ℕ
   places ns = map (λ n. c.slots + n) ns
 
   abbrev pub coded_instruction : ClassTree → InstrTree → InstructionTree
-  coded_instruction t (SetInstr xs e) = set_code (aimed xs) (resolved c.names e)
-  coded_instruction t (EffectInstr xs e) = effect_code (aimed xs) (effect_in e)
-  coded_instruction t (NewInstr p) = new_code (place_of c.slots p) (option_and_then promise_kind (type_at t p))
+  coded_instruction t (SetInstr xs e) = coded_set xs e
+  coded_instruction t (EffectInstr xs e) = coded_effect xs e
+  coded_instruction t (NewInstr p) = coded_new t p
   coded_instruction t (ActInstr xs es) = act_code xs (resolved_all c.names es)
   coded_instruction t (DropInstr ns) = DropCode (places ns)
 
@@ -162,7 +181,7 @@ module _ (c : Coding) where
 
   abbrev pub coded_branch : CallbackTree → BranchCode
   coded_branch b = record {
-    operand = operand_code (effect_in b.operand) (resolved c.names b.operand);
+    operand = coded_operand b.operand;
     into = option_and_then (place_of c.slots) b.into;
     block = b.block;
   }

@@ -4,14 +4,13 @@ ghost use Rattle.std.specs.Prelude.{◌≡◌, ◌+◌, ℕ, List, ◌∷◌, If
 ghost use Rattle.std.specs.Option.{option_map, option_and_then};
 ghost use Rattle.std.specs.Str.{bytes_eq};
 ghost use Rattle.flow_tree.specs.View.{expr_of, exprs_of, type_of};
-ghost use Rattle.flow_ast.specs.TypingNames.{named, call_names, method_names};
-ghost use Rattle.flow_class.specs.Code.{type_at};
+ghost use Rattle.flow_ast.specs.TypingNames.{named, call_names};
 ghost use Rattle.flow_class.specs.View as text;
 ghost use Rattle.flow_resolved.specs.Named.{at_name, first_from, or_else};
 ghost use Rattle.flow_resolved.specs.Resolving.{resolved, resolved_all};
 ghost use Rattle.flow_resolved.specs.View.{node_of, nodes_of};
 ghost use Rattle.flow_code.specs.Places.{place_of, place_in};
-ghost use Rattle.flow_code.specs.Coding.{is_effect, promise_kind, fields_of, aimed, effect_named, effect_in, act_named, set_code, effect_code, new_code, operand_code, method_code, act_code, places, coded_instruction, ended, caught, coded_block, coded_branch, homes_of, home_noted, coded_groups, coded_class};
+ghost use Rattle.flow_code.specs.Coding.{is_effect, promise_kind, fields_of, aimed, effect_named, effect_in, act_named, kind_at, coded_set, coded_effect, coded_new, coded_method, coded_operand, act_code, places, coded_instruction, ended, caught, coded_block, coded_branch, homes_of, home_noted, coded_groups, coded_class};
 ghost use Rattle.flow_code.specs.Coder.{coding_of, name_of_class};
 ghost use Rattle.flow_code.specs.View.{aim_of, instruction_of, end_of, catcher_of, block_of, operand_of, branch_of, group_of, code_of};
 
@@ -152,7 +151,7 @@ fn promise_kind(ty: &Ty) -> Option<Kind>
 
 /// What a new cell at a place of a class is, by the type of the place.
 fn kind_at(class: &text::Class, place: Slotted) -> Option<Kind>
-    ensures { result ≡ option_and_then promise_kind (type_at (text.class_of class.now) place) }
+    ensures { result ≡ kind_at (text.class_of class.now) place }
 {
     match place {
         Slotted::Slot(n) => match class.slots.get(n as usize) {
@@ -287,7 +286,7 @@ impl<'n, 'a> Coder<'n, 'a> {
         name: &[u8],
         args: Vec<Resolved>,
     ) -> Result<Instruction, NoMemory>
-        ensures { IfOk result (λ i. instruction_of i ≡ method_code (aimed (coding_of self.now) (first.now ∷ path.now)) (named method_names name.now) (nodes_of args.items)) }
+        ensures { IfOk result (λ i. instruction_of i ≡ coded_method (coding_of self.now) (first.now ∷ path.now) name.now (nodes_of args.items)) }
     {
         let Some(aim) = self.aim(first, path)? else {
             return Ok(Instruction::Invalid);
@@ -329,7 +328,7 @@ impl<'n, 'a> Coder<'n, 'a> {
 
     // An assignment.
     fn set(&self, target: &Target, expr: &Expr) -> Result<Instruction, NoMemory>
-        ensures { IfOk result (λ i. instruction_of i ≡ set_code (aimed (coding_of self.now) target.now.path.items) (resolved (coding_of self.now).names (expr_of expr.now))) }
+        ensures { IfOk result (λ i. instruction_of i ≡ coded_set (coding_of self.now) target.now.path.items (expr_of expr.now)) }
     {
         match self.aim_at(target)? {
             Some(aim) => Ok(Instruction::Set(aim, self.expr(expr)?)),
@@ -339,7 +338,7 @@ impl<'n, 'a> Coder<'n, 'a> {
 
     // An assignment of what an effect gives.
     fn set_effect(&self, target: &Target, expr: &Expr) -> Result<Instruction, NoMemory>
-        ensures { IfOk result (λ i. instruction_of i ≡ effect_code (aimed (coding_of self.now) target.now.path.items) (effect_in (coding_of self.now) (expr_of expr.now))) }
+        ensures { IfOk result (λ i. instruction_of i ≡ coded_effect (coding_of self.now) target.now.path.items (expr_of expr.now)) }
     {
         let Some(aim) = self.aim_at(target)? else {
             return Ok(Instruction::Invalid);
@@ -352,7 +351,7 @@ impl<'n, 'a> Coder<'n, 'a> {
 
     // A new cell.
     fn new_cell(&self, class: &text::Class, place: Slotted) -> Instruction
-        ensures { instruction_of result ≡ new_code (place_of self.now.slots place) (option_and_then promise_kind (type_at (text.class_of class.now) place)) }
+        ensures { instruction_of result ≡ coded_new (coding_of self.now) (text.class_of class.now) place }
     {
         match (self.number(place), kind_at(class, place)) {
             (Some(place), Some(kind)) => Instruction::New(place, kind),
@@ -439,7 +438,7 @@ impl<'n, 'a> Coder<'n, 'a> {
     }
 
     fn operand(&self, expr: &Expr) -> Result<Operand, NoMemory>
-        ensures { IfOk result (λ o. operand_of o ≡ operand_code (effect_in (coding_of self.now) (expr_of expr.now)) (resolved (coding_of self.now).names (expr_of expr.now))) }
+        ensures { IfOk result (λ o. operand_of o ≡ coded_operand (coding_of self.now) (expr_of expr.now)) }
     {
         match self.effect(expr)? {
             Some((effect, args)) => Ok(Operand::Effect(effect, args)),

@@ -77,7 +77,7 @@ module _ {W : Type 0} (r : RawTree) (leads : LeadOn r) (h : Host W) where
       (step_less r leads (h.supply s.out) s.proc.core.halted s.proc.core s.proc.actors (parts s.proc.core.halted s.proc.core s.proc.actors k))
 
   -- a stopped process takes no step
-  stopped : (l : Live W Frame) (y : Halt) → l.proc.core.halted ≡ Some y → advance (classes r) h l ≡ None
+  pub stopped : (l : Live W Frame) (y : Halt) → l.proc.core.halted ≡ Some y → advance (classes r) h l ≡ None
   stopped l y e = ap (λ x. advanced h l.out (step_if (classes r) (h.supply l.out) x l.proc)) e
 
   after_step : (s l : Live W Frame) → advance (classes r) h s ≡ Some l → Ends r h l → Ends r h s

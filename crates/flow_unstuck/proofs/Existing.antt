@@ -29,7 +29,7 @@ use Rattle.flow_meaning.proofs.Once.{run_once}
 use Rattle.flow_meaning.proofs.InOrder.{no_thing, burst_at_rest}
 use Rattle.flow_unstuck.specs.Ending.{LeadOn, InPlace, Reaches, here, onward, NoPlace}
 use Rattle.flow_unstuck.specs.Existing.{Strays, now, later, RestsInPlace, WorldInPlace, RunsOrStrays, OneTrace}
-use Rattle.flow_unstuck.proofs.Ending.{InPlaceNow, next_in_place, bursts_end}
+use Rattle.flow_unstuck.proofs.Ending.{InPlaceNow, next_in_place, stopped, bursts_end}
 use Rattle.flow_unstuck.proofs.Beginnings.{rests_set, begun_begins, start_places}
 
 -- The file of the world, and how many events have run, change with no request.
@@ -153,7 +153,11 @@ module _ (r : RawTree) (leads : LeadOn r) where
     by_end : (l : Live Outside Frame) → Reaches (classes r) host (before b) l → (advance (classes r) host l ≡ None) ⊎ NoPlace r l.proc.core l.proc.actors
         → (advance (classes r) host l ≡ None → l.proc.core.halted ≡ None → Found (after w b l)) → Found w
     by_end l q (inl a) next = by_halt l l.proc.core.halted refl q a (next a)
-    by_end l q (inr n) next = inr (now b l e g q (inr n))
+    by_end l q (inr n) next = by_going l.proc.core.halted refl
+      where
+        by_going : (x : Option Halt) → l.proc.core.halted ≡ x → Found w
+        by_going None h = inr (now b l e g q (inr (h, n)))
+        by_going (Some x) h = let a = stopped r leads host l x h in by_halt l l.proc.core.halted refl q a (next a)
 
   -- how many events may still run
   abbrev bound : World Frame → ℕ

@@ -17,9 +17,11 @@ use Rattle.flow_unstuck.specs.Phases.{Placed}
 use Rattle.flow_unstuck.specs.Going.{Going}
 use Rattle.flow_unstuck.specs.Ending.{NoPlace, Reaches}
 
--- what has no meaning: the event was stopped for it, or the result of an effect has no place
+-- what has no meaning: the event was stopped for it, or goes on and an effect's result has no place
 abbrev pub Astray : RawTree → Live Outside Frame → Type 0
-Astray r l = (l.proc.core.halted ≡ Some NoMeaning) ⊎ NoPlace r l.proc.core l.proc.actors
+Astray r l =
+    (l.proc.core.halted ≡ Some NoMeaning)
+    ⊎ ((l.proc.core.halted ≡ None) × NoPlace r l.proc.core l.proc.actors)
 
 -- a run that comes to it, in the next event or in a later one
 pub data Strays (r : RawTree) : World Frame → Type 0 where

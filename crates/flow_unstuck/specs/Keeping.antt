@@ -31,13 +31,16 @@ AskFits types (Some (Timer cell time)) = types cell ≡ Some (FutureType VoidTyp
 AskFits types (Some (Disks cell call)) = types cell ≡ Some (FutureType (reply_type call))
 AskFits types q = Unit {0}
 
--- a process fits for types that the cells of open requests had before, and what it asks of the world fits
-abbrev pub FitsStill : RawTree → (before : CellTypes) → Option Request → Core → Numbered Frame → Type 0
+-- a process fits for types that cells of open requests had before, and what it asks of the world fits
+abbrev pub FitsStill :
+    RawTree → (before : CellTypes) → Option Request → Core → Numbered Frame → Type 0
 FitsStill r before q c xs =
-    (types : CellTypes) × ProcessFits r types c xs × StillTyped before types c.requests × AskFits types q
+    (types : CellTypes) × ProcessFits r types c xs × StillTyped before types c.requests
+    × AskFits types q
 
 -- so it is, or the event was stopped for want of turns; but never for want of meaning
-abbrev pub FineAsking : RawTree → (before : CellTypes) → Option Request → Option Halt → Core → Numbered Frame → Type 0
+abbrev pub FineAsking :
+    RawTree → (before : CellTypes) → Option Request → Option Halt → Core → Numbered Frame → Type 0
 FineAsking r before q None c xs = FitsStill r before q c xs
 FineAsking r before q (Some Spent) c xs = Unit {0}
 FineAsking r before q (Some NoMeaning) c xs = ⊥

@@ -1,7 +1,6 @@
 use Rattle.std.proofs.Common.{◌∷◌, ap, sym, ◌∙◌}
-use Rattle.flow_ast.specs.TypingNames.{named, method_names}
 use Rattle.flow_resolved.specs.View.{nodes_of}
-use Rattle.flow_code.specs.Coding.{aimed, method_code}
+use Rattle.flow_code.specs.Coding.{coded_method}
 use Rattle.flow_code.specs.Coder.{coding_of}
 use Rattle.flow_code.proofs.Paths.{method_coded}
 use Rattle.flow_code.proofs.coding.Coder.act.Goals as goal
@@ -13,4 +12,4 @@ returns c =
     let ps = c.in-Some-split_first.path.now in
     method_coded d _ (nodes_of c.args.args.items) c.args.target.now.path.items c.in-Some.before.now ps x c.in-Some.last.now
     (sym c.deref.ensures.value ∙ c.in-Some.ensures.cases.0) c.in-Some-split_first.ensures.cases.0
-    (c.in_ok-method.ensures ∙ ap (λ n. method_code (aimed d (x ∷ ps)) (named method_names n) (nodes_of c.args.args.items)) c.bytes-name.ensures.bytes)
+    (c.in_ok-method.ensures ∙ ap (λ n. coded_method d (x ∷ ps) n (nodes_of c.args.args.items)) c.bytes-name.ensures.bytes)

@@ -2,7 +2,7 @@ use Rattle.std.proofs.Common.{◌≤◌, map, take}
 use Rattle.std.specs.Io.KnownBytes.{Appends}
 use Rattle.flow_class.specs.View.{class_of}
 use Rattle.flow_classprint.specs.ClassText.{all_text, class_text}
-use Rattle.flow_classprint.proofs.print.write_all.Given as goal
+use Rattle.flow_classprint.proofs.write.write_all.Given as goal
 
 abbrev pub invariant-loop-class : goal.invariant-loop-class
 invariant-loop-class g l = record {

@@ -2,7 +2,7 @@ use Rattle.std.proofs.Common.{◌∙◌, map}
 use Rattle.flow_class.specs.View.{class_of, raw_of}
 use Rattle.flow_classprint.specs.ClassText.{all_text, front_text, class_text}
 use Rattle.flow_classprint.proofs.Steps.{front_part, behind_items}
-use Rattle.flow_classprint.proofs.print.write_classes.Goals as goal
+use Rattle.flow_classprint.proofs.write.write_classes.Goals as goal
 
 pub returns-in_err-write_lines-clause-part : goal.returns-in_err-write_lines-clause-part
 returns-in_err-write_lines-clause-part g c =

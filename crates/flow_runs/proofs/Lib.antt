@@ -1,0 +1,10 @@
+pub mod Requests
+pub mod Owned
+pub mod Dues
+pub mod Named
+pub mod Served
+pub mod Living
+pub mod Starting
+pub mod Worlds
+pub mod Events
+pub mod Runs
