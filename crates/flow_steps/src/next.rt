@@ -199,11 +199,7 @@ impl Process {
     }
 
     // Places are emptied, and what they held is dropped.
-    fn empty_places<'a>(
-        &mut self,
-        stand: &Stand<'a>,
-        places: &[u32],
-    ) -> Result<Pace<'a>, Fault> {
+    fn empty_places<'a>(&mut self, stand: &Stand<'a>, places: &[u32]) -> Result<Pace<'a>, Fault> {
         let next = stand.next()?;
         let values = self.taken(stand.actor, places)?;
         if values.is_empty() {
@@ -326,12 +322,7 @@ impl Process {
         }
     }
 
-    fn last<'a>(
-        &mut self,
-        code: &Code,
-        stand: &Stand<'a>,
-        last: &Last,
-    ) -> Result<Pace<'a>, Fault> {
+    fn last<'a>(&mut self, code: &Code, stand: &Stand<'a>, last: &Last) -> Result<Pace<'a>, Fault> {
         match last {
             Last::Goto(block) => Ok(Pace::On(stand.at(*block, 0)?)),
             Last::Pass(block) => self.pass(stand.at(*block, 0)?),
