@@ -80,12 +80,18 @@ side_of kind.FutureStream = Future
 abbrev pub pushed : Task → HeapTree → HeapTree
 pushed t h = record h { tasks = t ∷ h.tasks }
 
--- the numbers of the next cell and of the next actor
+-- the greatest numbers given to a cell and to an actor, and the numbers of the next ones
+abbrev pub last_cell : HeapTree → ℕ
+last_cell h = max h.made (max h.cells.greatest h.streams.greatest)
+
+abbrev pub last_actor : HeapTree → ℕ
+last_actor h = max h.actors.greatest h.frames.greatest
+
 abbrev pub next_cell : HeapTree → ℕ
-next_cell h = suc (max h.made (max h.cells.greatest h.streams.greatest))
+next_cell h = suc (last_cell h)
 
 abbrev pub next_actor : HeapTree → ℕ
-next_actor h = suc (max h.actors.greatest h.frames.greatest)
+next_actor h = suc (last_actor h)
 
 -- one more thing with a new number
 abbrev pub with_new : {A : Type 0} → Store A → ℕ → A → Store A
@@ -186,3 +192,7 @@ cleared h = record {
   ports = [];
   requests = [];
 }
+
+-- numbers up to this one count as given to an actor
+abbrev pub skipped_actors : ℕ → HeapTree → HeapTree
+skipped_actors i h = record h { frames = record h.frames { greatest = max h.frames.greatest i } }

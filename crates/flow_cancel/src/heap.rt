@@ -1,13 +1,13 @@
 // The heap of a process.
 
-ghost use Rattle.std.specs.Prelude.{◌≡◌, ◌+◌, ◌<◌, ◌^◌, true, false, [], IsSome, OnOk, IfOk, None, Some, option_copied, slice_get, drop};
+ghost use Rattle.std.specs.Prelude.{◌≡◌, ◌+◌, ◌<◌, ◌^◌, max, true, false, [], IsSome, OnOk, IfOk, None, Some, option_copied, slice_get, drop};
 ghost use Rattle.std.specs.Borrow.{sem};
 ghost use Rattle.std.specs.Option.{ForSome, option_map, is_some};
 ghost use Rattle.flow_value.specs.View.{value_of};
 ghost use Rattle.flow_value.specs.Values.{refs_of};
-ghost use Rattle.flow_numbered.specs.Numbered.{thing, with_thing};
+ghost use Rattle.flow_numbered.specs.Numbered.{thing, with_thing, IsRising};
 ghost use Rattle.flow_cell.specs.Cells.{count_of};
-ghost use Rattle.flow_cancel.specs.Heap.{no_heap, pushed, next_cell, next_actor, with_result, with_stream, owner, may_start, started, started_holding, may_finish, finished, cleared, has_number, with_number, without_number, side_of};
+ghost use Rattle.flow_cancel.specs.Heap.{no_heap, pushed, last_cell, last_actor, next_cell, next_actor, with_result, with_stream, owner, may_start, started, started_holding, may_finish, finished, cleared, skipped_actors, has_number, with_number, without_number, side_of};
 ghost use Rattle.flow_cancel.specs.Dropping.{drops, refs_in, dropping, dropped, may_drop, cancel_owner};
 ghost use Rattle.flow_cancel.specs.Leaving.{kind_at, is_waiter, left_cells, leave_stream_at, leave_cell_at, leave_one, withdrawn, suspended, cancelled};
 ghost use Rattle.flow_cancel.specs.Lending.{LendsCells, LendsStreams, LendsFrames};
@@ -213,12 +213,26 @@ impl Heap {
         &mut self.frames
     }
 
+    /// The greatest number that was given to a cell, 0 at first.
+    pub fn last_cell(&self) -> u64
+        ensures { result ≡ last_cell self.now }
+    {
+        let greatest = self.cells.greatest().max(self.streams.greatest());
+        self.made.max(greatest)
+    }
+
+    /// The greatest number that was given to an actor, 0 at first.
+    pub fn last_actor(&self) -> u64
+        ensures { result ≡ last_actor self.now }
+    {
+        self.actors.greatest().max(self.frames.greatest())
+    }
+
     // The number of the next cell, below 2^63.
     fn next_cell(&self) -> Result<u64, NoMemory>
         ensures { IfOk result (λ n. n ≡ next_cell self.now) }
     {
-        let greatest = self.cells.greatest().max(self.streams.greatest());
-        number_after(self.made.max(greatest))
+        number_after(self.last_cell())
     }
 
     /// An unset single result without a reference, with the next number. Where no number below 2^63 is left, the answer
@@ -249,7 +263,7 @@ impl Heap {
     fn next_actor(&self) -> Result<u64, NoMemory>
         ensures { IfOk result (λ n. n ≡ next_actor self.now) }
     {
-        number_after(self.actors.greatest().max(self.frames.greatest()))
+        number_after(self.last_actor())
     }
 
     /// Whether an actor may start with a result: none; or an unset single result of no unfinished actor, with a count of
@@ -506,6 +520,21 @@ impl Heap {
             Kind::PromiseStream => self.drop_stream(Side::Promise, cell),
             Kind::FutureStream => self.drop_stream(Side::Future, cell),
         }
+    }
+
+    /// Numbers up to this one count as given to a cell.
+    pub fn skip_cells(&mut self, cell: CellId)
+        ensures { self.new ≡ record self.old { made = max self.old.made cell.0 } }
+    {
+        self.made = self.made.max(cell.0);
+    }
+
+    /// Numbers up to this one count as given to an actor.
+    pub fn skip_actors(&mut self, actor: ActorId)
+        ensures skipped { self.new ≡ skipped_actors actor.0 self.old }
+        ensures rising { IsRising 0 self.new.frames.things self.new.frames.greatest }
+    {
+        self.frames.skip_to(actor);
     }
 
     /// Removes everything. The numbers given stay.

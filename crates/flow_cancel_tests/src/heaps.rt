@@ -1,8 +1,55 @@
+use flow_base::errors::OPERATION_CANCELLED;
 use flow_base::ids::{ActorId, CellId, ErrorCode};
 use flow_base::memory::NoMemory;
 use flow_cancel::heap::Heap;
-use flow_cancel::task::Task;
-use flow_value::value::{Kind, RecordId, Value};
+use flow_cancel::task::{Dropped, Task};
+use flow_cell::cells::Cells;
+use flow_cell::counts::Side;
+use flow_cell::waiter::Waiter;
+use flow_frame::frames::Frames;
+use flow_frame::held::Held;
+use flow_value::value::{Kind, Outcome, RecordId, Value};
+
+// Counts one more reference of a side, where the cell is there and few count.
+pub(crate) fn hold(cells: &mut Cells<Outcome>, cell: CellId, side: Side) -> bool {
+    match cells.references(cell) {
+        Some(references) if references.count(side) < 10 => {
+            cells.hold(cell, side);
+            true
+        }
+        _ => false,
+    }
+}
+
+// Has a callback of an actor wait at a cell that is there.
+pub(crate) fn add_wait(
+    cells: &mut Cells<Outcome>,
+    actor: ActorId,
+    cell: CellId,
+) -> Result<bool, NoMemory> {
+    if cells.references(cell).is_none() {
+        return Ok(false);
+    }
+    cells.add_waiter(cell, Waiter { actor, callback: 0 })?;
+    Ok(true)
+}
+
+// An actor that has a frame is in state 1, with a callback at a cell.
+pub(crate) fn suspend(
+    frames: &mut Frames<Value>,
+    actor: ActorId,
+    cell: CellId,
+) -> Result<bool, NoMemory> {
+    if !frames.contains(actor) {
+        return Ok(false);
+    }
+    frames.add_callback(actor, Held { callback: 0, cell })?;
+    if !frames.contains(actor) {
+        return Ok(false);
+    }
+    frames.set_state(actor, 1);
+    Ok(true)
+}
 
 #[test]
 fn the_newest_task_comes_first(rt: HostRuntime) -> Result<(), NoMemory> {
@@ -38,5 +85,61 @@ fn a_cleared_heap_keeps_the_numbers(rt: HostRuntime) -> Result<(), NoMemory> {
     assert!(rt; heap.main().is_none());
     assert!(rt; heap.cells().references(cell).is_none());
     assert_eq!(rt; heap.new_stream()?, CellId(2));
+    Ok(())
+}
+
+#[test]
+fn drop_by_counts(rt: HostRuntime) -> Result<(), NoMemory> {
+    let mut heap = Heap::new(rt.alloc())?;
+    let cell = heap.new_result()?;
+    assert!(rt; hold(heap.cells_mut(), cell, Side::Promise));
+    assert!(rt; hold(heap.cells_mut(), cell, Side::Promise));
+    assert!(rt; hold(heap.cells_mut(), cell, Side::Future));
+    assert!(rt; heap.may_drop(Kind::Promise, cell));
+    assert_eq!(rt; heap.drop_ref(Kind::Promise, cell)?, Dropped::Nothing);
+    assert!(rt; heap.may_drop(Kind::Promise, cell));
+    assert_eq!(rt; heap.drop_ref(Kind::Promise, cell)?, Dropped::Broken);
+    assert!(rt; !heap.may_drop(Kind::Promise, cell));
+    assert!(rt; heap.may_drop(Kind::Future, cell));
+    assert_eq!(rt; heap.drop_ref(Kind::Future, cell)?, Dropped::Freed);
+    Ok(())
+}
+
+#[test]
+fn the_last_future_cancels_an_actor(rt: HostRuntime) -> Result<(), NoMemory> {
+    let mut heap = Heap::new(rt.alloc())?;
+    let cell = heap.new_result()?;
+    assert!(rt; heap.may_start(Some(cell)));
+    let actor = heap.start(4, 2, Some(cell))?;
+    assert_eq!(rt; actor, ActorId(1));
+    assert!(rt; !heap.may_start(Some(cell)));
+    assert!(rt; hold(heap.cells_mut(), cell, Side::Future));
+    assert!(rt; heap.may_drop(Kind::Future, cell));
+    assert_eq!(rt; heap.drop_ref(Kind::Future, cell)?, Dropped::Cancel(actor));
+    assert!(rt; heap.may_finish(actor));
+    assert!(rt; heap.unfinished(actor));
+    heap.finish(actor);
+    assert!(rt; !heap.unfinished(actor));
+    assert!(rt; heap.may_start(Some(cell)));
+    assert_eq!(rt; heap.start(4, 2, Some(cell))?, ActorId(2));
+    Ok(())
+}
+
+#[test]
+fn a_cancelled_actor_leaves_its_wait(rt: HostRuntime) -> Result<(), NoMemory> {
+    let mut heap = Heap::new(rt.alloc())?;
+    let cell = heap.new_result()?;
+    let actor = heap.start(4, 2, None)?;
+    assert!(rt; add_wait(heap.cells_mut(), actor, cell)?);
+    assert!(rt; suspend(heap.frames_mut(), actor, cell)?);
+    assert!(rt; heap.unfinished(actor));
+    assert!(rt; heap.frames().contains(actor));
+    heap.cancel(actor)?;
+    assert!(rt; !heap.cells().waits(cell, Waiter { actor, callback: 0 }));
+    assert!(rt; matches!(&heap.next_task(), Some(Task::Drop(Kind::Future, _))));
+    assert!(rt; matches!(&heap.next_task(), Some(Task::Throw(_, OPERATION_CANCELLED))));
+    assert!(rt; heap.next_task().is_none());
+    assert!(rt; heap.unfinished(actor));
+    assert!(rt; heap.marked(actor));
     Ok(())
 }

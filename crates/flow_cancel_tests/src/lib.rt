@@ -3,3 +3,5 @@
 
 #[cfg(test)]
 mod heaps;
+#[cfg(test)]
+mod speed;

@@ -170,3 +170,20 @@ part_next text view a b c xs first number index x d done piece lt is h e p q =
     part_behind a b c _ done piece rest
     (sym h ∙ ap (λ l. done ++ numbered text number (map view l)) (drop_more xs index d lt)
     ∙ ap (λ z. done ++ (text number (view z) ++ rest)) (sym is) ∙ ap (λ l. done ++ (l ++ rest)) (sym e)) p q
+
+-- What was written of a text with numbered items in its middle.
+module _ {A X : Type 0} (text : ℕ → A → List ℕ) (view : X → A) (a b c : Option (List ℕ)) (front back piece : List ℕ) (xs ys : List X) where
+  pub middle_part : piece ≡ front → xs ≡ ys → Appends a b piece → AppendsPart b c (numbered text 0 (map view xs)) → AppendsPart a c (front ++ (numbered text 0 (map view ys) ++ back))
+  middle_part e same p q =
+      part_behind a b c _ front (numbered text 0 (map view ys)) back refl (subst (Appends a b) e p) (subst (λ l. AppendsPart b c (numbered text 0 (map view l))) same q)
+
+  pub middle_whole : piece ≡ front → xs ≡ ys → Appends a b piece → Appends b c (numbered text 0 (map view xs)) → Appends a c (front ++ numbered text 0 (map view ys))
+  middle_whole e same p q = Appends-trans a b c front (numbered text 0 (map view ys)) (subst (Appends a b) e p) (subst (λ l. Appends b c (numbered text 0 (map view l))) same q)
+
+-- and behind it
+pub end_part : (a b c : Option (List ℕ)) (front middle back piece : List ℕ) → piece ≡ back → Appends a b (front ++ middle) → AppendsPart b c piece → AppendsPart a c (front ++ (middle ++ back))
+end_part a b c front middle back piece e p q =
+    part_behind a b c _ (front ++ middle) back [] (ap (λ l. front ++ (middle ++ l)) (sym (append-nil back)) ∙ sym (append_assoc front middle (back ++ []))) p (subst (AppendsPart b c) e q)
+
+pub end_whole : (a b c : Option (List ℕ)) (front middle back piece : List ℕ) → piece ≡ back → Appends a b (front ++ middle) → Appends b c piece → Appends a c (front ++ (middle ++ back))
+end_whole a b c front middle back piece e p q = subst (Appends a c) (append_assoc front middle back) (Appends-trans a b c (front ++ middle) back p (subst (Appends b c) e q))

@@ -187,7 +187,7 @@ pub data ClassRule : List Marked → ClassTree → Type 0 where
       {all : List Marked} (p q r s u v w : Place) (of slots locals blocks groups : List Marked)
       → TypeRule 1 of t → IsNumber params → NumberedRule SlotRule 0 slots ss → NumberedRule LocalRule 0 locals ls → NumberedRule BlockRule 0 blocks (b ∷ bs) → GroupsRule 1 0 groups gs
       → all ≡ said (codes "class") p ∷ said x q ∷ said (codes "returns") r ∷ (of ++ (said (codes "params") s ∷ number_at params u ∷ sign_at sign.OpenCurly v
-          ∷ (slots ++ (locals ++ (blocks ++ (groups ++ sign_at sign.CloseCurly w ∷ []))))))
+      ∷ (slots ++ (locals ++ (blocks ++ (groups ++ sign_at sign.CloseCurly w ∷ []))))))
       → ClassRule all (record { name = x; returns = t; params = params; slots = ss; locals = ls; blocks = b ∷ bs; groups = gs })
 
 -- things one after another

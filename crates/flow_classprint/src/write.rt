@@ -89,7 +89,8 @@ fn write_class<S: Sink>(alloc: Global, class: &Class, out: &mut S) -> Result<(),
     let Ok(end) = behind_blocks(alloc, class) else {
         return Err(OutFault::OutOfMemory);
     };
-    write_lines(out, &end)
+    write_lines(out, &end)?;
+    Ok(())
 }
 
 // Writes classes.

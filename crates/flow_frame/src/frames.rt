@@ -1,8 +1,8 @@
 // Frames by number.
 
-ghost use Rattle.std.specs.Prelude.{◌≡◌, ◌<◌, length, IsSome, is_some, OnOk, OnErr, IfOk, option_copied, option_map, slice_index_or, Some, None, true, []};
+ghost use Rattle.std.specs.Prelude.{◌≡◌, ◌<◌, max, length, IsSome, is_some, OnOk, OnErr, IfOk, option_copied, option_map, slice_index_or, Some, None, true, []};
 ghost use Rattle.std.specs.Option.{ForSome};
-ghost use Rattle.flow_numbered.specs.Numbered.{thing, added, removed, next_above, with_thing};
+ghost use Rattle.flow_numbered.specs.Numbered.{thing, added, removed, next_above, with_thing, IsRising};
 ghost use Rattle.flow_frame.specs.Frames.{fresh, holding, IsFilled, in_state, with_place, with_callback, first_held, other_held, all_empty, standing_of, held_in};
 
 use crate::frame::Frame;
@@ -302,7 +302,15 @@ impl<T> Frames<T> {
         self.frames.remove(actor.0);
     }
 
-    /// The greatest number with which a actor was entered, 0 at first.
+    /// Actors with numbers up to this one count as entered.
+    pub fn skip_to(&mut self, actor: ActorId)
+        ensures skipped { self.new ≡ record self.old { greatest = max self.old.greatest actor.0 } }
+        ensures rising { IsRising 0 self.new.things self.new.greatest }
+    {
+        self.frames.skip_to(actor.0);
+    }
+
+    /// The greatest number with which an actor was entered, or that was skipped, 0 at first.
     pub fn greatest(&self) -> u64
         ensures { result ≡ self.now.greatest }
     {

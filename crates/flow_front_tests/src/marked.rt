@@ -1,7 +1,7 @@
 // Program texts with marks at the places that a refusal shows.
 
 use flow_base::place::Place;
-use flow_compile::front;
+use flow_front::front;
 use flow_tree::fault::{Rule, SourceFault};
 use std::alloc::{AllocError, Global};
 

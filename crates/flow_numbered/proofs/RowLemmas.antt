@@ -202,6 +202,10 @@ module _ {A : Type 0} where
       by_value None f rest = rw f rest
       by_value (Some a) f rest = rw f (ap (λ xs. (x.number, a) ∷ xs) rest)
 
+  pub rise_to : (low : ℕ) (rs : List (Row A)) (most more : ℕ) → most ≤ more → RowsRise low rs most → RowsRise low rs more
+  rise_to low [] most more l h = omega (arith, l, h)
+  rise_to low (r ∷ rs) most more l h = (h.0, rise_to r.number rs most more l h.1)
+
   pub rise_kept : (low : ℕ) (rs : List (Row A)) (most : ℕ) → RowsRise low rs most → RowsRise low (filter is_live rs) most
   rise_kept low [] most h = h
   rise_kept low (x ∷ rs) most h = by_test (is_live x) (rise_kept x.number rs most h.1)

@@ -1,6 +1,6 @@
 // Things by number.
 
-ghost use Rattle.std.specs.Prelude.{◌≡◌, ℕ, ◌<◌, [], Some, None, IsSome, is_some, OnOk, OnErr, option_copied};
+ghost use Rattle.std.specs.Prelude.{◌≡◌, ℕ, ◌<◌, max, [], Some, None, IsSome, is_some, OnOk, OnErr, option_copied};
 ghost use Rattle.std.specs.Borrow.{sem};
 ghost use Rattle.flow_numbered.specs.Numbered.{thing, added, removed, next_above, IsRising};
 
@@ -122,7 +122,15 @@ impl<V> Numbered<V> {
         live_from(&self.rows, from, number)
     }
 
-    /// The greatest number that a thing ever had, 0 at first.
+    /// Numbers up to this one count as given.
+    pub fn skip_to(&mut self, number: u64)
+        ensures skipped { self.new ≡ record self.old { greatest = max self.old.greatest number } }
+        ensures rising { IsRising 0 self.new.things self.new.greatest }
+    {
+        self.greatest = self.greatest.max(number);
+    }
+
+    /// The greatest number that a thing ever had, or that was skipped, 0 at first.
     pub fn greatest(&self) -> u64
         ensures { result ≡ self.now.greatest }
     {

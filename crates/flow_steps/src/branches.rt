@@ -106,12 +106,12 @@ impl Process {
 
     /// An operand that counts already is kept. A marked actor then leaves its wait and is thrown that it was cancelled; an
     /// operand that is ready is taken; otherwise the actor goes on.
-    pub(crate) fn keep_operand(
+    pub(crate) fn keep_operand<'a>(
         &mut self,
-        stand: &Stand<'_>,
+        stand: &Stand<'a>,
         callback: u32,
         cell: CellId,
-    ) -> Result<Pace, Fault> {
+    ) -> Result<Pace<'a>, Fault> {
         let actor = stand.actor;
         if !self.heap.unfinished(actor) || !self.heap.frames().contains(actor) {
             return Err(Fault::Astray);
@@ -124,7 +124,7 @@ impl Process {
             return Ok(Pace::Off);
         }
         if !self.is_ready(cell) {
-            return Ok(Pace::On);
+            return Ok(Pace::On(*stand));
         }
         let branch = branch_of(stand, callback)?;
         self.take(stand, branch, cell)?;
@@ -142,7 +142,7 @@ impl Process {
         self.pop_run(actor)?;
         let stand = self.stand_of(code, actor)?;
         match self.keep_operand(&stand, callback, cell)? {
-            Pace::On => self.run(code, actor),
+            Pace::On(stand) => self.run_from(code, stand),
             Pace::Off => Ok(()),
         }
     }

@@ -3,6 +3,7 @@
 
 use crate::call::{Call, DiskCall, Goal};
 use crate::errors::Fault;
+use crate::frames::Stand;
 use crate::next::Pace;
 use crate::process::Process;
 use flow_ast::predefined::Predefined;
@@ -91,23 +92,24 @@ impl Process {
     }
 
     /// An effect of an actor.
-    pub(crate) fn effect(
+    pub(crate) fn effect<'a>(
         &mut self,
         code: &Code,
-        actor: ActorId,
+        stand: &Stand<'a>,
         goal: Goal,
         effect: Effect,
         args: &[Resolved],
-    ) -> Result<Pace, Fault> {
+    ) -> Result<Pace<'a>, Fault> {
         match effect {
-            Effect::World(call) => match self.values(code, actor, args) {
+            Effect::World(call) => match self.values(code, stand.actor, args) {
                 Ok(args) => {
-                    self.world_effect(actor, goal, call, args)?;
+                    self.note(*stand)?;
+                    self.world_effect(stand.actor, goal, call, args)?;
                     Ok(Pace::Off)
                 }
-                Err(halt) => self.halted(actor, halt),
+                Err(halt) => self.halted(stand, halt),
             },
-            Effect::Actor(class) => self.start(code, actor, goal, class, args),
+            Effect::Actor(class) => self.start(code, stand, goal, class, args),
         }
     }
 
@@ -191,23 +193,24 @@ impl Process {
     }
 
     // The call of an actor: a turn, and the new actor runs; its result is then stored or kept, and the caller goes on.
-    fn start(
+    fn start<'a>(
         &mut self,
         code: &Code,
-        caller: ActorId,
+        stand: &Stand<'a>,
         goal: Goal,
         number: u32,
         args: &[Resolved],
-    ) -> Result<Pace, Fault> {
-        let args = match self.values(code, caller, args) {
+    ) -> Result<Pace<'a>, Fault> {
+        let args = match self.values(code, stand.actor, args) {
             Ok(args) => args,
-            Err(halt) => return self.halted(caller, halt),
+            Err(halt) => return self.halted(stand, halt),
         };
+        self.note(*stand)?;
         if !self.turn() {
             return Ok(Pace::Off);
         }
         let (actor, cell) = self.enrol(code, number, args)?;
-        self.gives(caller, goal, Value::Ref(Kind::Future, cell))?;
+        self.gives(stand.actor, goal, Value::Ref(Kind::Future, cell))?;
         self.heap.push(Task::Run(actor))?;
         self.tell_start(code, number, actor)?;
         Ok(Pace::Off)

@@ -18,7 +18,8 @@ pub(crate) fn may_refer(value: &Value) -> bool {
     matches!(value, Value::Struct(_) | Value::Ref(_, _))
 }
 
-/// Where an actor stands: its class, and the block and the instruction; where it waits, the block of the wait.
+/// Where an actor stands: its class, and the block and the instruction; where it waits, the block of the wait; and whether its
+/// frame says so already.
 #[derive(Clone, Copy)]
 pub(crate) struct Stand<'a> {
     pub(crate) actor: ActorId,
@@ -26,6 +27,39 @@ pub(crate) struct Stand<'a> {
     pub(crate) place: u32,
     pub(crate) block: &'a Block,
     pub(crate) instruction: u32,
+    pub(crate) noted: bool,
+}
+
+impl<'a> Stand<'a> {
+    /// Where the actor stands that goes on at a block and an instruction of it. Its frame doesn't say so yet.
+    pub(crate) fn at(&self, place: u32, instruction: u32) -> Result<Stand<'a>, Fault> {
+        match self.class.blocks.get(place as usize) {
+            Some(block) => Ok(Stand {
+                actor: self.actor,
+                class: self.class,
+                place,
+                block,
+                instruction,
+                noted: false,
+            }),
+            None => Err(Fault::Astray),
+        }
+    }
+
+    /// Where the actor stands that goes on at its next instruction. Its frame doesn't say so yet.
+    pub(crate) fn next(&self) -> Result<Stand<'a>, Fault> {
+        match self.instruction.checked_add(1) {
+            Some(instruction) => Ok(Stand {
+                actor: self.actor,
+                class: self.class,
+                place: self.place,
+                block: self.block,
+                instruction,
+                noted: false,
+            }),
+            None => Err(Fault::Astray),
+        }
+    }
 }
 
 /// The number of the block in which a frame stands; where its actor waits, that of the wait.
@@ -46,6 +80,7 @@ fn stand_in(code: &Code, actor: ActorId, at: Standing) -> Option<Stand<'_>> {
         place,
         block: class.blocks.get(place as usize)?,
         instruction: at.instruction,
+        noted: true,
     })
 }
 
@@ -104,12 +139,25 @@ impl Process {
         Ok(())
     }
 
-    /// Has the frame of an actor go on at its next instruction.
-    pub(crate) fn go_on(&mut self, stand: &Stand<'_>) -> Result<(), Fault> {
-        match stand.instruction.checked_add(1) {
-            Some(next) => self.go(stand.actor, stand.place, next),
-            None => Err(Fault::Astray),
+    /// Has the frame of an actor say where the actor stands, where it does not yet.
+    pub(crate) fn note<'a>(&mut self, stand: Stand<'a>) -> Result<Stand<'a>, Fault> {
+        if stand.noted {
+            return Ok(stand);
         }
+        self.go(stand.actor, stand.place, stand.instruction)?;
+        Ok(Stand {
+            actor: stand.actor,
+            class: stand.class,
+            place: stand.place,
+            block: stand.block,
+            instruction: stand.instruction,
+            noted: true,
+        })
+    }
+
+    /// Has the frame of an actor go on at its next instruction.
+    pub(crate) fn go_on<'a>(&mut self, stand: &Stand<'a>) -> Result<Stand<'a>, Fault> {
+        self.note(stand.next()?)
     }
 
     // The part of a place at which an actor aims gets a value that counts already. Gives what stood there.

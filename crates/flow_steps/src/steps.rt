@@ -78,9 +78,8 @@ impl Process {
             return Err(Fault::Astray);
         };
         let old = self.bind(actor, branch, value)?;
-        self.go(actor, branch.block, 0)?;
-        match self.on_after(actor, old)? {
-            Pace::On => self.run(code, actor),
+        match self.on_after(stand.at(branch.block, 0)?, old)? {
+            Pace::On(next) => self.run_from(code, next),
             Pace::Off => Ok(()),
         }
     }
@@ -109,7 +108,8 @@ impl Process {
         if let Some(old) = old {
             self.heap.push_drops(&old)?;
         }
-        self.go_on(&stand)
+        self.go_on(&stand)?;
+        Ok(())
     }
 
     // The line; then the operands that are kept are dropped in order, and the values that leave the variables; then the

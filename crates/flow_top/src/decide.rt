@@ -19,12 +19,12 @@ use flow_base::files::Files;
 use flow_base::input::read_file;
 use flow_base::place::Place;
 use flow_base::text::Text;
-use flow_valid::program::ClassProgram;
 use flow_compile::{CompileFault, compile, first_heavy, front, read_program};
 use flow_staterule::Sound;
 use flow_tree::decl::Program;
 use flow_tree::fault::{Rule, SourceFault};
 use flow_tree::limits::PROGRAM_BYTES;
+use flow_valid::program::ClassProgram;
 use flow_worldfile::{World0, WorldFault, read_world};
 use std::alloc::Global;
 

@@ -1,9 +1,9 @@
 // What a command line comes to.
 
 use flow_base::text::Text;
-use flow_valid::program::ClassProgram;
 use flow_tree::decl::Program;
 use flow_tree::fault::SourceFault;
+use flow_valid::program::ClassProgram;
 use flow_worldfile::{World0, WorldFault};
 
 /// What a command line comes to, before any of it is told.

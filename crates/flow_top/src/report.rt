@@ -18,7 +18,6 @@ use flow_base::name::Name;
 use flow_base::output::write_whole;
 use flow_base::sink::Sink;
 use flow_base::text::Text;
-use flow_valid::program::ClassProgram;
 use flow_classprint::write_classes;
 use flow_machine::host::RunFault;
 use flow_refusal::{refusal_line, refusal_status, world_line};
@@ -27,6 +26,7 @@ use flow_show::show::show_lines;
 use flow_trace::buffer::{LineBuf, print_line};
 use flow_trace::line::Line;
 use flow_tree::fault::SourceFault;
+use flow_valid::program::ClassProgram;
 use flow_worldfile::{World0, WorldFault};
 use std::alloc::Global;
 

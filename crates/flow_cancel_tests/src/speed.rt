@@ -1,0 +1,151 @@
+// What bench/heap.sh times and measures.
+
+use crate::heaps::{add_wait, hold, suspend};
+use flow_base::ids::{ActorId, CellId};
+use flow_base::memory::NoMemory;
+use flow_cancel::heap::Heap;
+use flow_cancel::task::Dropped;
+use flow_cell::cells::Cells;
+use flow_cell::counts::Side;
+use flow_frame::frames::Frames;
+use flow_value::value::{Kind, Outcome, Value};
+use std::alloc::Global;
+
+// An unset cell that is there is set.
+fn set(cells: &mut Cells<Outcome>, cell: CellId) -> bool {
+    if cells.references(cell).is_none() || cells.content(cell).is_some() {
+        return false;
+    }
+    cells.set(cell, Outcome::Value(Value::Int(7)));
+    true
+}
+
+// The oldest waiter of a cell is taken.
+fn take(cells: &mut Cells<Outcome>, cell: CellId) -> bool {
+    if cells.references(cell).is_none() {
+        return false;
+    }
+    let Some(waiter) = cells.first_waiter(cell) else {
+        return false;
+    };
+    if !cells.waits(cell, waiter) {
+        return false;
+    }
+    cells.remove_waiter(cell, waiter);
+    true
+}
+
+// A reference is given up, where it may be.
+fn lose(heap: &mut Heap, kind: Kind, cell: CellId) -> Result<Dropped, NoMemory> {
+    if !heap.may_drop(kind, cell) {
+        return Ok(Dropped::Nothing);
+    }
+    heap.drop_ref(kind, cell)
+}
+
+// A cell that is there is held on both sides, waited for and set, and its waiter is taken.
+fn pass(cells: &mut Cells<Outcome>, cell: CellId) -> Result<bool, NoMemory> {
+    if !hold(cells, cell, Side::Promise) || !hold(cells, cell, Side::Future) {
+        return Ok(false);
+    }
+    if !add_wait(cells, ActorId(1), cell)? || !set(cells, cell) {
+        return Ok(false);
+    }
+    Ok(take(cells, cell))
+}
+
+// A cell is made and used, and its references are given up.
+fn round(heap: &mut Heap) -> Result<bool, NoMemory> {
+    let cell = heap.new_result()?;
+    if !pass(heap.cells_mut(), cell)? {
+        return Ok(false);
+    }
+    lose(heap, Kind::Promise, cell)?;
+    Ok(lose(heap, Kind::Future, cell)? == Dropped::Freed)
+}
+
+#[test]
+fn a_million_rounds(rt: HostRuntime) -> Result<(), NoMemory> {
+    let mut heap = Heap::new(rt.alloc())?;
+    for _ in 0..1_000_000u32 {
+        assert!(rt; round(&mut heap)?);
+    }
+    Ok(())
+}
+
+// Fills the first four places of a frame.
+fn fill(frames: &mut Frames<Value>, actor: ActorId) -> Result<bool, NoMemory> {
+    for place in 0..4u32 {
+        if !frames.contains(actor) || frames.places(actor) <= place {
+            return Ok(false);
+        }
+        frames.set_slot(actor, place, Some(Value::Bool(true)))?;
+    }
+    Ok(true)
+}
+
+// A frame that is there has its first four places filled, and waits at a cell.
+fn settle(frames: &mut Frames<Value>, actor: ActorId, cell: CellId) -> Result<bool, NoMemory> {
+    if !fill(frames, actor)? {
+        return Ok(false);
+    }
+    suspend(frames, actor, cell)
+}
+
+// Adds a suspended actor whose frame has four filled slots, and a callback at a cell of its own.
+fn add_suspended(heap: &mut Heap) -> Result<bool, NoMemory> {
+    let cell = heap.new_result()?;
+    let actor = heap.start(4, 6, None)?;
+    if !add_wait(heap.cells_mut(), actor, cell)? {
+        return Ok(false);
+    }
+    settle(heap.frames_mut(), actor, cell)
+}
+
+// A heap with so many suspended actors.
+fn suspended(alloc: Global, most: u32) -> Result<Heap, NoMemory> {
+    let mut heap = Heap::new(alloc)?;
+    for _ in 0..most {
+        if !add_suspended(&mut heap)? {
+            return Err(NoMemory);
+        }
+    }
+    Ok(heap)
+}
+
+// How many frames are listed, at most so many.
+fn listed(frames: &Frames<Value>, most: u32) -> u32 {
+    let mut last = ActorId(0);
+    for count in 0..most {
+        match frames.next_actor(last) {
+            Some(next) => last = next,
+            None => return count,
+        }
+    }
+    most
+}
+
+#[test]
+fn a_hundred_thousand_frames(rt: HostRuntime) -> Result<(), NoMemory> {
+    let heap = suspended(rt.alloc(), 100_000)?;
+    assert_eq!(rt; listed(heap.frames(), 200_000), 100_000);
+    Ok(())
+}
+
+#[test]
+fn a_hundred_thousand_frames_listed_ten_times(rt: HostRuntime) -> Result<(), NoMemory> {
+    let heap = suspended(rt.alloc(), 100_000)?;
+    for _ in 0..10u32 {
+        assert_eq!(rt; listed(heap.frames(), 200_000), 100_000);
+    }
+    Ok(())
+}
+
+#[test]
+fn ten_thousand_frames_listed_a_hundred_times(rt: HostRuntime) -> Result<(), NoMemory> {
+    let heap = suspended(rt.alloc(), 10_000)?;
+    for _ in 0..100u32 {
+        assert_eq!(rt; listed(heap.frames(), 20_000), 10_000);
+    }
+    Ok(())
+}
