@@ -1,3 +1,4 @@
+pub mod Bringing
 pub mod Doing
 pub mod Drops
 pub mod Holding

@@ -1,6 +1,12 @@
 // Effects: new cells, calls of actors, and what is asked of the world. A bad argument is an error that is thrown where the
 // actor stands.
 
+ghost use Rattle.std.specs.Prelude.{◌≡◌, IfOk, OnOk};
+ghost use Rattle.flow_value.specs.declared.value.Value.TheVariants.{Ref};
+ghost use Rattle.flow_cancel.specs.Heap.{next_cell};
+ghost use Rattle.flow_steps.specs.Holding.{on_heap, Gives};
+ghost use Rattle.flow_steps.specs.Bringing.{made};
+
 use crate::call::{Call, DiskCall, Goal};
 use crate::errors::Fault;
 use crate::frames::Stand;
@@ -56,7 +62,10 @@ fn disk_call(alloc: Global, call: Predefined, args: &mut [Value]) -> Result<Disk
 
 impl Process {
     /// A new cell for a kind of reference.
-    pub(crate) fn new_cell(&mut self, kind: Kind) -> Result<CellId, Fault> {
+    pub(crate) fn new_cell(&mut self, kind: Kind) -> Result<CellId, Fault>
+        ensures number { IfOk result (λ k. k.0 ≡ next_cell self.old.heap) }
+        ensures made { OnOk result (self.new ≡ on_heap (made kind) self.old) }
+    {
         match kind {
             Kind::Promise | Kind::Future => Ok(self.heap.new_result()?),
             Kind::PromiseStream | Kind::FutureStream => Ok(self.heap.new_stream()?),
@@ -69,7 +78,10 @@ impl Process {
         actor: ActorId,
         goal: Goal,
         kind: Kind,
-    ) -> Result<CellId, Fault> {
+    ) -> Result<CellId, Fault>
+        ensures number { IfOk result (λ k. k.0 ≡ next_cell self.old.heap) }
+        ensures given { IfOk result (λ k. Gives goal actor (Ref kind k) (on_heap (made kind) self.old) self.new) }
+    {
         let cell = self.new_cell(kind)?;
         self.gives(actor, goal, Value::Ref(kind, cell))?;
         Ok(cell)

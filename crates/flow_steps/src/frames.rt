@@ -1,6 +1,13 @@
 // The frames of a process: places, positions, and values that leave them.
 
-ghost use Rattle.std.specs.Prelude.{◌≡◌, OnOk};
+ghost use Rattle.std.specs.Prelude.{◌≡◌, OnOk, IfOk, slice_index_or, None};
+ghost use Rattle.std.specs.Option.{IsSomeAnd};
+ghost use Rattle.flow_numbered.specs.Numbered.{thing};
+ghost use Rattle.flow_frame.specs.Frames.{with_place};
+ghost use Rattle.flow_cancel.specs.Dropping.{dropping};
+ghost use Rattle.flow_picture.specs.Acting.{frame_put};
+ghost use Rattle.flow_steps.specs.Holding.{on_heap};
+ghost use Rattle.flow_steps.specs.Bringing.{gone_to};
 ghost use Rattle.flow_steps.specs.Drops.{DropsOver};
 
 use crate::errors::Fault;
@@ -117,7 +124,9 @@ impl Process {
         place: u32,
         value: Option<Value>,
     ) -> Result<Option<Value>, Fault>
-        ensures { self.new.heap.tasks ≡ self.old.heap.tasks }
+        ensures tasks { self.new.heap.tasks ≡ self.old.heap.tasks }
+        ensures changed { OnOk result (IsSomeAnd (thing self.old.heap.frames.things actor.0) (λ f. self.new ≡ on_heap (frame_put actor.0 (with_place f place value)) self.old)) }
+        ensures held { IfOk result (λ o. IsSomeAnd (thing self.old.heap.frames.things actor.0) (λ f. o ≡ slice_index_or f.places place None)) }
     {
         let Some(places) = self.heap.frames().places_of(actor) else {
             return Err(Fault::Astray);
@@ -130,7 +139,8 @@ impl Process {
 
     /// Has a frame go on at a block and an instruction of it.
     pub(crate) fn go(&mut self, actor: ActorId, block: u32, instruction: u32) -> Result<(), Fault>
-        ensures { self.new.heap.tasks ≡ self.old.heap.tasks }
+        ensures tasks { self.new.heap.tasks ≡ self.old.heap.tasks }
+        ensures gone { OnOk result (IsSomeAnd (thing self.old.heap.frames.things actor.0) (λ f. self.new ≡ on_heap (frame_put actor.0 (gone_to block instruction f)) self.old)) }
     {
         if !self.heap.frames().contains(actor) {
             return Err(Fault::Astray);
@@ -205,8 +215,11 @@ impl Process {
         Ok(values)
     }
 
-    /// Values that left places are dropped, the last one first.
-    pub(crate) fn drop_values(&mut self, values: Vec<Value>) -> Result<(), Fault> {
+    #[tactic(auto, using(flow_cancel::proofs::Drops::drops_last))]
+    /// Values that left places are dropped: the references of the first come on top.
+    pub(crate) fn drop_values(&mut self, values: Vec<Value>) -> Result<(), Fault>
+        ensures { OnOk result (self.new ≡ on_heap (dropping values.items) self.old) }
+    {
         let mut values = values;
         while let Some(value) = values.pop() {
             self.heap.push_drops(&value)?;

@@ -1,7 +1,11 @@
 // The steps of a process: the newest task is done.
 
 ghost use Rattle.std.specs.Prelude.{◌≡◌, OnOk, slice_get};
-ghost use Rattle.std.specs.Option.{ForSome};
+ghost use Rattle.std.specs.Option.{ForSome, IsSomeAnd};
+ghost use Rattle.flow_cell.specs.declared.counts.Side.TheVariants.{Promise};
+ghost use Rattle.flow_cell.specs.Cells.{released};
+ghost use Rattle.flow_picture.specs.Changes.{cell_put};
+ghost use Rattle.flow_steps.specs.Holding.{on_heap};
 ghost use Rattle.flow_numbered.specs.Numbered.{thing};
 ghost use Rattle.flow_steps.specs.Doing.{departed};
 ghost use Rattle.flow_steps.specs.Drops.{DropsOver};
@@ -237,7 +241,9 @@ impl Process {
     }
 
     // A promise of a single result counts no more, where others or futures do.
-    fn end_promise(&mut self, cell: CellId) -> Result<(), Fault> {
+    fn end_promise(&mut self, cell: CellId) -> Result<(), Fault>
+        ensures { OnOk result (IsSomeAnd (thing self.old.heap.cells.things cell.0) (λ c. self.new ≡ on_heap (cell_put cell.0 (record c { references = released Promise c.references })) self.old)) }
+    {
         let Some(references) = self.heap.cells().references(cell) else {
             return Err(Fault::Astray);
         };

@@ -1,0 +1,43 @@
+-- What comes to the heap of a process from outside, what is made in it, and where its actors go.
+use Rattle.std.specs.Prelude.{ℕ, nat_lt, if◌then◌else◌}
+use Rattle.std.specs.declared.option.Option.{Option}
+use Rattle.std.specs.declared.option.Option.TheVariants.{None, Some}
+use Rattle.flow_base.specs.declared.ids.CellId.{CellId}
+use Rattle.flow_value.specs.declared.value.Value.{Value}
+use Rattle.flow_value.specs.declared.value.Outcome.{Outcome}
+use Rattle.flow_value.specs.declared.value.Kind.{Kind}
+use Rattle.flow_value.specs.declared.value.Kind.TheVariants as kind
+use Rattle.flow_frame.specs.Frames.{FrameTree}
+use Rattle.flow_cancel.specs.declared.task.Task.TheVariants as task
+use Rattle.flow_cancel.specs.Heap.{HeapTree, cell_id, pushed, next_cell, with_result, with_stream, without_number}
+use Rattle.flow_picture.specs.Holds.{hold_all, filled_in}
+use Rattle.flow_steps.specs.declared.process.Process.{Process}
+use Rattle.flow_steps.specs.Doing.{turned}
+use Rattle.flow_steps.specs.Holding.{on_heap, outcome_refs}
+
+-- a cell gets content from outside, where a turn is left
+abbrev pub content_brought : Kind → (cell : ℕ) → Outcome → HeapTree → HeapTree
+content_brought kd k o h = filled_in kd k o (hold_all (outcome_refs o) h)
+
+abbrev pub brought : Kind → (cell : ℕ) → Outcome → Process → Process
+brought kd k o p = if nat_lt 0 p.left then on_heap (content_brought kd k o) (turned p) else turned p
+
+-- an open request is answered: its promise is to be dropped
+abbrev pub answered : (cell : ℕ) → HeapTree → HeapTree
+answered k h = pushed (task.Drop kind.Promise (cell_id k)) (record h { requests = without_number h.requests k })
+
+-- the hold on the result of `main` is dropped, if there is one
+abbrev pub main_dropped : Option CellId → HeapTree → HeapTree
+main_dropped None h = h
+main_dropped (Some k) h = pushed (task.Drop kind.Future k) (record h { main = None })
+
+-- a new cell for a kind of reference
+abbrev pub made : Kind → HeapTree → HeapTree
+made kind.Promise h = with_result (next_cell h) h
+made kind.Future h = with_result (next_cell h) h
+made kind.PromiseStream h = with_stream (next_cell h) h
+made kind.FutureStream h = with_stream (next_cell h) h
+
+-- a frame goes on at a block and an instruction
+abbrev pub gone_to : (block instruction : ℕ) → FrameTree Value → FrameTree Value
+gone_to b i f = record f { state = 0; block = b; instruction = i }
