@@ -9,6 +9,8 @@ use Rattle.std.specs.Option.{IsSome, IsSomeAnd, ForSome}
 use Rattle.std.specs.declared.option.Option.{Option}
 use Rattle.std.specs.declared.option.Option.TheVariants.{None, Some}
 use Rattle.flow_base.specs.declared.ids.ActorId.{ActorId}
+use Rattle.flow_base.specs.declared.ids.CellId.{CellId}
+use Rattle.flow_value.specs.declared.value.Value.TheVariants.{Ref}
 use Rattle.flow_numbered.specs.Numbered.{Store, thing, with_thing}
 use Rattle.flow_cell.specs.declared.counts.Side.{Side}
 use Rattle.flow_cell.specs.Cells.{CellTree, held}
@@ -17,21 +19,23 @@ use Rattle.flow_cancel.specs.declared.task.Task.{Task}
 use Rattle.flow_cancel.specs.declared.task.Task.TheVariants as task
 use Rattle.flow_value.specs.Values.{refs_of, refs_of_all}
 use Rattle.flow_value.specs.View.{value_of, values_of}
-use Rattle.flow_cancel.specs.Heap.{HeapTree, cell_id}
-use Rattle.flow_meaning.specs.Cells.{Ref}
+use Rattle.flow_cancel.specs.Heap.{HeapTree, cell_id, next_cell}
+use Rattle.flow_cancel.specs.Dropping.{drops}
+use Rattle.flow_meaning.specs.Cells as cells
 use Rattle.flow_resolved.proofs.Maps.{drop_more}
 use Rattle.flow_picture.specs.Changes.{cell_put, stream_put}
 use Rattle.flow_picture.specs.Holds.{hold, hold_all, held_cell, held_stream, set_cell, send_stream, sent}
 use Rattle.flow_steps.specs.declared.call.Goal.{Goal}
 use Rattle.flow_steps.specs.declared.process.Process.{Process}
 use Rattle.flow_steps.specs.Doing.{doing}
+use Rattle.flow_steps.specs.Bringing.{made, requested, heard, OpenGiven, PortGiven}
 use Rattle.flow_steps.specs.Holding.{on_heap, cell_holding, stream_holding, result_filled, stream_filled, value_refs, IsGiving, Gives}
 
-hold_append : (rs ss : List Ref) (h : HeapTree) → hold_all (rs ++ ss) h ≡ hold_all ss (hold_all rs h)
+hold_append : (rs ss : List cells.Ref) (h : HeapTree) → hold_all (rs ++ ss) h ≡ hold_all ss (hold_all rs h)
 hold_append [] ss h = refl
 hold_append (r ∷ rs) ss h = hold_append rs ss (hold r.0 r.1 h)
 
-no_more : (rs : List Ref) → rs ++ [] ≡ rs
+no_more : (rs : List cells.Ref) → rs ++ [] ≡ rs
 no_more [] = refl
 no_more (r ∷ rs) = ap (λ l. r ∷ l) (no_more rs)
 
@@ -111,3 +115,22 @@ given_all g i v t p held on all is e f q = record {
 -- nothing but the heap is changed
 pub kept_but_heap : (p q r : Process) (f : HeapTree → HeapTree) → q ≡ record p { heap = q.heap } → r ≡ on_heap f q → r ≡ record p { heap = r.heap }
 kept_but_heap p q r f e g = g ∙ ap (λ (x : Process). record x { heap = f q.heap }) e ∙ sym (ap (λ (x : Process). record p { heap = x.heap }) g)
+
+-- the references of one value are dropped
+pub value_dropped : (v : Value) (ts : List Task) → drops (refs_of (value_of v)) ts ≡ drops (refs_of (value_of v) ++ []) ts
+value_dropped v ts = ap (λ rs. drops rs ts) (sym (no_more (refs_of (value_of v))))
+
+-- a result for which the world has an open request, or the stream of a port
+pub open_given : (g : Goal) (i : ActorId) (k : CellId) (p between held all : Process) → k.0 ≡ next_cell p.heap
+    → Gives g i (Ref kind.Future k) (on_heap (made kind.Future) p) between
+    → held ≡ on_heap (hold kind.Promise k.0) between
+    → all ≡ on_heap (requested k.0) held
+    → OpenGiven g i k p all
+open_given g i k p between held all n is e f = record { number = n; between = between; given = is; requested_then = f ∙ ap (on_heap (requested k.0)) e }
+
+pub port_given : (g : Goal) (i : ActorId) (k : CellId) (p between held all : Process) → k.0 ≡ next_cell p.heap
+    → Gives g i (Ref kind.FutureStream k) (on_heap (made kind.FutureStream) p) between
+    → held ≡ on_heap (hold kind.PromiseStream k.0) between
+    → all ≡ on_heap (heard k.0) held
+    → PortGiven g i k p all
+port_given g i k p between held all n is e f = record { number = n; between = between; given = is; heard_then = f ∙ ap (on_heap (heard k.0)) e }

@@ -1,19 +1,22 @@
 -- What comes to the heap of a process from outside, what is made in it, and where its actors go.
-use Rattle.std.specs.Prelude.{ℕ, nat_lt, if◌then◌else◌}
+use Rattle.std.specs.Prelude.{◌≡◌, ℕ, nat_lt, if◌then◌else◌}
 use Rattle.std.specs.declared.option.Option.{Option}
 use Rattle.std.specs.declared.option.Option.TheVariants.{None, Some}
+use Rattle.flow_base.specs.declared.ids.ActorId.{ActorId}
 use Rattle.flow_base.specs.declared.ids.CellId.{CellId}
 use Rattle.flow_value.specs.declared.value.Value.{Value}
+use Rattle.flow_value.specs.declared.value.Value.TheVariants.{Ref}
 use Rattle.flow_value.specs.declared.value.Outcome.{Outcome}
 use Rattle.flow_value.specs.declared.value.Kind.{Kind}
 use Rattle.flow_value.specs.declared.value.Kind.TheVariants as kind
 use Rattle.flow_frame.specs.Frames.{FrameTree}
 use Rattle.flow_cancel.specs.declared.task.Task.TheVariants as task
-use Rattle.flow_cancel.specs.Heap.{HeapTree, cell_id, pushed, next_cell, with_result, with_stream, without_number}
-use Rattle.flow_picture.specs.Holds.{hold_all, filled_in}
+use Rattle.flow_cancel.specs.Heap.{HeapTree, cell_id, pushed, next_cell, with_result, with_stream, with_number, without_number}
+use Rattle.flow_picture.specs.Holds.{hold, hold_all, filled_in}
 use Rattle.flow_steps.specs.declared.process.Process.{Process}
 use Rattle.flow_steps.specs.Doing.{turned}
-use Rattle.flow_steps.specs.Holding.{on_heap, outcome_refs}
+use Rattle.flow_steps.specs.declared.call.Goal.{Goal}
+use Rattle.flow_steps.specs.Holding.{on_heap, outcome_refs, Gives}
 
 -- a cell gets content from outside, where a turn is left
 abbrev pub content_brought : Kind → (cell : ℕ) → Outcome → HeapTree → HeapTree
@@ -41,3 +44,24 @@ made kind.FutureStream h = with_stream (next_cell h) h
 -- a frame goes on at a block and an instruction
 abbrev pub gone_to : (block instruction : ℕ) → FrameTree Value → FrameTree Value
 gone_to b i f = record f { state = 0; block = b; instruction = i }
+
+-- a cell has an open request, or is the stream of a port
+abbrev pub requested : (cell : ℕ) → HeapTree → HeapTree
+requested k h = record h { requests = with_number h.requests k }
+
+abbrev pub heard : (cell : ℕ) → HeapTree → HeapTree
+heard k h = record h { ports = with_number h.ports k }
+
+-- A new single result for which the world has an open request is given: the request is its promise.
+pub record OpenGiven (g : Goal) (i : ActorId) (k : CellId) (before after : Process) : Type 0 where
+  pub number : k.0 ≡ next_cell before.heap
+  pub between : Process
+  pub given : Gives g i (Ref kind.Future k) (on_heap (made kind.Future) before) between
+  pub requested_then : after ≡ on_heap (requested k.0) (on_heap (hold kind.Promise k.0) between)
+
+-- A new stream for a port is given: the port is its promise.
+pub record PortGiven (g : Goal) (i : ActorId) (k : CellId) (before after : Process) : Type 0 where
+  pub number : k.0 ≡ next_cell before.heap
+  pub between : Process
+  pub given : Gives g i (Ref kind.FutureStream k) (on_heap (made kind.FutureStream) before) between
+  pub heard_then : after ≡ on_heap (heard k.0) (on_heap (hold kind.PromiseStream k.0) between)

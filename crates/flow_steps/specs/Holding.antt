@@ -17,7 +17,7 @@ use Rattle.flow_cell.specs.Cells.{CellTree}
 use Rattle.flow_stream.specs.Streams.{StreamTree}
 use Rattle.flow_trace.specs.declared.line.Line.TheVariants.{Broken}
 use Rattle.flow_cancel.specs.declared.task.Dropped.TheVariants as after
-use Rattle.flow_cancel.specs.Dropping.{Lost, dropped}
+use Rattle.flow_cancel.specs.Dropping.{Lost, drops, dropped}
 use Rattle.flow_cancel.specs.declared.task.Task.{Task}
 use Rattle.flow_cancel.specs.declared.task.Task.TheVariants as task
 use Rattle.flow_cancel.specs.Heap.{HeapTree, cell_id}
@@ -47,6 +47,10 @@ value_refs v = refs_of (value_of v)
 
 abbrev pub outcome_refs : Outcome → List Ref
 outcome_refs o = refs_in (value_in (outcome_of o))
+
+-- references are dropped: each becomes a task
+abbrev pub refs_dropped : List Ref → HeapTree → HeapTree
+refs_dropped rs h = record h { tasks = drops rs h.tasks }
 
 -- the task by which the result of an effect goes where it belongs
 abbrev pub IsGiving : Goal → (actor : ActorId) → Value → Task → Type 0

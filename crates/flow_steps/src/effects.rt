@@ -5,7 +5,7 @@ ghost use Rattle.std.specs.Prelude.{◌≡◌, IfOk, OnOk};
 ghost use Rattle.flow_value.specs.declared.value.Value.TheVariants.{Ref};
 ghost use Rattle.flow_cancel.specs.Heap.{next_cell};
 ghost use Rattle.flow_steps.specs.Holding.{on_heap, Gives};
-ghost use Rattle.flow_steps.specs.Bringing.{made};
+ghost use Rattle.flow_steps.specs.Bringing.{made, OpenGiven, PortGiven};
 
 use crate::call::{Call, DiskCall, Goal};
 use crate::errors::Fault;
@@ -87,16 +87,22 @@ impl Process {
         Ok(cell)
     }
 
+    #[tactic(auto, using(crate::proofs::Holding::open_given))]
     /// A single result for which the world has an open request.
-    pub fn gives_open(&mut self, actor: ActorId, goal: Goal) -> Result<CellId, Fault> {
+    pub fn gives_open(&mut self, actor: ActorId, goal: Goal) -> Result<CellId, Fault>
+        ensures { IfOk result (λ k. OpenGiven goal actor k self.old self.new) }
+    {
         let cell = self.gives_new(actor, goal, Kind::Future)?;
         self.hold(Kind::Promise, cell)?;
         self.heap.add_request(cell)?;
         Ok(cell)
     }
 
+    #[tactic(auto, using(crate::proofs::Holding::port_given))]
     /// A stream for a port that nobody listens to.
-    pub fn gives_port(&mut self, actor: ActorId, goal: Goal) -> Result<CellId, Fault> {
+    pub fn gives_port(&mut self, actor: ActorId, goal: Goal) -> Result<CellId, Fault>
+        ensures { IfOk result (λ k. PortGiven goal actor k self.old self.new) }
+    {
         let cell = self.gives_new(actor, goal, Kind::FutureStream)?;
         self.hold(Kind::PromiseStream, cell)?;
         self.heap.add_port(cell)?;

@@ -1,6 +1,7 @@
 // The steps of a process: the newest task is done.
 
-ghost use Rattle.std.specs.Prelude.{◌≡◌, OnOk, slice_get};
+ghost use Rattle.std.specs.Prelude.{◌≡◌, OnOk, IfOk, slice_get};
+ghost use Rattle.flow_cancel.specs.Heap.{finished};
 ghost use Rattle.std.specs.Option.{ForSome, IsSomeAnd};
 ghost use Rattle.flow_cell.specs.declared.counts.Side.TheVariants.{Promise};
 ghost use Rattle.flow_cell.specs.Cells.{released};
@@ -222,7 +223,10 @@ impl Process {
     }
 
     // The frame of an actor is closed, and its result is told.
-    fn forget(&mut self, actor: ActorId) -> Result<Option<CellId>, Fault> {
+    fn forget(&mut self, actor: ActorId) -> Result<Option<CellId>, Fault>
+        ensures gone { OnOk result (self.new ≡ on_heap (finished actor.0) self.old) }
+        ensures told { IfOk result (λ k. IsSomeAnd (thing self.old.heap.actors.things actor.0) (λ n. k ≡ n.result)) }
+    {
         if !self.heap.unfinished(actor) || !self.heap.may_finish(actor) {
             return Err(Fault::Astray);
         }

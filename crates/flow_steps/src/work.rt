@@ -9,7 +9,7 @@ ghost use Rattle.flow_stream.specs.Streams.{with_item};
 ghost use Rattle.flow_picture.specs.Changes.{cell_put, stream_put};
 ghost use Rattle.flow_picture.specs.Holds.{hold, hold_all, sent, filled_in};
 ghost use Rattle.flow_steps.specs.Doing.{turned, doing, stopped};
-ghost use Rattle.flow_steps.specs.Holding.{on_heap, cell_holding, stream_holding, value_refs, outcome_refs, result_filled, stream_filled, IsGiving, Gives, broken, lost, kind_in, futures_of};
+ghost use Rattle.flow_steps.specs.Holding.{on_heap, cell_holding, stream_holding, value_refs, outcome_refs, refs_dropped, result_filled, stream_filled, IsGiving, Gives, broken, lost, kind_in, futures_of};
 
 use crate::call::{Call, Goal};
 use crate::errors::Fault;
@@ -124,8 +124,11 @@ impl Process {
         }
     }
 
+    #[tactic(auto, using(crate::proofs::Holding::value_dropped))]
     /// What an outcome holds is dropped.
-    pub(crate) fn drop_outcome(&mut self, outcome: &Outcome) -> Result<(), Fault> {
+    pub(crate) fn drop_outcome(&mut self, outcome: &Outcome) -> Result<(), Fault>
+        ensures { OnOk result (self.new ≡ on_heap (refs_dropped (outcome_refs outcome.now)) self.old) }
+    {
         match outcome {
             Outcome::Value(value) => Ok(self.heap.push_drops(value)?),
             Outcome::Error(_) => Ok(()),
