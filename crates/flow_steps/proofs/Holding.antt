@@ -13,7 +13,8 @@ use Rattle.flow_base.specs.declared.ids.CellId.{CellId}
 use Rattle.flow_value.specs.declared.value.Value.TheVariants.{Ref}
 use Rattle.flow_numbered.specs.Numbered.{Store, thing, with_thing}
 use Rattle.flow_cell.specs.declared.counts.Side.{Side}
-use Rattle.flow_cell.specs.Cells.{CellTree, held}
+use Rattle.flow_cell.specs.declared.counts.Side.TheVariants.{Promise}
+use Rattle.flow_cell.specs.Cells.{CellTree, held, released}
 use Rattle.flow_stream.specs.Streams.{StreamTree}
 use Rattle.flow_cancel.specs.declared.task.Task.{Task}
 use Rattle.flow_cancel.specs.declared.task.Task.TheVariants as task
@@ -28,7 +29,7 @@ use Rattle.flow_picture.specs.Holds.{hold, hold_all, held_cell, held_stream, set
 use Rattle.flow_steps.specs.declared.call.Goal.{Goal}
 use Rattle.flow_steps.specs.declared.process.Process.{Process}
 use Rattle.flow_steps.specs.Doing.{doing}
-use Rattle.flow_steps.specs.Bringing.{made, requested, heard, OpenGiven, PortGiven}
+use Rattle.flow_steps.specs.Bringing.{made, requested, heard, OpenGiven, PortGiven, promise_ended, without_promise}
 use Rattle.flow_steps.specs.Holding.{on_heap, cell_holding, stream_holding, result_filled, stream_filled, value_refs, IsGiving, Gives}
 
 hold_append : (rs ss : List cells.Ref) (h : HeapTree) → hold_all (rs ++ ss) h ≡ hold_all ss (hold_all rs h)
@@ -134,3 +135,11 @@ pub port_given : (g : Goal) (i : ActorId) (k : CellId) (p between held all : Pro
     → all ≡ on_heap (heard k.0) held
     → PortGiven g i k p all
 port_given g i k p between held all n is e f = record { number = n; between = between; given = is; heard_then = f ∙ ap (on_heap (heard k.0)) e }
+
+-- the promise of a single result that is there counts no more
+pub promise_ended_by : (k : ℕ) (p q : Process) → IsSomeAnd (thing p.heap.cells.things k) (λ c. q ≡ on_heap (cell_put k (record c { references = released Promise c.references })) p) → q ≡ on_heap (without_promise k) p
+promise_ended_by k p q is = by (thing p.heap.cells.things k) is
+  where
+    by : (o : Option (CellTree Outcome)) → IsSomeAnd o (λ c. q ≡ on_heap (cell_put k (record c { references = released Promise c.references })) p) → q ≡ on_heap (promise_ended k o) p
+    by (Some m) is = is
+    by None is = absurd is

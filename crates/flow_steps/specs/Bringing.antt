@@ -9,9 +9,16 @@ use Rattle.flow_value.specs.declared.value.Value.TheVariants.{Ref}
 use Rattle.flow_value.specs.declared.value.Outcome.{Outcome}
 use Rattle.flow_value.specs.declared.value.Kind.{Kind}
 use Rattle.flow_value.specs.declared.value.Kind.TheVariants as kind
+use Rattle.flow_value.specs.declared.value.Outcome.TheVariants as outcome
+use Rattle.flow_numbered.specs.Numbered.{thing}
+use Rattle.flow_cell.specs.declared.counts.Side.TheVariants.{Promise}
+use Rattle.flow_cell.specs.Cells.{CellTree, released}
+use Rattle.flow_stream.specs.declared.head.Head.{Head}
+use Rattle.flow_stream.specs.declared.head.Head.TheVariants as head
 use Rattle.flow_frame.specs.Frames.{FrameTree}
 use Rattle.flow_cancel.specs.declared.task.Task.TheVariants as task
 use Rattle.flow_cancel.specs.Heap.{HeapTree, cell_id, pushed, next_cell, with_result, with_stream, with_number, without_number}
+use Rattle.flow_picture.specs.Changes.{cell_put}
 use Rattle.flow_picture.specs.Holds.{hold, hold_all, filled_in}
 use Rattle.flow_steps.specs.declared.process.Process.{Process}
 use Rattle.flow_steps.specs.Doing.{turned}
@@ -65,3 +72,19 @@ pub record PortGiven (g : Goal) (i : ActorId) (k : CellId) (before after : Proce
   pub between : Process
   pub given : Gives g i (Ref kind.FutureStream k) (on_heap (made kind.FutureStream) before) between
   pub heard_then : after ≡ on_heap (heard k.0) (on_heap (hold kind.PromiseStream k.0) between)
+
+-- what an actor takes from a stream as a head of it
+abbrev pub head_of : Outcome → Head Value
+head_of (outcome.Value v) = head.Item v
+head_of (outcome.Error e) = head.End e
+
+-- the promise of a single result counts no more; and, where a turn is left, the result is set and fires
+abbrev pub promise_ended : (cell : ℕ) → Option (CellTree Outcome) → HeapTree → HeapTree
+promise_ended k None h = h
+promise_ended k (Some c) h = cell_put k (record c { references = released Promise c.references }) h
+
+abbrev pub without_promise : (cell : ℕ) → HeapTree → HeapTree
+without_promise k h = promise_ended k (thing h.cells.things k) h
+
+abbrev pub result_set : (cell : ℕ) → Outcome → Process → Process
+result_set k o p = if nat_lt 0 p.left then on_heap (filled_in kind.Future k o) (on_heap (without_promise k) (turned p)) else turned p

@@ -7,6 +7,7 @@ ghost use Rattle.flow_cell.specs.declared.counts.Side.TheVariants.{Promise};
 ghost use Rattle.flow_cell.specs.Cells.{released};
 ghost use Rattle.flow_picture.specs.Changes.{cell_put};
 ghost use Rattle.flow_steps.specs.Holding.{on_heap};
+ghost use Rattle.flow_steps.specs.Bringing.{result_set};
 ghost use Rattle.flow_numbered.specs.Numbered.{thing};
 ghost use Rattle.flow_steps.specs.Doing.{departed};
 ghost use Rattle.flow_steps.specs.Drops.{DropsOver};
@@ -235,8 +236,11 @@ impl Process {
         Ok(result)
     }
 
+    #[tactic(auto, using(crate::proofs::Holding::promise_ended_by))]
     // A turn, and the result is set and fires. The actor's own promise counts no more.
-    fn set_result(&mut self, cell: CellId, outcome: Outcome) -> Result<(), Fault> {
+    fn set_result(&mut self, cell: CellId, outcome: Outcome) -> Result<(), Fault>
+        ensures { OnOk result (self.new ≡ result_set cell.0 outcome self.old) }
+    {
         if !self.turn() {
             return Ok(());
         }
