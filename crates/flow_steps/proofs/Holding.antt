@@ -16,11 +16,12 @@ use Rattle.flow_cell.specs.declared.counts.Side.{Side}
 use Rattle.flow_cell.specs.declared.counts.Side.TheVariants.{Promise}
 use Rattle.flow_cell.specs.Cells.{CellTree, held, released}
 use Rattle.flow_stream.specs.Streams.{StreamTree}
+use Rattle.flow_cancel.specs.declared.actors.Note.{Note}
 use Rattle.flow_cancel.specs.declared.task.Task.{Task}
 use Rattle.flow_cancel.specs.declared.task.Task.TheVariants as task
 use Rattle.flow_value.specs.Values.{refs_of, refs_of_all}
 use Rattle.flow_value.specs.View.{value_of, values_of}
-use Rattle.flow_cancel.specs.Heap.{HeapTree, cell_id, next_cell}
+use Rattle.flow_cancel.specs.Heap.{HeapTree, cell_id, next_cell, finished}
 use Rattle.flow_cancel.specs.Dropping.{drops}
 use Rattle.flow_meaning.specs.Cells as cells
 use Rattle.flow_resolved.proofs.Maps.{drop_more}
@@ -29,7 +30,7 @@ use Rattle.flow_picture.specs.Holds.{hold, hold_all, held_cell, held_stream, set
 use Rattle.flow_steps.specs.declared.call.Goal.{Goal}
 use Rattle.flow_steps.specs.declared.process.Process.{Process}
 use Rattle.flow_steps.specs.Doing.{doing}
-use Rattle.flow_steps.specs.Bringing.{made, requested, heard, OpenGiven, PortGiven, promise_ended, without_promise}
+use Rattle.flow_steps.specs.Bringing.{made, requested, heard, OpenGiven, PortGiven, promise_ended, without_promise, closing, closed}
 use Rattle.flow_steps.specs.Holding.{on_heap, cell_holding, stream_holding, result_filled, stream_filled, value_refs, IsGiving, Gives}
 
 hold_append : (rs ss : List cells.Ref) (h : HeapTree) → hold_all (rs ++ ss) h ≡ hold_all ss (hold_all rs h)
@@ -143,3 +144,10 @@ promise_ended_by k p q is = by (thing p.heap.cells.things k) is
     by : (o : Option (CellTree Outcome)) → IsSomeAnd o (λ c. q ≡ on_heap (cell_put k (record c { references = released Promise c.references })) p) → q ≡ on_heap (promise_ended k o) p
     by (Some m) is = is
     by None is = absurd is
+
+-- an actor that is closed with the result that is noted of it
+pub closed_by : (i : ActorId) (o : Outcome) (r : Option CellId) (n : Option Note) (p gone all : Process) → IsSomeAnd n (λ m. r ≡ m.result)
+    → gone ≡ on_heap (finished i.0) p → all ≡ closing i o r gone
+    → IsSomeAnd n (λ m. all ≡ closed i o m.result p)
+closed_by i o r (Some m) p gone all is e f = f ∙ ap (closing i o r) e ∙ ap (λ k. closed i o k p) is
+closed_by i o r None p gone all is e f = absurd is

@@ -16,14 +16,16 @@ use Rattle.flow_cell.specs.Cells.{CellTree, released}
 use Rattle.flow_stream.specs.declared.head.Head.{Head}
 use Rattle.flow_stream.specs.declared.head.Head.TheVariants as head
 use Rattle.flow_frame.specs.Frames.{FrameTree}
+use Rattle.flow_trace.specs.declared.line.Line.{Line}
+use Rattle.flow_trace.specs.declared.line.Line.TheVariants as line
 use Rattle.flow_cancel.specs.declared.task.Task.TheVariants as task
-use Rattle.flow_cancel.specs.Heap.{HeapTree, cell_id, pushed, next_cell, with_result, with_stream, with_number, without_number}
+use Rattle.flow_cancel.specs.Heap.{HeapTree, cell_id, pushed, next_cell, with_result, with_stream, with_number, without_number, finished}
 use Rattle.flow_picture.specs.Changes.{cell_put}
 use Rattle.flow_picture.specs.Holds.{hold, hold_all, filled_in}
 use Rattle.flow_steps.specs.declared.process.Process.{Process}
-use Rattle.flow_steps.specs.Doing.{turned}
+use Rattle.flow_steps.specs.Doing.{turned, telling}
 use Rattle.flow_steps.specs.declared.call.Goal.{Goal}
-use Rattle.flow_steps.specs.Holding.{on_heap, outcome_refs, Gives}
+use Rattle.flow_steps.specs.Holding.{on_heap, outcome_refs, refs_dropped, futures_of, lost, Gives}
 
 -- a cell gets content from outside, where a turn is left
 abbrev pub content_brought : Kind → (cell : ℕ) → Outcome → HeapTree → HeapTree
@@ -88,3 +90,26 @@ without_promise k h = promise_ended k (thing h.cells.things k) h
 
 abbrev pub result_set : (cell : ℕ) → Outcome → Process → Process
 result_set k o p = if nat_lt 0 p.left then on_heap (filled_in kind.Future k o) (on_heap (without_promise k) (turned p)) else turned p
+
+-- the line of an actor's end
+abbrev pub end_line : ActorId → Outcome → Line
+end_line i (outcome.Value v) = line.Finish i
+end_line i (outcome.Error e) = line.Fail i e
+
+-- The outcome of an actor goes to its result, where it has one that a future refers to. Otherwise the result loses the actor's
+-- promise, and the outcome is dropped.
+abbrev pub ended_in : (cell : ℕ) → Outcome → Process → Process
+ended_in k o p =
+    if nat_lt 0 (futures_of (thing p.heap.cells.things k)) then result_set k o p
+    else on_heap (refs_dropped (outcome_refs o)) (lost kind.Promise k p)
+
+abbrev pub ended_with : Option CellId → Outcome → Process → Process
+ended_with None o p = on_heap (refs_dropped (outcome_refs o)) p
+ended_with (Some k) o p = ended_in k.0 o p
+
+-- where a turn is left, with the line; and the actor is gone before
+abbrev pub closing : ActorId → Outcome → Option CellId → Process → Process
+closing i o r p = if nat_lt 0 p.left then telling (end_line i o) (ended_with r o (turned p)) else turned p
+
+abbrev pub closed : ActorId → Outcome → Option CellId → Process → Process
+closed i o r p = closing i o r (on_heap (finished i.0) p)

@@ -7,7 +7,7 @@ ghost use Rattle.flow_cell.specs.declared.counts.Side.TheVariants.{Promise};
 ghost use Rattle.flow_cell.specs.Cells.{released};
 ghost use Rattle.flow_picture.specs.Changes.{cell_put};
 ghost use Rattle.flow_steps.specs.Holding.{on_heap};
-ghost use Rattle.flow_steps.specs.Bringing.{result_set};
+ghost use Rattle.flow_steps.specs.Bringing.{result_set, end_line, ended_with, closing, closed};
 ghost use Rattle.flow_numbered.specs.Numbered.{thing};
 ghost use Rattle.flow_steps.specs.Doing.{departed};
 ghost use Rattle.flow_steps.specs.Drops.{DropsOver};
@@ -27,7 +27,9 @@ use flow_trace::line::Line;
 use flow_value::value::{Kind, Outcome, Value};
 
 /// The line of an actor's end.
-fn end_line(actor: ActorId, outcome: &Outcome) -> Line {
+fn end_line(actor: ActorId, outcome: &Outcome) -> Line
+    ensures { result ≡ end_line actor outcome.now }
+{
     match outcome {
         Outcome::Value(_) => Line::Finish(actor),
         Outcome::Error(error) => Line::Fail(actor, *error),
@@ -203,24 +205,47 @@ impl Process {
         self.take(&stand, branch, cell)
     }
 
+    #[tactic(auto, using(crate::proofs::Holding::closed_by))]
     // The actor is gone: a turn and the line; then its result is set, where a future refers to it, and otherwise the cell
     // goes and the value is dropped.
-    fn close(&mut self, actor: ActorId, outcome: Outcome) -> Result<(), Fault> {
-        let result = self.forget(actor)?;
+    fn close(&mut self, actor: ActorId, outcome: Outcome) -> Result<(), Fault>
+        ensures { OnOk result (IsSomeAnd (thing self.old.heap.actors.things actor.0) (λ n. self.new ≡ closed actor outcome n.result self.old)) }
+    {
+        let cell = self.forget(actor)?;
+        self.close_result(actor, cell, outcome)?;
+        Ok(())
+    }
+
+    // A turn and the line of an actor's end, and its outcome goes to its result.
+    fn close_result(
+        &mut self,
+        actor: ActorId,
+        cell: Option<CellId>,
+        outcome: Outcome,
+    ) -> Result<(), Fault>
+        ensures { OnOk result (self.new ≡ closing actor outcome cell self.old) }
+    {
         if !self.turn() {
             return Ok(());
         }
         let line = end_line(actor, &outcome);
-        match result {
-            Some(cell) if self.futures(cell) > 0 => self.set_result(cell, outcome)?,
-            Some(cell) => {
-                self.lose(Kind::Promise, cell)?;
-                self.drop_outcome(&outcome)?;
-            }
-            None => self.drop_outcome(&outcome)?,
-        }
+        self.end_with(cell, outcome)?;
         self.tell(line);
         Ok(())
+    }
+
+    // The outcome of an actor goes to its result, where it has one that a future refers to; otherwise it is dropped.
+    fn end_with(&mut self, cell: Option<CellId>, outcome: Outcome) -> Result<(), Fault>
+        ensures { OnOk result (self.new ≡ ended_with cell outcome self.old) }
+    {
+        let Some(cell) = cell else {
+            return self.drop_outcome(&outcome);
+        };
+        if self.futures(cell) > 0 {
+            return self.set_result(cell, outcome);
+        }
+        self.lose(Kind::Promise, cell)?;
+        self.drop_outcome(&outcome)
     }
 
     // The frame of an actor is closed, and its result is told.
