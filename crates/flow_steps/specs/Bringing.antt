@@ -1,7 +1,9 @@
 -- What comes to the heap of a process from outside, what is made in it, and where its actors go.
-use Rattle.std.specs.Prelude.{◌≡◌, ℕ, nat_lt, if◌then◌else◌}
+use Rattle.std.specs.Prelude.{◌≡◌, ℕ, nat_lt, Bool, false, if◌then◌else◌}
+use Rattle.std.specs.Option.{is_some}
 use Rattle.std.specs.declared.option.Option.{Option}
 use Rattle.std.specs.declared.option.Option.TheVariants.{None, Some}
+use Rattle.flow_base.specs.ErrorNumbers.{already_set}
 use Rattle.flow_base.specs.declared.ids.ActorId.{ActorId}
 use Rattle.flow_base.specs.declared.ids.CellId.{CellId}
 use Rattle.flow_value.specs.declared.value.Value.{Value}
@@ -13,6 +15,7 @@ use Rattle.flow_value.specs.declared.value.Outcome.TheVariants as outcome
 use Rattle.flow_numbered.specs.Numbered.{thing}
 use Rattle.flow_cell.specs.declared.counts.Side.TheVariants.{Promise}
 use Rattle.flow_cell.specs.Cells.{CellTree, released}
+use Rattle.flow_stream.specs.Streams.{StreamTree}
 use Rattle.flow_stream.specs.declared.head.Head.{Head}
 use Rattle.flow_stream.specs.declared.head.Head.TheVariants as head
 use Rattle.flow_frame.specs.Frames.{FrameTree}
@@ -23,7 +26,7 @@ use Rattle.flow_cancel.specs.Heap.{HeapTree, cell_id, pushed, next_cell, with_re
 use Rattle.flow_picture.specs.Changes.{cell_put}
 use Rattle.flow_picture.specs.Holds.{hold, hold_all, filled_in}
 use Rattle.flow_steps.specs.declared.process.Process.{Process}
-use Rattle.flow_steps.specs.Doing.{turned, telling}
+use Rattle.flow_steps.specs.Doing.{turned, telling, doing}
 use Rattle.flow_steps.specs.declared.call.Goal.{Goal}
 use Rattle.flow_steps.specs.Holding.{on_heap, outcome_refs, refs_dropped, futures_of, lost, Gives}
 
@@ -113,3 +116,28 @@ closing i o r p = if nat_lt 0 p.left then telling (end_line i o) (ended_with r o
 
 abbrev pub closed : ActorId → Outcome → Option CellId → Process → Process
 closed i o r p = closing i o r (on_heap (finished i.0) p)
+
+-- whether nothing more can be sent into a cell
+abbrev pub is_set : Option (CellTree Outcome) → Bool
+is_set None = false
+is_set (Some c) = is_some c.content
+
+abbrev pub is_ended : Option (StreamTree Value) → Bool
+is_ended None = false
+is_ended (Some s) = is_some s.end
+
+abbrev pub complete_at : Kind → (cell : ℕ) → HeapTree → Bool
+complete_at kind.Promise k h = is_set (thing h.cells.things k)
+complete_at kind.Future k h = is_set (thing h.cells.things k)
+complete_at kind.PromiseStream k h = is_ended (thing h.streams.things k)
+complete_at kind.FutureStream k h = is_ended (thing h.streams.things k)
+
+-- An actor sends into a cell: that nothing more can be sent is thrown; else, where a turn is left, the cell gets the outcome and
+-- fires before the actor goes on.
+abbrev pub sent_into : ActorId → Kind → (cell : ℕ) → Outcome → HeapTree → HeapTree
+sent_into i kd k o h = filled_in kd k o (pushed (task.Run i) (hold_all (outcome_refs o) h))
+
+abbrev pub sending : ActorId → Kind → (cell : ℕ) → Outcome → Process → Process
+sending i kd k o p =
+    if complete_at kd k p.heap then doing (task.Throw i (record { 0 = already_set })) p
+    else if nat_lt 0 p.left then on_heap (sent_into i kd k o) (turned p) else turned p

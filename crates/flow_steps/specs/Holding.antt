@@ -16,11 +16,12 @@ use Rattle.flow_cell.specs.declared.counts.Side.{Side}
 use Rattle.flow_cell.specs.Cells.{CellTree}
 use Rattle.flow_stream.specs.Streams.{StreamTree}
 use Rattle.flow_trace.specs.declared.line.Line.TheVariants.{Broken}
+use Rattle.flow_cancel.specs.declared.task.Dropped.{Dropped}
 use Rattle.flow_cancel.specs.declared.task.Dropped.TheVariants as after
-use Rattle.flow_cancel.specs.Dropping.{Lost, drops, dropped}
+use Rattle.flow_cancel.specs.Dropping.{Lost, drops, dropped, cancel_owner}
 use Rattle.flow_cancel.specs.declared.task.Task.{Task}
 use Rattle.flow_cancel.specs.declared.task.Task.TheVariants as task
-use Rattle.flow_cancel.specs.Heap.{HeapTree, cell_id}
+use Rattle.flow_cancel.specs.Heap.{HeapTree, cell_id, owner}
 use Rattle.flow_meaning.specs.Cells.{Ref}
 use Rattle.flow_meaning.specs.Occ.{refs_in, value_in}
 use Rattle.flow_picture.specs.Holds.{held_cell, held_stream, set_cell, send_stream, filled_in, given}
@@ -92,6 +93,14 @@ lost_by kd k (h, after.Cancel a) p = stopped a.0 (with_heap h p)
 
 abbrev pub lost : Kind → (cell : ℕ) → Process → Process
 lost kd k p = lost_by kd k (dropped kd k p.heap) p
+
+-- the unfinished and unmarked actor whose result a cell is, if there is one, is cancelled
+abbrev pub cancelled_if : Dropped → Process → Process
+cancelled_if (after.Cancel a) p = stopped a.0 p
+cancelled_if _ p = p
+
+abbrev pub owner_cancelled : (cell : ℕ) → Process → Process
+owner_cancelled k p = cancelled_if (cancel_owner p.heap.actors.things (owner k p.heap.actors.things)) p
 
 -- the kind of a reference by which one waits at a cell, and how many futures of a single result count
 abbrev pub kind_in : Option (CellTree Outcome) → Option (StreamTree Value) → Option Kind

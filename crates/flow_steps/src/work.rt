@@ -9,7 +9,7 @@ ghost use Rattle.flow_stream.specs.Streams.{with_item};
 ghost use Rattle.flow_picture.specs.Changes.{cell_put, stream_put};
 ghost use Rattle.flow_picture.specs.Holds.{hold, hold_all, sent, filled_in};
 ghost use Rattle.flow_steps.specs.Doing.{turned, doing, stopped};
-ghost use Rattle.flow_steps.specs.Holding.{on_heap, cell_holding, stream_holding, value_refs, outcome_refs, refs_dropped, result_filled, stream_filled, IsGiving, Gives, broken, lost, kind_in, futures_of};
+ghost use Rattle.flow_steps.specs.Holding.{on_heap, cell_holding, stream_holding, value_refs, outcome_refs, refs_dropped, result_filled, stream_filled, IsGiving, Gives, broken, lost, owner_cancelled, kind_in, futures_of};
 
 use crate::call::{Call, Goal};
 use crate::errors::Fault;
@@ -291,7 +291,9 @@ impl Process {
     }
 
     /// The unfinished and unmarked actor whose result a cell is, if there is one, is cancelled.
-    pub(crate) fn cancel_owner(&mut self, cell: CellId) -> Result<(), Fault> {
+    pub(crate) fn cancel_owner(&mut self, cell: CellId) -> Result<(), Fault>
+        ensures { OnOk result (self.new ≡ owner_cancelled cell.0 self.old) }
+    {
         let Some(actor) = self.heap.owner(cell) else {
             return Ok(());
         };
