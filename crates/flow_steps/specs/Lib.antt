@@ -1,3 +1,5 @@
+pub mod Bringing
 pub mod Doing
 pub mod Drops
+pub mod Holding
 pub mod Seen

@@ -1,5 +1,8 @@
 // Call statements: messages, sends, cancelling, and calls of functions.
 
+ghost use Rattle.std.specs.Prelude.{◌≡◌, IfOk, OnOk};
+ghost use Rattle.flow_steps.specs.Bringing.{complete_at, sending};
+
 use crate::call::Call;
 use crate::effects::{int_at, take_text};
 use crate::errors::Fault;
@@ -78,7 +81,9 @@ impl Process {
     }
 
     // Whether nothing more can be sent into the cell of a kind of reference, if there is one.
-    fn is_complete(&self, kind: Kind, cell: CellId) -> Result<bool, Fault> {
+    fn is_complete(&self, kind: Kind, cell: CellId) -> Result<bool, Fault>
+        ensures { IfOk result (λ b. b ≡ complete_at kind cell.0 self.now.heap) }
+    {
         match kind {
             Kind::Promise | Kind::Future => {
                 if self.heap.cells().references(cell).is_none() {
@@ -102,7 +107,9 @@ impl Process {
         kind: Kind,
         cell: CellId,
         outcome: Outcome,
-    ) -> Result<(), Fault> {
+    ) -> Result<(), Fault>
+        ensures { OnOk result (self.new ≡ sending actor kind cell.0 outcome self.old) }
+    {
         if self.is_complete(kind, cell)? {
             return self.throw(actor, ALREADY_SET);
         }

@@ -1,6 +1,15 @@
 // Waits: operands, the branch that is taken, and suspending.
 
-ghost use Rattle.std.specs.Prelude.{◌∷◌, OnOk};
+ghost use Rattle.std.specs.Prelude.{◌≡◌, ◌∷◌, OnOk, IfOk, Some};
+ghost use Rattle.std.specs.Option.{IsSomeAnd};
+ghost use Rattle.flow_value.specs.View.{outcome_of};
+ghost use Rattle.flow_numbered.specs.Numbered.{thing};
+ghost use Rattle.flow_stream.specs.Streams.{head, tail};
+ghost use Rattle.flow_picture.specs.Changes.{stream_put};
+ghost use Rattle.flow_picture.specs.Holds.{hold_all};
+ghost use Rattle.flow_steps.specs.Seen.{content_in};
+ghost use Rattle.flow_steps.specs.Holding.{on_heap, outcome_refs};
+ghost use Rattle.flow_steps.specs.Bringing.{head_of};
 ghost use Rattle.flow_steps.specs.Drops.{DropsOver};
 
 use crate::errors::Fault;
@@ -49,7 +58,10 @@ impl Process {
     }
 
     // A copy of what a single result holds, whose references count.
-    fn copied_from(&mut self, cell: CellId) -> Result<Outcome, Fault> {
+    fn copied_from(&mut self, cell: CellId) -> Result<Outcome, Fault>
+        ensures copy { IfOk result (λ o. content_in self.old.heap.cells cell.0 ≡ Some (outcome_of o)) }
+        ensures counted { IfOk result (λ o. self.new ≡ on_heap (hold_all (outcome_refs o)) self.old) }
+    {
         if self.heap.cells().references(cell).is_none() {
             return Err(Fault::Astray);
         }
@@ -62,7 +74,10 @@ impl Process {
     }
 
     // The first element of a stream, or else its end.
-    fn popped_from(&mut self, cell: CellId) -> Result<Outcome, Fault> {
+    fn popped_from(&mut self, cell: CellId) -> Result<Outcome, Fault>
+        ensures first { IfOk result (λ o. IsSomeAnd (thing self.old.heap.streams.things cell.0) (λ s. head s.queue s.end ≡ head_of o)) }
+        ensures rest { OnOk result (IsSomeAnd (thing self.old.heap.streams.things cell.0) (λ s. self.new ≡ on_heap (stream_put cell.0 (record s { queue = tail s.queue })) self.old)) }
+    {
         if self.heap.streams().references(cell).is_none() {
             return Err(Fault::Astray);
         }
@@ -106,12 +121,12 @@ impl Process {
 
     /// An operand that counts already is kept. A marked actor then leaves its wait and is thrown that it was cancelled; an
     /// operand that is ready is taken; otherwise the actor goes on.
-    pub(crate) fn keep_operand(
+    pub(crate) fn keep_operand<'a>(
         &mut self,
-        stand: &Stand<'_>,
+        stand: &Stand<'a>,
         callback: u32,
         cell: CellId,
-    ) -> Result<Pace, Fault> {
+    ) -> Result<Pace<'a>, Fault> {
         let actor = stand.actor;
         if !self.heap.unfinished(actor) || !self.heap.frames().contains(actor) {
             return Err(Fault::Astray);
@@ -124,7 +139,7 @@ impl Process {
             return Ok(Pace::Off);
         }
         if !self.is_ready(cell) {
-            return Ok(Pace::On);
+            return Ok(Pace::On(*stand));
         }
         let branch = branch_of(stand, callback)?;
         self.take(stand, branch, cell)?;
@@ -142,7 +157,7 @@ impl Process {
         self.pop_run(actor)?;
         let stand = self.stand_of(code, actor)?;
         match self.keep_operand(&stand, callback, cell)? {
-            Pace::On => self.run(code, actor),
+            Pace::On(stand) => self.run_from(code, stand),
             Pace::Off => Ok(()),
         }
     }

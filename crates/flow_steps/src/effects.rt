@@ -1,8 +1,15 @@
 // Effects: new cells, calls of actors, and what is asked of the world. A bad argument is an error that is thrown where the
 // actor stands.
 
+ghost use Rattle.std.specs.Prelude.{◌≡◌, IfOk, OnOk};
+ghost use Rattle.flow_value.specs.declared.value.Value.TheVariants.{Ref};
+ghost use Rattle.flow_cancel.specs.Heap.{next_cell};
+ghost use Rattle.flow_steps.specs.Holding.{on_heap, Gives};
+ghost use Rattle.flow_steps.specs.Bringing.{made, OpenGiven, PortGiven};
+
 use crate::call::{Call, DiskCall, Goal};
 use crate::errors::Fault;
+use crate::frames::Stand;
 use crate::next::Pace;
 use crate::process::Process;
 use flow_ast::predefined::Predefined;
@@ -55,7 +62,10 @@ fn disk_call(alloc: Global, call: Predefined, args: &mut [Value]) -> Result<Disk
 
 impl Process {
     /// A new cell for a kind of reference.
-    pub(crate) fn new_cell(&mut self, kind: Kind) -> Result<CellId, Fault> {
+    pub(crate) fn new_cell(&mut self, kind: Kind) -> Result<CellId, Fault>
+        ensures number { IfOk result (λ k. k.0 ≡ next_cell self.old.heap) }
+        ensures made { OnOk result (self.new ≡ on_heap (made kind) self.old) }
+    {
         match kind {
             Kind::Promise | Kind::Future => Ok(self.heap.new_result()?),
             Kind::PromiseStream | Kind::FutureStream => Ok(self.heap.new_stream()?),
@@ -68,22 +78,31 @@ impl Process {
         actor: ActorId,
         goal: Goal,
         kind: Kind,
-    ) -> Result<CellId, Fault> {
+    ) -> Result<CellId, Fault>
+        ensures number { IfOk result (λ k. k.0 ≡ next_cell self.old.heap) }
+        ensures given { IfOk result (λ k. Gives goal actor (Ref kind k) (on_heap (made kind) self.old) self.new) }
+    {
         let cell = self.new_cell(kind)?;
         self.gives(actor, goal, Value::Ref(kind, cell))?;
         Ok(cell)
     }
 
+    #[tactic(auto, using(crate::proofs::Holding::open_given))]
     /// A single result for which the world has an open request.
-    pub fn gives_open(&mut self, actor: ActorId, goal: Goal) -> Result<CellId, Fault> {
+    pub fn gives_open(&mut self, actor: ActorId, goal: Goal) -> Result<CellId, Fault>
+        ensures { IfOk result (λ k. OpenGiven goal actor k self.old self.new) }
+    {
         let cell = self.gives_new(actor, goal, Kind::Future)?;
         self.hold(Kind::Promise, cell)?;
         self.heap.add_request(cell)?;
         Ok(cell)
     }
 
+    #[tactic(auto, using(crate::proofs::Holding::port_given))]
     /// A stream for a port that nobody listens to.
-    pub fn gives_port(&mut self, actor: ActorId, goal: Goal) -> Result<CellId, Fault> {
+    pub fn gives_port(&mut self, actor: ActorId, goal: Goal) -> Result<CellId, Fault>
+        ensures { IfOk result (λ k. PortGiven goal actor k self.old self.new) }
+    {
         let cell = self.gives_new(actor, goal, Kind::FutureStream)?;
         self.hold(Kind::PromiseStream, cell)?;
         self.heap.add_port(cell)?;
@@ -91,23 +110,24 @@ impl Process {
     }
 
     /// An effect of an actor.
-    pub(crate) fn effect(
+    pub(crate) fn effect<'a>(
         &mut self,
         code: &Code,
-        actor: ActorId,
+        stand: &Stand<'a>,
         goal: Goal,
         effect: Effect,
         args: &[Resolved],
-    ) -> Result<Pace, Fault> {
+    ) -> Result<Pace<'a>, Fault> {
         match effect {
-            Effect::World(call) => match self.values(code, actor, args) {
+            Effect::World(call) => match self.values(code, stand.actor, args) {
                 Ok(args) => {
-                    self.world_effect(actor, goal, call, args)?;
+                    self.note(*stand)?;
+                    self.world_effect(stand.actor, goal, call, args)?;
                     Ok(Pace::Off)
                 }
-                Err(halt) => self.halted(actor, halt),
+                Err(halt) => self.halted(stand, halt),
             },
-            Effect::Actor(class) => self.start(code, actor, goal, class, args),
+            Effect::Actor(class) => self.start(code, stand, goal, class, args),
         }
     }
 
@@ -191,23 +211,24 @@ impl Process {
     }
 
     // The call of an actor: a turn, and the new actor runs; its result is then stored or kept, and the caller goes on.
-    fn start(
+    fn start<'a>(
         &mut self,
         code: &Code,
-        caller: ActorId,
+        stand: &Stand<'a>,
         goal: Goal,
         number: u32,
         args: &[Resolved],
-    ) -> Result<Pace, Fault> {
-        let args = match self.values(code, caller, args) {
+    ) -> Result<Pace<'a>, Fault> {
+        let args = match self.values(code, stand.actor, args) {
             Ok(args) => args,
-            Err(halt) => return self.halted(caller, halt),
+            Err(halt) => return self.halted(stand, halt),
         };
+        self.note(*stand)?;
         if !self.turn() {
             return Ok(Pace::Off);
         }
         let (actor, cell) = self.enrol(code, number, args)?;
-        self.gives(caller, goal, Value::Ref(Kind::Future, cell))?;
+        self.gives(stand.actor, goal, Value::Ref(Kind::Future, cell))?;
         self.heap.push(Task::Run(actor))?;
         self.tell_start(code, number, actor)?;
         Ok(Pace::Off)

@@ -1,5 +1,11 @@
 // What the world brings to a process at the begin of an event.
 
+ghost use Rattle.std.specs.Prelude.{◌≡◌, OnOk};
+ghost use Rattle.flow_value.specs.declared.value.Kind.TheVariants as kind;
+ghost use Rattle.flow_value.specs.declared.value.Outcome.TheVariants as outcome;
+ghost use Rattle.flow_steps.specs.Holding.{on_heap};
+ghost use Rattle.flow_steps.specs.Bringing.{brought, answered, main_dropped};
+
 use crate::errors::Fault;
 use crate::process::Process;
 use flow_base::ids::{CellId, ProcId};
@@ -29,7 +35,9 @@ impl Process {
     }
 
     /// The answer to an open request: its cell is set and fires, and then the request's promise is dropped.
-    pub fn answer(&mut self, cell: CellId, outcome: Outcome) -> Result<(), Fault> {
+    pub fn answer(&mut self, cell: CellId, outcome: Outcome) -> Result<(), Fault>
+        ensures { OnOk result (self.new ≡ brought kind.Promise cell.0 outcome (on_heap (answered cell.0) self.old)) }
+    {
         if !self.heap.is_requested(cell) {
             return Err(Fault::Astray);
         }
@@ -39,12 +47,16 @@ impl Process {
     }
 
     /// An element comes to a port's stream, which fires.
-    pub fn bring(&mut self, cell: CellId, item: Value) -> Result<(), Fault> {
+    pub fn bring(&mut self, cell: CellId, item: Value) -> Result<(), Fault>
+        ensures { OnOk result (self.new ≡ brought kind.PromiseStream cell.0 (outcome.Value item) self.old) }
+    {
         self.give_in(Kind::PromiseStream, cell, Outcome::Value(item))
     }
 
     // A turn, and a cell gets content from outside.
-    fn give_in(&mut self, kind: Kind, cell: CellId, outcome: Outcome) -> Result<(), Fault> {
+    fn give_in(&mut self, kind: Kind, cell: CellId, outcome: Outcome) -> Result<(), Fault>
+        ensures { OnOk result (self.new ≡ brought kind cell.0 outcome self.old) }
+    {
         if !self.turn() {
             return Ok(());
         }
@@ -53,7 +65,9 @@ impl Process {
     }
 
     /// The hold on the result of `main` is dropped, if there is one.
-    pub fn drop_main(&mut self) -> Result<(), Fault> {
+    pub fn drop_main(&mut self) -> Result<(), Fault>
+        ensures { OnOk result (self.new ≡ on_heap (main_dropped self.old.heap.main) self.old) }
+    {
         if let Some(cell) = self.heap.main() {
             self.heap.set_main(None);
             self.heap.push(Task::Drop(Kind::Future, cell))?;

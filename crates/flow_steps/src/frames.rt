@@ -1,6 +1,13 @@
 // The frames of a process: places, positions, and values that leave them.
 
-ghost use Rattle.std.specs.Prelude.{◌≡◌, OnOk};
+ghost use Rattle.std.specs.Prelude.{◌≡◌, OnOk, IfOk, slice_index_or, None};
+ghost use Rattle.std.specs.Option.{IsSomeAnd};
+ghost use Rattle.flow_numbered.specs.Numbered.{thing};
+ghost use Rattle.flow_frame.specs.Frames.{with_place};
+ghost use Rattle.flow_cancel.specs.Dropping.{dropping};
+ghost use Rattle.flow_picture.specs.Acting.{frame_put};
+ghost use Rattle.flow_steps.specs.Holding.{on_heap};
+ghost use Rattle.flow_steps.specs.Bringing.{gone_to};
 ghost use Rattle.flow_steps.specs.Drops.{DropsOver};
 
 use crate::errors::Fault;
@@ -18,7 +25,8 @@ pub(crate) fn may_refer(value: &Value) -> bool {
     matches!(value, Value::Struct(_) | Value::Ref(_, _))
 }
 
-/// Where an actor stands: its class, and the block and the instruction; where it waits, the block of the wait.
+/// Where an actor stands: its class, and the block and the instruction; where it waits, the block of the wait; and whether its
+/// frame says so already.
 #[derive(Clone, Copy)]
 pub(crate) struct Stand<'a> {
     pub(crate) actor: ActorId,
@@ -26,6 +34,39 @@ pub(crate) struct Stand<'a> {
     pub(crate) place: u32,
     pub(crate) block: &'a Block,
     pub(crate) instruction: u32,
+    pub(crate) noted: bool,
+}
+
+impl<'a> Stand<'a> {
+    /// Where the actor stands that goes on at a block and an instruction of it. Its frame doesn't say so yet.
+    pub(crate) fn at(&self, place: u32, instruction: u32) -> Result<Stand<'a>, Fault> {
+        match self.class.blocks.get(place as usize) {
+            Some(block) => Ok(Stand {
+                actor: self.actor,
+                class: self.class,
+                place,
+                block,
+                instruction,
+                noted: false,
+            }),
+            None => Err(Fault::Astray),
+        }
+    }
+
+    /// Where the actor stands that goes on at its next instruction. Its frame doesn't say so yet.
+    pub(crate) fn next(&self) -> Result<Stand<'a>, Fault> {
+        match self.instruction.checked_add(1) {
+            Some(instruction) => Ok(Stand {
+                actor: self.actor,
+                class: self.class,
+                place: self.place,
+                block: self.block,
+                instruction,
+                noted: false,
+            }),
+            None => Err(Fault::Astray),
+        }
+    }
 }
 
 /// The number of the block in which a frame stands; where its actor waits, that of the wait.
@@ -46,6 +87,7 @@ fn stand_in(code: &Code, actor: ActorId, at: Standing) -> Option<Stand<'_>> {
         place,
         block: class.blocks.get(place as usize)?,
         instruction: at.instruction,
+        noted: true,
     })
 }
 
@@ -82,7 +124,9 @@ impl Process {
         place: u32,
         value: Option<Value>,
     ) -> Result<Option<Value>, Fault>
-        ensures { self.new.heap.tasks ≡ self.old.heap.tasks }
+        ensures tasks { self.new.heap.tasks ≡ self.old.heap.tasks }
+        ensures changed { OnOk result (IsSomeAnd (thing self.old.heap.frames.things actor.0) (λ f. self.new ≡ on_heap (frame_put actor.0 (with_place f place value)) self.old)) }
+        ensures held { IfOk result (λ o. IsSomeAnd (thing self.old.heap.frames.things actor.0) (λ f. o ≡ slice_index_or f.places place None)) }
     {
         let Some(places) = self.heap.frames().places_of(actor) else {
             return Err(Fault::Astray);
@@ -95,7 +139,8 @@ impl Process {
 
     /// Has a frame go on at a block and an instruction of it.
     pub(crate) fn go(&mut self, actor: ActorId, block: u32, instruction: u32) -> Result<(), Fault>
-        ensures { self.new.heap.tasks ≡ self.old.heap.tasks }
+        ensures tasks { self.new.heap.tasks ≡ self.old.heap.tasks }
+        ensures gone { OnOk result (IsSomeAnd (thing self.old.heap.frames.things actor.0) (λ f. self.new ≡ on_heap (frame_put actor.0 (gone_to block instruction f)) self.old)) }
     {
         if !self.heap.frames().contains(actor) {
             return Err(Fault::Astray);
@@ -104,12 +149,25 @@ impl Process {
         Ok(())
     }
 
-    /// Has the frame of an actor go on at its next instruction.
-    pub(crate) fn go_on(&mut self, stand: &Stand<'_>) -> Result<(), Fault> {
-        match stand.instruction.checked_add(1) {
-            Some(next) => self.go(stand.actor, stand.place, next),
-            None => Err(Fault::Astray),
+    /// Has the frame of an actor say where the actor stands, where it does not yet.
+    pub(crate) fn note<'a>(&mut self, stand: Stand<'a>) -> Result<Stand<'a>, Fault> {
+        if stand.noted {
+            return Ok(stand);
         }
+        self.go(stand.actor, stand.place, stand.instruction)?;
+        Ok(Stand {
+            actor: stand.actor,
+            class: stand.class,
+            place: stand.place,
+            block: stand.block,
+            instruction: stand.instruction,
+            noted: true,
+        })
+    }
+
+    /// Has the frame of an actor go on at its next instruction.
+    pub(crate) fn go_on<'a>(&mut self, stand: &Stand<'a>) -> Result<Stand<'a>, Fault> {
+        self.note(stand.next()?)
     }
 
     // The part of a place at which an actor aims gets a value that counts already. Gives what stood there.
@@ -157,8 +215,11 @@ impl Process {
         Ok(values)
     }
 
-    /// Values that left places are dropped, the last one first.
-    pub(crate) fn drop_values(&mut self, values: Vec<Value>) -> Result<(), Fault> {
+    #[tactic(auto, using(flow_cancel::proofs::Drops::drops_last))]
+    /// Values that left places are dropped: the references of the first come on top.
+    pub(crate) fn drop_values(&mut self, values: Vec<Value>) -> Result<(), Fault>
+        ensures { OnOk result (self.new ≡ on_heap (dropping values.items) self.old) }
+    {
         let mut values = values;
         while let Some(value) = values.pop() {
             self.heap.push_drops(&value)?;

@@ -19,10 +19,10 @@ use flow_resolved::names::FieldNames;
 use flow_tree::limits::CALL_DEPTH;
 use flow_value::value::{Kind, Outcome, Value};
 
-/// How an actor goes on after an instruction: at once with the next one, or by its task, or not at all.
-#[derive(Clone, Copy, PartialEq, Eq, Debug)]
-pub(crate) enum Pace {
-    On,
+/// How an actor goes on after an instruction: at once where it stands now, or by its task, or not at all.
+#[derive(Clone, Copy)]
+pub(crate) enum Pace<'a> {
+    On(Stand<'a>),
     Off,
 }
 
@@ -52,9 +52,10 @@ impl Process {
     }
 
     /// Evaluation gave no value: an error is thrown where the actor stands, or no turn was left.
-    pub(crate) fn halted(&mut self, actor: ActorId, halt: Halt) -> Result<Pace, Fault> {
+    pub(crate) fn halted<'a>(&mut self, stand: &Stand<'a>, halt: Halt) -> Result<Pace<'a>, Fault> {
+        self.note(*stand)?;
         match halt {
-            Halt::Thrown(error) => self.throw(actor, error)?,
+            Halt::Thrown(error) => self.throw(stand.actor, error)?,
             Halt::Spent => self.spent = true,
             Halt::NoMeaning => return Err(Fault::Astray),
             Halt::OutOfMemory => return Err(Fault::OutOfMemory),
@@ -131,12 +132,18 @@ impl Process {
         values
     }
 
-    /// An actor takes its next steps, by its instructions, up to one after which other tasks come first.
+    /// An actor takes its next steps from where its frame stands.
     pub(crate) fn run(&mut self, code: &Code, actor: ActorId) -> Result<(), Fault> {
+        let stand = self.stand_of(code, actor)?;
+        self.run_from(code, stand)
+    }
+
+    /// An actor takes its next steps, by its instructions, up to one after which other tasks come first.
+    pub(crate) fn run_from(&mut self, code: &Code, stand: Stand<'_>) -> Result<(), Fault> {
+        let mut stand = stand;
         for _step in 0..u64::MAX {
-            let stand = self.stand_of(code, actor)?;
             match self.take_step(code, &stand)? {
-                Pace::On => (),
+                Pace::On(next) => stand = next,
                 Pace::Off => return Ok(()),
             }
         }
@@ -144,7 +151,7 @@ impl Process {
     }
 
     // An actor takes its next step, by its instruction.
-    fn take_step(&mut self, code: &Code, stand: &Stand<'_>) -> Result<Pace, Fault> {
+    fn take_step<'a>(&mut self, code: &Code, stand: &Stand<'a>) -> Result<Pace<'a>, Fault> {
         let block = stand.block;
         if let Some(instruction) = block.body.get(stand.instruction as usize) {
             return self.instruction(code, stand, instruction);
@@ -156,27 +163,32 @@ impl Process {
     }
 
     /// A value that is left over, if any, is dropped; the actor goes on at once where that leaves nothing to do.
-    pub(crate) fn on_after(&mut self, actor: ActorId, old: Option<Value>) -> Result<Pace, Fault> {
+    pub(crate) fn on_after<'a>(
+        &mut self,
+        stand: Stand<'a>,
+        old: Option<Value>,
+    ) -> Result<Pace<'a>, Fault> {
         match old {
             Some(old) if may_refer(&old) => {
-                self.heap.push(Task::Run(actor))?;
+                self.note(stand)?;
+                self.heap.push(Task::Run(stand.actor))?;
                 self.heap.push_drops(&old)?;
                 Ok(Pace::Off)
             }
-            _ => Ok(Pace::On),
+            _ => Ok(Pace::On(stand)),
         }
     }
 
-    fn instruction(
+    fn instruction<'a>(
         &mut self,
         code: &Code,
-        stand: &Stand<'_>,
+        stand: &Stand<'a>,
         instruction: &Instruction,
-    ) -> Result<Pace, Fault> {
+    ) -> Result<Pace<'a>, Fault> {
         match instruction {
             Instruction::Set(aim, expr) => self.set_aim(code, stand, aim, expr),
             Instruction::Effect(_, effect, args) => {
-                self.effect(code, stand.actor, Goal::Stored, *effect, args)
+                self.effect(code, stand, Goal::Stored, *effect, args)
             }
             Instruction::New(place, kind) => self.new_promise(stand, *place, *kind),
             Instruction::Act(act, args) => self.act(code, stand, *act, args),
@@ -187,55 +199,59 @@ impl Process {
     }
 
     // Places are emptied, and what they held is dropped.
-    fn empty_places(&mut self, stand: &Stand<'_>, places: &[u32]) -> Result<Pace, Fault> {
-        self.go_on(stand)?;
+    fn empty_places<'a>(&mut self, stand: &Stand<'a>, places: &[u32]) -> Result<Pace<'a>, Fault> {
+        let next = stand.next()?;
         let values = self.taken(stand.actor, places)?;
         if values.is_empty() {
-            return Ok(Pace::On);
+            return Ok(Pace::On(next));
         }
+        self.note(next)?;
         self.heap.push(Task::Run(stand.actor))?;
         self.drop_values(values)?;
         Ok(Pace::Off)
     }
 
     // An assignment: the value is put in place, what stood there is dropped, and the next instruction follows.
-    fn set_aim(
+    fn set_aim<'a>(
         &mut self,
         code: &Code,
-        stand: &Stand<'_>,
+        stand: &Stand<'a>,
         aim: &Aim,
         expr: &Resolved,
-    ) -> Result<Pace, Fault> {
+    ) -> Result<Pace<'a>, Fault> {
         let value = match self.value(code, stand.actor, expr) {
             Ok(value) => value,
-            Err(halt) => return self.halted(stand.actor, halt),
+            Err(halt) => return self.halted(stand, halt),
         };
         self.hold_value(&value)?;
         let old = self.assign(code, stand.actor, aim, value)?;
-        self.go_on(stand)?;
-        self.on_after(stand.actor, old)
+        self.on_after(stand.next()?, old)
     }
 
     // A new cell for a place of a promise's type.
-    fn new_promise(&mut self, stand: &Stand<'_>, place: u32, kind: Kind) -> Result<Pace, Fault> {
+    fn new_promise<'a>(
+        &mut self,
+        stand: &Stand<'a>,
+        place: u32,
+        kind: Kind,
+    ) -> Result<Pace<'a>, Fault> {
         let cell = self.new_cell(kind)?;
         self.hold(kind, cell)?;
         let old = self.put(stand.actor, place, Some(Value::Ref(kind, cell)))?;
-        self.go_on(stand)?;
-        self.on_after(stand.actor, old)
+        self.on_after(stand.next()?, old)
     }
 
     // A call statement without a base: a predefined one, or a function of the program, whose value is forgotten.
-    fn act(
+    fn act<'a>(
         &mut self,
         code: &Code,
-        stand: &Stand<'_>,
+        stand: &Stand<'a>,
         act: Act,
         args: &[Resolved],
-    ) -> Result<Pace, Fault> {
+    ) -> Result<Pace<'a>, Fault> {
         let args = match self.values(code, stand.actor, args) {
             Ok(args) => args,
-            Err(halt) => return self.halted(stand.actor, halt),
+            Err(halt) => return self.halted(stand, halt),
         };
         match act {
             Act::World(call) => {
@@ -248,19 +264,19 @@ impl Process {
     }
 
     // A method of the reference at which an actor aims.
-    fn method(
+    fn method<'a>(
         &mut self,
         code: &Code,
-        stand: &Stand<'_>,
+        stand: &Stand<'a>,
         aim: &Aim,
         method: Method,
         args: &[Resolved],
-    ) -> Result<Pace, Fault> {
+    ) -> Result<Pace<'a>, Fault> {
         let sent = match args {
             [] => None,
             [arg] => match self.value(code, stand.actor, arg) {
                 Ok(value) => Some(value),
-                Err(halt) => return self.halted(stand.actor, halt),
+                Err(halt) => return self.halted(stand, halt),
             },
             _ => return Err(Fault::Astray),
         };
@@ -281,13 +297,13 @@ impl Process {
         }
     }
 
-    fn call_function(
+    fn call_function<'a>(
         &mut self,
         code: &Code,
-        stand: &Stand<'_>,
+        stand: &Stand<'a>,
         function: usize,
         args: Vec<Value>,
-    ) -> Result<Pace, Fault> {
+    ) -> Result<Pace<'a>, Fault> {
         let mut turns = Turns { left: self.left };
         let came_to = {
             let contents = Contents {
@@ -301,82 +317,98 @@ impl Process {
         };
         self.left = turns.left;
         match came_to {
-            Ok(_) => {
-                self.go_on(stand)?;
-                Ok(Pace::On)
-            }
-            Err(halt) => self.halted(stand.actor, halt),
+            Ok(_) => Ok(Pace::On(stand.next()?)),
+            Err(halt) => self.halted(stand, halt),
         }
     }
 
-    fn last(&mut self, code: &Code, stand: &Stand<'_>, last: &Last) -> Result<Pace, Fault> {
+    fn last<'a>(&mut self, code: &Code, stand: &Stand<'a>, last: &Last) -> Result<Pace<'a>, Fault> {
         match last {
-            Last::Goto(block) => {
-                self.go(stand.actor, *block, 0)?;
-                Ok(Pace::On)
-            }
-            Last::Pass(block) => {
-                self.go(stand.actor, *block, 0)?;
-                Ok(if self.turn() { Pace::On } else { Pace::Off })
-            }
+            Last::Goto(block) => Ok(Pace::On(stand.at(*block, 0)?)),
+            Last::Pass(block) => self.pass(stand.at(*block, 0)?),
             Last::Test(expr, yes, no) => self.test(code, stand, expr, *yes, *no),
             Last::Choose(group) => self.choose(code, stand, *group),
             Last::Return(expr) => self.finish_with(code, stand, expr),
-            Last::Throw(expr) => match self.value(code, stand.actor, expr) {
-                Ok(Value::Error(error)) => {
-                    self.throw(stand.actor, error)?;
-                    Ok(Pace::Off)
-                }
-                Ok(_) => Err(Fault::Astray),
-                Err(halt) => self.halted(stand.actor, halt),
-            },
+            Last::Throw(expr) => self.throw_value(code, stand, expr),
         }
     }
 
-    fn test(
+    // A pass of a loop begins: it takes a turn.
+    fn pass<'a>(&mut self, stand: Stand<'a>) -> Result<Pace<'a>, Fault> {
+        if self.turn() {
+            return Ok(Pace::On(stand));
+        }
+        self.note(stand)?;
+        Ok(Pace::Off)
+    }
+
+    // The error that an expression gives is thrown.
+    fn throw_value<'a>(
         &mut self,
         code: &Code,
-        stand: &Stand<'_>,
+        stand: &Stand<'a>,
+        expr: &Resolved,
+    ) -> Result<Pace<'a>, Fault> {
+        match self.value(code, stand.actor, expr) {
+            Ok(Value::Error(error)) => {
+                self.note(*stand)?;
+                self.throw(stand.actor, error)?;
+                Ok(Pace::Off)
+            }
+            Ok(_) => Err(Fault::Astray),
+            Err(halt) => self.halted(stand, halt),
+        }
+    }
+
+    fn test<'a>(
+        &mut self,
+        code: &Code,
+        stand: &Stand<'a>,
         expr: &Resolved,
         yes: u32,
         no: u32,
-    ) -> Result<Pace, Fault> {
+    ) -> Result<Pace<'a>, Fault> {
         let next = match self.truth(code, stand.actor, expr) {
             Ok(true) => yes,
             Ok(false) => no,
-            Err(halt) => return self.halted(stand.actor, halt),
+            Err(halt) => return self.halted(stand, halt),
         };
-        self.go(stand.actor, next, 0)?;
-        Ok(Pace::On)
+        Ok(Pace::On(stand.at(next, 0)?))
     }
 
     // The next operand of a wait is asked for; when all are kept, the actor waits.
-    fn choose(&mut self, code: &Code, stand: &Stand<'_>, number: u32) -> Result<Pace, Fault> {
+    fn choose<'a>(
+        &mut self,
+        code: &Code,
+        stand: &Stand<'a>,
+        number: u32,
+    ) -> Result<Pace<'a>, Fault> {
         let Some(group) = stand.class.group(number) else {
             return Err(Fault::Astray);
         };
+        let stand = self.note(*stand)?;
         let kept = self.operands(stand.actor);
         let Some(branch) = group.branches.get(kept) else {
-            self.wait(stand, number)?;
+            self.wait(&stand, number)?;
             return Ok(Pace::Off);
         };
         let number = group
             .first
             .saturating_add(u32::try_from(kept).unwrap_or(u32::MAX));
-        self.operand(code, stand, number, branch)
+        self.operand(code, &stand, number, branch)
     }
 
-    fn operand(
+    fn operand<'a>(
         &mut self,
         code: &Code,
-        stand: &Stand<'_>,
+        stand: &Stand<'a>,
         number: u32,
         branch: &Branch,
-    ) -> Result<Pace, Fault> {
+    ) -> Result<Pace<'a>, Fault> {
         let expr = match &branch.operand {
             Operand::Value(expr) => expr,
             Operand::Effect(effect, args) => {
-                return self.effect(code, stand.actor, Goal::Kept(number), *effect, args);
+                return self.effect(code, stand, Goal::Kept(number), *effect, args);
             }
         };
         match self.value(code, stand.actor, expr) {
@@ -385,22 +417,23 @@ impl Process {
                 self.keep_operand(stand, number, cell)
             }
             Ok(_) => Err(Fault::Astray),
-            Err(halt) => self.halted(stand.actor, halt),
+            Err(halt) => self.halted(stand, halt),
         }
     }
 
     // The actor ends with a value; everything leaves its variables.
-    fn finish_with(
+    fn finish_with<'a>(
         &mut self,
         code: &Code,
-        stand: &Stand<'_>,
+        stand: &Stand<'a>,
         expr: &Resolved,
-    ) -> Result<Pace, Fault> {
+    ) -> Result<Pace<'a>, Fault> {
         let value = match self.value(code, stand.actor, expr) {
             Ok(value) => value,
-            Err(halt) => return self.halted(stand.actor, halt),
+            Err(halt) => return self.halted(stand, halt),
         };
         self.hold_value(&value)?;
+        self.note(*stand)?;
         let outcome = Box::new(self.alloc, Outcome::Value(value))?;
         self.heap.push(Task::Close(stand.actor, outcome))?;
         self.lose_all(stand.actor)?;

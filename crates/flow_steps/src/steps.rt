@@ -1,7 +1,13 @@
 // The steps of a process: the newest task is done.
 
-ghost use Rattle.std.specs.Prelude.{◌≡◌, OnOk, slice_get};
-ghost use Rattle.std.specs.Option.{ForSome};
+ghost use Rattle.std.specs.Prelude.{◌≡◌, OnOk, IfOk, slice_get};
+ghost use Rattle.flow_cancel.specs.Heap.{finished};
+ghost use Rattle.std.specs.Option.{ForSome, IsSomeAnd};
+ghost use Rattle.flow_cell.specs.declared.counts.Side.TheVariants.{Promise};
+ghost use Rattle.flow_cell.specs.Cells.{released};
+ghost use Rattle.flow_picture.specs.Changes.{cell_put};
+ghost use Rattle.flow_steps.specs.Holding.{on_heap};
+ghost use Rattle.flow_steps.specs.Bringing.{result_set, end_line, ended_with, closing, closed};
 ghost use Rattle.flow_numbered.specs.Numbered.{thing};
 ghost use Rattle.flow_steps.specs.Doing.{departed};
 ghost use Rattle.flow_steps.specs.Drops.{DropsOver};
@@ -21,7 +27,9 @@ use flow_trace::line::Line;
 use flow_value::value::{Kind, Outcome, Value};
 
 /// The line of an actor's end.
-fn end_line(actor: ActorId, outcome: &Outcome) -> Line {
+fn end_line(actor: ActorId, outcome: &Outcome) -> Line
+    ensures { result ≡ end_line actor outcome.now }
+{
     match outcome {
         Outcome::Value(_) => Line::Finish(actor),
         Outcome::Error(error) => Line::Fail(actor, *error),
@@ -78,9 +86,8 @@ impl Process {
             return Err(Fault::Astray);
         };
         let old = self.bind(actor, branch, value)?;
-        self.go(actor, branch.block, 0)?;
-        match self.on_after(actor, old)? {
-            Pace::On => self.run(code, actor),
+        match self.on_after(stand.at(branch.block, 0)?, old)? {
+            Pace::On(next) => self.run_from(code, next),
             Pace::Off => Ok(()),
         }
     }
@@ -109,7 +116,8 @@ impl Process {
         if let Some(old) = old {
             self.heap.push_drops(&old)?;
         }
-        self.go_on(&stand)
+        self.go_on(&stand)?;
+        Ok(())
     }
 
     // The line; then the operands that are kept are dropped in order, and the values that leave the variables; then the
@@ -197,28 +205,54 @@ impl Process {
         self.take(&stand, branch, cell)
     }
 
+    #[tactic(auto, using(crate::proofs::Holding::closed_by))]
     // The actor is gone: a turn and the line; then its result is set, where a future refers to it, and otherwise the cell
     // goes and the value is dropped.
-    fn close(&mut self, actor: ActorId, outcome: Outcome) -> Result<(), Fault> {
-        let result = self.forget(actor)?;
+    fn close(&mut self, actor: ActorId, outcome: Outcome) -> Result<(), Fault>
+        ensures { OnOk result (IsSomeAnd (thing self.old.heap.actors.things actor.0) (λ n. self.new ≡ closed actor outcome n.result self.old)) }
+    {
+        let cell = self.forget(actor)?;
+        self.close_result(actor, cell, outcome)?;
+        Ok(())
+    }
+
+    // A turn and the line of an actor's end, and its outcome goes to its result.
+    fn close_result(
+        &mut self,
+        actor: ActorId,
+        cell: Option<CellId>,
+        outcome: Outcome,
+    ) -> Result<(), Fault>
+        ensures { OnOk result (self.new ≡ closing actor outcome cell self.old) }
+    {
         if !self.turn() {
             return Ok(());
         }
         let line = end_line(actor, &outcome);
-        match result {
-            Some(cell) if self.futures(cell) > 0 => self.set_result(cell, outcome)?,
-            Some(cell) => {
-                self.lose(Kind::Promise, cell)?;
-                self.drop_outcome(&outcome)?;
-            }
-            None => self.drop_outcome(&outcome)?,
-        }
+        self.end_with(cell, outcome)?;
         self.tell(line);
         Ok(())
     }
 
+    // The outcome of an actor goes to its result, where it has one that a future refers to; otherwise it is dropped.
+    fn end_with(&mut self, cell: Option<CellId>, outcome: Outcome) -> Result<(), Fault>
+        ensures { OnOk result (self.new ≡ ended_with cell outcome self.old) }
+    {
+        let Some(cell) = cell else {
+            return self.drop_outcome(&outcome);
+        };
+        if self.futures(cell) > 0 {
+            return self.set_result(cell, outcome);
+        }
+        self.lose(Kind::Promise, cell)?;
+        self.drop_outcome(&outcome)
+    }
+
     // The frame of an actor is closed, and its result is told.
-    fn forget(&mut self, actor: ActorId) -> Result<Option<CellId>, Fault> {
+    fn forget(&mut self, actor: ActorId) -> Result<Option<CellId>, Fault>
+        ensures gone { OnOk result (self.new ≡ on_heap (finished actor.0) self.old) }
+        ensures told { IfOk result (λ k. IsSomeAnd (thing self.old.heap.actors.things actor.0) (λ n. k ≡ n.result)) }
+    {
         if !self.heap.unfinished(actor) || !self.heap.may_finish(actor) {
             return Err(Fault::Astray);
         }
@@ -227,8 +261,11 @@ impl Process {
         Ok(result)
     }
 
+    #[tactic(auto, using(crate::proofs::Holding::promise_ended_by))]
     // A turn, and the result is set and fires. The actor's own promise counts no more.
-    fn set_result(&mut self, cell: CellId, outcome: Outcome) -> Result<(), Fault> {
+    fn set_result(&mut self, cell: CellId, outcome: Outcome) -> Result<(), Fault>
+        ensures { OnOk result (self.new ≡ result_set cell.0 outcome self.old) }
+    {
         if !self.turn() {
             return Ok(());
         }
@@ -237,7 +274,9 @@ impl Process {
     }
 
     // A promise of a single result counts no more, where others or futures do.
-    fn end_promise(&mut self, cell: CellId) -> Result<(), Fault> {
+    fn end_promise(&mut self, cell: CellId) -> Result<(), Fault>
+        ensures { OnOk result (IsSomeAnd (thing self.old.heap.cells.things cell.0) (λ c. self.new ≡ on_heap (cell_put cell.0 (record c { references = released Promise c.references })) self.old)) }
+    {
         let Some(references) = self.heap.cells().references(cell) else {
             return Err(Fault::Astray);
         };

@@ -1,8 +1,15 @@
 // What a process does to its own state: turns, tasks, counts of references, cells, waits and cancelling.
 
-ghost use Rattle.std.specs.Prelude.{◌≡◌, nat_lt, OnOk};
+ghost use Rattle.std.specs.Prelude.{◌≡◌, nat_lt, OnOk, IfOk};
 ghost use Rattle.flow_cancel.specs.declared.task.Task.TheVariants.{Run, Throw};
+ghost use Rattle.std.specs.Option.{IsSomeAnd};
+ghost use Rattle.std.specs.declared.option.Option.TheVariants.{Some};
+ghost use Rattle.flow_numbered.specs.Numbered.{thing};
+ghost use Rattle.flow_stream.specs.Streams.{with_item};
+ghost use Rattle.flow_picture.specs.Changes.{cell_put, stream_put};
+ghost use Rattle.flow_picture.specs.Holds.{hold, hold_all, sent, filled_in};
 ghost use Rattle.flow_steps.specs.Doing.{turned, doing, stopped};
+ghost use Rattle.flow_steps.specs.Holding.{on_heap, cell_holding, stream_holding, value_refs, outcome_refs, refs_dropped, result_filled, stream_filled, IsGiving, Gives, broken, lost, owner_cancelled, kind_in, futures_of};
 
 use crate::call::{Call, Goal};
 use crate::errors::Fault;
@@ -47,8 +54,11 @@ impl Process {
         Ok(self.heap.push(Task::Run(actor))?)
     }
 
+    #[tactic(auto, using(crate::proofs::Holding::cell_counted))]
     // A reference to a side of a single result counts.
-    fn hold_cell(&mut self, side: Side, cell: CellId) -> Result<(), Fault> {
+    fn hold_cell(&mut self, side: Side, cell: CellId) -> Result<(), Fault>
+        ensures { OnOk result (self.new ≡ on_heap (cell_holding side cell.0) self.old) }
+    {
         let Some(references) = self.heap.cells().references(cell) else {
             return Err(Fault::Astray);
         };
@@ -59,8 +69,11 @@ impl Process {
         Ok(())
     }
 
+    #[tactic(auto, using(crate::proofs::Holding::stream_counted))]
     // A reference to a side of a stream counts.
-    fn hold_stream(&mut self, side: Side, cell: CellId) -> Result<(), Fault> {
+    fn hold_stream(&mut self, side: Side, cell: CellId) -> Result<(), Fault>
+        ensures { OnOk result (self.new ≡ on_heap (stream_holding side cell.0) self.old) }
+    {
         let Some(references) = self.heap.streams().references(cell) else {
             return Err(Fault::Astray);
         };
@@ -72,15 +85,20 @@ impl Process {
     }
 
     /// A reference is stored: it counts.
-    pub(crate) fn hold(&mut self, kind: Kind, cell: CellId) -> Result<(), Fault> {
+    pub(crate) fn hold(&mut self, kind: Kind, cell: CellId) -> Result<(), Fault>
+        ensures { OnOk result (self.new ≡ on_heap (hold kind cell.0) self.old) }
+    {
         match kind {
             Kind::Promise | Kind::Future => self.hold_cell(side_of(kind), cell),
             Kind::PromiseStream | Kind::FutureStream => self.hold_stream(side_of(kind), cell),
         }
     }
 
+    #[tactic(auto, using(crate::proofs::Holding::fields_step, crate::proofs::Holding::fields_end))]
     /// A value is stored: its references count.
-    pub(crate) fn hold_value(&mut self, value: &Value) -> Result<(), Fault> {
+    pub(crate) fn hold_value(&mut self, value: &Value) -> Result<(), Fault>
+        ensures { OnOk result (self.new ≡ on_heap (hold_all (value_refs value.now)) self.old) }
+    {
         match value {
             Value::Struct(record) => {
                 for field in &record.fields {
@@ -95,15 +113,22 @@ impl Process {
         }
     }
 
-    pub(crate) fn hold_outcome(&mut self, outcome: &Outcome) -> Result<(), Fault> {
+    #[tactic(auto, using(crate::proofs::Holding::value_alone))]
+    /// An outcome is stored: what it refers to counts.
+    pub(crate) fn hold_outcome(&mut self, outcome: &Outcome) -> Result<(), Fault>
+        ensures { OnOk result (self.new ≡ on_heap (hold_all (outcome_refs outcome.now)) self.old) }
+    {
         match outcome {
             Outcome::Value(value) => self.hold_value(value),
             Outcome::Error(_) => Ok(()),
         }
     }
 
+    #[tactic(auto, using(crate::proofs::Holding::value_dropped))]
     /// What an outcome holds is dropped.
-    pub(crate) fn drop_outcome(&mut self, outcome: &Outcome) -> Result<(), Fault> {
+    pub(crate) fn drop_outcome(&mut self, outcome: &Outcome) -> Result<(), Fault>
+        ensures { OnOk result (self.new ≡ on_heap (refs_dropped (outcome_refs outcome.now)) self.old) }
+    {
         match outcome {
             Outcome::Value(value) => Ok(self.heap.push_drops(value)?),
             Outcome::Error(_) => Ok(()),
@@ -111,7 +136,9 @@ impl Process {
     }
 
     // A single result is set.
-    fn set(&mut self, cell: CellId, outcome: Outcome) -> Result<(), Fault> {
+    fn set(&mut self, cell: CellId, outcome: Outcome) -> Result<(), Fault>
+        ensures { OnOk result (IsSomeAnd (thing self.old.heap.cells.things cell.0) (λ c. self.new ≡ on_heap (cell_put cell.0 (record c { content = Some outcome })) self.old)) }
+    {
         if self.heap.cells().references(cell).is_none()
             || self.heap.cells().content(cell).is_some()
         {
@@ -122,7 +149,9 @@ impl Process {
     }
 
     // A stream without an end gets an element.
-    fn send(&mut self, cell: CellId, value: Value) -> Result<(), Fault> {
+    fn send(&mut self, cell: CellId, value: Value) -> Result<(), Fault>
+        ensures { OnOk result (IsSomeAnd (thing self.old.heap.streams.things cell.0) (λ s. self.new ≡ on_heap (stream_put cell.0 (with_item s value)) self.old)) }
+    {
         if self.heap.streams().references(cell).is_none() {
             return Err(Fault::Astray);
         }
@@ -134,7 +163,9 @@ impl Process {
     }
 
     // A stream without an end gets one.
-    fn end(&mut self, cell: CellId, error: ErrorCode) -> Result<(), Fault> {
+    fn end(&mut self, cell: CellId, error: ErrorCode) -> Result<(), Fault>
+        ensures { OnOk result (IsSomeAnd (thing self.old.heap.streams.things cell.0) (λ s. self.new ≡ on_heap (stream_put cell.0 (record s { end = Some error })) self.old)) }
+    {
         if self.heap.streams().references(cell).is_none() {
             return Err(Fault::Astray);
         }
@@ -145,43 +176,82 @@ impl Process {
         Ok(())
     }
 
-    /// The cell of a kind of reference, to which more can be sent, gets content that counts already, and fires.
-    pub(crate) fn fill(&mut self, kind: Kind, cell: CellId, outcome: Outcome) -> Result<(), Fault> {
-        match kind {
-            Kind::Promise | Kind::Future => {
-                self.set(cell, outcome)?;
-                self.hold(Kind::Future, cell)?;
-            }
-            Kind::PromiseStream | Kind::FutureStream => {
-                match outcome {
-                    Outcome::Value(value) => self.send(cell, value)?,
-                    Outcome::Error(error) => self.end(cell, error)?,
-                }
-                self.hold(Kind::FutureStream, cell)?;
-            }
+    // A stream without an end gets an element or its end.
+    fn send_outcome(&mut self, cell: CellId, outcome: Outcome) -> Result<(), Fault>
+        ensures { OnOk result (IsSomeAnd (thing self.old.heap.streams.things cell.0) (λ s. self.new ≡ on_heap (stream_put cell.0 (sent outcome s)) self.old)) }
+    {
+        match outcome {
+            Outcome::Value(value) => self.send(cell, value),
+            Outcome::Error(error) => self.end(cell, error),
         }
-        Ok(self.heap.push(Task::Fire(cell))?)
     }
 
-    /// The result of an effect goes where it belongs, and the actor goes on after that.
-    pub fn gives(&mut self, actor: ActorId, goal: Goal, value: Value) -> Result<(), Fault> {
-        self.hold_value(&value)?;
-        self.heap.push(Task::Run(actor))?;
-        match (goal, value) {
-            (Goal::Stored, value) => {
-                let value = Box::new(self.alloc, value)?;
-                self.heap.push(Task::Store(actor, value))?;
-            }
-            (Goal::Kept(callback), Value::Ref(_, cell)) => {
-                self.heap.push(Task::Keep(actor, callback, cell))?;
-            }
-            (Goal::Kept(_), _) => return Err(Fault::Astray),
+    // A task comes on top.
+    fn push(&mut self, task: Task) -> Result<(), Fault>
+        ensures { OnOk result (self.new ≡ doing task self.old) }
+    {
+        Ok(self.heap.push(task)?)
+    }
+
+    #[tactic(auto, using(crate::proofs::Holding::result_filled_by))]
+    // A single result gets content that counts already, and fires.
+    fn fill_result(&mut self, cell: CellId, outcome: Outcome) -> Result<(), Fault>
+        ensures { OnOk result (self.new ≡ on_heap (result_filled cell.0 outcome) self.old) }
+    {
+        self.set(cell, outcome)?;
+        self.hold(Kind::Future, cell)?;
+        self.push(Task::Fire(cell))?;
+        Ok(())
+    }
+
+    #[tactic(auto, using(crate::proofs::Holding::stream_filled_by))]
+    // A stream gets content that counts already, and fires.
+    fn fill_stream(&mut self, cell: CellId, outcome: Outcome) -> Result<(), Fault>
+        ensures { OnOk result (self.new ≡ on_heap (stream_filled cell.0 outcome) self.old) }
+    {
+        self.send_outcome(cell, outcome)?;
+        self.hold(Kind::FutureStream, cell)?;
+        self.push(Task::Fire(cell))?;
+        Ok(())
+    }
+
+    /// The cell of a kind of reference, to which more can be sent, gets content that counts already, and fires.
+    pub(crate) fn fill(&mut self, kind: Kind, cell: CellId, outcome: Outcome) -> Result<(), Fault>
+        ensures { OnOk result (self.new ≡ on_heap (filled_in kind cell.0 outcome) self.old) }
+    {
+        match kind {
+            Kind::Promise | Kind::Future => self.fill_result(cell, outcome),
+            Kind::PromiseStream | Kind::FutureStream => self.fill_stream(cell, outcome),
         }
+    }
+
+    // The task by which the result of an effect goes where it belongs.
+    fn giving(&self, actor: ActorId, goal: Goal, value: Value) -> Result<Task, Fault>
+        ensures { IfOk result (λ t. IsGiving goal actor value t) }
+    {
+        match (goal, value) {
+            (Goal::Stored, value) => Ok(Task::Store(actor, Box::new(self.alloc, value)?)),
+            (Goal::Kept(callback), Value::Ref(_, cell)) => Ok(Task::Keep(actor, callback, cell)),
+            (Goal::Kept(_), _) => Err(Fault::Astray),
+        }
+    }
+
+    #[tactic(auto, using(crate::proofs::Holding::given_all))]
+    /// The result of an effect goes where it belongs, and the actor goes on after that.
+    pub fn gives(&mut self, actor: ActorId, goal: Goal, value: Value) -> Result<(), Fault>
+        ensures { OnOk result (Gives goal actor value self.old self.new) }
+    {
+        self.hold_value(&value)?;
+        self.run_on(actor)?;
+        let task = self.giving(actor, goal, value)?;
+        self.push(task)?;
         Ok(())
     }
 
     /// A reference counts no more, and what that leads to is done.
-    pub(crate) fn lose(&mut self, kind: Kind, cell: CellId) -> Result<(), Fault> {
+    pub(crate) fn lose(&mut self, kind: Kind, cell: CellId) -> Result<(), Fault>
+        ensures { OnOk result (self.new ≡ lost kind cell.0 self.old) }
+    {
         if !self.heap.may_drop(kind, cell) {
             return Err(Fault::Astray);
         }
@@ -197,7 +267,9 @@ impl Process {
     }
 
     // A cell is broken: a turn, the line, and the error of a broken promise.
-    fn break_cell(&mut self, kind: Kind, cell: CellId) -> Result<(), Fault> {
+    fn break_cell(&mut self, kind: Kind, cell: CellId) -> Result<(), Fault>
+        ensures { OnOk result (self.new ≡ broken kind cell.0 self.old) }
+    {
         if !self.turn() {
             return Ok(());
         }
@@ -219,7 +291,9 @@ impl Process {
     }
 
     /// The unfinished and unmarked actor whose result a cell is, if there is one, is cancelled.
-    pub(crate) fn cancel_owner(&mut self, cell: CellId) -> Result<(), Fault> {
+    pub(crate) fn cancel_owner(&mut self, cell: CellId) -> Result<(), Fault>
+        ensures { OnOk result (self.new ≡ owner_cancelled cell.0 self.old) }
+    {
         let Some(actor) = self.heap.owner(cell) else {
             return Ok(());
         };
@@ -230,7 +304,9 @@ impl Process {
     }
 
     /// The kind of a reference to wait at a cell, if there is such a cell.
-    pub(crate) fn kind_at(&self, cell: CellId) -> Option<Kind> {
+    pub(crate) fn kind_at(&self, cell: CellId) -> Option<Kind>
+        ensures { result ≡ kind_in (thing self.now.heap.cells.things cell.0) (thing self.now.heap.streams.things cell.0) }
+    {
         if self.heap.cells().references(cell).is_some() {
             return Some(Kind::Future);
         }
@@ -249,7 +325,9 @@ impl Process {
     }
 
     /// How many futures of a single result count.
-    pub(crate) fn futures(&self, cell: CellId) -> u64 {
+    pub(crate) fn futures(&self, cell: CellId) -> u64
+        ensures { result ≡ futures_of (thing self.now.heap.cells.things cell.0) }
+    {
         match self.heap.cells().references(cell) {
             Some(references) => references.count(Side::Future),
             None => 0,

@@ -2,4 +2,4 @@ use Rattle.flow_steps.proofs.Over.{over_wait}
 use Rattle.flow_steps.proofs.process.Process.leave_for.Goals as goal
 
 pub returns : goal.returns
-returns c = over_wait _ _ _ _ _ _ c.in_ok-push.ensures c.in_ok-lose_locals.ensures c.in_ok-leave.ensures.drops c.go.ensures
+returns c = over_wait _ _ _ _ _ _ c.in_ok-push.ensures c.in_ok-lose_locals.ensures c.in_ok-leave.ensures.drops c.go.ensures.tasks

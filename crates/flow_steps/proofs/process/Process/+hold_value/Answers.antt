@@ -1,0 +1,17 @@
+use Rattle.std.proofs.Common.{◌≡◌, ap, ◌∙◌}
+use Rattle.flow_picture.specs.Holds.{hold_all}
+use Rattle.flow_steps.specs.declared.process.Process.{Process}
+use Rattle.flow_steps.specs.Holding.{value_refs}
+use Rattle.flow_steps.proofs.Holding.{kept_but_heap, fields_step}
+use Rattle.flow_steps.proofs.process.Process.+hold_value.Goals as goal
+
+pub loop-field-preserved : goal.loop-field-preserved
+loop-field-preserved t c =
+    let v = c.field-item.result in
+    let q = c.loop-field.self in
+    let r = c.hold_value.new.self in (
+      kept_but_heap c.args.self.now q r (hold_all (value_refs v)) c.loop-field.invariant.0 c.in_ok-hold_value-in-Struct.ensures,
+      fields_step c.deref-field-items.result.now c.loop-field.field-index v q.heap r.heap _ c.loop-field-test.true
+          (ap (λ (x : Process). x.heap) c.in_ok-hold_value-in-Struct.ensures ∙ ap (λ w. hold_all (value_refs w) q.heap) c.field-item.is)
+          c.loop-field.invariant.1,
+    )
