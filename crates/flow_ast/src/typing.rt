@@ -244,14 +244,16 @@ fn predefined_type(alloc: Global, call: Predefined, types: &[Ty]) -> Result<Expr
 }
 
 fn future_if(alloc: Global, fits: bool, gives: Ty) -> Result<ExprType, NoMemory>
-    ensures { IfOk result (λ t. found_type t ≡ (if fits then Some (FutureType (type_of gives)) else None)) }
+    ensures { IfOk result (λ t. found_type t
+        ≡ (if fits then Some (FutureType (type_of gives)) else None)) }
 {
     let future = Ty::Future(boxed(alloc, gives)?);
     Ok(given_if(fits, future))
 }
 
 fn listen_type(alloc: Global, types: &[Ty]) -> Result<ExprType, NoMemory>
-    ensures { IfOk result (λ t. found_type t ≡ applied (signature Predefined.Listen) (map type_of types.now)) }
+    ensures { IfOk result (λ t. found_type t
+        ≡ applied (signature Predefined.Listen) (map type_of types.now)) }
 {
     let packet = Ty::Named(Name::new(alloc, b"Packet")?);
     let packets = Ty::FutureStream(boxed(alloc, packet)?);
@@ -278,7 +280,8 @@ fn text_method(method: Method, types: &[Ty]) -> ExprType
 }
 
 fn future_method(of: Box<Ty>, method: Method, types: &[Ty]) -> ExprType
-    ensures { found_type result ≡ applied (future_method (type_of of.value) method) (map type_of types.now) }
+    ensures { found_type result ≡ applied (future_method (type_of of.value) method)
+        (map type_of types.now) }
 {
     match method {
         Method::IsReady => given_if(fit_none(types), Ty::Bool),
@@ -289,7 +292,8 @@ fn future_method(of: Box<Ty>, method: Method, types: &[Ty]) -> ExprType
 }
 
 fn promise_method(of: Box<Ty>, method: Method, types: &[Ty]) -> ExprType
-    ensures { found_type result ≡ applied (promise_method (type_of of.value) method) (map type_of types.now) }
+    ensures { found_type result ≡ applied (promise_method (type_of of.value) method)
+        (map type_of types.now) }
 {
     match method {
         Method::GetFuture => given_if(fit_none(types), Ty::Future(of)),
@@ -299,7 +303,8 @@ fn promise_method(of: Box<Ty>, method: Method, types: &[Ty]) -> ExprType
 }
 
 fn stream_method(of: Box<Ty>, method: Method, types: &[Ty]) -> ExprType
-    ensures { found_type result ≡ applied (stream_method (type_of of.value) method) (map type_of types.now) }
+    ensures { found_type result ≡ applied (stream_method (type_of of.value) method)
+        (map type_of types.now) }
 {
     match method {
         Method::GetFuture => given_if(fit_none(types), Ty::FutureStream(of)),
@@ -308,7 +313,8 @@ fn stream_method(of: Box<Ty>, method: Method, types: &[Ty]) -> ExprType
 }
 
 fn method_type(base: Ty, method: Method, types: &[Ty]) -> ExprType
-    ensures { found_type result ≡ applied (method_signature (type_of base) method) (map type_of types.now) }
+    ensures { found_type result ≡ applied (method_signature (type_of base) method)
+        (map type_of types.now) }
 {
     match base {
         Ty::Error => error_method(method, types),
@@ -321,25 +327,29 @@ fn method_type(base: Ty, method: Method, types: &[Ty]) -> ExprType
 }
 
 fn record_at<'a>(records: &'a [RecordDecl], name: &[u8]) -> Option<&'a RecordDecl>
-    ensures { option_map record_of (option_copied result) ≡ record_named (map record_of records.now) name.now }
+    ensures { option_map record_of (option_copied result)
+        ≡ record_named (map record_of records.now) name.now }
 {
     find_named(records, name)
 }
 
 fn function_at<'a>(functions: &'a [FunctionDecl], name: &[u8]) -> Option<&'a FunctionDecl>
-    ensures { option_map function_of (option_copied result) ≡ routine_named (map function_of functions.now) name.now }
+    ensures { option_map function_of (option_copied result)
+        ≡ routine_named (map function_of functions.now) name.now }
 {
     find_named(functions, name)
 }
 
 fn actor_at<'a>(actors: &'a [ActorDecl], name: &[u8]) -> Option<&'a ActorDecl>
-    ensures { option_map actor_of (option_copied result) ≡ routine_named (map actor_of actors.now) name.now }
+    ensures { option_map actor_of (option_copied result)
+        ≡ routine_named (map actor_of actors.now) name.now }
 {
     find_named(actors, name)
 }
 
 fn param_at<'a>(params: &'a [Param], name: &[u8]) -> Option<&'a Param>
-    ensures { option_map param_of (option_copied result) ≡ param_named (map param_of params.now) name.now }
+    ensures { option_map param_of (option_copied result)
+        ≡ param_named (map param_of params.now) name.now }
 {
     find_named(params, name)
 }
@@ -363,7 +373,8 @@ fn declared_type(
     name: &Name,
     types: &[Ty],
 ) -> Result<ExprType, NoMemory>
-    ensures { IfOk result (λ t. found_type t ≡ applied (declared_call (scope_of scope.now) name.now) (map type_of types.now)) }
+    ensures { IfOk result (λ t. found_type t
+        ≡ applied (declared_call (scope_of scope.now) name.now) (map type_of types.now)) }
 {
     if is_packet(name.bytes()) {
         let fits = fit(&[Ty::Int, Ty::Int, Ty::Str], types);
@@ -385,7 +396,8 @@ fn declared_type(
 }
 
 fn call_type(alloc: Global, scope: &Scope, name: &Name, types: &[Ty]) -> Result<ExprType, NoMemory>
-    ensures { IfOk result (λ t. found_type t ≡ applied (call_signature (scope_of scope.now) name.now) (map type_of types.now)) }
+    ensures { IfOk result (λ t. found_type t
+        ≡ applied (call_signature (scope_of scope.now) name.now) (map type_of types.now)) }
 {
     match predefined_call(name.bytes()) {
         Some(call) => predefined_type(alloc, call, types),
@@ -394,7 +406,8 @@ fn call_type(alloc: Global, scope: &Scope, name: &Name, types: &[Ty]) -> Result<
 }
 
 fn variable_type(alloc: Global, vars: &[Param], name: &[u8]) -> Result<ExprType, NoMemory>
-    ensures { IfOk result (λ t. found_type t ≡ variable_in (map param_of vars.now) name.now (named constant_names name.now)) }
+    ensures { IfOk result (λ t. found_type t
+        ≡ variable_in (map param_of vars.now) name.now (named constant_names name.now)) }
 {
     if predefined_constant(name).is_some() {
         return Ok(ExprType::Is(Ty::Int));
@@ -423,7 +436,8 @@ fn record_field(
     base: &[u8],
     name: &[u8],
 ) -> Result<ExprType, NoMemory>
-    ensures { IfOk result (λ t. found_type t ≡ record_field (map record_of records.now) base.now name.now) }
+    ensures { IfOk result (λ t. found_type t
+        ≡ record_field (map record_of records.now) base.now name.now) }
 {
     if is_packet(base) {
         return Ok(packet_field(name));
@@ -443,7 +457,8 @@ fn field_type(
     base: &Ty,
     name: &[u8],
 ) -> Result<ExprType, NoMemory>
-    ensures { IfOk result (λ t. found_type t ≡ field_type (map record_of records.now) (type_of base.now) name.now) }
+    ensures { IfOk result (λ t. found_type t
+        ≡ field_type (map record_of records.now) (type_of base.now) name.now) }
 {
     match base {
         Ty::Named(record) => record_field(alloc, records, record.bytes(), name),
@@ -510,7 +525,8 @@ fn binary_type(op: Op, left: &Ty, right: &Ty) -> ExprType
 }
 
 fn called_method(base: Ty, name: &[u8], types: &[Ty]) -> ExprType
-    ensures { found_type result ≡ applied (method_in (type_of base) (named method_names name.now)) (map type_of types.now) }
+    ensures { found_type result ≡ applied (method_in (type_of base) (named method_names name.now))
+        (map type_of types.now) }
 {
     match predefined_method(name) {
         Some(method) => method_type(base, method, types),

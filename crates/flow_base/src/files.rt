@@ -28,8 +28,10 @@ pub trait Files {
     fn open_file(&mut self, name: &str) -> Result<FileNo, OutFault>
         ensures opened { IfOk result (λ f. is_open self.new f.0) }
         ensures name { IfOk result (λ f. name_of self.new f.0 ≡ name.now) }
-        ensures start { OnOk result ((seen self.new).left name.now ≡ (seen self.old).content name.now) }
-        ensures unopened { OnErr result ((seen self.new).left name.now ≡ (seen self.old).left name.now) }
+        ensures start { OnOk result ((seen self.new).left name.now
+            ≡ (seen self.old).content name.now) }
+        ensures unopened { OnErr result ((seen self.new).left name.now
+            ≡ (seen self.old).left name.now) }
         ensures others { MovesOnly name.now (seen self.old) (seen self.new) }
         ensures stay { (k : ℕ) → is_open self.old k → is_open self.new k }
         ensures names { (k : ℕ) → is_open self.old k → name_of self.new k ≡ name_of self.old k }

@@ -21,8 +21,10 @@ pub fn read_past<F: Files>(
     limit: usize,
 ) -> Result<Vec<u8>, OutFault>
     requires { F.is_open files.old file.0 }
-    ensures bytes { IfOk result (λ v. AreFirst (limit + 1) ((F.seen files.old).left (F.name_of files.old file.0)) v.items) }
-    ensures within { ReadsOn (limit + 1) (F.name_of files.old file.0) (F.seen files.old) (F.seen files.new) }
+    ensures bytes { IfOk result (λ v. AreFirst (limit + 1)
+        ((F.seen files.old).left (F.name_of files.old file.0)) v.items) }
+    ensures within { ReadsOn (limit + 1) (F.name_of files.old file.0) (F.seen files.old)
+        (F.seen files.new) }
     ensures others { MovesOnly (F.name_of files.old file.0) (F.seen files.old) (F.seen files.new) }
     ensures content { (F.seen files.new).content ≡ (F.seen files.old).content }
     ensures asked { (F.seen files.new).asked ≡ (F.seen files.old).asked }
@@ -51,7 +53,8 @@ pub fn read_file<F: Files>(
     name: &str,
     limit: usize,
 ) -> Result<Vec<u8>, OutFault>
-    ensures bytes { IfOk result (λ v. AreFirst (limit + 1) ((F.seen files.old).content name.now) v.items) }
+    ensures bytes { IfOk result (λ v. AreFirst (limit + 1) ((F.seen files.old).content name.now)
+        v.items) }
     ensures within { ReadsWithin (limit + 1) name.now (F.seen files.old) (F.seen files.new) }
     ensures others { MovesOnly name.now (F.seen files.old) (F.seen files.new) }
     ensures content { (F.seen files.new).content ≡ (F.seen files.old).content }

@@ -50,7 +50,12 @@ impl MemFiles {
     pub fn new(alloc: Global, files: Vec<(String, Vec<u8>)>, failing: Vec<u64>) -> MemFiles
         requires few { length files.items < 2 ^ 32 }
         requires distinct { IsTrue (are_distinct (map (λ e. string_bytes e.0) files.items)) }
-        ensures { result ≡ record { files = map named_bytes files.items; positions = []; asked = []; calls = no_calls failing.items } }
+        ensures { result ≡ record {
+          files = map named_bytes files.items;
+          positions = [];
+          asked = [];
+          calls = no_calls failing.items;
+        } }
     {
         MemFiles {
             alloc,
@@ -86,7 +91,8 @@ fn set_position(
     file: u32,
     place: usize,
 ) -> Result<(), NoMemory>
-    ensures set { OnOk result (SetsPosition positions.old.entries positions.new.entries file place) }
+    ensures set { OnOk result (SetsPosition positions.old.entries positions.new.entries file
+        place) }
     ensures err { OnErr result (positions.new.entries ≡ positions.old.entries) }
 {
     positions.insert(file, place)?;
@@ -137,8 +143,10 @@ impl Files for MemFiles {
 
         ensures opened { IfOk result (λ f. IsOpen self.new.files self.new.positions f.0) }
         ensures name { IfOk result (λ f. name_at self.new.files f.0 ≡ name.now) }
-        ensures start { OnOk result (rest_of self.new.files self.new.positions name.now ≡ bytes_of self.old.files name.now) }
-        ensures unopened { OnErr result (rest_of self.new.files self.new.positions name.now ≡ rest_of self.old.files self.old.positions name.now) }
+        ensures start { OnOk result (rest_of self.new.files self.new.positions name.now
+            ≡ bytes_of self.old.files name.now) }
+        ensures unopened { OnErr result (rest_of self.new.files self.new.positions name.now
+            ≡ rest_of self.old.files self.old.positions name.now) }
         ensures others { MovesOnly name.now (seen_of self.old) (seen_of self.new) }
     {
         let Ok(copy) = name.to_string(self.alloc) else {
@@ -172,7 +180,8 @@ impl Files for MemFiles {
             let before = rest_of self.old.files self.old.positions name in
             let after = rest_of self.new.files self.new.positions name in
             ReadConsumes before after result buf.new }
-        ensures others { MovesOnly (name_at self.old.files file.0) (seen_of self.old) (seen_of self.new) }
+        ensures others { MovesOnly (name_at self.old.files file.0) (seen_of self.old)
+            (seen_of self.new) }
     {
         if self.calls.next_fails() {
             return Err(self.calls.fail());

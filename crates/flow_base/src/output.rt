@@ -11,7 +11,8 @@ use crate::sink::Sink;
 /// Writes the whole piece, going on after each short write. What was written is always a first part
 /// of it. `Failed` comes only where the sink's count rose.
 pub fn write_whole<S: Sink>(out: &mut S, piece: &[u8]) -> Result<(), OutFault>
-    ensures whole { OnOk result (Appends (S.seen out.old).written (S.seen out.new).written piece.now) }
+    ensures whole { OnOk result (Appends (S.seen out.old).written (S.seen out.new).written
+        piece.now) }
     ensures part { AppendsPart (S.seen out.old).written (S.seen out.new).written piece.now }
     ensures cause { HasCause (S.seen out.old).faults (S.seen out.new).faults result }
 {

@@ -17,8 +17,10 @@ pub trait Sink {
     /// is a fault, by the count. A write that fails takes nothing.
     fn write(&mut self, piece: &[u8]) -> Result<usize, OutFault>
         ensures count { IfOk result (λ n. n ≤ length piece.now) }
-        ensures bytes { WriteAppends (seen self.old).written (seen self.new).written result piece.now }
-        ensures stuck { IfOk result (λ n. n ≡ 0 → 0 < length piece.now → Rose (seen self.old).faults (seen self.new).faults) }
+        ensures bytes { WriteAppends (seen self.old).written (seen self.new).written result
+            piece.now }
+        ensures stuck { IfOk result (λ n. n ≡ 0 → 0 < length piece.now
+            → Rose (seen self.old).faults (seen self.new).faults) }
         ensures cause { HasCause (seen self.old).faults (seen self.new).faults result };
 
     /// Hands on what was written, which doesn't change.

@@ -47,7 +47,8 @@ impl Model for Actors {
 // Tells the actor of a result, if it has one, where there is room for it.
 fn own(owners: &mut HashMap<u64, u64>, cell: Option<CellId>, actor: ActorId)
     requires { 0 < spare owners.old }
-    ensures { (k : ℕ) → hash.get nat_eq owners.new k ≡ owners_with cell actor.0 (λ n. hash.get nat_eq owners.old n) k }
+    ensures { (k : ℕ) → hash.get nat_eq owners.new k
+        ≡ owners_with cell actor.0 (λ n. hash.get nat_eq owners.old n) k }
 {
     if let Some(cell) = cell {
         match owners.insert(cell.0, actor.0) {
@@ -59,7 +60,8 @@ fn own(owners: &mut HashMap<u64, u64>, cell: Option<CellId>, actor: ActorId)
 
 // Tells the actor of a result, if it had one, no more.
 fn disown(owners: &mut HashMap<u64, u64>, cell: Option<CellId>)
-    ensures { (k : ℕ) → hash.get nat_eq owners.new k ≡ owners_without cell (λ n. hash.get nat_eq owners.old n) k }
+    ensures { (k : ℕ) → hash.get nat_eq owners.new k
+        ≡ owners_without cell (λ n. hash.get nat_eq owners.old n) k }
 {
     if let Some(cell) = cell {
         owners.remove(&cell.0);
@@ -111,7 +113,8 @@ impl Actors {
     /// Marks an actor as cancelled.
     pub(crate) fn mark(&mut self, actor: ActorId)
         requires { IsSome (thing self.old.things actor.0) }
-        ensures { ForSome (thing self.old.things actor.0) (λ n. self.new ≡ with_thing self.old actor.0 (record n { marked = true })) }
+        ensures { ForSome (thing self.old.things actor.0)
+            (λ n. self.new ≡ with_thing self.old actor.0 (record n { marked = true })) }
     {
         self.notes.get_mut(actor.0).marked = true;
     }

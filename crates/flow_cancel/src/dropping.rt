@@ -78,7 +78,8 @@ impl Heap {
     }
 
     pub(crate) fn may_drop_stream(&self, side: Side, cell: CellId) -> bool
-        ensures { result ≡ may_drop_stream side (has_number self.now.ports cell.0) (thing self.now.streams.things cell.0) }
+        ensures { result ≡ may_drop_stream side (has_number self.now.ports cell.0)
+            (thing self.now.streams.things cell.0) }
     {
         let Some(references) = self.streams.references(cell) else {
             return false;
@@ -96,7 +97,8 @@ impl Heap {
 
     // The actor whose result lost its last future is to be cancelled, if it isn't marked yet.
     fn cancel_owner(&self, cell: CellId) -> Dropped
-        ensures { result ≡ cancel_owner self.now.actors.things (owner cell.0 self.now.actors.things) }
+        ensures { result ≡ cancel_owner self.now.actors.things
+            (owner cell.0 self.now.actors.things) }
     {
         let Some(actor) = self.owner(cell) else {
             return Dropped::Nothing;
@@ -110,9 +112,11 @@ impl Heap {
     // A single result without a reference and without a waiter goes, and what it held is dropped.
     fn free_cell(&mut self, cell: CellId) -> Result<(), NoMemory>
         requires there { IsSome (thing self.old.cells.things cell.0) }
-        requires references { ForSome (thing self.old.cells.things cell.0) (λ c. c.references ≡ no_counts) }
+        requires references { ForSome (thing self.old.cells.things cell.0)
+            (λ c. c.references ≡ no_counts) }
         requires waiters { ForSome (thing self.old.cells.things cell.0) (λ c. c.waiters ≡ []) }
-        ensures { OnOk result (self.new ≡ freed_cell cell.0 self.old (thing self.old.cells.things cell.0)) }
+        ensures { OnOk result (self.new ≡ freed_cell cell.0 self.old
+            (thing self.old.cells.things cell.0)) }
     {
         match self.cells.remove(cell) {
             Some(Outcome::Value(value)) => push_drops(&mut self.tasks, &value),
@@ -131,7 +135,8 @@ impl Heap {
     /// A single result loses a reference of a side.
     pub(crate) fn drop_cell(&mut self, side: Side, cell: CellId) -> Result<Dropped, NoMemory>
         requires { may_drop_cell side (thing self.old.cells.things cell.0) ≡ true }
-        ensures { IfOk result (λ d. (self.new, d) ≡ drop_cell side cell.0 self.old (thing self.old.cells.things cell.0)) }
+        ensures { IfOk result (λ d. (self.new, d)
+            ≡ drop_cell side cell.0 self.old (thing self.old.cells.things cell.0)) }
     {
         match self.cells.release(cell, side) {
             Loss::Kept => Ok(Dropped::Nothing),
@@ -147,9 +152,11 @@ impl Heap {
     // A stream without a reference and without a waiter goes, and its elements are dropped.
     fn free_stream(&mut self, cell: CellId) -> Result<(), NoMemory>
         requires there { IsSome (thing self.old.streams.things cell.0) }
-        requires references { ForSome (thing self.old.streams.things cell.0) (λ s. s.references ≡ no_counts) }
+        requires references { ForSome (thing self.old.streams.things cell.0)
+            (λ s. s.references ≡ no_counts) }
         requires waiter { ForSome (thing self.old.streams.things cell.0) (λ s. s.waiter ≡ None) }
-        ensures { OnOk result (self.new ≡ freed_stream cell.0 self.old (thing self.old.streams.things cell.0)) }
+        ensures { OnOk result (self.new ≡ freed_stream cell.0 self.old
+            (thing self.old.streams.things cell.0)) }
     {
         let queue = self.streams.remove(cell);
         push_all_drops(&mut self.tasks, queue)
@@ -158,9 +165,11 @@ impl Heap {
     // The stream of a port, which is its one promise, goes and its port too.
     fn free_port(&mut self, cell: CellId) -> Result<(), NoMemory>
         requires there { IsSome (thing self.old.streams.things cell.0) }
-        requires references { ForSome (thing self.old.streams.things cell.0) (λ s. s.references ≡ one_promise) }
+        requires references { ForSome (thing self.old.streams.things cell.0)
+            (λ s. s.references ≡ one_promise) }
         requires waiter { ForSome (thing self.old.streams.things cell.0) (λ s. s.waiter ≡ None) }
-        ensures { OnOk result (self.new ≡ freed_stream cell.0 (without_port cell.0 self.old) (thing self.old.streams.things cell.0)) }
+        ensures { OnOk result (self.new ≡ freed_stream cell.0 (without_port cell.0 self.old)
+            (thing self.old.streams.things cell.0)) }
     {
         self.ports.remove(&cell.0);
         self.streams.release(cell, Side::Promise);
@@ -170,8 +179,10 @@ impl Heap {
 
     /// A stream loses a reference of a side.
     pub(crate) fn drop_stream(&mut self, side: Side, cell: CellId) -> Result<Dropped, NoMemory>
-        requires { may_drop_stream side (has_number self.old.ports cell.0) (thing self.old.streams.things cell.0) ≡ true }
-        ensures { IfOk result (λ d. (self.new, d) ≡ drop_stream side cell.0 self.old (thing self.old.streams.things cell.0)) }
+        requires { may_drop_stream side (has_number self.old.ports cell.0)
+            (thing self.old.streams.things cell.0) ≡ true }
+        ensures { IfOk result (λ d. (self.new, d)
+            ≡ drop_stream side cell.0 self.old (thing self.old.streams.things cell.0)) }
     {
         match self.streams.release(cell, side) {
             Loss::Kept => Ok(Dropped::Nothing),

@@ -104,7 +104,8 @@ fn is_waiter(waiter: Waiter, found: Option<Waiter>) -> bool
 
 // A waiter leaves a stream, if there is one and it waits there.
 fn leave_stream(streams: &mut Streams<Value>, cell: CellId, waiter: Waiter)
-    ensures { streams.new ≡ leave_stream_at cell.0 waiter (thing streams.old.things cell.0) streams.old }
+    ensures { streams.new ≡ leave_stream_at cell.0 waiter (thing streams.old.things cell.0)
+        streams.old }
 {
     if streams.references(cell).is_none() {
         return;
@@ -117,7 +118,8 @@ fn leave_stream(streams: &mut Streams<Value>, cell: CellId, waiter: Waiter)
 // A waiter leaves a single result that is there, if it waits there.
 fn leave_result(cells: &mut Cells<Outcome>, cell: CellId, waiter: Waiter)
     requires { IsSome (thing cells.old.things cell.0) }
-    ensures { ForSome (thing cells.old.things cell.0) (λ c. cells.new ≡ left_cells cell.0 waiter c cells.old) }
+    ensures { ForSome (thing cells.old.things cell.0)
+        (λ c. cells.new ≡ left_cells cell.0 waiter c cells.old) }
 {
     if cells.waits(cell, waiter) {
         cells.remove_waiter(cell, waiter);
@@ -315,7 +317,8 @@ impl Heap {
     ) -> Result<ActorId, NoMemory>
         requires { may_start cell self.old ≡ true }
         ensures number { IfOk result (λ a. a.0 ≡ next_actor self.old) }
-        ensures started { OnOk result (self.new ≡ started_holding class places filled.items cell self.old) }
+        ensures started { OnOk result (self.new
+            ≡ started_holding class places filled.items cell self.old) }
     {
         let actor = ActorId(self.next_actor()?);
         self.actors.add(actor, cell)?;
@@ -359,7 +362,8 @@ impl Heap {
     // The kind of a reference to wait at a cell, after the waiter has left it.
     fn leave_cell(&mut self, cell: CellId, waiter: Waiter) -> Kind
         ensures kind { result ≡ kind_at (thing self.old.cells.things cell.0) }
-        ensures left { self.new ≡ leave_cell_at cell.0 waiter (thing self.old.cells.things cell.0) self.old }
+        ensures left { self.new ≡ leave_cell_at cell.0 waiter (thing self.old.cells.things cell.0)
+            self.old }
     {
         if self.cells.references(cell).is_none() {
             leave_stream(&mut self.streams, cell, waiter);
@@ -453,7 +457,8 @@ impl Heap {
 
     /// Notes the stream of a port. No count changes.
     pub fn add_port(&mut self, cell: CellId) -> Result<(), NoMemory>
-        ensures { OnOk result (self.new ≡ record self.old { ports = with_number self.old.ports cell.0 }) }
+        ensures { OnOk result (self.new ≡ record self.old
+            { ports = with_number self.old.ports cell.0 }) }
     {
         self.ports.insert(cell.0)?;
         Ok(())
@@ -468,7 +473,8 @@ impl Heap {
 
     /// Notes that a request is open on a cell. No count changes.
     pub fn add_request(&mut self, cell: CellId) -> Result<(), NoMemory>
-        ensures { OnOk result (self.new ≡ record self.old { requests = with_number self.old.requests cell.0 }) }
+        ensures { OnOk result (self.new ≡ record self.old
+            { requests = with_number self.old.requests cell.0 }) }
     {
         self.requests.insert(cell.0)?;
         Ok(())
@@ -483,14 +489,16 @@ impl Heap {
 
     /// Notes that no request is open on a cell. No count changes.
     pub fn end_request(&mut self, cell: CellId)
-        ensures { self.new ≡ record self.old { requests = without_number self.old.requests cell.0 } }
+        ensures { self.new ≡ record self.old
+            { requests = without_number self.old.requests cell.0 } }
     {
         self.requests.remove(&cell.0);
     }
 
     /// Pushes drops of the references of a value, that of the first on top.
     pub fn push_drops(&mut self, value: &Value) -> Result<(), NoMemory>
-        ensures { OnOk result (self.new ≡ record self.old { tasks = drops (refs_of (value_of value.now)) self.old.tasks }) }
+        ensures { OnOk result (self.new ≡ record self.old
+            { tasks = drops (refs_of (value_of value.now)) self.old.tasks }) }
     {
         push_drops(&mut self.tasks, value)
     }

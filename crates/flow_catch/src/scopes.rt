@@ -30,7 +30,8 @@ impl Model for Scopes {
 fn outer(entries: &[Entry], end: usize) -> usize
     requires { end ≤ length entries.now }
     ensures within { result ≤ end }
-    ensures outside { scope_of (take result entries.now) ≡ outside (scope_of (take end entries.now)) }
+    ensures outside { scope_of (take result entries.now)
+        ≡ outside (scope_of (take end entries.now)) }
 {
     let mut at = end;
     while at > 0 {
@@ -61,7 +62,8 @@ fn newest(alloc: Global, entries: &[Entry], end: usize) -> Result<Vec<u32>, NoMe
 
 // A list at the end, where there is something in it.
 fn add_list(lists: &mut Vec<Vec<u32>>, numbers: Vec<u32>) -> Result<(), NoMemory>
-    ensures { OnOk result (lists_of lists.new.items ≡ lists_of lists.old.items ++ listed numbers.items []) }
+    ensures { OnOk result (lists_of lists.new.items
+        ≡ lists_of lists.old.items ++ listed numbers.items []) }
 {
     if !numbers.is_empty() {
         lists.push(numbers)?;

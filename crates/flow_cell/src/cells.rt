@@ -56,7 +56,8 @@ impl<T> Cells<T> {
     where
         T: Drop,
         requires { self.old.greatest < cell.0 }
-        ensures ok { OnOk result (self.new ≡ record { things = added self.old.things cell.0 unset; greatest = cell.0 }) }
+        ensures ok { OnOk result (self.new
+            ≡ record { things = added self.old.things cell.0 unset; greatest = cell.0 }) }
         ensures err { OnErr result (self.new ≡ self.old) }
     {
         self.cells.insert(
@@ -83,8 +84,11 @@ impl<T> Cells<T> {
     /// Counts one more reference of a side, which stays below 2^64.
     pub fn hold(&mut self, cell: CellId, side: Side)
         requires there { IsSome (thing self.old.things cell.0) }
-        requires fits { ForSome (thing self.old.things cell.0) (λ c. count_of side c.references + 1 < 2 ^ 64) }
-        ensures { ForSome (thing self.old.things cell.0) (λ c. self.new ≡ with_thing self.old cell.0 (record c { references = held side c.references })) }
+        requires fits { ForSome (thing self.old.things cell.0)
+            (λ c. count_of side c.references + 1 < 2 ^ 64) }
+        ensures { ForSome (thing self.old.things cell.0)
+            (λ c. self.new ≡ with_thing self.old cell.0
+            (record c { references = held side c.references })) }
     {
         self.cells.get_mut(cell.0).references.hold(side);
     }
@@ -92,9 +96,13 @@ impl<T> Cells<T> {
     /// Counts one reference less of a side that counts, and says what that leaves.
     pub fn release(&mut self, cell: CellId, side: Side) -> Loss
         requires there { IsSome (thing self.old.things cell.0) }
-        requires counts { ForSome (thing self.old.things cell.0) (λ c. 0 < count_of side c.references) }
-        ensures loss { ForSome (thing self.old.things cell.0) (λ c. result ≡ loss side (released side c.references)) }
-        ensures counts { ForSome (thing self.old.things cell.0) (λ c. self.new ≡ with_thing self.old cell.0 (record c { references = released side c.references })) }
+        requires counts { ForSome (thing self.old.things cell.0)
+            (λ c. 0 < count_of side c.references) }
+        ensures loss { ForSome (thing self.old.things cell.0)
+            (λ c. result ≡ loss side (released side c.references)) }
+        ensures counts { ForSome (thing self.old.things cell.0)
+            (λ c. self.new ≡ with_thing self.old cell.0
+            (record c { references = released side c.references })) }
     {
         self.cells.get_mut(cell.0).references.release(side)
     }
@@ -105,7 +113,8 @@ impl<T> Cells<T> {
         T: Drop,
         requires there { IsSome (thing self.old.things cell.0) }
         requires unset { ForSome (thing self.old.things cell.0) (λ c. c.content ≡ None) }
-        ensures { ForSome (thing self.old.things cell.0) (λ c. self.new ≡ with_thing self.old cell.0 (record c { content = Some content })) }
+        ensures { ForSome (thing self.old.things cell.0)
+            (λ c. self.new ≡ with_thing self.old cell.0 (record c { content = Some content })) }
     {
         self.cells.get_mut(cell.0).content = Some(content);
     }
@@ -131,7 +140,9 @@ impl<T> Cells<T> {
     /// Adds a waiter behind the others of a cell. Where there is no memory, nothing changes.
     pub fn add_waiter(&mut self, cell: CellId, waiter: Waiter) -> Result<(), NoMemory>
         requires { IsSome (thing self.old.things cell.0) }
-        ensures ok { ForSome (thing self.old.things cell.0) (λ c. OnOk result (self.new ≡ with_thing self.old cell.0 (record c { waiters = c.waiters ++ waiter ∷ [] }))) }
+        ensures ok { ForSome (thing self.old.things cell.0)
+            (λ c. OnOk result (self.new ≡ with_thing self.old cell.0
+            (record c { waiters = c.waiters ++ waiter ∷ [] }))) }
         ensures err { OnErr result (self.new ≡ self.old) }
     {
         let entry = self.cells.get_mut(cell.0);
@@ -152,8 +163,11 @@ impl<T> Cells<T> {
     /// Removes a waiter that waits at a cell, in constant time; the newest, where it waits there more than once.
     pub fn remove_waiter(&mut self, cell: CellId, waiter: Waiter)
         requires there { IsSome (thing self.old.things cell.0) }
-        requires waits { ForSome (thing self.old.things cell.0) (λ c. has_waiter c.waiters waiter ≡ true) }
-        ensures { ForSome (thing self.old.things cell.0) (λ c. self.new ≡ with_thing self.old cell.0 (record c { waiters = without_newest c.waiters waiter })) }
+        requires waits { ForSome (thing self.old.things cell.0)
+            (λ c. has_waiter c.waiters waiter ≡ true) }
+        ensures { ForSome (thing self.old.things cell.0)
+            (λ c. self.new ≡ with_thing self.old cell.0
+            (record c { waiters = without_newest c.waiters waiter })) }
     {
         let entry = self.cells.get_mut(cell.0);
         self.lists.exit(&mut entry.waiters, cell, waiter);
@@ -186,7 +200,8 @@ impl<T> Cells<T> {
     /// Removes a cell without a reference and without a waiter, and gives what it held: `None` where it was unset.
     pub fn remove(&mut self, cell: CellId) -> Option<T>
         requires there { IsSome (thing self.old.things cell.0) }
-        requires references { ForSome (thing self.old.things cell.0) (λ c. c.references ≡ no_counts) }
+        requires references { ForSome (thing self.old.things cell.0)
+            (λ c. c.references ≡ no_counts) }
         requires waiters { ForSome (thing self.old.things cell.0) (λ c. c.waiters ≡ []) }
         ensures content { ForSome (thing self.old.things cell.0) (λ c. result ≡ c.content) }
         ensures rest { self.new ≡ record self.old { things = removed self.old.things cell.0 } }

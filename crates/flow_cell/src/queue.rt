@@ -58,7 +58,8 @@ pub(crate) fn join(
         ≡ (if same_spot spot s then Some key else hash.get same_spot newest.old s)) }
     ensures links_stay { OnErr result ((k : ℕ) → get links.new k ≡ get links.old k) }
     ensures ends_stay { OnErr result (ends.new ≡ ends.old) }
-    ensures newest_stays { OnErr result ((s : Spot) → hash.get same_spot newest.new s ≡ hash.get same_spot newest.old s) }
+    ensures newest_stays { OnErr result
+        ((s : Spot) → hash.get same_spot newest.new s ≡ hash.get same_spot newest.old s) }
 {
     newest.reserve(1)?;
     let older = newest.get(&spot).copied();
@@ -72,7 +73,8 @@ pub(crate) fn join(
 // Notes the newest link of a waiter, or that there is none.
 fn note(newest: &mut HashMap<Spot, usize>, spot: Spot, key: Option<usize>)
     requires { IsSome (hash.get same_spot newest.old spot) }
-    ensures { (s : Spot) → hash.get same_spot newest.new s ≡ (if same_spot spot s then key else hash.get same_spot newest.old s) }
+    ensures { (s : Spot) → hash.get same_spot newest.new s
+        ≡ (if same_spot spot s then key else hash.get same_spot newest.old s) }
 {
     match key {
         Some(key) => {
@@ -94,10 +96,12 @@ pub(crate) fn leave(
     spot: Spot,
 )
     requires there { IsSome (hash.get same_spot newest.old spot) }
-    requires link { ForSome (hash.get same_spot newest.old spot) (λ key. ContainsKey links.old key) }
+    requires link { ForSome (hash.get same_spot newest.old spot)
+        (λ key. ContainsKey links.old key) }
     ensures links { ForSome (hash.get same_spot newest.old spot) (λ key. ForSome (get links.old key) (λ l. (k : ℕ)
         → get links.new k ≡ unlinked (get links.old) l key k)) }
-    ensures ends { ForSome (hash.get same_spot newest.old spot) (λ key. ForSome (get links.old key) (λ l. ends.new ≡ shorter ends.old l)) }
+    ensures ends { ForSome (hash.get same_spot newest.old spot)
+        (λ key. ForSome (get links.old key) (λ l. ends.new ≡ shorter ends.old l)) }
     ensures newest { ForSome (hash.get same_spot newest.old spot) (λ key. ForSome (get links.old key) (λ l. (s : Spot)
         → hash.get same_spot newest.new s ≡ (if same_spot spot s then l.item.older else hash.get same_spot newest.old s))) }
 {

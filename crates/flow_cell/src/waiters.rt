@@ -60,8 +60,10 @@ impl Lists {
         cell: CellId,
         waiter: Waiter,
     ) -> Result<(), NoMemory>
-        ensures ok { OnOk result (Becomes cell.0 (λ ws. ws ++ waiter ∷ []) (line self.old waiters.old) (line self.new waiters.new)) }
-        ensures err { OnErr result (Becomes cell.0 (λ ws. ws) (line self.old waiters.old) (line self.new waiters.new)) }
+        ensures ok { OnOk result (Becomes cell.0 (λ ws. ws ++ waiter ∷ [])
+            (line self.old waiters.old) (line self.new waiters.new)) }
+        ensures err { OnErr result (Becomes cell.0 (λ ws. ws) (line self.old waiters.old)
+            (line self.new waiters.new)) }
     {
         match waiters {
             Waiters::Nobody => {
@@ -94,7 +96,8 @@ impl Lists {
     pub(crate) fn exit(&mut self, waiters: &mut Waiters, cell: CellId, waiter: Waiter)
         requires cell { IsIn cell.0 (line self.old waiters.old) }
         requires waits { has_waiter (line self.old waiters.old).waiters waiter ≡ true }
-        ensures { Becomes cell.0 (λ ws. without_newest ws waiter) (line self.old waiters.old) (line self.new waiters.new) }
+        ensures { Becomes cell.0 (λ ws. without_newest ws waiter) (line self.old waiters.old)
+            (line self.new waiters.new) }
     {
         match waiters {
             Waiters::Nobody => (),

@@ -48,7 +48,8 @@ fn slot_number(slots: &[Slot], name: &[u8]) -> Option<usize>
 #[tactic(auto, using(crate::proofs::Slots::slot_within))]
 fn slot_place(slots: &[Slot], name: &[u8]) -> Option<Slotted>
     requires { length slots.now < 2 ^ 32 }
-    ensures { result ≡ slot_place (position (λ t. bytes_eq name.now t.name) (slots_seen slots.now)) }
+    ensures { result ≡ slot_place (position (λ t. bytes_eq name.now t.name)
+        (slots_seen slots.now)) }
 {
     match slot_number(slots, name) {
         Some(number) => Some(Slotted::Slot(number as u32)),
@@ -111,7 +112,8 @@ pub fn var_ident(alloc: Global, place: Option<Slotted>, name: &Ident) -> Result<
 #[cycle(over)]
 pub fn over(alloc: Global, slots: &[Slot], scopes: &Scopes, expr: &Expr) -> Result<Expr, NoMemory>
     requires { length slots.now < 2 ^ 32 }
-    ensures { IfOk result (λ e. expr_of e ≡ over (slots_seen slots.now) scopes.now (expr_of expr.now)) }
+    ensures { IfOk result (λ e. expr_of e
+        ≡ over (slots_seen slots.now) scopes.now (expr_of expr.now)) }
 {
     match expr {
         Expr::Int(n) => Ok(Expr::Int(*n)),
@@ -152,7 +154,8 @@ pub fn over_all(
     exprs: &[Expr],
 ) -> Result<Vec<Expr>, NoMemory>
     requires { length slots.now < 2 ^ 32 }
-    ensures { IfOk result (λ v. exprs_of v.items ≡ over_all (slots_seen slots.now) scopes.now (exprs_of exprs.now)) }
+    ensures { IfOk result (λ v. exprs_of v.items
+        ≡ over_all (slots_seen slots.now) scopes.now (exprs_of exprs.now)) }
 {
     let mut all = Vec::new(alloc);
     for expr in exprs {
@@ -169,7 +172,8 @@ pub fn path_over(
     path: &[Ident],
 ) -> Result<Target, NoMemory>
     requires { length slots.now < 2 ^ 32 }
-    ensures { IfOk result (λ t. t.path.items ≡ path_over (slots_seen slots.now) scopes.now path.now) }
+    ensures { IfOk result (λ t. t.path.items
+        ≡ path_over (slots_seen slots.now) scopes.now path.now) }
 {
     let mut names = Vec::new(alloc);
     if let [first, rest @ ..] = path {
@@ -198,7 +202,8 @@ pub fn act_over(
     path: &Target,
 ) -> Result<Target, NoMemory>
     requires { length slots.now < 2 ^ 32 }
-    ensures { IfOk result (λ t. t.path.items ≡ act_over (slots_seen slots.now) scopes.now path.now.path.items) }
+    ensures { IfOk result (λ t. t.path.items
+        ≡ act_over (slots_seen slots.now) scopes.now path.now.path.items) }
 {
     if path.path.len() == 1 {
         path.copy(alloc)

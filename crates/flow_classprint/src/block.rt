@@ -87,7 +87,8 @@ fn put_into(out: &mut Source, into: Option<Slotted>) -> Result<(), NoMemory>
 
 // Adds what a callback waits for.
 fn put_operand(out: &mut Source, number: usize, callback: &Callback) -> Result<(), NoMemory>
-    ensures { IfOk result (λ _. out.new ≡ out.old ++ operand_text number (callback_of callback.now)) }
+    ensures { IfOk result (λ _. out.new
+        ≡ out.old ++ operand_text number (callback_of callback.now)) }
 {
     out.put(b"callback ")?;
     put_count(out, number)?;
@@ -110,7 +111,8 @@ fn put_destination(out: &mut Source, callback: &Callback) -> Result<(), NoMemory
 
 // Adds the line of a callback.
 fn put_callback(out: &mut Source, number: usize, callback: &Callback) -> Result<(), NoMemory>
-    ensures { IfOk result (λ _. out.new ≡ out.old ++ callback_text number (callback_of callback.now)) }
+    ensures { IfOk result (λ _. out.new
+        ≡ out.old ++ callback_text number (callback_of callback.now)) }
 {
     out.put_indent(2)?;
     put_operand(out, number, callback)?;
@@ -121,7 +123,8 @@ fn put_callback(out: &mut Source, number: usize, callback: &Callback) -> Result<
 
 // Adds callbacks, each on its line, the first with this number.
 fn put_callbacks(out: &mut Source, first: usize, callbacks: &[Callback]) -> Result<(), NoMemory>
-    ensures { IfOk result (λ _. out.new ≡ out.old ++ numbered callback_text first (map callback_of callbacks.now)) }
+    ensures { IfOk result (λ _. out.new
+        ≡ out.old ++ numbered callback_text first (map callback_of callbacks.now)) }
 {
     let mut number = first;
     for callback in callbacks {

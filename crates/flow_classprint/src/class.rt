@@ -55,7 +55,8 @@ fn put_local_line(out: &mut Source, number: usize, ty: &Ty) -> Result<(), NoMemo
 
 // Adds the locals.
 fn put_local_lines(out: &mut Source, locals: &[Ty]) -> Result<(), NoMemory>
-    ensures { IfOk result (λ _. out.new ≡ out.old ++ numbered local_line 0 (map type_of locals.now)) }
+    ensures { IfOk result (λ _. out.new
+        ≡ out.old ++ numbered local_line 0 (map type_of locals.now)) }
 {
     let mut number: usize = 0;
     for ty in locals {
@@ -67,7 +68,8 @@ fn put_local_lines(out: &mut Source, locals: &[Ty]) -> Result<(), NoMemory>
 
 // Adds the blocks.
 fn put_blocks(out: &mut Source, blocks: &[Block]) -> Result<(), NoMemory>
-    ensures { IfOk result (λ _. out.new ≡ out.old ++ numbered block_text 0 (map block_of blocks.now)) }
+    ensures { IfOk result (λ _. out.new
+        ≡ out.old ++ numbered block_text 0 (map block_of blocks.now)) }
 {
     let mut number: usize = 0;
     for block in blocks {

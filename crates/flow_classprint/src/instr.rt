@@ -121,7 +121,8 @@ fn put_catcher(out: &mut Source, catcher: &Catcher) -> Result<(), NoMemory>
 
 /// Adds where errors go on, if they do.
 pub fn put_catch(out: &mut Source, catcher: &Option<Catcher>) -> Result<(), NoMemory>
-    ensures { IfOk result (λ _. out.new ≡ out.old ++ catch_text (option_map catcher_of catcher.now)) }
+    ensures { IfOk result (λ _. out.new
+        ≡ out.old ++ catch_text (option_map catcher_of catcher.now)) }
 {
     match catcher {
         None => Ok(()),
@@ -174,7 +175,8 @@ pub fn put_instr_line(out: &mut Source, instr: &Instr) -> Result<(), NoMemory>
 
 // Adds a test and where it leads.
 fn put_test(out: &mut Source, condition: &Expr, yes: u32, no: u32) -> Result<(), NoMemory>
-    ensures { IfOk result (λ _. out.new ≡ out.old ++ last_text (TestLast (expr_of condition.now) yes no)) }
+    ensures { IfOk result (λ _. out.new
+        ≡ out.old ++ last_text (TestLast (expr_of condition.now) yes no)) }
 {
     out.put(b"test(")?;
     out.put_expr(condition)?;
@@ -219,7 +221,8 @@ fn put_last(out: &mut Source, last: &Last) -> Result<(), NoMemory>
 
 /// Adds the line of the last instruction of a block.
 pub fn put_last_line(out: &mut Source, last: &Last) -> Result<(), NoMemory>
-    ensures { IfOk result (λ _. out.new ≡ out.old ++ line 2 (last_text (last_of last.now) ++ codes ";")) }
+    ensures { IfOk result (λ _. out.new
+        ≡ out.old ++ line 2 (last_text (last_of last.now) ++ codes ";")) }
 {
     out.put_indent(2)?;
     put_last(out, last)?;

@@ -16,7 +16,8 @@ use std::alloc::Global;
 
 // Adds the records.
 fn put_records(out: &mut Source, records: &[RecordDecl]) -> Result<(), NoMemory>
-    ensures { IfOk result (λ _. out.new ≡ out.old ++ all_text record_text (map record_of records.now)) }
+    ensures { IfOk result (λ _. out.new
+        ≡ out.old ++ all_text record_text (map record_of records.now)) }
 {
     for record in records {
         out.put_record(record)?;
@@ -26,7 +27,8 @@ fn put_records(out: &mut Source, records: &[RecordDecl]) -> Result<(), NoMemory>
 
 // Adds the functions.
 fn put_functions(out: &mut Source, functions: &[FunctionDecl]) -> Result<(), NoMemory>
-    ensures { IfOk result (λ _. out.new ≡ out.old ++ all_text function_text (map function_of functions.now)) }
+    ensures { IfOk result (λ _. out.new
+        ≡ out.old ++ all_text function_text (map function_of functions.now)) }
 {
     for function in functions {
         out.put_function(function)?;
@@ -36,7 +38,8 @@ fn put_functions(out: &mut Source, functions: &[FunctionDecl]) -> Result<(), NoM
 
 // Adds the classes.
 fn put_classes(out: &mut Source, classes: &[Class]) -> Result<(), NoMemory>
-    ensures { IfOk result (λ _. out.new ≡ out.old ++ all_text class_text (map class_of classes.now)) }
+    ensures { IfOk result (λ _. out.new
+        ≡ out.old ++ all_text class_text (map class_of classes.now)) }
 {
     for class in classes {
         put_class(out, class)?;

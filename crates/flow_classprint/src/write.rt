@@ -57,8 +57,10 @@ fn block_alone(alloc: Global, number: usize, block: &Block) -> Result<Vec<u8>, N
 
 // Writes the blocks of a class.
 fn write_blocks<S: Sink>(alloc: Global, blocks: &[Block], out: &mut S) -> Result<(), OutFault>
-    ensures whole { OnOk result (Appends (S.seen out.old).written (S.seen out.new).written (numbered block_text 0 (map block_of blocks.now))) }
-    ensures part { AppendsPart (S.seen out.old).written (S.seen out.new).written (numbered block_text 0 (map block_of blocks.now)) }
+    ensures whole { OnOk result (Appends (S.seen out.old).written (S.seen out.new).written
+        (numbered block_text 0 (map block_of blocks.now))) }
+    ensures part { AppendsPart (S.seen out.old).written (S.seen out.new).written
+        (numbered block_text 0 (map block_of blocks.now)) }
     ensures cause { HasCause (S.seen out.old).faults (S.seen out.new).faults result }
 {
     let mut number: usize = 0;
@@ -77,8 +79,10 @@ fn write_blocks<S: Sink>(alloc: Global, blocks: &[Block], out: &mut S) -> Result
 
 // Writes a class.
 fn write_class<S: Sink>(alloc: Global, class: &Class, out: &mut S) -> Result<(), OutFault>
-    ensures whole { OnOk result (Appends (S.seen out.old).written (S.seen out.new).written (class_text (class_of class.now))) }
-    ensures part { AppendsPart (S.seen out.old).written (S.seen out.new).written (class_text (class_of class.now)) }
+    ensures whole { OnOk result (Appends (S.seen out.old).written (S.seen out.new).written
+        (class_text (class_of class.now))) }
+    ensures part { AppendsPart (S.seen out.old).written (S.seen out.new).written
+        (class_text (class_of class.now)) }
     ensures cause { HasCause (S.seen out.old).faults (S.seen out.new).faults result }
 {
     let Ok(begin) = before_blocks(alloc, class) else {
@@ -95,8 +99,10 @@ fn write_class<S: Sink>(alloc: Global, class: &Class, out: &mut S) -> Result<(),
 
 // Writes classes.
 fn write_all<S: Sink>(alloc: Global, classes: &[Class], out: &mut S) -> Result<(), OutFault>
-    ensures whole { OnOk result (Appends (S.seen out.old).written (S.seen out.new).written (all_text class_text (map class_of classes.now))) }
-    ensures part { AppendsPart (S.seen out.old).written (S.seen out.new).written (all_text class_text (map class_of classes.now)) }
+    ensures whole { OnOk result (Appends (S.seen out.old).written (S.seen out.new).written
+        (all_text class_text (map class_of classes.now))) }
+    ensures part { AppendsPart (S.seen out.old).written (S.seen out.new).written
+        (all_text class_text (map class_of classes.now)) }
     ensures cause { HasCause (S.seen out.old).faults (S.seen out.new).faults result }
 {
     for class in classes {
@@ -108,8 +114,10 @@ fn write_all<S: Sink>(alloc: Global, classes: &[Class], out: &mut S) -> Result<(
 /// Writes the canonical text of classes, each line of it by one call where the sink takes it whole. What was written is
 /// always a first part of the text. `Failed` comes only where the sink's count rose. One block at a time is held in memory.
 pub fn write_classes<S: Sink>(alloc: Global, raw: &RawClasses, out: &mut S) -> Result<(), OutFault>
-    ensures whole { OnOk result (Appends (S.seen out.old).written (S.seen out.new).written (ClassText (raw_of raw.now))) }
-    ensures part { AppendsPart (S.seen out.old).written (S.seen out.new).written (ClassText (raw_of raw.now)) }
+    ensures whole { OnOk result (Appends (S.seen out.old).written (S.seen out.new).written
+        (ClassText (raw_of raw.now))) }
+    ensures part { AppendsPart (S.seen out.old).written (S.seen out.new).written
+        (ClassText (raw_of raw.now)) }
     ensures cause { HasCause (S.seen out.old).faults (S.seen out.new).faults result }
 {
     let Ok(text) = front(alloc, raw) else {

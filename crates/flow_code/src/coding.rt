@@ -65,7 +65,8 @@ fn note<'a>(
     name: &'a [u8],
     place: u32,
 ) -> Result<(), NoMemory>
-    ensures { OnOk result ((x : List ℕ) → at_name places.new x ≡ or_else (at_name places.old x) (if bytes_eq x name.now then Some place else None)) }
+    ensures { OnOk result ((x : List ℕ) → at_name places.new x
+        ≡ or_else (at_name places.old x) (if bytes_eq x name.now then Some place else None)) }
 {
     if places.get(name).is_some() {
         return Ok(());
@@ -80,7 +81,8 @@ fn first_classes<'a>(
     alloc: Global,
     classes: &'a [text::Class],
 ) -> Result<IndexMap<&'a [u8], u32>, NoMemory>
-    ensures { IfOk result (λ m. (x : List ℕ) → at_name m x ≡ first_from 0 (map name_of_class classes.now) x) }
+    ensures { IfOk result (λ m. (x : List ℕ) → at_name m x
+        ≡ first_from 0 (map name_of_class classes.now) x) }
 {
     let mut places = IndexMap::new(alloc);
     for (place, class) in classes.iter().enumerate() {
@@ -91,7 +93,8 @@ fn first_classes<'a>(
 
 impl<'a> ClassNames<'a> {
     pub(crate) fn new(alloc: Global, classes: &'a [text::Class]) -> Result<ClassNames<'a>, NoMemory>
-        ensures { IfOk result (λ c. (x : List ℕ) → at_name c.named x ≡ first_from 0 (map name_of_class classes.now) x) }
+        ensures { IfOk result (λ c. (x : List ℕ) → at_name c.named x
+            ≡ first_from 0 (map name_of_class classes.now) x) }
     {
         Ok(ClassNames {
             named: first_classes(alloc, classes)?,
@@ -190,7 +193,8 @@ impl<'n, 'a> Coder<'n, 'a> {
     #[tactic(auto, using(crate::proofs::Fields::fields_step, crate::proofs::Fields::fields_none, crate::proofs::Fields::fields_end))]
     // The numbers of the names of fields, where all are names of fields.
     fn fields(&self, path: &[Ident]) -> Result<Option<Vec<usize>>, NoMemory>
-        ensures { IfOk result (λ r. option_map (λ v. v.items) r ≡ fields_of (coding_of self.now).names.field path.now) }
+        ensures { IfOk result (λ r. option_map (λ v. v.items) r
+            ≡ fields_of (coding_of self.now).names.field path.now) }
     {
         let mut fields = Vec::new(self.alloc);
         for name in path {
@@ -204,7 +208,8 @@ impl<'n, 'a> Coder<'n, 'a> {
 
     // A place of a frame and a path of fields.
     fn aim(&self, first: &Ident, path: &[Ident]) -> Result<Option<Aim>, NoMemory>
-        ensures { IfOk result (λ r. option_map aim_of r ≡ aimed (coding_of self.now) (first.now ∷ path.now)) }
+        ensures { IfOk result (λ r. option_map aim_of r
+            ≡ aimed (coding_of self.now) (first.now ∷ path.now)) }
     {
         let Some(place) = self.place(first.name.bytes()) else {
             return Ok(None);
@@ -216,7 +221,8 @@ impl<'n, 'a> Coder<'n, 'a> {
     }
 
     fn aim_at(&self, target: &Target) -> Result<Option<Aim>, NoMemory>
-        ensures { IfOk result (λ r. option_map aim_of r ≡ aimed (coding_of self.now) target.now.path.items) }
+        ensures { IfOk result (λ r. option_map aim_of r
+            ≡ aimed (coding_of self.now) target.now.path.items) }
     {
         match target.path.split_first() {
             Some((first, path)) => self.aim(first, path),
@@ -226,7 +232,8 @@ impl<'n, 'a> Coder<'n, 'a> {
 
     // What has an effect by a name.
     fn effect_named(&self, name: &[u8]) -> Option<Effect>
-        ensures { result ≡ effect_named (named call_names name.now) ((coding_of self.now).class name.now) }
+        ensures { result ≡ effect_named (named call_names name.now)
+            ((coding_of self.now).class name.now) }
     {
         match predefined_call(name) {
             Some(call) => {
@@ -242,7 +249,8 @@ impl<'n, 'a> Coder<'n, 'a> {
 
     // The effect that an expression is, with its arguments.
     fn effect(&self, expr: &Expr) -> Result<Option<(Effect, Vec<Resolved>)>, NoMemory>
-        ensures { IfOk result (λ r. option_map (λ p. (p.0, nodes_of p.1.items)) r ≡ effect_in (coding_of self.now) (expr_of expr.now)) }
+        ensures { IfOk result (λ r. option_map (λ p. (p.0, nodes_of p.1.items)) r
+            ≡ effect_in (coding_of self.now) (expr_of expr.now)) }
     {
         let Expr::Call(name, args) = expr else {
             return Ok(None);
@@ -256,21 +264,24 @@ impl<'n, 'a> Coder<'n, 'a> {
     #[tactic(auto, using(flow_resolved::proofs::Resolves::args_resolved))]
     // Arguments with their names resolved.
     fn args(&self, args: &[Expr]) -> Result<Vec<Resolved>, NoMemory>
-        ensures { IfOk result (λ v. nodes_of v.items ≡ resolved_all (coding_of self.now).names (exprs_of args.now)) }
+        ensures { IfOk result (λ v. nodes_of v.items
+            ≡ resolved_all (coding_of self.now).names (exprs_of args.now)) }
     {
         Ok(resolve_all(self.names, self, args)?)
     }
 
     // An expression with its names resolved.
     fn expr(&self, expr: &Expr) -> Result<Resolved, NoMemory>
-        ensures { IfOk result (λ r. node_of r ≡ resolved (coding_of self.now).names (expr_of expr.now)) }
+        ensures { IfOk result (λ r. node_of r
+            ≡ resolved (coding_of self.now).names (expr_of expr.now)) }
     {
         resolve(self.names, self, expr)
     }
 
     // What a call statement without a base calls.
     fn plain(&self, name: &[u8]) -> Option<Act>
-        ensures { result ≡ act_named (named call_names name.now) ((coding_of self.now).names.function name.now) }
+        ensures { result ≡ act_named (named call_names name.now)
+            ((coding_of self.now).names.function name.now) }
     {
         match predefined_call(name) {
             Some(call) => Some(Act::World(call)),
@@ -286,7 +297,9 @@ impl<'n, 'a> Coder<'n, 'a> {
         name: &[u8],
         args: Vec<Resolved>,
     ) -> Result<Instruction, NoMemory>
-        ensures { IfOk result (λ i. instruction_of i ≡ coded_method (coding_of self.now) (first.now ∷ path.now) name.now (nodes_of args.items)) }
+        ensures { IfOk result (λ i. instruction_of i
+            ≡ coded_method (coding_of self.now) (first.now ∷ path.now) name.now
+            (nodes_of args.items)) }
     {
         let Some(aim) = self.aim(first, path)? else {
             return Ok(Instruction::Invalid);
@@ -300,7 +313,8 @@ impl<'n, 'a> Coder<'n, 'a> {
     #[tactic(auto, using(crate::proofs::Paths::method_coded))]
     // A call statement, its arguments resolved.
     fn act(&self, target: &Target, args: Vec<Resolved>) -> Result<Instruction, NoMemory>
-        ensures { IfOk result (λ i. instruction_of i ≡ act_code (coding_of self.now) target.now.path.items (nodes_of args.items)) }
+        ensures { IfOk result (λ i. instruction_of i
+            ≡ act_code (coding_of self.now) target.now.path.items (nodes_of args.items)) }
     {
         let Some((last, before)) = target.path.split_last() else {
             return Ok(Instruction::Invalid);
@@ -328,7 +342,8 @@ impl<'n, 'a> Coder<'n, 'a> {
 
     // An assignment.
     fn set(&self, target: &Target, expr: &Expr) -> Result<Instruction, NoMemory>
-        ensures { IfOk result (λ i. instruction_of i ≡ coded_set (coding_of self.now) target.now.path.items (expr_of expr.now)) }
+        ensures { IfOk result (λ i. instruction_of i
+            ≡ coded_set (coding_of self.now) target.now.path.items (expr_of expr.now)) }
     {
         match self.aim_at(target)? {
             Some(aim) => Ok(Instruction::Set(aim, self.expr(expr)?)),
@@ -338,7 +353,8 @@ impl<'n, 'a> Coder<'n, 'a> {
 
     // An assignment of what an effect gives.
     fn set_effect(&self, target: &Target, expr: &Expr) -> Result<Instruction, NoMemory>
-        ensures { IfOk result (λ i. instruction_of i ≡ coded_effect (coding_of self.now) target.now.path.items (expr_of expr.now)) }
+        ensures { IfOk result (λ i. instruction_of i
+            ≡ coded_effect (coding_of self.now) target.now.path.items (expr_of expr.now)) }
     {
         let Some(aim) = self.aim_at(target)? else {
             return Ok(Instruction::Invalid);
@@ -351,7 +367,8 @@ impl<'n, 'a> Coder<'n, 'a> {
 
     // A new cell.
     fn new_cell(&self, class: &text::Class, place: Slotted) -> Instruction
-        ensures { instruction_of result ≡ coded_new (coding_of self.now) (text.class_of class.now) place }
+        ensures { instruction_of result ≡ coded_new (coding_of self.now) (text.class_of class.now)
+            place }
     {
         match (self.number(place), kind_at(class, place)) {
             (Some(place), Some(kind)) => Instruction::New(place, kind),
@@ -360,7 +377,9 @@ impl<'n, 'a> Coder<'n, 'a> {
     }
 
     fn instruction(&self, class: &text::Class, instr: &text::Instr) -> Result<Instruction, NoMemory>
-        ensures { IfOk result (λ i. instruction_of i ≡ coded_instruction (coding_of self.now) (text.class_of class.now) (text.instr_of instr.now)) }
+        ensures { IfOk result (λ i. instruction_of i
+            ≡ coded_instruction (coding_of self.now) (text.class_of class.now)
+            (text.instr_of instr.now)) }
     {
         match instr {
             text::Instr::Set(target, expr) => self.set(target, expr),
@@ -395,7 +414,8 @@ impl<'n, 'a> Coder<'n, 'a> {
     }
 
     fn catcher(&self, catcher: &Option<text::Catcher>) -> Result<Option<Catcher>, NoMemory>
-        ensures { IfOk result (λ r. option_map catcher_of r ≡ option_map (caught (coding_of self.now)) (option_map text.catcher_of catcher.now)) }
+        ensures { IfOk result (λ r. option_map catcher_of r
+            ≡ option_map (caught (coding_of self.now)) (option_map text.catcher_of catcher.now)) }
     {
         match catcher {
             Some(catcher) => Ok(Some(Catcher {
@@ -408,7 +428,9 @@ impl<'n, 'a> Coder<'n, 'a> {
     }
 
     fn body(&self, class: &text::Class, body: &[text::Instr]) -> Result<Vec<Instruction>, NoMemory>
-        ensures { IfOk result (λ v. map instruction_of v.items ≡ map (coded_instruction (coding_of self.now) (text.class_of class.now)) (map text.instr_of body.now)) }
+        ensures { IfOk result (λ v. map instruction_of v.items
+            ≡ map (coded_instruction (coding_of self.now) (text.class_of class.now))
+            (map text.instr_of body.now)) }
     {
         let mut coded = Vec::new(self.alloc);
         for instr in body {
@@ -418,7 +440,9 @@ impl<'n, 'a> Coder<'n, 'a> {
     }
 
     fn block(&self, class: &text::Class, block: &text::Block) -> Result<Block, NoMemory>
-        ensures { IfOk result (λ b. block_of b ≡ coded_block (coding_of self.now) (text.class_of class.now) (text.block_of block.now)) }
+        ensures { IfOk result (λ b. block_of b
+            ≡ coded_block (coding_of self.now) (text.class_of class.now)
+            (text.block_of block.now)) }
     {
         Ok(Block {
             catcher: self.catcher(&block.catcher)?,
@@ -428,7 +452,9 @@ impl<'n, 'a> Coder<'n, 'a> {
     }
 
     fn blocks(&self, class: &text::Class) -> Result<Vec<Block>, NoMemory>
-        ensures { IfOk result (λ v. map block_of v.items ≡ map (coded_block (coding_of self.now) (text.class_of class.now)) (map text.block_of class.now.blocks.items)) }
+        ensures { IfOk result (λ v. map block_of v.items
+            ≡ map (coded_block (coding_of self.now) (text.class_of class.now))
+            (map text.block_of class.now.blocks.items)) }
     {
         let mut blocks = Vec::new(self.alloc);
         for block in &class.blocks {
@@ -438,7 +464,8 @@ impl<'n, 'a> Coder<'n, 'a> {
     }
 
     fn operand(&self, expr: &Expr) -> Result<Operand, NoMemory>
-        ensures { IfOk result (λ o. operand_of o ≡ coded_operand (coding_of self.now) (expr_of expr.now)) }
+        ensures { IfOk result (λ o. operand_of o
+            ≡ coded_operand (coding_of self.now) (expr_of expr.now)) }
     {
         match self.effect(expr)? {
             Some((effect, args)) => Ok(Operand::Effect(effect, args)),
@@ -457,7 +484,8 @@ impl<'n, 'a> Coder<'n, 'a> {
     }
 
     fn branch(&self, callback: &text::Callback) -> Result<Branch, NoMemory>
-        ensures { IfOk result (λ b. branch_of b ≡ coded_branch (coding_of self.now) (text.callback_of callback.now)) }
+        ensures { IfOk result (λ b. branch_of b
+            ≡ coded_branch (coding_of self.now) (text.callback_of callback.now)) }
     {
         Ok(Branch {
             operand: self.operand(&callback.operand)?,
@@ -467,7 +495,8 @@ impl<'n, 'a> Coder<'n, 'a> {
     }
 
     fn branches(&self, group: &text::Group) -> Result<Vec<Branch>, NoMemory>
-        ensures { IfOk result (λ v. map branch_of v.items ≡ map (coded_branch (coding_of self.now)) (text.group_of group.now)) }
+        ensures { IfOk result (λ v. map branch_of v.items
+            ≡ map (coded_branch (coding_of self.now)) (text.group_of group.now)) }
     {
         let mut branches = Vec::new(self.alloc);
         for callback in &group.callbacks {
@@ -480,7 +509,8 @@ impl<'n, 'a> Coder<'n, 'a> {
     // Groups with their homes.
     fn groups_at(&self, groups: &[text::Group], homes: &[u32]) -> Result<Vec<Group>, NoMemory>
         requires { length homes.now ≡ length groups.now }
-        ensures { IfOk result (λ v. map group_of v.items ≡ coded_groups (coding_of self.now) 0 homes.now (map text.group_of groups.now)) }
+        ensures { IfOk result (λ v. map group_of v.items
+            ≡ coded_groups (coding_of self.now) 0 homes.now (map text.group_of groups.now)) }
     {
         let mut coded = Vec::new(self.alloc);
         let mut first: u32 = 0;
@@ -498,7 +528,9 @@ impl<'n, 'a> Coder<'n, 'a> {
     }
 
     fn groups(&self, class: &text::Class) -> Result<Vec<Group>, NoMemory>
-        ensures { IfOk result (λ v. map group_of v.items ≡ coded_groups (coding_of self.now) 0 (homes_of (text.class_of class.now)) (map text.group_of class.now.groups.items)) }
+        ensures { IfOk result (λ v. map group_of v.items
+            ≡ coded_groups (coding_of self.now) 0 (homes_of (text.class_of class.now))
+            (map text.group_of class.now.groups.items)) }
     {
         let homes = homes(self.alloc, class)?;
         self.groups_at(&class.groups, &homes)
@@ -506,7 +538,8 @@ impl<'n, 'a> Coder<'n, 'a> {
 
     /// A class with its names resolved.
     pub(crate) fn class(&self, class: &text::Class) -> Result<Class, NoMemory>
-        ensures { IfOk result (λ c. code_of c ≡ coded_class (coding_of self.now) (text.class_of class.now)) }
+        ensures { IfOk result (λ c. code_of c
+            ≡ coded_class (coding_of self.now) (text.class_of class.now)) }
     {
         Ok(Class {
             name: class.name.copy(self.alloc)?,

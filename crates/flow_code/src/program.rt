@@ -31,7 +31,9 @@ fn coded_class(
     class_names: &ClassNames<'_>,
     class: &text::Class,
 ) -> Result<Class, NoMemory>
-    ensures { IfOk result (λ c. code_of c ≡ coded (naming_of names.now (λ _. None)) (at_name class_names.now.named) (class_of class.now)) }
+    ensures { IfOk result (λ c. code_of c
+        ≡ coded (naming_of names.now (λ _. None)) (at_name class_names.now.named)
+        (class_of class.now)) }
 {
     let coder = Coder {
         alloc,
@@ -49,7 +51,9 @@ fn coded_classes(
     class_names: &ClassNames<'_>,
     classes: &[text::Class],
 ) -> Result<Vec<Class>, NoMemory>
-    ensures { IfOk result (λ v. map code_of v.items ≡ map (coded (naming_of names.now (λ _. None)) (at_name class_names.now.named)) (map class_of classes.now)) }
+    ensures { IfOk result (λ v. map code_of v.items
+        ≡ map (coded (naming_of names.now (λ _. None)) (at_name class_names.now.named))
+        (map class_of classes.now)) }
 {
     let mut coded = Vec::new(alloc);
     for class in classes {
@@ -77,7 +81,8 @@ impl Code {
     /// A program with its names resolved.
     pub fn new(alloc: Global, program: ClassProgram) -> Result<Code, NoMemory>
         ensures program { IfOk result (λ c. c.program ≡ program) }
-        ensures coded { IfOk result (λ c. IsCoded (raw_of program) c.fields c.classes.items c.main) }
+        ensures coded { IfOk result (λ c. IsCoded (raw_of program) c.fields c.classes.items
+            c.main) }
     {
         let (fields, classes, main) = coded(alloc, program.raw())?;
         Ok(Code {

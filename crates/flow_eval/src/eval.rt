@@ -48,7 +48,8 @@ fn setting<'a, C: CellView>(
     now: u64,
 ) -> Setting<'a, C>
     requires { now < 2 ^ 63 }
-    ensures { setting_of C.content result ≡ setting_with plain.now.records.items plain.now.functions.items (C.content view.now) now }
+    ensures { setting_of C.content result
+        ≡ setting_with plain.now.records.items plain.now.functions.items (C.content view.now) now }
 {
     Setting {
         alloc,
@@ -66,8 +67,10 @@ fn evaluated<V: Variables, C: CellView>(
     expr: &Expr,
     turns: &mut Turns,
 ) -> Result<Value, Stop>
-    requires { HasMeaning (Eval (setting_of C.content setting.now) (V.by_name vars.now) (expr_of expr.now) turns.old.left) }
-    ensures { Means (Eval (setting_of C.content setting.now) (V.by_name vars.now) (expr_of expr.now) turns.old.left) result turns.new.left }
+    requires { HasMeaning (Eval (setting_of C.content setting.now) (V.by_name vars.now)
+        (expr_of expr.now) turns.old.left) }
+    ensures { Means (Eval (setting_of C.content setting.now) (V.by_name vars.now) (expr_of expr.now)
+        turns.old.left) result turns.new.left }
 {
     match evaluate(setting, CALL_DEPTH, &Vars::Outer(vars), expr, turns) {
         Ok(value) => Ok(value),
@@ -88,8 +91,11 @@ pub fn eval_in<V: Variables, C: CellView>(
     turns: &mut Turns,
 ) -> Result<Value, Stop>
     requires moment { now < 2 ^ 63 }
-    requires typed { WellTyped (setting_with plain.now.records.items plain.now.functions.items (C.content view.now) now) (V.by_name vars.now) (expr_of expr.now) }
-    ensures { Means (Eval (setting_with plain.now.records.items plain.now.functions.items (C.content view.now) now) (V.by_name vars.now) (expr_of expr.now) turns.old.left) result turns.new.left }
+    requires typed { WellTyped (setting_with plain.now.records.items plain.now.functions.items
+        (C.content view.now) now) (V.by_name vars.now) (expr_of expr.now) }
+    ensures { Means (Eval (setting_with plain.now.records.items plain.now.functions.items
+        (C.content view.now) now) (V.by_name vars.now) (expr_of expr.now) turns.old.left) result
+        turns.new.left }
 {
     evaluated(&setting(alloc, plain, view, now), vars, expr, turns)
 }
@@ -105,8 +111,11 @@ pub fn eval<V: CellView>(
     turns: &mut Turns,
 ) -> Result<Value, Stop>
     requires moment { now < 2 ^ 63 }
-    requires typed { WellTyped (setting_with plain.now.records.items plain.now.functions.items (V.content view.now) now) (named (map var_of vars.now)) (expr_of expr.now) }
-    ensures { Means (Eval (setting_with plain.now.records.items plain.now.functions.items (V.content view.now) now) (named (map var_of vars.now)) (expr_of expr.now) turns.old.left) result turns.new.left }
+    requires typed { WellTyped (setting_with plain.now.records.items plain.now.functions.items
+        (V.content view.now) now) (named (map var_of vars.now)) (expr_of expr.now) }
+    ensures { Means (Eval (setting_with plain.now.records.items plain.now.functions.items
+        (V.content view.now) now) (named (map var_of vars.now)) (expr_of expr.now) turns.old.left)
+        result turns.new.left }
 {
     eval_in(alloc, plain, expr, &VarList { vars }, view, now, turns)
 }
@@ -119,8 +128,10 @@ fn called(
     turns: &mut Turns,
 ) -> Result<Value, Stop>
     requires there { function < length setting.now.functions.now }
-    requires meant { HasMeaning (CallAt (setting_of (λ _. no_cells) setting.now) function (map value_of args.items) turns.old.left) }
-    ensures { Means (CallAt (setting_of (λ _. no_cells) setting.now) function (map value_of args.items) turns.old.left) result turns.new.left }
+    requires meant { HasMeaning (CallAt (setting_of (λ _. no_cells) setting.now) function
+        (map value_of args.items) turns.old.left) }
+    ensures { Means (CallAt (setting_of (λ _. no_cells) setting.now) function
+        (map value_of args.items) turns.old.left) result turns.new.left }
 {
     match run_at::<VarList, NoCells>(setting, CALL_DEPTH, function, args, turns) {
         Ok(value) => Ok(value),
@@ -138,8 +149,10 @@ pub fn call(
     turns: &mut Turns,
 ) -> Result<Value, Stop>
     requires there { function < length plain.now.functions.items }
-    requires typed { WellTypedCall (setting_with plain.now.records.items plain.now.functions.items no_cells 0) function (map value_of args.items) }
-    ensures { Means (CallAt (setting_with plain.now.records.items plain.now.functions.items no_cells 0) function (map value_of args.items) turns.old.left) result turns.new.left }
+    requires typed { WellTypedCall (setting_with plain.now.records.items plain.now.functions.items
+        no_cells 0) function (map value_of args.items) }
+    ensures { Means (CallAt (setting_with plain.now.records.items plain.now.functions.items no_cells
+        0) function (map value_of args.items) turns.old.left) result turns.new.left }
 {
     called(&setting(alloc, plain, &NoCells, 0), function, args, turns)
 }

@@ -65,7 +65,8 @@ fn as_truth(value: &Value) -> Result<Value, Halt>
 }
 
 fn variable<V: Variables>(alloc: Global, vars: &Vars<V>, name: &[u8]) -> Result<Value, Halt>
-    ensures { Answers (variable (look_of V.by_name vars.now) name.now (named constant_names name.now)) result }
+    ensures { Answers (variable (look_of V.by_name vars.now) name.now
+        (named constant_names name.now)) result }
 {
     if let Some(n) = predefined_constant(name) {
         return Ok(Value::Int(i64::from(n)));
@@ -82,7 +83,8 @@ fn field_value(
     base: &Value,
     name: &[u8],
 ) -> Result<Value, Halt>
-    ensures { Answers (field_answer (field (map record_of records.now) (value_of base.now) name.now)) result }
+    ensures { Answers (field_answer (field (map record_of records.now) (value_of base.now)
+        name.now)) result }
 {
     match field(records, base, name) {
         Some(value) => Ok(value.copy(alloc)?),
@@ -96,7 +98,8 @@ fn call_method<C: CellView>(
     base: &Value,
     args: &[Value],
 ) -> Result<Value, Halt>
-    ensures { Answers (method_called (setting_of C.content setting.now).cells (named method_names name.now) (value_of base.now) (map value_of args.now)) result }
+    ensures { Answers (method_called (setting_of C.content setting.now).cells
+        (named method_names name.now) (value_of base.now) (map value_of args.now)) result }
 {
     match predefined_method(name) {
         Some(method) => method_answer(setting.alloc, setting.view, method, base, args),
@@ -106,7 +109,8 @@ fn call_method<C: CellView>(
 
 #[tactic(auto, using(crate::proofs::Steps::place_found))]
 fn function_place(functions: &[FunctionDecl], name: &[u8]) -> Option<usize>
-    ensures found { routine_named (map function_of functions.now) name.now ≡ routine_at (map function_of functions.now) result }
+    ensures found { routine_named (map function_of functions.now) name.now
+        ≡ routine_at (map function_of functions.now) result }
     ensures within { IfSome result (λ k. k < length functions.now) }
 {
     for (k, function) in functions.iter().enumerate() {
@@ -127,7 +131,9 @@ pub fn evaluate<V: Variables, C: CellView>(
     expr: &Expr,
     turns: &mut Turns,
 ) -> Result<Value, Halt>
-    ensures gives { Gives (eval (setting_of C.content setting.now) (run_function (setting_of C.content setting.now) nest) (look_of V.by_name vars.now) (expr_of expr.now) turns.old.left) result turns.new.left }
+    ensures gives { Gives (eval (setting_of C.content setting.now)
+        (run_function (setting_of C.content setting.now) nest) (look_of V.by_name vars.now)
+        (expr_of expr.now) turns.old.left) result turns.new.left }
     ensures fewer { turns.new.left ≤ turns.old.left }
 {
     match expr {
@@ -169,7 +175,10 @@ fn evaluate_second<V: Variables, C: CellView>(
     right: &Expr,
     turns: &mut Turns,
 ) -> Result<Value, Halt>
-    ensures gives { Gives (second op (value_of left.now) (eval (setting_of C.content setting.now) (run_function (setting_of C.content setting.now) nest) (look_of V.by_name vars.now) (expr_of right.now)) turns.old.left) result turns.new.left }
+    ensures gives { Gives (second op (value_of left.now)
+        (eval (setting_of C.content setting.now)
+        (run_function (setting_of C.content setting.now) nest) (look_of V.by_name vars.now)
+        (expr_of right.now)) turns.old.left) result turns.new.left }
     ensures fewer { turns.new.left ≤ turns.old.left }
 {
     match op {
@@ -210,7 +219,9 @@ pub fn evaluate_all<V: Variables, C: CellView>(
     args: &[Expr],
     turns: &mut Turns,
 ) -> Result<Vec<Value>, Halt>
-    ensures gives { GivesAll (eval_all (setting_of C.content setting.now) (run_function (setting_of C.content setting.now) nest) (look_of V.by_name vars.now) (exprs_of args.now) turns.old.left) result turns.new.left }
+    ensures gives { GivesAll (eval_all (setting_of C.content setting.now)
+        (run_function (setting_of C.content setting.now) nest) (look_of V.by_name vars.now)
+        (exprs_of args.now) turns.old.left) result turns.new.left }
     ensures fewer { turns.new.left ≤ turns.old.left }
 {
     let mut values = Vec::new(setting.alloc);
@@ -229,7 +240,9 @@ fn call_named<V: Variables, C: CellView>(
     args: Vec<Value>,
     turns: &mut Turns,
 ) -> Result<Value, Halt>
-    ensures gives { Gives (called (setting_of C.content setting.now) (run_function (setting_of C.content setting.now) nest) (named call_names name.now) name.now (map value_of args.items) turns.old.left) result turns.new.left }
+    ensures gives { Gives (called (setting_of C.content setting.now)
+        (run_function (setting_of C.content setting.now) nest) (named call_names name.now) name.now
+        (map value_of args.items) turns.old.left) result turns.new.left }
     ensures fewer { turns.new.left ≤ turns.old.left }
 {
     if let Some(call) = predefined_call(name) {
@@ -250,7 +263,10 @@ pub fn call_function<V: Variables, C: CellView>(
     args: Vec<Value>,
     turns: &mut Turns,
 ) -> Result<Value, Halt>
-    ensures gives { Gives (function_called (setting_of C.content setting.now) (run_function (setting_of C.content setting.now) nest) (routine_named (map function_of setting.now.functions.now) name.now) (map value_of args.items) turns.old.left) result turns.new.left }
+    ensures gives { Gives (function_called (setting_of C.content setting.now)
+        (run_function (setting_of C.content setting.now) nest)
+        (routine_named (map function_of setting.now.functions.now) name.now)
+        (map value_of args.items) turns.old.left) result turns.new.left }
     ensures fewer { turns.new.left ≤ turns.old.left }
 {
     match function_place(setting.functions, name) {
@@ -270,7 +286,10 @@ pub fn run_at<V: Variables, C: CellView>(
     turns: &mut Turns,
 ) -> Result<Value, Halt>
     requires { function < length setting.now.functions.now }
-    ensures gives { Gives (function_called (setting_of C.content setting.now) (run_function (setting_of C.content setting.now) nest) (slice_get (map function_of setting.now.functions.now) function) (map value_of args.items) turns.old.left) result turns.new.left }
+    ensures gives { Gives (function_called (setting_of C.content setting.now)
+        (run_function (setting_of C.content setting.now) nest)
+        (slice_get (map function_of setting.now.functions.now) function) (map value_of args.items)
+        turns.old.left) result turns.new.left }
     ensures fewer { turns.new.left ≤ turns.old.left }
 {
     if turns.left == 0 {
@@ -294,7 +313,10 @@ fn run_called<V: Variables, C: CellView>(
     turns: &mut Turns,
 ) -> Result<Value, Halt>
     requires { function < length setting.now.functions.now }
-    ensures gives { Gives (called_body (setting_of C.content setting.now) (run_function (setting_of C.content setting.now) nest) (slice_get (map function_of setting.now.functions.now) function) (map value_of args.items) turns.old.left) result turns.new.left }
+    ensures gives { Gives (called_body (setting_of C.content setting.now)
+        (run_function (setting_of C.content setting.now) nest)
+        (slice_get (map function_of setting.now.functions.now) function) (map value_of args.items)
+        turns.old.left) result turns.new.left }
     ensures fewer { turns.new.left ≤ turns.old.left }
 {
     let called = &setting.functions[function];

@@ -28,7 +28,8 @@ use std::mem;
 
 /// One more variable.
 pub fn bind(alloc: Global, vars: &mut Vec<Var>, name: &Name, value: Value) -> Result<(), NoMemory>
-    ensures { OnOk result (map var_of vars.new.items ≡ bound (map var_of vars.old.items) name.now (value_of value)) }
+    ensures { OnOk result (map var_of vars.new.items
+        ≡ bound (map var_of vars.old.items) name.now (value_of value)) }
 {
     vars.push(Var {
         name: name.copy(alloc)?,
@@ -69,7 +70,8 @@ pub fn default_value(alloc: Global, ty: &Ty) -> Result<Value, Halt>
 
 /// The part of a value to which a path of fields leads.
 pub fn read_in<'a>(records: &[RecordDecl], base: &'a Value, path: &[Ident]) -> Option<&'a Value>
-    ensures { option_map value_of (option_copied result) ≡ read_in (map record_of records.now) (Some (value_of base.now)) path.now }
+    ensures { option_map value_of (option_copied result)
+        ≡ read_in (map record_of records.now) (Some (value_of base.now)) path.now }
 {
     let mut value = base;
     for name in path {
@@ -83,7 +85,8 @@ pub fn read_in<'a>(records: &[RecordDecl], base: &'a Value, path: &[Ident]) -> O
 
 /// The value that a path leads to.
 pub fn read_path<'a>(records: &[RecordDecl], vars: &'a [Var], path: &[Ident]) -> Option<&'a Value>
-    ensures { option_map value_of (option_copied result) ≡ read_path (map record_of records.now) (map var_of vars.now) path.now }
+    ensures { option_map value_of (option_copied result)
+        ≡ read_path (map record_of records.now) (map var_of vars.now) path.now }
 {
     let Some((name, rest)) = path.split_first() else {
         return None;
@@ -97,7 +100,8 @@ pub fn read_path<'a>(records: &[RecordDecl], vars: &'a [Var], path: &[Ident]) ->
 #[tactic(auto, using(crate::proofs::Lookups::values_set))]
 fn put_at(fields: &mut Vec<Value>, k: usize, value: Value)
     requires { k < length fields.old.items }
-    ensures { values_of fields.new.items ≡ value_put (values_of fields.old.items) k (value_of value) }
+    ensures { values_of fields.new.items
+        ≡ value_put (values_of fields.old.items) k (value_of value) }
 {
     fields[k] = value;
 }
@@ -114,7 +118,8 @@ fn record_value(of: Box<Record<Value>>) -> Value
 fn take_at(fields: &mut Vec<Value>, k: usize) -> Value
     requires { k < length fields.old.items }
     ensures part { value_at (values_of fields.old.items) k ≡ Some (value_of result) }
-    ensures rest { (w : ValueTree) → value_put (values_of fields.new.items) k w ≡ value_put (values_of fields.old.items) k w }
+    ensures rest { (w : ValueTree) → value_put (values_of fields.new.items) k w
+        ≡ value_put (values_of fields.old.items) k w }
     ensures count { length fields.new.items ≡ length fields.old.items }
 {
     mem::replace(&mut fields[k], Value::Void)
@@ -123,7 +128,8 @@ fn take_at(fields: &mut Vec<Value>, k: usize) -> Value
 /// The value with the part replaced to which the path leads, where there is one.
 #[cycle(put)]
 pub fn put_in(records: &[RecordDecl], base: Value, path: &[Ident], value: Value) -> Option<Value>
-    ensures { option_map value_of result ≡ put_in (map record_of records.now) (Some (value_of base)) path.now (value_of value) }
+    ensures { option_map value_of result
+        ≡ put_in (map record_of records.now) (Some (value_of base)) path.now (value_of value) }
 {
     let Some((name, rest)) = path.split_first() else {
         return Some(value);
@@ -148,7 +154,12 @@ fn put_field(
     rest: &[Ident],
     value: Value,
 ) -> Option<Value>
-    ensures { option_map value_of result ≡ put_at (RecordValue of.value.id (values_of of.value.fields.items)) (field_place (map record_of records.now) of.value.id name.now) (put_in (map record_of records.now) (at_place (values_of of.value.fields.items) (field_place (map record_of records.now) of.value.id name.now)) rest.now (value_of value)) }
+    ensures { option_map value_of result
+        ≡ put_at (RecordValue of.value.id (values_of of.value.fields.items))
+        (field_place (map record_of records.now) of.value.id name.now)
+        (put_in (map record_of records.now)
+        (at_place (values_of of.value.fields.items)
+        (field_place (map record_of records.now) of.value.id name.now)) rest.now (value_of value)) }
 {
     let Some(k) = field_place(records, of.id, name) else {
         return None;
@@ -165,7 +176,9 @@ fn put_field(
 }
 
 fn put_var(records: &[RecordDecl], var: &mut Var, path: &[Ident], value: Value) -> bool
-    ensures { option_map (λ u. (var.old.name, u)) (put_in (map record_of records.now) (Some (value_of var.old.value)) path.now (value_of value)) ≡ (if result then Some (var_of var.new) else None) }
+    ensures { option_map (λ u. (var.old.name, u))
+        (put_in (map record_of records.now) (Some (value_of var.old.value)) path.now
+        (value_of value)) ≡ (if result then Some (var_of var.new) else None) }
 {
     let old = mem::replace(&mut var.value, Value::Void);
     match put_in(records, old, path, value) {
@@ -197,7 +210,8 @@ fn put_place(
     path: &[Ident],
     value: Value,
 ) -> bool
-    ensures { put_place (map record_of records.now) (map var_of vars.old.items) (Some k) path.now (value_of value) ≡ (if result then Some (map var_of vars.new.items) else None) }
+    ensures { put_place (map record_of records.now) (map var_of vars.old.items) (Some k) path.now
+        (value_of value) ≡ (if result then Some (map var_of vars.new.items) else None) }
 {
     if k >= vars.len() {
         return false;
@@ -207,7 +221,8 @@ fn put_place(
 
 /// Puts a value where the path leads, and says whether it leads anywhere.
 pub fn put_path(records: &[RecordDecl], vars: &mut Vec<Var>, path: &[Ident], value: Value) -> bool
-    ensures { put_path (map record_of records.now) (map var_of vars.old.items) path.now (value_of value) ≡ (if result then Some (map var_of vars.new.items) else None) }
+    ensures { put_path (map record_of records.now) (map var_of vars.old.items) path.now
+        (value_of value) ≡ (if result then Some (map var_of vars.new.items) else None) }
 {
     let Some((name, rest)) = path.split_first() else {
         return false;

@@ -32,6 +32,7 @@ fn truth(b: Option<bool>) -> Result<Value, Halt>
     }
 }
 
+/// What a comparison says of two whole numbers in this order; None for what compares nothing.
 pub fn compared(op: Op, order: Ordering) -> Option<bool>
     ensures { result ≡ compared op order }
 {
@@ -56,6 +57,8 @@ fn equated(op: Op, same: bool) -> Option<bool>
     }
 }
 
+/// An operator on two whole numbers. Without meaning: a result beyond 64 bits, a division by
+/// zero, `&&` and `||`.
 pub fn on_ints(op: Op, a: i64, b: i64) -> Result<Value, Halt>
     ensures { Answers (on_ints op a b) result }
 {

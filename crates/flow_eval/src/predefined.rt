@@ -308,7 +308,8 @@ pub fn method_answer<C: CellView>(
     base: &Value,
     args: &[Value],
 ) -> Result<Value, Halt>
-    ensures { Answers (method_answer (C.content view.now) method (value_of base.now) (map value_of args.now)) result }
+    ensures { Answers (method_answer (C.content view.now) method (value_of base.now)
+        (map value_of args.now)) result }
 {
     match base {
         Value::Error(code) => error_method(method, *code),

@@ -89,7 +89,8 @@ fn value_in(values: &[Value], k: usize) -> Option<&Value>
 
 /// A field of a record value, where it has one of that name.
 pub fn field<'a>(records: &[RecordDecl], value: &'a Value, name: &[u8]) -> Option<&'a Value>
-    ensures { option_map value_of (option_copied result) ≡ field (map record_of records.now) (value_of value.now) name.now }
+    ensures { option_map value_of (option_copied result)
+        ≡ field (map record_of records.now) (value_of value.now) name.now }
 {
     match value {
         Value::Struct(record) => match field_place(records, record.id, name) {

@@ -57,7 +57,8 @@ fn change_sign(change: &Change) -> Op
 
 /// What a function comes to whose body ended so.
 pub fn finished(flow: Result<Flow, Halt>) -> Result<Value, Halt>
-    ensures { (r : Run) (vars : Locals) (left : ℕ) → Ran r flow vars left → Gives (finished r) result left }
+    ensures { (r : Run) (vars : Locals) (left : ℕ) → Ran r flow vars left
+        → Gives (finished r) result left }
 {
     match flow {
         Ok(Flow::Return(value)) => Ok(value),
@@ -74,7 +75,9 @@ fn store(
     target: &Target,
     value: Value,
 ) -> Result<Flow, Halt>
-    ensures { (left : ℕ) → Ran (assigned (put_path (map record_of records.now) (map var_of locals.old.items) target.now.path.items (value_of value)) left) result (map var_of locals.new.items) left }
+    ensures { (left : ℕ) → Ran (assigned
+        (put_path (map record_of records.now) (map var_of locals.old.items) target.now.path.items
+        (value_of value)) left) result (map var_of locals.new.items) left }
 {
     if put_path(records, locals, &target.path, value) {
         return Ok(Flow::Next);
@@ -83,7 +86,8 @@ fn store(
 }
 
 fn declare(alloc: Global, locals: &mut Vec<Var>, into: &Into, value: Value) -> Result<Flow, Halt>
-    ensures { (left : ℕ) → Ran (declared (Some (value_of value)) (into_of into.now).name.name (map var_of locals.old.items) left) result (map var_of locals.new.items) left }
+    ensures { (left : ℕ) → Ran (declared (Some (value_of value)) (into_of into.now).name.name
+        (map var_of locals.old.items) left) result (map var_of locals.new.items) left }
 {
     bind(alloc, locals, &into.name.name, value)?;
     Ok(Flow::Next)
@@ -91,7 +95,9 @@ fn declare(alloc: Global, locals: &mut Vec<Var>, into: &Into, value: Value) -> R
 
 #[tactic(auto, using(crate::proofs::Steps::found_some, crate::proofs::Steps::found_none))]
 fn declare_default(alloc: Global, locals: &mut Vec<Var>, into: &Into) -> Result<Flow, Halt>
-    ensures { (left : ℕ) → Ran (declared (default_value (into_of into.now).ty) (into_of into.now).name.name (map var_of locals.old.items) left) result (map var_of locals.new.items) left }
+    ensures { (left : ℕ) → Ran (declared (default_value (into_of into.now).ty)
+        (into_of into.now).name.name (map var_of locals.old.items) left) result
+        (map var_of locals.new.items) left }
 {
     match default_value(alloc, &into.ty) {
         Ok(value) => declare(alloc, locals, into, value),
@@ -105,7 +111,9 @@ fn read_target<'a>(
     locals: &'a Vec<Var>,
     target: &Target,
 ) -> Option<&'a Value>
-    ensures { option_map value_of (option_copied result) ≡ read_path (map record_of records.now) (map var_of locals.now.items) target.now.path.items }
+    ensures { option_map value_of (option_copied result)
+        ≡ read_path (map record_of records.now) (map var_of locals.now.items)
+        target.now.path.items }
 {
     read_path(records, locals, &target.path)
 }
@@ -116,13 +124,15 @@ fn changed_value(
     old: &Value,
     operand: &Value,
 ) -> Result<Value, Halt>
-    ensures { Answers (operated (change_sign (change_of change.now)) (value_of old.now) (value_of operand.now)) result }
+    ensures { Answers (operated (change_sign (change_of change.now)) (value_of old.now)
+        (value_of operand.now)) result }
 {
     operated(alloc, change_sign(change), old, operand)
 }
 
 fn rethrow(locals: &[Var], caught: Option<&Name>) -> Result<Flow, Halt>
-    ensures { (left : ℕ) → Ran (rethrown (option_copied caught.entry) (map var_of locals.now) left) result (map var_of locals.now) left }
+    ensures { (left : ℕ) → Ran (rethrown (option_copied caught.entry) (map var_of locals.now) left)
+        result (map var_of locals.now) left }
 {
     let Some(name) = caught else {
         return Err(Halt::NoMeaning);
@@ -145,7 +155,9 @@ fn evaluate_in<V: Variables, C: CellView>(
     expr: &Expr,
     turns: &mut Turns,
 ) -> Result<Value, Halt>
-    ensures gives { Gives (evaluated (setting_of C.content setting.now) (run_function (setting_of C.content setting.now) nest) (expr_of expr.now) (map var_of locals.now.items) turns.old.left) result turns.new.left }
+    ensures gives { Gives (evaluated (setting_of C.content setting.now)
+        (run_function (setting_of C.content setting.now) nest) (expr_of expr.now)
+        (map var_of locals.now.items) turns.old.left) result turns.new.left }
     ensures fewer { turns.new.left ≤ turns.old.left }
 {
     evaluate(setting, nest, &Vars::<V>::Inner(locals), expr, turns)
@@ -162,7 +174,10 @@ pub fn run_body<V: Variables, C: CellView>(
     locals: &mut Vec<Var>,
     turns: &mut Turns,
 ) -> Result<Flow, Halt>
-    ensures gives { Ran (exec (setting_of C.content setting.now) (run_function (setting_of C.content setting.now) nest) (body_of stmts.now) (option_copied caught.entry) (map var_of locals.old.items) turns.old.left) result (map var_of locals.new.items) turns.new.left }
+    ensures gives { Ran (exec (setting_of C.content setting.now)
+        (run_function (setting_of C.content setting.now) nest) (body_of stmts.now)
+        (option_copied caught.entry) (map var_of locals.old.items) turns.old.left) result
+        (map var_of locals.new.items) turns.new.left }
     ensures fewer { turns.new.left ≤ turns.old.left }
 {
     for stmt in stmts {
@@ -186,7 +201,12 @@ fn run_stmt<V: Variables, C: CellView>(
     locals: &mut Vec<Var>,
     turns: &mut Turns,
 ) -> Result<Flow, Halt>
-    ensures gives { StmtRan (λ k. exec (setting_of C.content setting.now) (run_function (setting_of C.content setting.now) nest) (stmt_of stmt.now k) (option_copied caught.entry) (map var_of locals.old.items) turns.old.left) (λ k. exec (setting_of C.content setting.now) (run_function (setting_of C.content setting.now) nest) k (option_copied caught.entry)) result (map var_of locals.new.items) turns.new.left }
+    ensures gives { StmtRan (λ k. exec (setting_of C.content setting.now)
+        (run_function (setting_of C.content setting.now) nest) (stmt_of stmt.now k)
+        (option_copied caught.entry) (map var_of locals.old.items) turns.old.left)
+        (λ k. exec (setting_of C.content setting.now)
+        (run_function (setting_of C.content setting.now) nest) k (option_copied caught.entry))
+        result (map var_of locals.new.items) turns.new.left }
     ensures fewer { turns.new.left ≤ turns.old.left }
 {
     run_kind::<V, C>(setting, nest, stmt.at, &stmt.kind, caught, locals, turns)
@@ -204,7 +224,12 @@ fn run_kind<V: Variables, C: CellView>(
     locals: &mut Vec<Var>,
     turns: &mut Turns,
 ) -> Result<Flow, Halt>
-    ensures gives { StmtRan (λ k. exec (setting_of C.content setting.now) (run_function (setting_of C.content setting.now) nest) (kind_of kind.now at k) (option_copied caught.entry) (map var_of locals.old.items) turns.old.left) (λ k. exec (setting_of C.content setting.now) (run_function (setting_of C.content setting.now) nest) k (option_copied caught.entry)) result (map var_of locals.new.items) turns.new.left }
+    ensures gives { StmtRan (λ k. exec (setting_of C.content setting.now)
+        (run_function (setting_of C.content setting.now) nest) (kind_of kind.now at k)
+        (option_copied caught.entry) (map var_of locals.old.items) turns.old.left)
+        (λ k. exec (setting_of C.content setting.now)
+        (run_function (setting_of C.content setting.now) nest) k (option_copied caught.entry))
+        result (map var_of locals.new.items) turns.new.left }
     ensures fewer { turns.new.left ≤ turns.old.left }
 {
     match kind {
@@ -256,7 +281,10 @@ fn run_scope<V: Variables, C: CellView>(
     locals: &mut Vec<Var>,
     turns: &mut Turns,
 ) -> Result<Flow, Halt>
-    ensures gives { Ran (scope (exec (setting_of C.content setting.now) (run_function (setting_of C.content setting.now) nest) (body_of stmts.now.items) (option_copied caught.entry)) (map var_of locals.old.items) turns.old.left) result (map var_of locals.new.items) turns.new.left }
+    ensures gives { Ran (scope (exec (setting_of C.content setting.now)
+        (run_function (setting_of C.content setting.now) nest) (body_of stmts.now.items)
+        (option_copied caught.entry)) (map var_of locals.old.items) turns.old.left) result
+        (map var_of locals.new.items) turns.new.left }
     ensures fewer { turns.new.left ≤ turns.old.left }
 {
     let count = locals.len();
@@ -278,7 +306,14 @@ fn run_if<V: Variables, C: CellView>(
     locals: &mut Vec<Var>,
     turns: &mut Turns,
 ) -> Result<Flow, Halt>
-    ensures gives { Ran (if_run (setting_of C.content setting.now) (run_function (setting_of C.content setting.now) nest) (expr_of test.now) (scope (exec (setting_of C.content setting.now) (run_function (setting_of C.content setting.now) nest) (body_of body.now.items) (option_copied caught.entry))) (else_run (setting_of C.content setting.now) (run_function (setting_of C.content setting.now) nest) (else_of otherwise.now) (option_copied caught.entry)) (map var_of locals.old.items) turns.old.left) result (map var_of locals.new.items) turns.new.left }
+    ensures gives { Ran (if_run (setting_of C.content setting.now)
+        (run_function (setting_of C.content setting.now) nest) (expr_of test.now)
+        (scope (exec (setting_of C.content setting.now)
+        (run_function (setting_of C.content setting.now) nest) (body_of body.now.items)
+        (option_copied caught.entry))) (else_run (setting_of C.content setting.now)
+        (run_function (setting_of C.content setting.now) nest) (else_of otherwise.now)
+        (option_copied caught.entry)) (map var_of locals.old.items) turns.old.left) result
+        (map var_of locals.new.items) turns.new.left }
     ensures fewer { turns.new.left ≤ turns.old.left }
 {
     let value = evaluate_in::<V, C>(setting, nest, locals, test, turns)?;
@@ -299,7 +334,10 @@ fn run_else<V: Variables, C: CellView>(
     locals: &mut Vec<Var>,
     turns: &mut Turns,
 ) -> Result<Flow, Halt>
-    ensures gives { Ran (else_run (setting_of C.content setting.now) (run_function (setting_of C.content setting.now) nest) (else_of otherwise.now) (option_copied caught.entry) (map var_of locals.old.items) turns.old.left) result (map var_of locals.new.items) turns.new.left }
+    ensures gives { Ran (else_run (setting_of C.content setting.now)
+        (run_function (setting_of C.content setting.now) nest) (else_of otherwise.now)
+        (option_copied caught.entry) (map var_of locals.old.items) turns.old.left) result
+        (map var_of locals.new.items) turns.new.left }
     ensures fewer { turns.new.left ≤ turns.old.left }
 {
     match otherwise {
@@ -320,7 +358,13 @@ fn run_pass<V: Variables, C: CellView>(
     locals: &mut Vec<Var>,
     turns: &mut Turns,
 ) -> Result<Flow, Halt>
-    ensures gives { Ran (pass_run (setting_of C.content setting.now) (run_function (setting_of C.content setting.now) nest) (option_map expr_of (option_copied test.entry)) (exec (setting_of C.content setting.now) (run_function (setting_of C.content setting.now) nest) (body_of body.now.items) (option_copied caught.entry)) (map var_of locals.old.items) turns.old.left) result (map var_of locals.new.items) turns.new.left }
+    ensures gives { Ran (pass_run (setting_of C.content setting.now)
+        (run_function (setting_of C.content setting.now) nest)
+        (option_map expr_of (option_copied test.entry))
+        (exec (setting_of C.content setting.now)
+        (run_function (setting_of C.content setting.now) nest) (body_of body.now.items)
+        (option_copied caught.entry)) (map var_of locals.old.items) turns.old.left) result
+        (map var_of locals.new.items) turns.new.left }
     ensures fewer { turns.new.left ≤ turns.old.left }
 {
     let Some(test) = test else {
@@ -346,7 +390,16 @@ fn run_turn<V: Variables, C: CellView>(
     locals: &mut Vec<Var>,
     turns: &mut Turns,
 ) -> Result<Flow, Halt>
-    ensures gives { Ran (turn_run (setting_of C.content setting.now) (run_function (setting_of C.content setting.now) nest) (option_map expr_of (option_copied test.entry)) (exec (setting_of C.content setting.now) (run_function (setting_of C.content setting.now) nest) (simple_of (option_copied step.entry)) (option_copied caught.entry)) (exec (setting_of C.content setting.now) (run_function (setting_of C.content setting.now) nest) (body_of body.now.items) (option_copied caught.entry)) (map var_of locals.old.items) turns.old.left) result (map var_of locals.new.items) turns.new.left }
+    ensures gives { Ran (turn_run (setting_of C.content setting.now)
+        (run_function (setting_of C.content setting.now) nest)
+        (option_map expr_of (option_copied test.entry))
+        (exec (setting_of C.content setting.now)
+        (run_function (setting_of C.content setting.now) nest)
+        (simple_of (option_copied step.entry)) (option_copied caught.entry))
+        (exec (setting_of C.content setting.now)
+        (run_function (setting_of C.content setting.now) nest) (body_of body.now.items)
+        (option_copied caught.entry)) (map var_of locals.old.items) turns.old.left) result
+        (map var_of locals.new.items) turns.new.left }
     ensures fewer { turns.new.left ≤ turns.old.left }
 {
     match run_pass::<V, C>(setting, nest, test, body, caught, locals, turns)? {
@@ -370,7 +423,16 @@ fn run_loop<V: Variables, C: CellView>(
     locals: &mut Vec<Var>,
     turns: &mut Turns,
 ) -> Result<Flow, Halt>
-    ensures gives { Ran (loop_run (setting_of C.content setting.now) (run_function (setting_of C.content setting.now) nest) (option_map expr_of (option_copied test.entry)) (exec (setting_of C.content setting.now) (run_function (setting_of C.content setting.now) nest) (simple_of (option_copied step.entry)) (option_copied caught.entry)) (exec (setting_of C.content setting.now) (run_function (setting_of C.content setting.now) nest) (body_of body.now.items) (option_copied caught.entry)) (map var_of locals.old.items) turns.old.left) result (map var_of locals.new.items) turns.new.left }
+    ensures gives { Ran (loop_run (setting_of C.content setting.now)
+        (run_function (setting_of C.content setting.now) nest)
+        (option_map expr_of (option_copied test.entry))
+        (exec (setting_of C.content setting.now)
+        (run_function (setting_of C.content setting.now) nest)
+        (simple_of (option_copied step.entry)) (option_copied caught.entry))
+        (exec (setting_of C.content setting.now)
+        (run_function (setting_of C.content setting.now) nest) (body_of body.now.items)
+        (option_copied caught.entry)) (map var_of locals.old.items) turns.old.left) result
+        (map var_of locals.new.items) turns.new.left }
     ensures fewer { turns.new.left ≤ turns.old.left }
 {
     while turns.left > 0 {
@@ -395,7 +457,11 @@ fn run_part<V: Variables, C: CellView>(
     locals: &mut Vec<Var>,
     turns: &mut Turns,
 ) -> Result<Flow, Halt>
-    ensures gives { Ran (exec (setting_of C.content setting.now) (run_function (setting_of C.content setting.now) nest) (simple_of (option_copied part.entry)) (option_copied caught.entry) (map var_of locals.old.items) turns.old.left) result (map var_of locals.new.items) turns.new.left }
+    ensures gives { Ran (exec (setting_of C.content setting.now)
+        (run_function (setting_of C.content setting.now) nest)
+        (simple_of (option_copied part.entry)) (option_copied caught.entry)
+        (map var_of locals.old.items) turns.old.left) result (map var_of locals.new.items)
+        turns.new.left }
     ensures fewer { turns.new.left ≤ turns.old.left }
 {
     match part {
@@ -418,7 +484,17 @@ fn run_for<V: Variables, C: CellView>(
     locals: &mut Vec<Var>,
     turns: &mut Turns,
 ) -> Result<Flow, Halt>
-    ensures gives { Ran (scope (for_run (setting_of C.content setting.now) (run_function (setting_of C.content setting.now) nest) (exec (setting_of C.content setting.now) (run_function (setting_of C.content setting.now) nest) (simple_of init.now) (option_copied caught.entry)) (option_map expr_of test.now) (exec (setting_of C.content setting.now) (run_function (setting_of C.content setting.now) nest) (simple_of step.now) (option_copied caught.entry)) (exec (setting_of C.content setting.now) (run_function (setting_of C.content setting.now) nest) (body_of body.now.items) (option_copied caught.entry))) (map var_of locals.old.items) turns.old.left) result (map var_of locals.new.items) turns.new.left }
+    ensures gives { Ran (scope (for_run (setting_of C.content setting.now)
+        (run_function (setting_of C.content setting.now) nest)
+        (exec (setting_of C.content setting.now)
+        (run_function (setting_of C.content setting.now) nest) (simple_of init.now)
+        (option_copied caught.entry)) (option_map expr_of test.now)
+        (exec (setting_of C.content setting.now)
+        (run_function (setting_of C.content setting.now) nest) (simple_of step.now)
+        (option_copied caught.entry)) (exec (setting_of C.content setting.now)
+        (run_function (setting_of C.content setting.now) nest) (body_of body.now.items)
+        (option_copied caught.entry))) (map var_of locals.old.items) turns.old.left) result
+        (map var_of locals.new.items) turns.new.left }
     ensures fewer { turns.new.left ≤ turns.old.left }
 {
     let count = locals.len();
@@ -441,7 +517,17 @@ fn run_for_parts<V: Variables, C: CellView>(
     locals: &mut Vec<Var>,
     turns: &mut Turns,
 ) -> Result<Flow, Halt>
-    ensures gives { Ran (for_run (setting_of C.content setting.now) (run_function (setting_of C.content setting.now) nest) (exec (setting_of C.content setting.now) (run_function (setting_of C.content setting.now) nest) (simple_of init.now) (option_copied caught.entry)) (option_map expr_of test.now) (exec (setting_of C.content setting.now) (run_function (setting_of C.content setting.now) nest) (simple_of step.now) (option_copied caught.entry)) (exec (setting_of C.content setting.now) (run_function (setting_of C.content setting.now) nest) (body_of body.now.items) (option_copied caught.entry)) (map var_of locals.old.items) turns.old.left) result (map var_of locals.new.items) turns.new.left }
+    ensures gives { Ran (for_run (setting_of C.content setting.now)
+        (run_function (setting_of C.content setting.now) nest)
+        (exec (setting_of C.content setting.now)
+        (run_function (setting_of C.content setting.now) nest) (simple_of init.now)
+        (option_copied caught.entry)) (option_map expr_of test.now)
+        (exec (setting_of C.content setting.now)
+        (run_function (setting_of C.content setting.now) nest) (simple_of step.now)
+        (option_copied caught.entry)) (exec (setting_of C.content setting.now)
+        (run_function (setting_of C.content setting.now) nest) (body_of body.now.items)
+        (option_copied caught.entry)) (map var_of locals.old.items) turns.old.left) result
+        (map var_of locals.new.items) turns.new.left }
     ensures fewer { turns.new.left ≤ turns.old.left }
 {
     match run_part::<V, C>(setting, nest, init.as_ref(), caught, locals, turns)? {
@@ -474,7 +560,13 @@ fn run_try<V: Variables, C: CellView>(
     locals: &mut Vec<Var>,
     turns: &mut Turns,
 ) -> Result<Flow, Halt>
-    ensures gives { Ran (try_run (exec (setting_of C.content setting.now) (run_function (setting_of C.content setting.now) nest) (body_of body.now.items) (option_copied caught.entry)) error.now.name (exec (setting_of C.content setting.now) (run_function (setting_of C.content setting.now) nest) (body_of handler.now.items) (Some error.now.name)) (map var_of locals.old.items) turns.old.left) result (map var_of locals.new.items) turns.new.left }
+    ensures gives { Ran (try_run (exec (setting_of C.content setting.now)
+        (run_function (setting_of C.content setting.now) nest) (body_of body.now.items)
+        (option_copied caught.entry)) error.now.name
+        (exec (setting_of C.content setting.now)
+        (run_function (setting_of C.content setting.now) nest) (body_of handler.now.items)
+        (Some error.now.name)) (map var_of locals.old.items) turns.old.left) result
+        (map var_of locals.new.items) turns.new.left }
     ensures fewer { turns.new.left ≤ turns.old.left }
 {
     match run_scope::<V, C>(setting, nest, body, caught, locals, turns) {
@@ -500,7 +592,11 @@ fn run_handler<V: Variables, C: CellView>(
     locals: &mut Vec<Var>,
     turns: &mut Turns,
 ) -> Result<Flow, Halt>
-    ensures gives { Ran (handled error.now.name (exec (setting_of C.content setting.now) (run_function (setting_of C.content setting.now) nest) (body_of handler.now.items) (Some error.now.name)) code.0 (map var_of locals.old.items) turns.old.left) result (map var_of locals.new.items) turns.new.left }
+    ensures gives { Ran (handled error.now.name
+        (exec (setting_of C.content setting.now)
+        (run_function (setting_of C.content setting.now) nest) (body_of handler.now.items)
+        (Some error.now.name)) code.0 (map var_of locals.old.items) turns.old.left) result
+        (map var_of locals.new.items) turns.new.left }
     ensures fewer { turns.new.left ≤ turns.old.left }
 {
     let count = locals.len();
@@ -519,7 +615,10 @@ fn run_return<V: Variables, C: CellView>(
     locals: &mut Vec<Var>,
     turns: &mut Turns,
 ) -> Result<Flow, Halt>
-    ensures gives { Ran (return_run (setting_of C.content setting.now) (run_function (setting_of C.content setting.now) nest) (expr_of value.now) (map var_of locals.old.items) turns.old.left) result (map var_of locals.new.items) turns.new.left }
+    ensures gives { Ran (return_run (setting_of C.content setting.now)
+        (run_function (setting_of C.content setting.now) nest) (expr_of value.now)
+        (map var_of locals.old.items) turns.old.left) result (map var_of locals.new.items)
+        turns.new.left }
     ensures fewer { turns.new.left ≤ turns.old.left }
 {
     let value = evaluate_in::<V, C>(setting, nest, locals, value, turns)?;
@@ -537,7 +636,10 @@ fn run_throw<V: Variables, C: CellView>(
     locals: &mut Vec<Var>,
     turns: &mut Turns,
 ) -> Result<Flow, Halt>
-    ensures gives { Ran (throw_run (setting_of C.content setting.now) (run_function (setting_of C.content setting.now) nest) (option_map expr_of error.now) (option_copied caught.entry) (map var_of locals.old.items) turns.old.left) result (map var_of locals.new.items) turns.new.left }
+    ensures gives { Ran (throw_run (setting_of C.content setting.now)
+        (run_function (setting_of C.content setting.now) nest) (option_map expr_of error.now)
+        (option_copied caught.entry) (map var_of locals.old.items) turns.old.left) result
+        (map var_of locals.new.items) turns.new.left }
     ensures fewer { turns.new.left ≤ turns.old.left }
 {
     let Some(error) = error else {
@@ -561,7 +663,10 @@ fn run_declare<V: Variables, C: CellView>(
     locals: &mut Vec<Var>,
     turns: &mut Turns,
 ) -> Result<Flow, Halt>
-    ensures gives { Ran (declare_run (setting_of C.content setting.now) (run_function (setting_of C.content setting.now) nest) (into_of into.now) (option_map expr_of value.now) (map var_of locals.old.items) turns.old.left) result (map var_of locals.new.items) turns.new.left }
+    ensures gives { Ran (declare_run (setting_of C.content setting.now)
+        (run_function (setting_of C.content setting.now) nest) (into_of into.now)
+        (option_map expr_of value.now) (map var_of locals.old.items) turns.old.left) result
+        (map var_of locals.new.items) turns.new.left }
     ensures fewer { turns.new.left ≤ turns.old.left }
 {
     let Some(value) = value else {
@@ -582,7 +687,10 @@ fn run_assign<V: Variables, C: CellView>(
     locals: &mut Vec<Var>,
     turns: &mut Turns,
 ) -> Result<Flow, Halt>
-    ensures gives { Ran (assign_run (setting_of C.content setting.now) (run_function (setting_of C.content setting.now) nest) target.now.path.items (expr_of value.now) (map var_of locals.old.items) turns.old.left) result (map var_of locals.new.items) turns.new.left }
+    ensures gives { Ran (assign_run (setting_of C.content setting.now)
+        (run_function (setting_of C.content setting.now) nest) target.now.path.items
+        (expr_of value.now) (map var_of locals.old.items) turns.old.left) result
+        (map var_of locals.new.items) turns.new.left }
     ensures fewer { turns.new.left ≤ turns.old.left }
 {
     let value = evaluate_in::<V, C>(setting, nest, locals, value, turns)?;
@@ -598,7 +706,9 @@ fn operand<V: Variables, C: CellView>(
     change: &Change,
     turns: &mut Turns,
 ) -> Result<Value, Halt>
-    ensures gives { Gives (change_operand (setting_of C.content setting.now) (run_function (setting_of C.content setting.now) nest) (change_of change.now) (map var_of locals.now.items) turns.old.left) result turns.new.left }
+    ensures gives { Gives (change_operand (setting_of C.content setting.now)
+        (run_function (setting_of C.content setting.now) nest) (change_of change.now)
+        (map var_of locals.now.items) turns.old.left) result turns.new.left }
     ensures fewer { turns.new.left ≤ turns.old.left }
 {
     match change {
@@ -620,7 +730,10 @@ fn run_modify<V: Variables, C: CellView>(
     locals: &mut Vec<Var>,
     turns: &mut Turns,
 ) -> Result<Flow, Halt>
-    ensures gives { Ran (modify_run (setting_of C.content setting.now) (run_function (setting_of C.content setting.now) nest) target.now.path.items (change_of change.now) (map var_of locals.old.items) turns.old.left) result (map var_of locals.new.items) turns.new.left }
+    ensures gives { Ran (modify_run (setting_of C.content setting.now)
+        (run_function (setting_of C.content setting.now) nest) target.now.path.items
+        (change_of change.now) (map var_of locals.old.items) turns.old.left) result
+        (map var_of locals.new.items) turns.new.left }
     ensures fewer { turns.new.left ≤ turns.old.left }
 {
     let Some(old) = read_target(setting.records, locals, target) else {
@@ -641,7 +754,10 @@ fn run_call<V: Variables, C: CellView>(
     locals: &mut Vec<Var>,
     turns: &mut Turns,
 ) -> Result<Flow, Halt>
-    ensures gives { Ran (call_run (setting_of C.content setting.now) (run_function (setting_of C.content setting.now) nest) target.now.path.items (exprs_of args.now) (map var_of locals.old.items) turns.old.left) result (map var_of locals.new.items) turns.new.left }
+    ensures gives { Ran (call_run (setting_of C.content setting.now)
+        (run_function (setting_of C.content setting.now) nest) target.now.path.items
+        (exprs_of args.now) (map var_of locals.old.items) turns.old.left) result
+        (map var_of locals.new.items) turns.new.left }
     ensures fewer { turns.new.left ≤ turns.old.left }
 {
     let args = evaluate_all(setting, nest, &Vars::<V>::Inner(locals), args, turns)?;

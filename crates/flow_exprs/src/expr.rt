@@ -87,7 +87,8 @@ fn word_leaf(word: Word) -> Option<Expr>
 
 // The expression that this token is by itself.
 fn token_leaf(alloc: Global, token: &Token) -> Result<Option<Expr>, Stop>
-    ensures { MatchResult result (λ o. option_map expr_of o ≡ leaf_of token.now) (λ e. e ≡ Stop.NoMemory) }
+    ensures { MatchResult result (λ o. option_map expr_of o ≡ leaf_of token.now)
+        (λ e. e ≡ Stop.NoMemory) }
 {
     match token {
         Token::Number(n) => Ok(Some(Expr::Int(*n))),
@@ -113,7 +114,8 @@ fn token_name(alloc: Global, token: &Token, at: Place) -> Result<Option<Ident>, 
 
 // The expression that the token here is by itself.
 fn read_leaf(alloc: Global, spots: &[Spot], at: usize) -> Result<Option<Expr>, Stop>
-    ensures { MatchResult result (λ o. option_map expr_of o ≡ leaf_at spots.now at) (λ e. e ≡ Stop.NoMemory) }
+    ensures { MatchResult result (λ o. option_map expr_of o ≡ leaf_at spots.now at)
+        (λ e. e ≡ Stop.NoMemory) }
 {
     match spots.get(at) {
         Some(spot) => token_leaf(alloc, &spot.token),
@@ -138,7 +140,8 @@ fn boxed(alloc: Global, expr: Expr) -> Result<Box<Expr>, Stop>
 }
 
 fn two(alloc: Global, op: Op, left: Expr, right: Expr) -> Result<Expr, Stop>
-    ensures { MatchResult result (λ e. expr_of e ≡ BinaryExpr op (expr_of left) (expr_of right)) (λ e. e ≡ Stop.NoMemory) }
+    ensures { MatchResult result (λ e. expr_of e ≡ BinaryExpr op (expr_of left) (expr_of right))
+        (λ e. e ≡ Stop.NoMemory) }
 {
     Ok(Expr::Binary(op, boxed(alloc, left)?, boxed(alloc, right)?))
 }
@@ -156,19 +159,22 @@ fn neg(alloc: Global, of: Expr) -> Result<Expr, Stop>
 }
 
 fn paren(alloc: Global, of: Expr) -> Result<Expr, Stop>
-    ensures { MatchResult result (λ e. expr_of e ≡ ParenExpr (expr_of of)) (λ e. e ≡ Stop.NoMemory) }
+    ensures { MatchResult result (λ e. expr_of e ≡ ParenExpr (expr_of of))
+        (λ e. e ≡ Stop.NoMemory) }
 {
     Ok(Expr::Paren(boxed(alloc, of)?))
 }
 
 fn field(alloc: Global, of: Expr, name: Ident) -> Result<Expr, Stop>
-    ensures { MatchResult result (λ e. expr_of e ≡ FieldExpr (expr_of of) name) (λ e. e ≡ Stop.NoMemory) }
+    ensures { MatchResult result (λ e. expr_of e ≡ FieldExpr (expr_of of) name)
+        (λ e. e ≡ Stop.NoMemory) }
 {
     Ok(Expr::Field(boxed(alloc, of)?, name))
 }
 
 fn method(alloc: Global, of: Expr, name: Ident, args: Vec<Expr>) -> Result<Expr, Stop>
-    ensures { MatchResult result (λ e. expr_of e ≡ MethodExpr (expr_of of) name (exprs_of args.items)) (λ e. e ≡ Stop.NoMemory) }
+    ensures { MatchResult result (λ e. expr_of e
+        ≡ MethodExpr (expr_of of) name (exprs_of args.items)) (λ e. e ≡ Stop.NoMemory) }
 {
     Ok(Expr::Method(boxed(alloc, of)?, name, args))
 }

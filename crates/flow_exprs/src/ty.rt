@@ -129,7 +129,8 @@ fn word_type(word: Word) -> Option<Ty>
 
 // The type that this token is by itself.
 fn token_type(alloc: Global, token: &Token) -> Result<Option<Ty>, Stop>
-    ensures { MatchResult result (λ o. option_map type_of o ≡ plain_of token.now) (λ e. e ≡ Stop.NoMemory) }
+    ensures { MatchResult result (λ o. option_map type_of o ≡ plain_of token.now)
+        (λ e. e ≡ Stop.NoMemory) }
 {
     match token {
         Token::Name(name) => Ok(Some(Ty::Named(name.copy(alloc)?))),
@@ -142,7 +143,8 @@ fn token_type(alloc: Global, token: &Token) -> Result<Option<Ty>, Stop>
 
 // The type that the token here is by itself.
 fn read_plain(alloc: Global, spots: &[Spot], at: usize) -> Result<Option<Ty>, Stop>
-    ensures { MatchResult result (λ o. option_map type_of o ≡ plain_at spots.now at) (λ e. e ≡ Stop.NoMemory) }
+    ensures { MatchResult result (λ o. option_map type_of o ≡ plain_at spots.now at)
+        (λ e. e ≡ Stop.NoMemory) }
 {
     match spots.get(at) {
         Some(spot) => token_type(alloc, &spot.token),
@@ -159,7 +161,8 @@ fn boxed(alloc: Global, ty: Ty) -> Result<Box<Ty>, Stop>
 // The type that this word makes of another.
 fn wrap(alloc: Global, kind: TypeKind, of: Ty) -> Result<Ty, Stop>
     requires { IsWrapper kind }
-    ensures { MatchResult result (λ t. type_of t ≡ wrapped_by kind (type_of of)) (λ e. e ≡ Stop.NoMemory) }
+    ensures { MatchResult result (λ t. type_of t ≡ wrapped_by kind (type_of of))
+        (λ e. e ≡ Stop.NoMemory) }
 {
     match kind {
         TypeKind::FutureStream => Ok(Ty::FutureStream(boxed(alloc, of)?)),

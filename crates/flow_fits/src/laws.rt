@@ -14,7 +14,8 @@ use flow_walks::laws::parts_are_simple;
 /// its form gives, and no effects but a whole one in an actor; its functions fit, as their evaluation asks, and so do its
 /// actors.
 pub fn accepted_fits()
-    ensures { (tokens : Tokens) (program : ProgramTree) → IsProgram tokens program → refusal_of program ≡ None → AcceptedFits program }
+    ensures { (tokens : Tokens) (program : ProgramTree) → IsProgram tokens program
+        → refusal_of program ≡ None → AcceptedFits program }
 {
     parts_are_simple();
 }

@@ -110,7 +110,8 @@ impl<T> Frames<T> {
     pub fn slot(&self, actor: ActorId, place: u32) -> Option<&T>
         requires there { IsSome (thing self.now.things actor.0) }
         requires place { ForSome (thing self.now.things actor.0) (λ f. place < length f.places) }
-        ensures { ForSome (thing self.now.things actor.0) (λ f. option_copied result ≡ slice_index_or f.places place None) }
+        ensures { ForSome (thing self.now.things actor.0)
+            (λ f. option_copied result ≡ slice_index_or f.places place None) }
     {
         self.frame(actor).place(place)
     }
@@ -138,8 +139,10 @@ impl<T> Frames<T> {
         T: Drop,
         requires there { IsSome (thing self.old.things actor.0) }
         requires place { ForSome (thing self.old.things actor.0) (λ f. place < length f.places) }
-        ensures old { ForSome (thing self.old.things actor.0) (λ f. IfOk result (λ old. old ≡ slice_index_or f.places place None)) }
-        ensures ok { ForSome (thing self.old.things actor.0) (λ f. OnOk result (self.new ≡ with_thing self.old actor.0 (with_place f place value))) }
+        ensures old { ForSome (thing self.old.things actor.0)
+            (λ f. IfOk result (λ old. old ≡ slice_index_or f.places place None)) }
+        ensures ok { ForSome (thing self.old.things actor.0)
+            (λ f. OnOk result (self.new ≡ with_thing self.old actor.0 (with_place f place value))) }
         ensures err { OnErr result (self.new ≡ self.old) }
     {
         self.frames.get_mut(actor.0).set_place(place, value)
@@ -209,7 +212,8 @@ impl<T> Frames<T> {
     where
         T: Drop,
         requires { IsSome (thing self.old.things actor.0) }
-        ensures { ForSome (thing self.old.things actor.0) (λ f. self.new ≡ with_thing self.old actor.0 (in_state state f)) }
+        ensures { ForSome (thing self.old.things actor.0)
+            (λ f. self.new ≡ with_thing self.old actor.0 (in_state state f)) }
     {
         self.frames.get_mut(actor.0).set_state(state);
     }
@@ -226,7 +230,9 @@ impl<T> Frames<T> {
     pub fn set_at(&mut self, actor: ActorId, at: (u32, u32))
         requires there { IsSome (thing self.old.things actor.0) }
         requires state { ForSome (thing self.old.things actor.0) (λ f. f.state ≡ 0) }
-        ensures { ForSome (thing self.old.things actor.0) (λ f. self.new ≡ with_thing self.old actor.0 (record f { block = at.0; instruction = at.1 })) }
+        ensures { ForSome (thing self.old.things actor.0)
+            (λ f. self.new ≡ with_thing self.old actor.0
+            (record f { block = at.0; instruction = at.1 })) }
     {
         self.frames.get_mut(actor.0).set_at(at);
     }
@@ -236,7 +242,9 @@ impl<T> Frames<T> {
     where
         T: Drop,
         requires { IsSome (thing self.old.things actor.0) }
-        ensures { ForSome (thing self.old.things actor.0) (λ f. self.new ≡ with_thing self.old actor.0 (record f { state = 0; block = at.0; instruction = at.1 })) }
+        ensures { ForSome (thing self.old.things actor.0)
+            (λ f. self.new ≡ with_thing self.old actor.0
+            (record f { state = 0; block = at.0; instruction = at.1 })) }
     {
         let frame = self.frames.get_mut(actor.0);
         frame.set_state(0);
@@ -255,7 +263,8 @@ impl<T> Frames<T> {
     /// Adds a callback behind the others of a frame. Where there is no memory, nothing changes.
     pub fn add_callback(&mut self, actor: ActorId, held: Held) -> Result<(), NoMemory>
         requires { IsSome (thing self.old.things actor.0) }
-        ensures ok { ForSome (thing self.old.things actor.0) (λ f. OnOk result (self.new ≡ with_thing self.old actor.0 (with_callback f held))) }
+        ensures ok { ForSome (thing self.old.things actor.0)
+            (λ f. OnOk result (self.new ≡ with_thing self.old actor.0 (with_callback f held))) }
         ensures err { OnErr result (self.new ≡ self.old) }
     {
         self.frames.get_mut(actor.0).add_callback(held)
@@ -265,7 +274,8 @@ impl<T> Frames<T> {
     pub fn take_callbacks(&mut self, actor: ActorId) -> Vec<Held>
         requires { IsSome (thing self.old.things actor.0) }
         ensures all { ForSome (thing self.old.things actor.0) (λ f. result.items ≡ f.callbacks) }
-        ensures rest { ForSome (thing self.old.things actor.0) (λ f. self.new ≡ with_thing self.old actor.0 (record f { callbacks = [] })) }
+        ensures rest { ForSome (thing self.old.things actor.0)
+            (λ f. self.new ≡ with_thing self.old actor.0 (record f { callbacks = [] })) }
     {
         let alloc = self.alloc;
         self.frames.get_mut(actor.0).take_callbacks(alloc)
@@ -284,8 +294,11 @@ impl<T> Frames<T> {
     /// Takes the first callback of a frame: `None` where there is none.
     pub fn take_callback(&mut self, actor: ActorId) -> Option<Held>
         requires { IsSome (thing self.old.things actor.0) }
-        ensures first { ForSome (thing self.old.things actor.0) (λ f. result ≡ first_held f.callbacks) }
-        ensures rest { ForSome (thing self.old.things actor.0) (λ f. self.new ≡ with_thing self.old actor.0 (record f { callbacks = other_held f.callbacks })) }
+        ensures first { ForSome (thing self.old.things actor.0)
+            (λ f. result ≡ first_held f.callbacks) }
+        ensures rest { ForSome (thing self.old.things actor.0)
+            (λ f. self.new ≡ with_thing self.old actor.0
+            (record f { callbacks = other_held f.callbacks })) }
     {
         self.frames.get_mut(actor.0).take_callback()
     }

@@ -14,7 +14,8 @@ use std::alloc::Global;
 // The single results of a heap, by rising number.
 fn cells(alloc: Global, heap: &Heap) -> Result<Vec<CellState>, NoMemory>
     requires { IsRising 0 heap.now.cells.things heap.now.cells.greatest }
-    ensures { IfOk result (λ v. map cell_kept v.items ≡ map (cell_part heap.now.requests) heap.now.cells.things) }
+    ensures { IfOk result (λ v. map cell_kept v.items
+        ≡ map (cell_part heap.now.requests) heap.now.cells.things) }
 {
     let mut listed = Vec::new(alloc);
     let mut last = CellId(0);
@@ -28,7 +29,8 @@ fn cells(alloc: Global, heap: &Heap) -> Result<Vec<CellState>, NoMemory>
 // The streams of a heap, by rising number.
 fn streams(alloc: Global, heap: &Heap) -> Result<Vec<StreamState>, NoMemory>
     requires { IsRising 0 heap.now.streams.things heap.now.streams.greatest }
-    ensures { IfOk result (λ v. map stream_kept v.items ≡ map (stream_part heap.now.ports) heap.now.streams.things) }
+    ensures { IfOk result (λ v. map stream_kept v.items
+        ≡ map (stream_part heap.now.ports) heap.now.streams.things) }
 {
     let mut listed = Vec::new(alloc);
     let mut last = CellId(0);
@@ -42,7 +44,8 @@ fn streams(alloc: Global, heap: &Heap) -> Result<Vec<StreamState>, NoMemory>
 // The actors of a heap, by rising number.
 fn actors(alloc: Global, heap: &Heap) -> Result<Vec<ActorState>, NoMemory>
     requires { IsRising 0 heap.now.frames.things heap.now.frames.greatest }
-    ensures { IfOk result (λ v. map actor_kept v.items ≡ map (actor_part heap.now.actors.things) heap.now.frames.things) }
+    ensures { IfOk result (λ v. map actor_kept v.items
+        ≡ map (actor_part heap.now.actors.things) heap.now.frames.things) }
 {
     let mut listed = Vec::new(alloc);
     let mut last = ActorId(0);

@@ -29,7 +29,8 @@ fn place_copy(alloc: Global, value: Option<&Value>) -> Result<Option<Value>, NoM
 
 // A copy of what a single result holds.
 fn content_copy(alloc: Global, content: Option<&Outcome>) -> Result<Option<Outcome>, NoMemory>
-    ensures { IfOk result (λ c. option_map outcome_of c ≡ option_map outcome_of (option_copied content.entry)) }
+    ensures { IfOk result (λ c. option_map outcome_of c
+        ≡ option_map outcome_of (option_copied content.entry)) }
 {
     match content {
         Some(outcome) => Ok(Some(outcome.copy(alloc)?)),
@@ -40,7 +41,8 @@ fn content_copy(alloc: Global, content: Option<&Outcome>) -> Result<Option<Outco
 // Who waits for a single result, oldest first.
 fn waiters(alloc: Global, cells: &Cells<Outcome>, cell: CellId) -> Result<Vec<Waiter>, NoMemory>
     requires { IsSome (thing cells.now.things cell.0) }
-    ensures { ForSome (thing cells.now.things cell.0) (λ c. IfOk result (λ ws. ws.items ≡ c.waiters)) }
+    ensures { ForSome (thing cells.now.things cell.0)
+        (λ c. IfOk result (λ ws. ws.items ≡ c.waiters)) }
 {
     let mut waiters = Vec::new(alloc);
     while let Some(waiter) = cells.waiter_at(cell, waiters.len()) {
@@ -52,7 +54,8 @@ fn waiters(alloc: Global, cells: &Cells<Outcome>, cell: CellId) -> Result<Vec<Wa
 // The elements of a stream, oldest first.
 fn elements(alloc: Global, streams: &Streams<Value>, cell: CellId) -> Result<Vec<Value>, NoMemory>
     requires { IsSome (thing streams.now.things cell.0) }
-    ensures { ForSome (thing streams.now.things cell.0) (λ s. IfOk result (λ vs. map value_of vs.items ≡ map value_of s.queue)) }
+    ensures { ForSome (thing streams.now.things cell.0)
+        (λ s. IfOk result (λ vs. map value_of vs.items ≡ map value_of s.queue)) }
 {
     let mut elements = Vec::new(alloc);
     while let Some(value) = streams.item(cell, elements.len()) {
@@ -68,7 +71,8 @@ fn places(
     actor: ActorId,
 ) -> Result<Vec<Option<Value>>, NoMemory>
     requires { IsSome (thing frames.now.things actor.0) }
-    ensures { ForSome (thing frames.now.things actor.0) (λ f. IfOk result (λ ps. map place_of ps.items ≡ map place_of f.places)) }
+    ensures { ForSome (thing frames.now.things actor.0)
+        (λ f. IfOk result (λ ps. map place_of ps.items ≡ map place_of f.places)) }
 {
     let mut places = Vec::new(alloc);
     for place in 0..frames.places(actor) {
@@ -80,7 +84,8 @@ fn places(
 /// A single result of a heap.
 pub(crate) fn cell_state(alloc: Global, heap: &Heap, cell: CellId) -> Result<CellState, NoMemory>
     requires { IsSome (thing heap.now.cells.things cell.0) }
-    ensures { ForSome (thing heap.now.cells.things cell.0) (λ c. IfOk result (λ s. cell_kept s ≡ cell_part heap.now.requests (cell.0, c))) }
+    ensures { ForSome (thing heap.now.cells.things cell.0)
+        (λ c. IfOk result (λ s. cell_kept s ≡ cell_part heap.now.requests (cell.0, c))) }
 {
     let cells = heap.cells();
     Ok(CellState {
@@ -98,7 +103,8 @@ pub(crate) fn stream_state(
     cell: CellId,
 ) -> Result<StreamState, NoMemory>
     requires { IsSome (thing heap.now.streams.things cell.0) }
-    ensures { ForSome (thing heap.now.streams.things cell.0) (λ s. IfOk result (λ r. stream_kept r ≡ stream_part heap.now.ports (cell.0, s))) }
+    ensures { ForSome (thing heap.now.streams.things cell.0)
+        (λ s. IfOk result (λ r. stream_kept r ≡ stream_part heap.now.ports (cell.0, s))) }
 {
     let streams = heap.streams();
     Ok(StreamState {
@@ -128,7 +134,8 @@ pub(crate) fn actor_state(
     actor: ActorId,
 ) -> Result<ActorState, NoMemory>
     requires { IsSome (thing heap.now.frames.things actor.0) }
-    ensures { ForSome (thing heap.now.frames.things actor.0) (λ f. IfOk result (λ s. actor_kept s ≡ actor_part heap.now.actors.things (actor.0, f))) }
+    ensures { ForSome (thing heap.now.frames.things actor.0)
+        (λ f. IfOk result (λ s. actor_kept s ≡ actor_part heap.now.actors.things (actor.0, f))) }
 {
     let frames = heap.frames();
     Ok(ActorState {

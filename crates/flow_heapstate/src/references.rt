@@ -88,7 +88,8 @@ fn add_stream(
     part: &StreamState,
     found: &mut Vec<(Kind, CellId)>,
 ) -> Result<(), NoMemory>
-    ensures { OnOk result (Adds found.old.items (stream_refs (stream_kept part.now)) found.new.items) }
+    ensures { OnOk result (Adds found.old.items (stream_refs (stream_kept part.now))
+        found.new.items) }
 {
     add_elements(alloc, &part.queue, found)?;
     if part.port {

@@ -194,7 +194,8 @@ fn add_callbacks(
     callbacks: &[Held],
 ) -> Result<(), NoMemory>
     requires { IsSome (thing frames.old.things actor.0) }
-    ensures { OnOk result (Turns frames.old actor.0 (λ f. callbacks_more f callbacks.now) frames.new) }
+    ensures { OnOk result (Turns frames.old actor.0 (λ f. callbacks_more f callbacks.now)
+        frames.new) }
 {
     for held in callbacks {
         frames.add_callback(actor, *held)?;

@@ -20,7 +20,8 @@ use std::alloc::Global;
 impl Layout {
     /// A slot for each parameter, in order. It fails only for want of memory.
     pub fn lay_params(&mut self, alloc: Global, params: &[Param]) -> Result<(), NoMemory>
-        ensures { OnOk result (laid self.new ≡ with_more (laid self.old) (map param_slot (map param_of params.now)) []) }
+        ensures { OnOk result (laid self.new
+            ≡ with_more (laid self.old) (map param_slot (map param_of params.now)) []) }
     {
         for param in params {
             self.lay_slot(alloc, &param.ty, &param.name)?;
@@ -30,7 +31,9 @@ impl Layout {
 
     // A slot of a type and a name.
     fn lay_slot(&mut self, alloc: Global, ty: &Ty, name: &Ident) -> Result<(), NoMemory>
-        ensures { OnOk result (laid self.new ≡ with_more (laid self.old) (record { ty = type_of ty.now; name = name.now.name } ∷ []) []) }
+        ensures { OnOk result (laid self.new
+            ≡ with_more (laid self.old) (record { ty = type_of ty.now; name = name.now.name } ∷ [])
+            []) }
     {
         self.slots.push(Slot {
             ty: ty.copy(alloc)?,
@@ -41,7 +44,9 @@ impl Layout {
 
     // A slot for a state variable, or a local.
     fn lay_into(&mut self, alloc: Global, into: &Into) -> Result<(), NoMemory>
-        ensures { OnOk result (laid self.new ≡ with_more (laid self.old) (declared_slots (into_of into.now)) (declared_locals (into_of into.now))) }
+        ensures { OnOk result (laid self.new
+            ≡ with_more (laid self.old) (declared_slots (into_of into.now))
+            (declared_locals (into_of into.now))) }
     {
         if into.state {
             self.lay_slot(alloc, &into.ty, &into.name)
@@ -53,7 +58,9 @@ impl Layout {
 
     // What a wait declares.
     fn lay_maybe(&mut self, alloc: Global, into: &Option<Into>) -> Result<(), NoMemory>
-        ensures { OnOk result (laid self.new ≡ with_more (laid self.old) (into_slots (option_map into_of into.now)) (into_locals (option_map into_of into.now))) }
+        ensures { OnOk result (laid self.new
+            ≡ with_more (laid self.old) (into_slots (option_map into_of into.now))
+            (into_locals (option_map into_of into.now))) }
     {
         match into {
             None => Ok(()),
@@ -155,7 +162,8 @@ impl Layout {
 
     #[cycle(lay)]
     fn lay_branches(&mut self, alloc: Global, branches: &[When]) -> Result<(), NoMemory>
-        ensures { OnOk result (laid self.new ≡ with_branches (laid self.old) (branches_of branches.now)) }
+        ensures { OnOk result (laid self.new
+            ≡ with_branches (laid self.old) (branches_of branches.now)) }
     {
         for branch in branches {
             self.lay_maybe(alloc, &branch.waiting.into)?;
@@ -167,7 +175,8 @@ impl Layout {
     // The body of an `else`, where there is one.
     #[cycle(lay)]
     fn lay_else(&mut self, alloc: Global, otherwise: &Option<Vec<Stmt>>) -> Result<(), NoMemory>
-        ensures { OnOk result (laid self.new ≡ with_body (laid self.old) (else_body (else_of otherwise.now))) }
+        ensures { OnOk result (laid self.new
+            ≡ with_body (laid self.old) (else_body (else_of otherwise.now))) }
     {
         match otherwise {
             None => Ok(()),

@@ -30,7 +30,8 @@ fn number_len(text: &[u8]) -> usize
 #[tactic(auto, using(crate::proofs::Numbers::digit_value_of))]
 fn with_digit(value: u64, b: u8) -> Option<u64>
     requires { digit b ≡ true }
-    ensures { MatchOption result (2 ^ 64 ≤ value * 10 + digit_value b) (λ n. n ≡ value * 10 + digit_value b) }
+    ensures { MatchOption result (2 ^ 64 ≤ value * 10 + digit_value b)
+        (λ n. n ≡ value * 10 + digit_value b) }
 {
     let Some(tens) = value.checked_mul(10) else {
         return None;
@@ -41,7 +42,8 @@ fn with_digit(value: u64, b: u8) -> Option<u64>
 // The value of these digits, where it is below 2^64.
 fn value_of(digits: &[u8]) -> Option<u64>
     requires { list_all digit digits.now ≡ true }
-    ensures { MatchOption result (2 ^ 64 ≤ digits_value 10 digits.now) (λ n. n ≡ digits_value 10 digits.now) }
+    ensures { MatchOption result (2 ^ 64 ≤ digits_value 10 digits.now)
+        (λ n. n ≡ digits_value 10 digits.now) }
 {
     let mut value = 0;
     for b in digits {
@@ -56,7 +58,8 @@ fn value_of(digits: &[u8]) -> Option<u64>
 // The value of these digits, where it is a 64-bit int.
 fn int_of(digits: &[u8]) -> Option<i64>
     requires { list_all digit digits.now ≡ true }
-    ensures { MatchOption result (2 ^ 63 ≤ digits_value 10 digits.now) (λ n. (digits_value 10 digits.now < 2 ^ 63) × (n ≡ pos (digits_value 10 digits.now))) }
+    ensures { MatchOption result (2 ^ 63 ≤ digits_value 10 digits.now)
+        (λ n. (digits_value 10 digits.now < 2 ^ 63) × (n ≡ pos (digits_value 10 digits.now))) }
 {
     let Some(value) = value_of(digits) else {
         return None;

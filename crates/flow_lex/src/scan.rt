@@ -117,7 +117,8 @@ fn past_byte(at: Place, b: u8) -> Place
     requires line { at.line + 1 < 2 ^ 32 }
     requires column { at.column + 1 < 2 ^ 32 }
     requires byte { at.byte + 1 < 2 ^ 32 }
-    ensures place { (before : List ℕ) → at ≡ place_after before → result ≡ place_after (before ++ b ∷ []) }
+    ensures place { (before : List ℕ) → at ≡ place_after before → result
+        ≡ place_after (before ++ b ∷ []) }
     ensures line { result.line ≤ at.line + 1 }
     ensures column { result.column ≤ at.column + 1 }
     ensures byte { result.byte ≡ at.byte + 1 }
@@ -143,7 +144,8 @@ pub fn past(at: Place, text: &[u8], n: usize) -> Place
     requires line { at.line + n < 2 ^ 32 }
     requires column { at.column + n < 2 ^ 32 }
     requires byte { at.byte + n < 2 ^ 32 }
-    ensures { (before : List ℕ) → at ≡ place_after before → result ≡ place_after (before ++ take n text.now) }
+    ensures { (before : List ℕ) → at ≡ place_after before → result
+        ≡ place_after (before ++ take n text.now) }
 {
     let bytes = front(text, n);
     let mut place = at;

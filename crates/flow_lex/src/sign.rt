@@ -23,7 +23,8 @@ fn sign_of(bytes: &[u8]) -> Option<Sign>
 
 // The sign of the first two bytes.
 fn long_sign(text: &[u8]) -> Option<Sign>
-    ensures none { result ≡ None → 1 < length text.now → (s : signs.Sign) → sign_bytes s ≡ take 2 text.now → ⊥ }
+    ensures none { result ≡ None → 1 < length text.now → (s : signs.Sign) → sign_bytes s
+        ≡ take 2 text.now → ⊥ }
     ensures some { IfSome result (λ s. (1 < length text.now) × (sign_bytes s ≡ take 2 text.now)) }
 {
     if text.len() < 2 {

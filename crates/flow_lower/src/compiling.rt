@@ -132,7 +132,8 @@ fn functions_of(alloc: Global, decls: &[Decl]) -> Result<Vec<FunctionDecl>, NoMe
 
 // The class of an actor.
 fn class_of_actor(alloc: Global, program: &Program, actor: &ActorDecl) -> Result<Class, NoMemory>
-    ensures { IfOk result (λ c. class_of c ≡ class_in (names_of (program_of program.now)) (actor_of actor.now)) }
+    ensures { IfOk result (λ c. class_of c
+        ≡ class_in (names_of (program_of program.now)) (actor_of actor.now)) }
 {
     let layout = layout(alloc, actor)?;
     lower(alloc, program, actor, &layout)

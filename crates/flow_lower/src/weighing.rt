@@ -34,7 +34,8 @@ fn body_weight(body: &[Stmt]) -> u64
 // What a statement weighs with its parts.
 #[cycle(weight)]
 fn stmt_weight(stmt: &Stmt) -> u64
-    ensures { (k : Body) → capped (body_weight (stmt_of stmt.now k)) ≡ capped (result + body_weight k) }
+    ensures { (k : Body) → capped (body_weight (stmt_of stmt.now k))
+        ≡ capped (result + body_weight k) }
 {
     match &stmt.kind {
         StmtKind::Block(body) => body_weight(body).saturating_add(2),
@@ -99,7 +100,8 @@ fn branches_weight(branches: &[When]) -> u64
 
 #[cycle(weight)]
 fn branch_weight(branch: &When) -> u64
-    ensures { (bs : Branches) → capped (branch_weight (branch_of branch.now bs)) ≡ capped (result + branch_weight bs) }
+    ensures { (bs : Branches) → capped (branch_weight (branch_of branch.now bs))
+        ≡ capped (result + branch_weight bs) }
 {
     body_weight(&branch.body).saturating_add(3)
 }

@@ -43,8 +43,10 @@ pub trait TwoKinds {
 /// has a burst of the second with equal lines, cells, tasks and requests, and each burst of the second
 /// one of the first.
 pub fn bursts_alike<K: TwoKinds>()
-    ensures follow { Simulates K.first K.second K.related → BurstsFollow K.first K.second K.host K.related }
-    ensures back { Simulates K.first K.second K.related → BurstsReturn K.first K.second K.host K.related }
+    ensures follow { Simulates K.first K.second K.related
+        → BurstsFollow K.first K.second K.host K.related }
+    ensures back { Simulates K.first K.second K.related
+        → BurstsReturn K.first K.second K.host K.related }
 {}
 
 /// And so with whole runs: from worlds that are alike each run of the first kind has a run of the second
@@ -53,15 +55,18 @@ pub fn bursts_alike<K: TwoKinds>()
 pub fn runs_alike<K: TwoKinds>()
     ensures follow { Simulates K.first K.second K.related → RunsFollow K.first K.second K.related }
     ensures back { Simulates K.first K.second K.related → RunsReturn K.first K.second K.related }
-    ensures traces { Simulates K.first K.second K.related → TracesFollow K.first K.second K.related }
-    ensures traces_back { Simulates K.first K.second K.related → TracesReturn K.first K.second K.related }
+    ensures traces { Simulates K.first K.second K.related
+        → TracesFollow K.first K.second K.related }
+    ensures traces_back { Simulates K.first K.second K.related
+        → TracesReturn K.first K.second K.related }
 {}
 
 /// Where related actors that wait do so at the same place of their texts, the same is seen of both kinds
 /// in the world of a world file: the lines of a trace, and at each boundary of events the unfinished
 /// actors and the branches at which they wait.
 pub fn sights_alike<K: TwoKinds>()
-    ensures follow { Simulates K.first K.second K.related → SightsFollow K.first K.second K.related }
+    ensures follow { Simulates K.first K.second K.related
+        → SightsFollow K.first K.second K.related }
     ensures back { Simulates K.first K.second K.related → SightsReturn K.first K.second K.related }
 {}
 

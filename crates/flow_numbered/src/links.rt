@@ -66,7 +66,8 @@ pub fn push_last<T: Drop>(
     item: T,
 ) -> Result<usize, NoMemory>
     ensures vacant { IfOk result (λ key. get links.old key ≡ None) }
-    ensures links { IfOk result (λ key. (k : ℕ) → get links.new k ≡ pushed (get links.old) ends.old.last key item k) }
+    ensures links { IfOk result (λ key. (k : ℕ) → get links.new k
+        ≡ pushed (get links.old) ends.old.last key item k) }
     ensures ends { IfOk result (λ key. ends.new ≡ longer ends.old key) }
     ensures links_stay { OnErr result ((k : ℕ) → get links.new k ≡ get links.old k) }
     ensures ends_stay { OnErr result (ends.new ≡ ends.old) }
@@ -93,7 +94,8 @@ pub fn push_last<T: Drop>(
 pub fn unlink<T>(links: &mut Slab<Link<T>>, ends: &mut Ends, key: usize) -> T
     requires { ContainsKey links.old key }
     ensures item { ForSome (get links.old key) (λ l. result ≡ l.item) }
-    ensures links { ForSome (get links.old key) (λ l. (k : ℕ) → get links.new k ≡ unlinked (get links.old) l key k) }
+    ensures links { ForSome (get links.old key)
+        (λ l. (k : ℕ) → get links.new k ≡ unlinked (get links.old) l key k) }
     ensures ends { ForSome (get links.old key) (λ l. ends.new ≡ shorter ends.old l) }
 {
     let Link {

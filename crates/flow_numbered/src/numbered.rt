@@ -53,7 +53,8 @@ impl<V> Numbered<V> {
     where
         V: Drop,
         requires { self.old.greatest < number }
-        ensures ok { OnOk result (self.new ≡ record { things = added self.old.things number value; greatest = number }) }
+        ensures ok { OnOk result (self.new
+            ≡ record { things = added self.old.things number value; greatest = number }) }
         ensures err { OnErr result (self.new ≡ self.old) }
         ensures rising { IsRising 0 self.old.things self.old.greatest }
     {

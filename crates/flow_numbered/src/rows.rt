@@ -110,7 +110,8 @@ pub(crate) fn live_from<V>(rows: &[Row<V>], from: usize, number: u64) -> Option<
 /// Takes out the empty rows, of which so many are counted, where they are more than a quarter of all. Gives the count then.
 pub(crate) fn tidy<V: Drop>(rows: &mut Vec<Row<V>>, empty: usize) -> usize
     ensures same { things_in rows.new.items ≡ things_in rows.old.items }
-    ensures rise { (low most : ℕ) → RowsRise low rows.old.items most → RowsRise low rows.new.items most }
+    ensures rise { (low most : ℕ) → RowsRise low rows.old.items most
+        → RowsRise low rows.new.items most }
 {
     if empty <= rows.len() / 4 {
         return empty;

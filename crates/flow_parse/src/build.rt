@@ -25,7 +25,8 @@ pub fn block(at: Place, body: Vec<Stmt>) -> Stmt
 
 /// An `if` without an `else`.
 pub fn if_stmt(at: Place, test: Expr, body: Vec<Stmt>) -> Stmt
-    ensures is { (rest : Body) → stmt_of result rest ≡ IfStmt at (expr_of test) (body_of body.items) rest }
+    ensures is { (rest : Body) → stmt_of result rest
+        ≡ IfStmt at (expr_of test) (body_of body.items) rest }
     ensures stands { Stands result }
 {
     Stmt {
@@ -36,7 +37,8 @@ pub fn if_stmt(at: Place, test: Expr, body: Vec<Stmt>) -> Stmt
 
 /// An `if` with an `else`.
 pub fn if_else(at: Place, test: Expr, body: Vec<Stmt>, other: Vec<Stmt>) -> Stmt
-    ensures is { (rest : Body) → stmt_of result rest ≡ IfElseStmt at (expr_of test) (body_of body.items) (body_of other.items) rest }
+    ensures is { (rest : Body) → stmt_of result rest
+        ≡ IfElseStmt at (expr_of test) (body_of body.items) (body_of other.items) rest }
     ensures stands { Stands result }
 {
     Stmt {
@@ -47,7 +49,8 @@ pub fn if_else(at: Place, test: Expr, body: Vec<Stmt>, other: Vec<Stmt>) -> Stmt
 
 /// A `while`.
 pub fn while_stmt(at: Place, test: Expr, body: Vec<Stmt>) -> Stmt
-    ensures is { (rest : Body) → stmt_of result rest ≡ WhileStmt at (expr_of test) (body_of body.items) rest }
+    ensures is { (rest : Body) → stmt_of result rest
+        ≡ WhileStmt at (expr_of test) (body_of body.items) rest }
     ensures stands { Stands result }
 {
     Stmt {
@@ -64,7 +67,9 @@ pub fn for_stmt(
     step: Option<Box<Stmt>>,
     body: Vec<Stmt>,
 ) -> Stmt
-    ensures is { (rest : Body) → stmt_of result rest ≡ ForStmt at (simple_of init) (option_map expr_of test) (simple_of step) (body_of body.items) rest }
+    ensures is { (rest : Body) → stmt_of result rest
+        ≡ ForStmt at (simple_of init) (option_map expr_of test) (simple_of step)
+        (body_of body.items) rest }
     ensures stands { Stands result }
 {
     Stmt {
@@ -119,7 +124,8 @@ pub fn return_stmt(at: Place, value: Expr) -> Stmt
 
 /// A `throw`, of an error or of the one that was caught.
 pub fn throw_stmt(at: Place, error: Option<Expr>) -> Stmt
-    ensures is { (rest : Body) → stmt_of result rest ≡ ThrowStmt at (option_map expr_of error) rest }
+    ensures is { (rest : Body) → stmt_of result rest
+        ≡ ThrowStmt at (option_map expr_of error) rest }
     ensures stands { Stands result }
 {
     Stmt {
@@ -136,7 +142,8 @@ pub fn try_stmt(
     error: Ident,
     handler: Vec<Stmt>,
 ) -> Stmt
-    ensures is { (rest : Body) → stmt_of result rest ≡ TryStmt at (body_of body.items) catch_at error (body_of handler.items) rest }
+    ensures is { (rest : Body) → stmt_of result rest
+        ≡ TryStmt at (body_of body.items) catch_at error (body_of handler.items) rest }
     ensures stands { Stands result }
 {
     Stmt {
@@ -147,7 +154,8 @@ pub fn try_stmt(
 
 /// A `choose`.
 pub fn choose(at: Place, branches: Vec<When>) -> Stmt
-    ensures is { (rest : Body) → stmt_of result rest ≡ ChooseStmt at (branches_of branches.items) rest }
+    ensures is { (rest : Body) → stmt_of result rest
+        ≡ ChooseStmt at (branches_of branches.items) rest }
     ensures stands { Stands result }
 {
     Stmt {
@@ -158,14 +166,16 @@ pub fn choose(at: Place, branches: Vec<When>) -> Stmt
 
 /// A branch of a `choose`.
 pub fn when_branch(at: Place, waiting: Waiting, body: Vec<Stmt>) -> When
-    ensures { (more : Branches) → branch_of result more ≡ MoreBranches at (waiting_of waiting) (body_of body.items) more }
+    ensures { (more : Branches) → branch_of result more
+        ≡ MoreBranches at (waiting_of waiting) (body_of body.items) more }
 {
     When { at, waiting, body }
 }
 
 /// A declaration of a variable, with a value or without one.
 pub fn declare(at: Place, into: Into, value: Option<Expr>) -> Stmt
-    ensures is { (rest : Body) → stmt_of result rest ≡ DeclareStmt at (into_of into) (option_map expr_of value) rest }
+    ensures is { (rest : Body) → stmt_of result rest
+        ≡ DeclareStmt at (into_of into) (option_map expr_of value) rest }
     ensures stands { Stands result }
 {
     Stmt {
@@ -176,7 +186,8 @@ pub fn declare(at: Place, into: Into, value: Option<Expr>) -> Stmt
 
 /// An assignment to a path.
 pub fn assign(at: Place, path: Vec<Ident>, value: Expr) -> Stmt
-    ensures is { (rest : Body) → stmt_of result rest ≡ AssignStmt at path.items (expr_of value) rest }
+    ensures is { (rest : Body) → stmt_of result rest
+        ≡ AssignStmt at path.items (expr_of value) rest }
     ensures stands { Stands result }
 {
     Stmt {
@@ -187,7 +198,8 @@ pub fn assign(at: Place, path: Vec<Ident>, value: Expr) -> Stmt
 
 /// A change of a path in place.
 pub fn modify(at: Place, path: Vec<Ident>, change: Change) -> Stmt
-    ensures is { (rest : Body) → stmt_of result rest ≡ ModifyStmt at path.items (change_of change) rest }
+    ensures is { (rest : Body) → stmt_of result rest
+        ≡ ModifyStmt at path.items (change_of change) rest }
     ensures stands { Stands result }
 {
     Stmt {
@@ -198,7 +210,8 @@ pub fn modify(at: Place, path: Vec<Ident>, change: Change) -> Stmt
 
 /// A call as a statement.
 pub fn call(at: Place, path: Vec<Ident>, args: Vec<Expr>) -> Stmt
-    ensures is { (rest : Body) → stmt_of result rest ≡ CallStmt at path.items (exprs_of args.items) rest }
+    ensures is { (rest : Body) → stmt_of result rest
+        ≡ CallStmt at path.items (exprs_of args.items) rest }
     ensures stands { Stands result }
 {
     Stmt {
@@ -209,7 +222,13 @@ pub fn call(at: Place, path: Vec<Ident>, args: Vec<Expr>) -> Stmt
 
 /// A wait as a statement.
 pub fn wait(at: Place, into: Option<Into>, next: bool, operand: Expr) -> Stmt
-    ensures is { (rest : Body) → stmt_of result rest ≡ WaitStmt at (record { into = option_map into_of into; next = next; operand = expr_of operand }) rest }
+    ensures is { (rest : Body) → stmt_of result rest
+        ≡ WaitStmt at (record {
+          into = option_map into_of into;
+          next = next;
+          operand = expr_of
+              operand;
+        }) rest }
     ensures stands { Stands result }
 {
     let waiting = Waiting {

@@ -30,7 +30,8 @@ fn param(
     number: u32,
 ) -> Result<(Param, usize), SourceFault>
     requires within { at ≤ length tokens.now.spots.items }
-    ensures reads { Answer (ParamRule number) Any (λ r. param_of r.0) (λ r. r.1) tokens.now at result }
+    ensures reads { Answer (ParamRule number) Any (λ r. param_of r.0) (λ r. r.1) tokens.now at
+        result }
     ensures moves { IfOk result (λ r. (at < r.1) × (r.1 ≤ length tokens.now.spots.items)) }
     ensures few { IfOk result (λ r. number ≤ 1000) }
 {
@@ -48,7 +49,8 @@ fn param(
 // The fields of a record, one or more, with the brace behind them.
 fn fields(alloc: Global, tokens: &Tokens, at: usize) -> Result<(Vec<Param>, usize), SourceFault>
     requires within { at ≤ length tokens.now.spots.items }
-    ensures reads { Answer AllFields Any (λ r. params_of r.0.items) (λ r. r.1) tokens.now at result }
+    ensures reads { Answer AllFields Any (λ r. params_of r.0.items) (λ r. r.1) tokens.now at
+        result }
     ensures moves { IfOk result (λ r. (at < r.1) × (r.1 ≤ length tokens.now.spots.items)) }
 {
     let mut fields = Vec::new(alloc);

@@ -69,7 +69,8 @@ pub fn state(
     counts: Counts,
 ) -> Result<(bool, usize, Counts), SourceFault>
     requires within { at ≤ length tokens.now.spots.items }
-    ensures reads { Answer (StatePart actor (counts_of counts)) (NotBefore (token.Word word.State)) (λ r. (r.0, counts_of r.2)) (λ r. r.1) tokens.now at result }
+    ensures reads { Answer (StatePart actor (counts_of counts)) (NotBefore (token.Word word.State))
+        (λ r. (r.0, counts_of r.2)) (λ r. r.1) tokens.now at result }
     ensures moves { IfOk result (λ r. (at ≤ r.1) × (r.1 ≤ length tokens.now.spots.items)) }
 {
     if !is_word(tokens, at, Word::State) {
@@ -99,7 +100,8 @@ pub fn into(
 ) -> Result<ReadInto, SourceFault>
     requires within { at ≤ length tokens.now.spots.items }
     requires shallow { depth ≤ DEPTH }
-    ensures reads { Answer (IntoPart actor depth (counts_of counts)) Any into_out (λ r. r.to) tokens.now at result }
+    ensures reads { Answer (IntoPart actor depth (counts_of counts)) Any into_out (λ r. r.to)
+        tokens.now at result }
     ensures moves { IfOk result (λ r. (at < r.to) × (r.to ≤ length tokens.now.spots.items)) }
 {
     let (state, at, counts) = state(tokens, at, actor, counts)?;
@@ -120,7 +122,8 @@ pub fn more_names(
     at: usize,
 ) -> Result<(Vec<Ident>, usize), SourceFault>
     requires within { at ≤ length tokens.now.spots.items }
-    ensures reads { Answer (MoreNames first) (NotBefore (token.Sign sign.Dot)) (λ r. r.0.items) (λ r. r.1) tokens.now at result }
+    ensures reads { Answer (MoreNames first) (NotBefore (token.Sign sign.Dot)) (λ r. r.0.items)
+        (λ r. r.1) tokens.now at result }
     ensures moves { IfOk result (λ r. (at ≤ r.1) × (r.1 ≤ length tokens.now.spots.items)) }
 {
     let mut path = Vec::new(alloc);
@@ -160,7 +163,8 @@ pub fn operand(
 ) -> Result<(bool, Expr, usize), SourceFault>
     requires within { at ≤ length tokens.now.spots.items }
     requires shallow { depth ≤ DEPTH }
-    ensures reads { Answer (OperandPart depth) Any (λ r. (r.0, expr_of r.1)) (λ r. r.2) tokens.now at result }
+    ensures reads { Answer (OperandPart depth) Any (λ r. (r.0, expr_of r.1)) (λ r. r.2) tokens.now
+        at result }
     ensures moves { IfOk result (λ r. (at < r.2) × (r.2 ≤ length tokens.now.spots.items)) }
 {
     if is_word(tokens, at, Word::WaitNext) {
@@ -182,7 +186,8 @@ pub fn arguments(
     depth: u32,
 ) -> Result<(Vec<Expr>, usize), SourceFault>
     requires within { at ≤ length tokens.now.spots.items }
-    ensures reads { Answer (Args depth) Any (λ r. exprs_of r.0.items) (λ r. r.1) tokens.now at result }
+    ensures reads { Answer (Args depth) Any (λ r. exprs_of r.0.items) (λ r. r.1) tokens.now at
+        result }
     ensures moves { IfOk result (λ r. (at < r.1) × (r.1 ≤ length tokens.now.spots.items)) }
 {
     let mut args = Vec::new(alloc);
@@ -212,7 +217,8 @@ pub fn change(
 ) -> Result<(Stmt, usize), SourceFault>
     requires within { at ≤ length tokens.now.spots.items }
     requires shallow { depth ≤ DEPTH }
-    ensures reads { Answer (ChangeRule depth place path.items) ExprEnds (λ r. stmt_of r.0 End) (λ r. r.1) tokens.now at result }
+    ensures reads { Answer (ChangeRule depth place path.items) ExprEnds (λ r. stmt_of r.0 End)
+        (λ r. r.1) tokens.now at result }
     ensures stands { IfOk result (λ r. Stands r.0) }
     ensures moves { IfOk result (λ r. (at < r.1) × (r.1 ≤ length tokens.now.spots.items)) }
 {
@@ -246,7 +252,8 @@ fn changed(
 ) -> Result<(Stmt, usize), SourceFault>
     requires within { at ≤ length tokens.now.spots.items }
     requires shallow { depth ≤ DEPTH }
-    ensures reads { Answer (ChangedRule depth place path.items) ExprEnds (λ r. stmt_of r.0 End) (λ r. r.1) tokens.now at result }
+    ensures reads { Answer (ChangedRule depth place path.items) ExprEnds (λ r. stmt_of r.0 End)
+        (λ r. r.1) tokens.now at result }
     ensures stands { IfOk result (λ r. Stands r.0) }
     ensures moves { IfOk result (λ r. (at < r.1) × (r.1 ≤ length tokens.now.spots.items)) }
 {
@@ -268,7 +275,9 @@ pub fn declared(
 ) -> Result<(Stmt, usize), SourceFault>
     requires within { at ≤ length tokens.now.spots.items }
     requires shallow { depth ≤ DEPTH }
-    ensures reads { Answer (DeclaredRule depth place (into_of into)) (Before (token.Sign sign.Semicolon)) (λ r. stmt_of r.0 End) (λ r. r.1) tokens.now at result }
+    ensures reads { Answer (DeclaredRule depth place (into_of into))
+        (Before (token.Sign sign.Semicolon)) (λ r. stmt_of r.0 End) (λ r. r.1) tokens.now at
+        result }
     ensures stands { IfOk result (λ r. Stands r.0) }
     ensures moves { IfOk result (λ r. (at ≤ r.1) × (r.1 ≤ length tokens.now.spots.items)) }
 {
@@ -290,7 +299,9 @@ fn valued(
 ) -> Result<(Stmt, usize), SourceFault>
     requires within { at ≤ length tokens.now.spots.items }
     requires shallow { depth ≤ DEPTH }
-    ensures reads { Answer (ValuedRule depth place (into_of into)) (Before (token.Sign sign.Semicolon)) (λ r. stmt_of r.0 End) (λ r. r.1) tokens.now at result }
+    ensures reads { Answer (ValuedRule depth place (into_of into))
+        (Before (token.Sign sign.Semicolon)) (λ r. stmt_of r.0 End) (λ r. r.1) tokens.now at
+        result }
     ensures stands { IfOk result (λ r. Stands r.0) }
     ensures moves { IfOk result (λ r. (at ≤ r.1) × (r.1 ≤ length tokens.now.spots.items)) }
 {
@@ -328,7 +339,8 @@ pub fn init(
 ) -> Result<ReadStmt, SourceFault>
     requires within { at ≤ length tokens.now.spots.items }
     requires shallow { depth ≤ DEPTH }
-    ensures reads { Answer (Init actor depth (counts_of counts)) (Before (token.Sign sign.Semicolon)) stmt_out (λ r. r.to) tokens.now at result }
+    ensures reads { Answer (Init actor depth (counts_of counts))
+        (Before (token.Sign sign.Semicolon)) stmt_out (λ r. r.to) tokens.now at result }
     ensures stands { IfOk result (λ r. Stands r.stmt) }
     ensures closed { IfOk result (λ r. r.ends_if ≡ false) }
     ensures moves { IfOk result (λ r. (at < r.to) × (r.to ≤ length tokens.now.spots.items)) }
@@ -367,7 +379,8 @@ fn unended(
 ) -> Result<ReadStmt, SourceFault>
     requires within { at ≤ length tokens.now.spots.items }
     requires shallow { depth ≤ DEPTH }
-    ensures reads { Answer (Unended actor depth (counts_of counts)) (Before (token.Sign sign.Semicolon)) stmt_out (λ r. r.to) tokens.now at result }
+    ensures reads { Answer (Unended actor depth (counts_of counts))
+        (Before (token.Sign sign.Semicolon)) stmt_out (λ r. r.to) tokens.now at result }
     ensures stands { IfOk result (λ r. Stands r.stmt) }
     ensures closed { IfOk result (λ r. r.ends_if ≡ false) }
     ensures moves { IfOk result (λ r. (at < r.to) × (r.to ≤ length tokens.now.spots.items)) }
@@ -426,7 +439,8 @@ pub fn simple(
 ) -> Result<ReadStmt, SourceFault>
     requires within { at ≤ length tokens.now.spots.items }
     requires shallow { depth ≤ DEPTH }
-    ensures reads { Answer (Simple actor depth (counts_of counts)) Any stmt_out (λ r. r.to) tokens.now at result }
+    ensures reads { Answer (Simple actor depth (counts_of counts)) Any stmt_out (λ r. r.to)
+        tokens.now at result }
     ensures stands { IfOk result (λ r. Stands r.stmt) }
     ensures closed { IfOk result (λ r. r.ends_if ≡ false) }
     ensures moves { IfOk result (λ r. (at < r.to) × (r.to ≤ length tokens.now.spots.items)) }
@@ -447,7 +461,8 @@ pub fn waiting(
 ) -> Result<ReadWaiting, SourceFault>
     requires within { at ≤ length tokens.now.spots.items }
     requires shallow { depth ≤ DEPTH }
-    ensures reads { Answer (WaitingPart actor depth (counts_of counts)) Any waiting_out (λ r. r.to) tokens.now at result }
+    ensures reads { Answer (WaitingPart actor depth (counts_of counts)) Any waiting_out (λ r. r.to)
+        tokens.now at result }
     ensures moves { IfOk result (λ r. (at < r.to) × (r.to ≤ length tokens.now.spots.items)) }
 {
     if begins_wait(tokens, at) {

@@ -123,7 +123,8 @@ fn begins_stmt(tokens: &Tokens, at: usize) -> bool
 fn begin(tokens: &Tokens, at: usize, depth: u32, counts: Counts) -> Result<Counts, SourceFault>
     ensures within { IfOk result (λ c. (depth ≤ DEPTH) × (counts.statements < STATEMENTS)) }
     ensures one { IfOk result (λ c. counts_of c ≡ one_statement (counts_of counts)) }
-    ensures beyond { IfErr result (λ e. Beyond (counts_of counts) depth (place_at tokens.now at) e) }
+    ensures beyond { IfErr result (λ e. Beyond (counts_of counts) depth (place_at tokens.now at)
+        e) }
 {
     if counts.statements >= STATEMENTS {
         return Err(refused(tokens, Rule::L(4), at));
@@ -149,7 +150,8 @@ fn stmt(
 ) -> Result<ReadStmt, SourceFault>
     requires within { at ≤ length tokens.now.spots.items }
     requires shallow { depth ≤ 65 }
-    ensures reads { Answer (One actor depth (counts_of counts)) NoElse stmt_out (λ r. r.to) tokens.now at result }
+    ensures reads { Answer (One actor depth (counts_of counts)) NoElse stmt_out (λ r. r.to)
+        tokens.now at result }
     ensures stands { IfOk result (λ r. Stands r.stmt) }
     ensures moves { IfOk result (λ r. (at < r.to) × (r.to ≤ length tokens.now.spots.items)) }
 {
@@ -177,7 +179,8 @@ fn body(
 ) -> Result<ReadBody, SourceFault>
     requires within { at ≤ length tokens.now.spots.items }
     requires shallow { depth ≤ 65 }
-    ensures reads { Answer (BodyPart actor depth (counts_of counts)) NoElse body_out (λ r. r.to) tokens.now at result }
+    ensures reads { Answer (BodyPart actor depth (counts_of counts)) NoElse body_out (λ r. r.to)
+        tokens.now at result }
     ensures moves { IfOk result (λ r. (at < r.to) × (r.to ≤ length tokens.now.spots.items)) }
 {
     if is_sign(tokens, at, Sign::OpenCurly) {
@@ -216,7 +219,8 @@ pub fn block(
 ) -> Result<ReadBlock, SourceFault>
     requires within { at ≤ length tokens.now.spots.items }
     requires shallow { depth ≤ 65 }
-    ensures reads { Answer (Block actor depth (counts_of counts)) Any block_out (λ r. r.to) tokens.now at result }
+    ensures reads { Answer (Block actor depth (counts_of counts)) Any block_out (λ r. r.to)
+        tokens.now at result }
     ensures moves { IfOk result (λ r. (at < r.to) × (r.to ≤ length tokens.now.spots.items)) }
 {
     let at = sign(tokens, at, Sign::OpenCurly)?;
@@ -235,7 +239,8 @@ fn stmts(
 ) -> Result<ReadBlock, SourceFault>
     requires within { at ≤ length tokens.now.spots.items }
     requires shallow { depth ≤ 65 }
-    ensures reads { Answer (Closing actor depth (counts_of counts)) Any block_out (λ r. r.to) tokens.now at result }
+    ensures reads { Answer (Closing actor depth (counts_of counts)) Any block_out (λ r. r.to)
+        tokens.now at result }
     ensures moves { IfOk result (λ r. (at < r.to) × (r.to ≤ length tokens.now.spots.items)) }
 {
     let mut body = Vec::new(alloc);
@@ -267,7 +272,8 @@ fn plain(
 ) -> Result<ReadStmt, SourceFault>
     requires within { at ≤ length tokens.now.spots.items }
     requires shallow { depth ≤ DEPTH }
-    ensures reads { Answer (Plain actor depth (counts_of counts)) NoElse stmt_out (λ r. r.to) tokens.now at result }
+    ensures reads { Answer (Plain actor depth (counts_of counts)) NoElse stmt_out (λ r. r.to)
+        tokens.now at result }
     ensures stands { IfOk result (λ r. Stands r.stmt) }
     ensures moves { IfOk result (λ r. (at < r.to) × (r.to ≤ length tokens.now.spots.items)) }
 {
@@ -314,7 +320,8 @@ fn break_stmt(
 ) -> Result<ReadStmt, SourceFault>
     requires within { at ≤ length tokens.now.spots.items }
     requires here { token_at tokens.now.spots.items at ≡ Some (token.Word word.Break) }
-    ensures reads { Answer (Plain actor depth (counts_of counts)) NoElse stmt_out (λ r. r.to) tokens.now at result }
+    ensures reads { Answer (Plain actor depth (counts_of counts)) NoElse stmt_out (λ r. r.to)
+        tokens.now at result }
     ensures stands { IfOk result (λ r. Stands r.stmt) }
     ensures moves { IfOk result (λ r. (at < r.to) × (r.to ≤ length tokens.now.spots.items)) }
 {
@@ -332,7 +339,8 @@ fn continue_stmt(
 ) -> Result<ReadStmt, SourceFault>
     requires within { at ≤ length tokens.now.spots.items }
     requires here { token_at tokens.now.spots.items at ≡ Some (token.Word word.Continue) }
-    ensures reads { Answer (Plain actor depth (counts_of counts)) NoElse stmt_out (λ r. r.to) tokens.now at result }
+    ensures reads { Answer (Plain actor depth (counts_of counts)) NoElse stmt_out (λ r. r.to)
+        tokens.now at result }
     ensures stands { IfOk result (λ r. Stands r.stmt) }
     ensures moves { IfOk result (λ r. (at < r.to) × (r.to ≤ length tokens.now.spots.items)) }
 {
@@ -354,7 +362,8 @@ fn if_stmt(
     requires within { at ≤ length tokens.now.spots.items }
     requires shallow { depth ≤ DEPTH }
     requires here { token_at tokens.now.spots.items at ≡ Some (token.Word word.If) }
-    ensures reads { Answer (Plain actor depth (counts_of counts)) NoElse stmt_out (λ r. r.to) tokens.now at result }
+    ensures reads { Answer (Plain actor depth (counts_of counts)) NoElse stmt_out (λ r. r.to)
+        tokens.now at result }
     ensures stands { IfOk result (λ r. Stands r.stmt) }
     ensures moves { IfOk result (λ r. (at < r.to) × (r.to ≤ length tokens.now.spots.items)) }
 {
@@ -390,7 +399,8 @@ fn while_stmt(
     requires within { at ≤ length tokens.now.spots.items }
     requires shallow { depth ≤ DEPTH }
     requires here { token_at tokens.now.spots.items at ≡ Some (token.Word word.While) }
-    ensures reads { Answer (Plain actor depth (counts_of counts)) NoElse stmt_out (λ r. r.to) tokens.now at result }
+    ensures reads { Answer (Plain actor depth (counts_of counts)) NoElse stmt_out (λ r. r.to)
+        tokens.now at result }
     ensures stands { IfOk result (λ r. Stands r.stmt) }
     ensures moves { IfOk result (λ r. (at < r.to) × (r.to ≤ length tokens.now.spots.items)) }
 {
@@ -417,7 +427,8 @@ fn loop_stmt(
     requires within { at ≤ length tokens.now.spots.items }
     requires shallow { depth ≤ DEPTH }
     requires here { token_at tokens.now.spots.items at ≡ Some (token.Word word.Loop) }
-    ensures reads { Answer (Plain actor depth (counts_of counts)) NoElse stmt_out (λ r. r.to) tokens.now at result }
+    ensures reads { Answer (Plain actor depth (counts_of counts)) NoElse stmt_out (λ r. r.to)
+        tokens.now at result }
     ensures stands { IfOk result (λ r. Stands r.stmt) }
     ensures moves { IfOk result (λ r. (at < r.to) × (r.to ≤ length tokens.now.spots.items)) }
 {
@@ -449,7 +460,8 @@ fn start_part(
 ) -> Result<ReadPart, SourceFault>
     requires within { at ≤ length tokens.now.spots.items }
     requires shallow { depth ≤ 65 }
-    ensures reads { Answer (StartPart actor depth (counts_of counts)) Any part_out (λ r. r.to) tokens.now at result }
+    ensures reads { Answer (StartPart actor depth (counts_of counts)) Any part_out (λ r. r.to)
+        tokens.now at result }
     ensures moves { IfOk result (λ r. (at < r.to) × (r.to ≤ length tokens.now.spots.items)) }
 {
     if is_sign(tokens, at, Sign::Semicolon) {
@@ -483,7 +495,8 @@ fn next_part(
 ) -> Result<ReadPart, SourceFault>
     requires within { at ≤ length tokens.now.spots.items }
     requires shallow { depth ≤ 65 }
-    ensures reads { Answer (NextPart depth (counts_of counts)) Any part_out (λ r. r.to) tokens.now at result }
+    ensures reads { Answer (NextPart depth (counts_of counts)) Any part_out (λ r. r.to) tokens.now
+        at result }
     ensures moves { IfOk result (λ r. (at < r.to) × (r.to ≤ length tokens.now.spots.items)) }
 {
     if is_sign(tokens, at, Sign::CloseRound) {
@@ -516,7 +529,8 @@ fn assignment(
 ) -> Result<(Stmt, usize), SourceFault>
     requires within { at ≤ length tokens.now.spots.items }
     requires shallow { depth ≤ DEPTH }
-    ensures reads { Answer (Assignment depth) ExprEnds (λ r. stmt_of r.0 End) (λ r. r.1) tokens.now at result }
+    ensures reads { Answer (Assignment depth) ExprEnds (λ r. stmt_of r.0 End) (λ r. r.1) tokens.now
+        at result }
     ensures moves { IfOk result (λ r. (at < r.1) × (r.1 ≤ length tokens.now.spots.items)) }
 {
     let (first, at) = name(alloc, tokens, at)?;
@@ -533,7 +547,8 @@ fn maybe_expr(
     depth: u32,
 ) -> Result<(Option<Expr>, usize), SourceFault>
     requires within { at ≤ length tokens.now.spots.items }
-    ensures reads { Answer (MaybeExpr depth) Any (λ r. option_map expr_of r.0) (λ r. r.1) tokens.now at result }
+    ensures reads { Answer (MaybeExpr depth) Any (λ r. option_map expr_of r.0) (λ r. r.1) tokens.now
+        at result }
     ensures moves { IfOk result (λ r. (at < r.1) × (r.1 ≤ length tokens.now.spots.items)) }
 {
     if is_sign(tokens, at, Sign::Semicolon) {
@@ -556,7 +571,8 @@ fn for_stmt(
     requires within { at ≤ length tokens.now.spots.items }
     requires shallow { depth ≤ DEPTH }
     requires here { token_at tokens.now.spots.items at ≡ Some (token.Word word.For) }
-    ensures reads { Answer (Plain actor depth (counts_of counts)) NoElse stmt_out (λ r. r.to) tokens.now at result }
+    ensures reads { Answer (Plain actor depth (counts_of counts)) NoElse stmt_out (λ r. r.to)
+        tokens.now at result }
     ensures stands { IfOk result (λ r. Stands r.stmt) }
     ensures moves { IfOk result (λ r. (at < r.to) × (r.to ≤ length tokens.now.spots.items)) }
 {
@@ -585,7 +601,8 @@ fn return_stmt(
     requires within { at ≤ length tokens.now.spots.items }
     requires shallow { depth ≤ DEPTH }
     requires here { token_at tokens.now.spots.items at ≡ Some (token.Word word.Return) }
-    ensures reads { Answer (Plain actor depth (counts_of counts)) NoElse stmt_out (λ r. r.to) tokens.now at result }
+    ensures reads { Answer (Plain actor depth (counts_of counts)) NoElse stmt_out (λ r. r.to)
+        tokens.now at result }
     ensures stands { IfOk result (λ r. Stands r.stmt) }
     ensures moves { IfOk result (λ r. (at < r.to) × (r.to ≤ length tokens.now.spots.items)) }
 {
@@ -606,7 +623,8 @@ fn throw_stmt(
     requires within { at ≤ length tokens.now.spots.items }
     requires shallow { depth ≤ DEPTH }
     requires here { token_at tokens.now.spots.items at ≡ Some (token.Word word.Throw) }
-    ensures reads { Answer (Plain actor depth (counts_of counts)) NoElse stmt_out (λ r. r.to) tokens.now at result }
+    ensures reads { Answer (Plain actor depth (counts_of counts)) NoElse stmt_out (λ r. r.to)
+        tokens.now at result }
     ensures stands { IfOk result (λ r. Stands r.stmt) }
     ensures moves { IfOk result (λ r. (at < r.to) × (r.to ≤ length tokens.now.spots.items)) }
 {
@@ -643,7 +661,8 @@ fn try_stmt(
     requires within { at ≤ length tokens.now.spots.items }
     requires shallow { depth ≤ DEPTH }
     requires here { token_at tokens.now.spots.items at ≡ Some (token.Word word.Try) }
-    ensures reads { Answer (Plain actor depth (counts_of counts)) NoElse stmt_out (λ r. r.to) tokens.now at result }
+    ensures reads { Answer (Plain actor depth (counts_of counts)) NoElse stmt_out (λ r. r.to)
+        tokens.now at result }
     ensures stands { IfOk result (λ r. Stands r.stmt) }
     ensures moves { IfOk result (λ r. (at < r.to) × (r.to ≤ length tokens.now.spots.items)) }
 {
@@ -667,7 +686,8 @@ fn choose(
     requires within { at ≤ length tokens.now.spots.items }
     requires shallow { depth ≤ DEPTH }
     requires here { token_at tokens.now.spots.items at ≡ Some (token.Word word.Choose) }
-    ensures reads { Answer (Plain actor depth (counts_of counts)) NoElse stmt_out (λ r. r.to) tokens.now at result }
+    ensures reads { Answer (Plain actor depth (counts_of counts)) NoElse stmt_out (λ r. r.to)
+        tokens.now at result }
     ensures stands { IfOk result (λ r. Stands r.stmt) }
     ensures moves { IfOk result (λ r. (at < r.to) × (r.to ≤ length tokens.now.spots.items)) }
 {
@@ -689,7 +709,8 @@ fn whens(
 ) -> Result<ReadWhens, SourceFault>
     requires within { at ≤ length tokens.now.spots.items }
     requires shallow { depth ≤ 65 }
-    ensures reads { Answer (AllWhens actor depth (counts_of counts)) Any whens_out (λ r. r.to) tokens.now at result }
+    ensures reads { Answer (AllWhens actor depth (counts_of counts)) Any whens_out (λ r. r.to)
+        tokens.now at result }
     ensures moves { IfOk result (λ r. (at < r.to) × (r.to ≤ length tokens.now.spots.items)) }
 {
     let first = when(alloc, tokens, at, actor, depth, 1, counts)?;
@@ -726,7 +747,8 @@ fn when(
 ) -> Result<ReadWhen, SourceFault>
     requires within { at ≤ length tokens.now.spots.items }
     requires shallow { depth ≤ 65 }
-    ensures reads { Answer (WhenPart actor depth number (counts_of counts)) (NotBefore (token.Word word.Else)) when_out (λ r. r.to) tokens.now at result }
+    ensures reads { Answer (WhenPart actor depth number (counts_of counts))
+        (NotBefore (token.Word word.Else)) when_out (λ r. r.to) tokens.now at result }
     ensures few { IfOk result (λ r. number ≤ BRANCHES) }
     ensures moves { IfOk result (λ r. (at < r.to) × (r.to ≤ length tokens.now.spots.items)) }
 {

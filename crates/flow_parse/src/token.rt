@@ -107,7 +107,8 @@ pub fn begins_wait(tokens: &Tokens, at: usize) -> bool
 
 /// The number of the token after this sign; S5 where it doesn't stand here.
 pub fn sign(tokens: &Tokens, at: usize, wanted: Sign) -> Result<usize, SourceFault>
-    ensures reads { Answer (Tok (Token.Sign wanted)) Any (λ to. place_at tokens.now at) (λ to. to) tokens.now at result }
+    ensures reads { Answer (Tok (Token.Sign wanted)) Any (λ to. place_at tokens.now at) (λ to. to)
+        tokens.now at result }
     ensures moves { IfOk result (λ to. (to ≡ at + 1) × (to ≤ length tokens.now.spots.items)) }
 {
     if !is_sign(tokens, at, wanted) {
@@ -118,7 +119,8 @@ pub fn sign(tokens: &Tokens, at: usize, wanted: Sign) -> Result<usize, SourceFau
 
 /// The number of the token after this word; S5 where it doesn't stand here.
 pub fn word(tokens: &Tokens, at: usize, wanted: Word) -> Result<usize, SourceFault>
-    ensures reads { Answer (Tok (Token.Word wanted)) Any (λ to. place_at tokens.now at) (λ to. to) tokens.now at result }
+    ensures reads { Answer (Tok (Token.Word wanted)) Any (λ to. place_at tokens.now at) (λ to. to)
+        tokens.now at result }
     ensures moves { IfOk result (λ to. (to ≡ at + 1) × (to ≤ length tokens.now.spots.items)) }
 {
     if !is_word(tokens, at, wanted) {
@@ -182,7 +184,8 @@ pub fn expr(
     depth: u32,
 ) -> Result<(Expr, usize), SourceFault>
     requires within { at ≤ length tokens.now.spots.items }
-    ensures reads { Answer (ExprRule 0 depth) ExprEnds (λ r. expr_of r.0) (λ r. r.1) tokens.now at result }
+    ensures reads { Answer (ExprRule 0 depth) ExprEnds (λ r. expr_of r.0) (λ r. r.1) tokens.now at
+        result }
     ensures moves { IfOk result (λ r. (at < r.1) × (r.1 ≤ length tokens.now.spots.items)) }
 {
     if depth <= DEPTH {

@@ -14,29 +14,41 @@ pub fn tasks_shown()
     ensures pushed { (r : RawTree) (h : HeapTree) (p : Proc Frame) → tasks_and_cells.Pushed r h p }
     ensures popped { (r : RawTree) (h : HeapTree) (p : Proc Frame) → tasks_and_cells.Popped r h p }
     ensures none { (r : RawTree) (h : HeapTree) (p : Proc Frame) → tasks_and_cells.NoTasks r h p }
-    ensures references { (r : RawTree) (h : HeapTree) (p : Proc Frame) → tasks_and_cells.Dropped r h p }
-    ensures values { (r : RawTree) (h : HeapTree) (p : Proc Frame) → tasks_and_cells.ValuesDropped r h p }
+    ensures references { (r : RawTree) (h : HeapTree) (p : Proc Frame)
+        → tasks_and_cells.Dropped r h p }
+    ensures values { (r : RawTree) (h : HeapTree) (p : Proc Frame)
+        → tasks_and_cells.ValuesDropped r h p }
 {}
 
 /// Cells: one is made, or goes; only its counts change; it gets content and fires; an element is taken.
 pub fn cells_shown()
-    ensures result { (r : RawTree) (h : HeapTree) (p : Proc Frame) → tasks_and_cells.ResultMade r h p }
-    ensures stream { (r : RawTree) (h : HeapTree) (p : Proc Frame) → tasks_and_cells.StreamMade r h p }
-    ensures counted { (r : RawTree) (h : HeapTree) (p : Proc Frame) → tasks_and_cells.CellCounted r h p }
-    ensures stream_counted { (r : RawTree) (h : HeapTree) (p : Proc Frame) → tasks_and_cells.StreamCounted r h p }
+    ensures result { (r : RawTree) (h : HeapTree) (p : Proc Frame)
+        → tasks_and_cells.ResultMade r h p }
+    ensures stream { (r : RawTree) (h : HeapTree) (p : Proc Frame)
+        → tasks_and_cells.StreamMade r h p }
+    ensures counted { (r : RawTree) (h : HeapTree) (p : Proc Frame)
+        → tasks_and_cells.CellCounted r h p }
+    ensures stream_counted { (r : RawTree) (h : HeapTree) (p : Proc Frame)
+        → tasks_and_cells.StreamCounted r h p }
     ensures set { (r : RawTree) (h : HeapTree) (p : Proc Frame) → tasks_and_cells.CellSet r h p }
-    ensures sent { (r : RawTree) (h : HeapTree) (p : Proc Frame) → tasks_and_cells.StreamSent r h p }
-    ensures ended { (r : RawTree) (h : HeapTree) (p : Proc Frame) → tasks_and_cells.StreamEnded r h p }
-    ensures taken { (r : RawTree) (h : HeapTree) (p : Proc Frame) → tasks_and_cells.ElementTaken r h p }
+    ensures sent { (r : RawTree) (h : HeapTree) (p : Proc Frame)
+        → tasks_and_cells.StreamSent r h p }
+    ensures ended { (r : RawTree) (h : HeapTree) (p : Proc Frame)
+        → tasks_and_cells.StreamEnded r h p }
+    ensures taken { (r : RawTree) (h : HeapTree) (p : Proc Frame)
+        → tasks_and_cells.ElementTaken r h p }
     ensures gone { (r : RawTree) (h : HeapTree) (p : Proc Frame) → tasks_and_cells.CellGone r h p }
-    ensures stream_gone { (r : RawTree) (h : HeapTree) (p : Proc Frame) → tasks_and_cells.StreamGone r h p }
+    ensures stream_gone { (r : RawTree) (h : HeapTree) (p : Proc Frame)
+        → tasks_and_cells.StreamGone r h p }
 {}
 
 /// Waits: a waiter comes to a cell; an actor leaves its wait, where its operands are dropped in order; and one that is
 /// cancelled does, if it is suspended.
 pub fn waits_shown()
-    ensures awaited { (r : RawTree) (h : HeapTree) (p : Proc Frame) → tasks_and_cells.CellAwaited r h p }
-    ensures stream_awaited { (r : RawTree) (h : HeapTree) (p : Proc Frame) → tasks_and_cells.StreamAwaited r h p }
+    ensures awaited { (r : RawTree) (h : HeapTree) (p : Proc Frame)
+        → tasks_and_cells.CellAwaited r h p }
+    ensures stream_awaited { (r : RawTree) (h : HeapTree) (p : Proc Frame)
+        → tasks_and_cells.StreamAwaited r h p }
     ensures withdrawn { (r : RawTree) (h : HeapTree) (p : Proc Frame) → leaving.Withdrawn r h p }
     ensures cancelled { (r : RawTree) (h : HeapTree) (p : Proc Frame) → leaving.Cancelled r h p }
 {}

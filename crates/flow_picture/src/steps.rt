@@ -34,12 +34,18 @@ pub fn waits_kept()
 /// What a frame in memory becomes is what the frame of the process becomes: a place is read or written; the actor goes on
 /// elsewhere, keeps an operand, is suspended, is over.
 pub fn frames_shown()
-    ensures read { (r : RawTree) (m : FrameTree Value) (e : Entry) (f : Frame) → standing.PlaceRead r m e f }
-    ensures written { (r : RawTree) (m : FrameTree Value) (e : Entry) (f : Frame) → standing.PlaceWritten r m e f }
-    ensures goes { (r : RawTree) (m : FrameTree Value) (e : Entry) (f : Frame) → standing.GoesOn r m e f }
-    ensures kept { (r : RawTree) (m : FrameTree Value) (e : Entry) (f : Frame) → standing.OperandKept r m e f }
-    ensures suspends { (r : RawTree) (m : FrameTree Value) (e : Entry) (f : Frame) → standing.Suspends r m e f }
-    ensures over { (r : RawTree) (m : FrameTree Value) (e : Entry) (f : Frame) → standing.IsOver r m e f }
+    ensures read { (r : RawTree) (m : FrameTree Value) (e : Entry) (f : Frame)
+        → standing.PlaceRead r m e f }
+    ensures written { (r : RawTree) (m : FrameTree Value) (e : Entry) (f : Frame)
+        → standing.PlaceWritten r m e f }
+    ensures goes { (r : RawTree) (m : FrameTree Value) (e : Entry) (f : Frame)
+        → standing.GoesOn r m e f }
+    ensures kept { (r : RawTree) (m : FrameTree Value) (e : Entry) (f : Frame)
+        → standing.OperandKept r m e f }
+    ensures suspends { (r : RawTree) (m : FrameTree Value) (e : Entry) (f : Frame)
+        → standing.Suspends r m e f }
+    ensures over { (r : RawTree) (m : FrameTree Value) (e : Entry) (f : Frame)
+        → standing.IsOver r m e f }
 {}
 
 /// How often a frame refers to a side of a cell, after a place was written or emptied, locals were emptied, or a value was

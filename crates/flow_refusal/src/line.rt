@@ -42,7 +42,8 @@ pub fn put_rule(line: &mut Vec<u8>, rule: Rule) -> Result<(), NoMemory>
 }
 
 fn put_at(line: &mut Vec<u8>, at: Place) -> Result<(), NoMemory>
-    ensures { IfOk result (λ _. line.new.items ≡ line.old.items ++ (codes " at " ++ place_text at)) }
+    ensures { IfOk result (λ _. line.new.items
+        ≡ line.old.items ++ (codes " at " ++ place_text at)) }
 {
     line.extend_from_slice(b" at ")?;
     put_place(line, at)?;
@@ -75,7 +76,8 @@ fn put_rule_line(line: &mut Vec<u8>, rule: Rule, at: Place) -> Result<(), NoMemo
 }
 
 fn put_use_line(line: &mut Vec<u8>, at: Place, declared: Place, wait: Place) -> Result<(), NoMemory>
-    ensures { IfOk result (λ _. line.new.items ≡ line.old.items ++ refusal_text (AcrossWait at declared wait)) }
+    ensures { IfOk result (λ _. line.new.items
+        ≡ line.old.items ++ refusal_text (AcrossWait at declared wait)) }
 {
     line.extend_from_slice(b"refused U1 at ")?;
     put_place(line, at)?;

@@ -33,7 +33,8 @@ fn put_remark(
     at: Place,
     words: &str,
 ) -> Result<(), NoMemory>
-    ensures { IfOk result (λ _. out.new.items ≡ out.old.items ++ remark name.now text.now at words.now) }
+    ensures { IfOk result (λ _. out.new.items
+        ≡ out.old.items ++ remark name.now text.now at words.now) }
 {
     out.extend_from_slice(name.as_bytes())?;
     out.extend_from_slice(b":")?;
@@ -60,7 +61,8 @@ fn put_line_remark(
     line: u32,
     words: &str,
 ) -> Result<(), NoMemory>
-    ensures { IfOk result (λ _. out.new.items ≡ out.old.items ++ line_remark name.now text.now line words.now) }
+    ensures { IfOk result (λ _. out.new.items
+        ≡ out.old.items ++ line_remark name.now text.now line words.now) }
 {
     out.extend_from_slice(name.as_bytes())?;
     out.extend_from_slice(b":")?;
@@ -80,7 +82,8 @@ fn put_rule_remark(
     at: Place,
     words: &str,
 ) -> Result<(), NoMemory>
-    ensures { IfOk result (λ _. out.new.items ≡ out.old.items ++ program_note words.now name.now text.now (Refused rule at)) }
+    ensures { IfOk result (λ _. out.new.items
+        ≡ out.old.items ++ program_note words.now name.now text.now (Refused rule at)) }
 {
     match rule {
         Rule::S(_) => put_remark(out, name, text, at, words),
@@ -104,7 +107,8 @@ fn put_lost(
     wait: Place,
     words: &str,
 ) -> Result<(), NoMemory>
-    ensures { IfOk result (λ _. out.new.items ≡ out.old.items ++ program_note words.now name.now text.now (AcrossWait at declared wait)) }
+    ensures { IfOk result (λ _. out.new.items
+        ≡ out.old.items ++ program_note words.now name.now text.now (AcrossWait at declared wait)) }
 {
     put_remark(out, name, text, at, words)?;
     put_remark(out, name, text, declared, "declared here")?;
@@ -198,7 +202,8 @@ fn on_world_line(
     world: &str,
     world_text: &[u8],
 ) -> Result<Vec<u8>, NoMemory>
-    ensures { IfOk result (λ v. Notes answer.now name.now text.now world.now world_text.now v.items) }
+    ensures { IfOk result (λ v. Notes answer.now name.now text.now world.now world_text.now
+        v.items) }
 {
     match read_world_refusal(alloc, answer)? {
         Some(fault) => on_world(alloc, world, world_text, fault, world_words(fault)),
@@ -216,7 +221,8 @@ fn on_line(
     world: &str,
     world_text: &[u8],
 ) -> Result<Vec<u8>, NoMemory>
-    ensures { IfOk result (λ v. Notes answer.now name.now text.now world.now world_text.now v.items) }
+    ensures { IfOk result (λ v. Notes answer.now name.now text.now world.now world_text.now
+        v.items) }
 {
     match read_refusal(alloc, answer)? {
         Some(fault) => on_program(alloc, name, text, &fault, fault_words(&fault)),
@@ -237,7 +243,8 @@ pub fn note(
     world: &str,
     world_text: &[u8],
 ) -> Result<Vec<u8>, NoMemory>
-    ensures { IfOk result (λ v. Notes answer.now name.now text.now world.now world_text.now v.items) }
+    ensures { IfOk result (λ v. Notes answer.now name.now text.now world.now world_text.now
+        v.items) }
 {
     if is_line(answer, b"usage\n") {
         let out = on_usage(alloc)?;

@@ -59,7 +59,8 @@ fn value_in(values: &[Value], k: usize) -> Option<&Value>
 
 /// A field of a record, where it has one with a name of this number.
 fn record_field<'a>(fields: &FieldNames, of: &'a Record<Value>, name: usize) -> Option<&'a Value>
-    ensures { option_map value_of (option_copied result) ≡ at_place (values_of of.now.fields.items) (places_in fields.now of.now.id name) }
+    ensures { option_map value_of (option_copied result)
+        ≡ at_place (values_of of.now.fields.items) (places_in fields.now of.now.id name) }
 {
     match fields.place(of.id, name) {
         Some(place) => value_in(&of.fields, place),
@@ -70,7 +71,8 @@ fn record_field<'a>(fields: &FieldNames, of: &'a Record<Value>, name: usize) -> 
 #[tactic(auto, using(crate::proofs::Known::struct_seen))]
 /// A field of a record value, where it has one with a name of this number.
 pub fn field<'a>(fields: &FieldNames, value: &'a Value, name: usize) -> Option<&'a Value>
-    ensures { option_map value_of (option_copied result) ≡ numbered_field (places_in fields.now) (value_of value.now) name }
+    ensures { option_map value_of (option_copied result)
+        ≡ numbered_field (places_in fields.now) (value_of value.now) name }
 {
     match value {
         Value::Struct(record) => record_field(fields, record, name),
@@ -87,7 +89,9 @@ pub fn field<'a>(fields: &FieldNames, value: &'a Value, name: usize) -> Option<&
 /// field of that.
 #[cycle(seen)]
 fn seen<'a, C: CellView>(sight: &Sight<'a, C>, expr: &Resolved) -> Option<&'a Value>
-    ensures { IfSome result (λ v. (left : ℕ) → value_at (sight_of C.content sight.now) (node_of expr.now) left ≡ Done (value_of v.now) left) }
+    ensures { IfSome result (λ v. (left : ℕ)
+        → value_at (sight_of C.content sight.now) (node_of expr.now) left
+        ≡ Done (value_of v.now) left) }
 {
     match expr {
         Resolved::Place(place) => held(sight.places, *place),
@@ -104,7 +108,9 @@ fn seen_field<'a, C: CellView>(
     of: &Resolved,
     name: Option<usize>,
 ) -> Option<&'a Value>
-    ensures { IfSome result (λ v. (left : ℕ) → value_at (sight_of C.content sight.now) (FieldNode (node_of of.now) name) left ≡ Done (value_of v.now) left) }
+    ensures { IfSome result (λ v. (left : ℕ)
+        → value_at (sight_of C.content sight.now) (FieldNode (node_of of.now) name) left
+        ≡ Done (value_of v.now) left) }
 {
     let Some(name) = name else {
         return None;
@@ -117,7 +123,9 @@ fn seen_field<'a, C: CellView>(
 
 /// The whole number that an expression is or reads, as far as that is told without evaluation.
 fn int_in<C: CellView>(sight: &Sight<C>, expr: &Resolved) -> Option<i64>
-    ensures { IfSome result (λ n. (left : ℕ) → value_at (sight_of C.content sight.now) (node_of expr.now) left ≡ Done (IntValue n) left) }
+    ensures { IfSome result (λ n. (left : ℕ)
+        → value_at (sight_of C.content sight.now) (node_of expr.now) left
+        ≡ Done (IntValue n) left) }
 {
     match expr {
         Resolved::Int(n) => Some(*n),
@@ -144,7 +152,8 @@ fn field_value(
     base: &Value,
     name: Option<usize>,
 ) -> Result<Value, Halt>
-    ensures { Answers (field_answer (field_by (places_in fields.now) (value_of base.now) name)) result }
+    ensures { Answers (field_answer (field_by (places_in fields.now) (value_of base.now) name))
+        result }
 {
     let Some(name) = name else {
         return Err(Halt::NoMeaning);
@@ -161,7 +170,8 @@ fn call_method<C: CellView>(
     base: &Value,
     args: &[Value],
 ) -> Result<Value, Halt>
-    ensures { Answers (method_called (C.content setting.now.view.now) method (value_of base.now) (map value_of args.now)) result }
+    ensures { Answers (method_called (C.content setting.now.view.now) method (value_of base.now)
+        (map value_of args.now)) result }
 {
     match method {
         Some(method) => method_answer(setting.alloc, setting.view, method, base, args),
@@ -184,7 +194,10 @@ fn call_function<C: CellView>(
     args: Vec<Value>,
     turns: &mut Turns,
 ) -> Result<Value, Halt>
-    ensures gives { Gives (function_called (setting_of C.content setting.now) (run_function (setting_of C.content setting.now) CALL_DEPTH) (slice_get (map function_of setting.now.functions.now) function) (map value_of args.items) turns.old.left) result turns.new.left }
+    ensures gives { Gives (function_called (setting_of C.content setting.now)
+        (run_function (setting_of C.content setting.now) CALL_DEPTH)
+        (slice_get (map function_of setting.now.functions.now) function) (map value_of args.items)
+        turns.old.left) result turns.new.left }
     ensures fewer { turns.new.left ≤ turns.old.left }
 {
     if function >= setting.functions.len() {
@@ -200,7 +213,8 @@ pub fn evaluate_resolved<C: CellView>(
     expr: &Resolved,
     turns: &mut Turns,
 ) -> Result<Value, Halt>
-    ensures gives { Gives (value_at (sight_of C.content sight.now) (node_of expr.now) turns.old.left) result turns.new.left }
+    ensures gives { Gives (value_at (sight_of C.content sight.now) (node_of expr.now)
+        turns.old.left) result turns.new.left }
     ensures fewer { turns.new.left ≤ turns.old.left }
 {
     let alloc = sight.setting.alloc;
@@ -243,7 +257,9 @@ fn evaluate_field<C: CellView>(
     name: Option<usize>,
     turns: &mut Turns,
 ) -> Result<Value, Halt>
-    ensures gives { Gives (then (value_at (sight_of C.content sight.now) (node_of of.now) turns.old.left) (λ v l. at_once (field_answer (field_by (places_in sight.now.fields.now) v name)) l)) result turns.new.left }
+    ensures gives { Gives (then (value_at (sight_of C.content sight.now) (node_of of.now)
+        turns.old.left) (λ v l. at_once (field_answer
+        (field_by (places_in sight.now.fields.now) v name)) l)) result turns.new.left }
     ensures fewer { turns.new.left ≤ turns.old.left }
 {
     if let Some(base) = seen(sight, of) {
@@ -262,7 +278,10 @@ fn evaluate_call<C: CellView>(
     args: &[Resolved],
     turns: &mut Turns,
 ) -> Result<Value, Halt>
-    ensures gives { Gives (then (value_at (sight_of C.content sight.now) (node_of of.now) turns.old.left) (λ v l. then (values_at (sight_of C.content sight.now) (nodes_of args.now) l) (λ vs l. at_once (method_called (C.content sight.now.setting.view.now) method v vs) l))) result turns.new.left }
+    ensures gives { Gives (then (value_at (sight_of C.content sight.now) (node_of of.now)
+        turns.old.left) (λ v l. then (values_at (sight_of C.content sight.now) (nodes_of args.now)
+        l) (λ vs l. at_once (method_called (C.content sight.now.setting.view.now) method v vs) l)))
+        result turns.new.left }
     ensures fewer { turns.new.left ≤ turns.old.left }
 {
     if let Some(base) = seen(sight, of) {
@@ -281,7 +300,9 @@ fn evaluate_method<C: CellView>(
     args: &[Resolved],
     turns: &mut Turns,
 ) -> Result<Value, Halt>
-    ensures gives { Gives (then (values_at (sight_of C.content sight.now) (nodes_of args.now) turns.old.left) (λ vs l. at_once (method_called (C.content sight.now.setting.view.now) method (value_of base.now) vs) l)) result turns.new.left }
+    ensures gives { Gives (then (values_at (sight_of C.content sight.now) (nodes_of args.now)
+        turns.old.left) (λ vs l. at_once (method_called (C.content sight.now.setting.view.now)
+        method (value_of base.now) vs) l)) result turns.new.left }
     ensures fewer { turns.new.left ≤ turns.old.left }
 {
     let args = evaluate_args(sight, args, turns)?;
@@ -298,7 +319,9 @@ fn evaluate_binary<C: CellView>(
     right: &Resolved,
     turns: &mut Turns,
 ) -> Result<Value, Halt>
-    ensures gives { Gives (then (value_at (sight_of C.content sight.now) (node_of left.now) turns.old.left) (λ v l. second op v (value_at (sight_of C.content sight.now) (node_of right.now)) l)) result turns.new.left }
+    ensures gives { Gives (then (value_at (sight_of C.content sight.now) (node_of left.now)
+        turns.old.left) (λ v l. second op v
+        (value_at (sight_of C.content sight.now) (node_of right.now)) l)) result turns.new.left }
     ensures fewer { turns.new.left ≤ turns.old.left }
 {
     if let Some(a) = int_in(sight, left) {
@@ -319,7 +342,9 @@ fn evaluate_second<C: CellView>(
     right: &Resolved,
     turns: &mut Turns,
 ) -> Result<Value, Halt>
-    ensures gives { Gives (second op (value_of left.now) (value_at (sight_of C.content sight.now) (node_of right.now)) turns.old.left) result turns.new.left }
+    ensures gives { Gives (second op (value_of left.now)
+        (value_at (sight_of C.content sight.now) (node_of right.now)) turns.old.left) result
+        turns.new.left }
     ensures fewer { turns.new.left ≤ turns.old.left }
 {
     match op {
@@ -358,7 +383,8 @@ pub fn evaluate_args<C: CellView>(
     args: &[Resolved],
     turns: &mut Turns,
 ) -> Result<Vec<Value>, Halt>
-    ensures gives { GivesAll (values_at (sight_of C.content sight.now) (nodes_of args.now) turns.old.left) result turns.new.left }
+    ensures gives { GivesAll (values_at (sight_of C.content sight.now) (nodes_of args.now)
+        turns.old.left) result turns.new.left }
     ensures fewer { turns.new.left ≤ turns.old.left }
 {
     let mut values = Vec::with_capacity(sight.setting.alloc, args.len())?;
@@ -376,7 +402,9 @@ fn compare_ints<C: CellView>(
     left: &Resolved,
     right: &Resolved,
 ) -> Option<bool>
-    ensures { IfSome result (λ b. (k : ℕ) → truth_of (value_at (sight_of C.content sight.now) (BinaryNode op (node_of left.now) (node_of right.now)) k) ≡ Done (BoolValue b) k) }
+    ensures { IfSome result (λ b. (k : ℕ)
+        → truth_of (value_at (sight_of C.content sight.now)
+        (BinaryNode op (node_of left.now) (node_of right.now)) k) ≡ Done (BoolValue b) k) }
 {
     let Some(a) = int_in(sight, left) else {
         return None;
@@ -393,7 +421,9 @@ pub fn evaluate_truth<C: CellView>(
     expr: &Resolved,
     turns: &mut Turns,
 ) -> Result<bool, Halt>
-    ensures gives { GivesTruth (truth_of (value_at (sight_of C.content sight.now) (node_of expr.now) turns.old.left)) result turns.new.left }
+    ensures gives { GivesTruth (truth_of
+        (value_at (sight_of C.content sight.now) (node_of expr.now) turns.old.left)) result
+        turns.new.left }
     ensures fewer { turns.new.left ≤ turns.old.left }
 {
     if let Resolved::Binary(op, left, right) = expr {

@@ -46,7 +46,8 @@ fn note<'a>(
     name: &'a [u8],
     place: usize,
 ) -> Result<(), NoMemory>
-    ensures { OnOk result ((x : List ℕ) → at_name places.new x ≡ or_else (at_name places.old x) (if bytes_eq x name.now then Some place else None)) }
+    ensures { OnOk result ((x : List ℕ) → at_name places.new x
+        ≡ or_else (at_name places.old x) (if bytes_eq x name.now then Some place else None)) }
 {
     if noted(places, name).is_some() {
         return Ok(());
@@ -61,7 +62,8 @@ fn first_records<'a>(
     alloc: Global,
     records: &'a [RecordDecl],
 ) -> Result<IndexMap<&'a [u8], usize>, NoMemory>
-    ensures { IfOk result (λ m. (x : List ℕ) → at_name m x ≡ first_from 0 (map name_of_record records.now) x) }
+    ensures { IfOk result (λ m. (x : List ℕ) → at_name m x
+        ≡ first_from 0 (map name_of_record records.now) x) }
 {
     let mut places = IndexMap::new(alloc);
     for (place, record) in records.iter().enumerate() {
@@ -76,7 +78,8 @@ fn first_functions<'a>(
     alloc: Global,
     functions: &'a [FunctionDecl],
 ) -> Result<IndexMap<&'a [u8], usize>, NoMemory>
-    ensures { IfOk result (λ m. (x : List ℕ) → at_name m x ≡ first_from 0 (map name_of_function functions.now) x) }
+    ensures { IfOk result (λ m. (x : List ℕ) → at_name m x
+        ≡ first_from 0 (map name_of_function functions.now) x) }
 {
     let mut places = IndexMap::new(alloc);
     for (place, function) in functions.iter().enumerate() {
@@ -101,7 +104,8 @@ fn number_fields<'a>(
     names: &mut IndexSet<&'a [u8]>,
     of: &'a RecordDecl,
 ) -> Result<Vec<usize>, NoMemory>
-    ensures named { IfOk result (λ v. AreNamed param_name names.new.keys v.items (map param_of of.now.fields.items)) }
+    ensures named { IfOk result (λ v. AreNamed param_name names.new.keys v.items
+        (map param_of of.now.fields.items)) }
     ensures kept { OnOk result (Keeps names.old.keys names.new.keys) }
 {
     let mut numbers = Vec::new(alloc);
@@ -146,9 +150,12 @@ impl<'a> Names<'a> {
         records: &'a [RecordDecl],
         functions: &'a [FunctionDecl],
     ) -> Result<(Names<'a>, FieldNames), NoMemory>
-        ensures records { IfOk result (λ r. AreRecords (map record_of records.now) (naming_of r.0 (λ _. None)).record_of) }
-        ensures functions { IfOk result (λ r. AreFunctions (map function_of functions.now) (naming_of r.0 (λ _. None)).function) }
-        ensures fields { IfOk result (λ r. IsNumbering (map record_of records.now) (naming_of r.0 (λ _. None)).field (places_in r.1)) }
+        ensures records { IfOk result (λ r. AreRecords (map record_of records.now)
+            (naming_of r.0 (λ _. None)).record_of) }
+        ensures functions { IfOk result (λ r. AreFunctions (map function_of functions.now)
+            (naming_of r.0 (λ _. None)).function) }
+        ensures fields { IfOk result (λ r. IsNumbering (map record_of records.now)
+            (naming_of r.0 (λ _. None)).field (places_in r.1)) }
     {
         let mut fields = packet_names(alloc)?;
         let of_records = number_records(alloc, &mut fields, records)?;

@@ -24,7 +24,8 @@ pub trait NamedPlaces {
 }
 
 fn variable<P: NamedPlaces>(places: &P, name: &[u8]) -> Resolved
-    ensures { node_of result ≡ variable_node (named constant_names name.now) (P.place_of places.now name.now) }
+    ensures { node_of result ≡ variable_node (named constant_names name.now)
+        (P.place_of places.now name.now) }
 {
     if let Some(n) = predefined_constant(name) {
         return Resolved::Int(i64::from(n));
@@ -36,7 +37,9 @@ fn variable<P: NamedPlaces>(places: &P, name: &[u8]) -> Resolved
 }
 
 fn called(names: &Names<'_>, name: &[u8], args: Vec<Resolved>) -> Resolved
-    ensures { node_of result ≡ call_node (named call_names name.now) ((naming_of names.now (λ _. None)).record_of name.now) ((naming_of names.now (λ _. None)).function name.now) (nodes_of args.items) }
+    ensures { node_of result ≡ call_node (named call_names name.now)
+        ((naming_of names.now (λ _. None)).record_of name.now)
+        ((naming_of names.now (λ _. None)).function name.now) (nodes_of args.items) }
 {
     if let Some(call) = predefined_call(name) {
         return Resolved::Call(call, args);
@@ -63,7 +66,8 @@ pub fn resolve<P: NamedPlaces>(
     places: &P,
     expr: &Expr,
 ) -> Result<Resolved, NoMemory>
-    ensures { IfOk result (λ r. node_of r ≡ resolved (naming_of names.now (P.place_of places.now)) (expr_of expr.now)) }
+    ensures { IfOk result (λ r. node_of r
+        ≡ resolved (naming_of names.now (P.place_of places.now)) (expr_of expr.now)) }
 {
     match expr {
         Expr::Int(n) => Ok(Resolved::Int(*n)),
@@ -102,7 +106,8 @@ pub fn resolve_all<P: NamedPlaces>(
     places: &P,
     exprs: &[Expr],
 ) -> Result<Vec<Resolved>, NoMemory>
-    ensures { IfOk result (λ v. map node_of v.items ≡ map (λ e. resolved (naming_of names.now (P.place_of places.now)) (expr_of e)) exprs.now) }
+    ensures { IfOk result (λ v. map node_of v.items
+        ≡ map (λ e. resolved (naming_of names.now (P.place_of places.now)) (expr_of e)) exprs.now) }
 {
     let mut resolved = Vec::new(names.alloc);
     for expr in exprs {

@@ -82,7 +82,8 @@ fn basic_need(basic: Basic) -> Need<'static>
 // What the parameter with this number has to be.
 #[tactic(auto, using(crate::proofs::Needed::param_there, crate::proofs::Needed::param_none))]
 fn param_need<'a>(params: &'a [Param], number: usize) -> Option<Need<'a>>
-    ensures { option_map need_of result ≡ slice_get (map Exactly (param_types (params_of params.now))) number }
+    ensures { option_map need_of result
+        ≡ slice_get (map Exactly (param_types (params_of params.now))) number }
 {
     match params.get(number) {
         Some(param) => Some(Need::Exactly(Found::of(&param.ty))),
@@ -143,7 +144,8 @@ impl<'a> Needs<'a> {
 }
 
 fn value<'a>(needs: &'a [Basic], gives: Found<'a>) -> Callee<'a>
-    ensures { callee_of result ≡ record { needs = map basic_need needs.now; gives = Some (found_of gives.entry); kind = Value } }
+    ensures { callee_of result ≡ record
+        { needs = map basic_need needs.now; gives = Some (found_of gives.entry); kind = Value } }
 {
     Callee {
         needs: Needs::Fixed(needs),
@@ -153,7 +155,8 @@ fn value<'a>(needs: &'a [Basic], gives: Found<'a>) -> Callee<'a>
 }
 
 fn effect<'a>(needs: &'a [Basic], gives: Found<'a>) -> Callee<'a>
-    ensures { callee_of result ≡ record { needs = map basic_need needs.now; gives = Some (found_of gives.entry); kind = Effect } }
+    ensures { callee_of result ≡ record
+        { needs = map basic_need needs.now; gives = Some (found_of gives.entry); kind = Effect } }
 {
     Callee {
         needs: Needs::Fixed(needs),
@@ -163,7 +166,8 @@ fn effect<'a>(needs: &'a [Basic], gives: Found<'a>) -> Callee<'a>
 }
 
 fn statement<'a>(needs: Needs<'a>) -> Callee<'a>
-    ensures { callee_of result ≡ record { needs = needs_view needs.entry; gives = None; kind = Statement } }
+    ensures { callee_of result ≡ record
+        { needs = needs_view needs.entry; gives = None; kind = Statement } }
 {
     Callee {
         needs,
@@ -257,7 +261,8 @@ fn text_callee<'a>(method: Method) -> Option<Callee<'a>>
 }
 
 fn future_callee<'a>(of: Inner<'a>, method: Method) -> Option<Callee<'a>>
-    ensures { option_map callee_of result ≡ called_by (FutureType (inner_of of.entry)) (Some method) }
+    ensures { option_map callee_of result
+        ≡ called_by (FutureType (inner_of of.entry)) (Some method) }
 {
     match method {
         Method::IsReady => Some(value(&[], Found::Bool)),
@@ -290,7 +295,8 @@ fn promise_callee<'a>(of: &'a Ty, method: Method) -> Option<Callee<'a>>
 }
 
 fn stream_callee<'a>(of: &'a Ty, method: Method) -> Option<Callee<'a>>
-    ensures { option_map callee_of result ≡ called_by (PromiseStreamType (type_of of.now)) (Some method) }
+    ensures { option_map callee_of result
+        ≡ called_by (PromiseStreamType (type_of of.now)) (Some method) }
 {
     match method {
         Method::GetFuture => Some(value(&[], Found::FutureStream(Inner::Written(of)))),

@@ -158,7 +158,8 @@ fn else_ways(otherwise: &Option<Vec<Stmt>>) -> Ways
 
 #[cycle(ways)]
 fn when_ways(branch: &When) -> Ways
-    ensures { (k : Branches) → branch_ways (branch_of branch.now k) ≡ either (ways_view result) (branch_ways k) }
+    ensures { (k : Branches) → branch_ways (branch_of branch.now k)
+        ≡ either (ways_view result) (branch_ways k) }
 {
     ways_of(&branch.body)
 }

@@ -77,7 +77,8 @@ fn unmarked(alloc: Global, count: usize) -> Result<Vec<bool>, NoMemory>
 
 /// Of these records those that hold a reference, through however many others.
 pub fn settled(alloc: Global, uses: &[Uses]) -> Result<Vec<bool>, NoMemory>
-    ensures { IfOk result (λ v. (n : ℕ) → length uses.now ≤ n → (i : ℕ) → marked v.items i ≡ level uses.now n i) }
+    ensures { IfOk result (λ v. (n : ℕ) → length uses.now ≤ n → (i : ℕ) → marked v.items i
+        ≡ level uses.now n i) }
 {
     let mut marks = unmarked(alloc, uses.len())?;
     'sweeps: while sweep(&mut marks, uses) {}

@@ -103,7 +103,8 @@ fn fits(form: Option<Found<'_>>, need: Option<Need<'_>>) -> Option<u8>
 
 /// What a sign asks of its operands, as far as they have types.
 pub fn operands(op: Op, left: Option<Found<'_>>, right: Option<Found<'_>>) -> Option<u8>
-    ensures { result ≡ operands op (option_map found_of left.entry) (option_map found_of right.entry) }
+    ensures { result ≡ operands op (option_map found_of left.entry)
+        (option_map found_of right.entry) }
 {
     match left {
         Some(left) => match right {
@@ -125,7 +126,8 @@ fn only_if<'a>(holds: bool, found: Found<'a>) -> Option<Found<'a>>
 
 // A sum has the type of its operands, of one of them where the other has none.
 fn sum_form<'a>(left: Option<Found<'a>>, right: Option<Found<'a>>) -> Option<Found<'a>>
-    ensures { option_map found_of result ≡ sum_form (option_map found_of left.entry) (option_map found_of right.entry) }
+    ensures { option_map found_of result
+        ≡ sum_form (option_map found_of left.entry) (option_map found_of right.entry) }
 {
     match left {
         Some(left) => match right {
@@ -140,7 +142,8 @@ fn sum_form<'a>(left: Option<Found<'a>>, right: Option<Found<'a>>) -> Option<Fou
 }
 
 fn sign_form<'a>(op: Op, left: Option<Found<'a>>, right: Option<Found<'a>>) -> Option<Found<'a>>
-    ensures { option_map found_of result ≡ sign_form op (option_map found_of left.entry) (option_map found_of right.entry) }
+    ensures { option_map found_of result
+        ≡ sign_form op (option_map found_of left.entry) (option_map found_of right.entry) }
 {
     match op {
         Op::Add => sum_form(left, right),
@@ -171,8 +174,11 @@ fn gives_of<'a>(callee: Option<Callee<'a>>) -> Option<Found<'a>>
 
 // A sign between two operands.
 fn sign_judged<'a>(op: Op, left: Judged<'a>, right: Judged<'a>) -> Judged<'a>
-    ensures form { option_map found_of result.form ≡ sign_form op (option_map found_of left.entry.form) (option_map found_of right.entry.form) }
-    ensures fault { result.fault ≡ lesser (lesser left.entry.fault right.entry.fault) (operands op (option_map found_of left.entry.form) (option_map found_of right.entry.form)) }
+    ensures form { option_map found_of result.form
+        ≡ sign_form op (option_map found_of left.entry.form)
+        (option_map found_of right.entry.form) }
+    ensures fault { result.fault ≡ lesser (lesser left.entry.fault right.entry.fault)
+        (operands op (option_map found_of left.entry.form) (option_map found_of right.entry.form)) }
 {
     Judged {
         form: sign_form(op, left.form, right.form),
@@ -256,7 +262,8 @@ impl<'n, 'a> Setting<'n, 'a> {
 
     // Something is called in an expression, with as many arguments as it needs.
     fn placed_call(&self, whole: bool, args: &[Expr], callee: Option<Callee<'a>>) -> Option<u8>
-        ensures { result ≡ calls (exprs_of args.now) (option_map callee_of callee.entry) (placed (setting_view self.now) whole) }
+        ensures { result ≡ calls (exprs_of args.now) (option_map callee_of callee.entry)
+            (placed (setting_view self.now) whole) }
     {
         match callee {
             Some(callee) => lesser(
@@ -269,7 +276,8 @@ impl<'n, 'a> Setting<'n, 'a> {
 
     // Something is called as a statement, with as many arguments as it needs.
     fn said_call(&self, args: &[Expr], callee: Option<Callee<'a>>) -> Option<u8>
-        ensures { result ≡ calls (exprs_of args.now) (option_map callee_of callee.entry) (said (setting_view self.now)) }
+        ensures { result ≡ calls (exprs_of args.now) (option_map callee_of callee.entry)
+            (said (setting_view self.now)) }
     {
         match callee {
             Some(callee) => lesser(
@@ -312,7 +320,8 @@ impl<'n, 'a> Setting<'n, 'a> {
 
     // The type of a field of what has this type.
     fn field_form(&self, base: Found<'a>, name: &Name) -> Option<Found<'a>>
-        ensures { option_map found_of result ≡ field_form (setting_view self.now) (found_of base.entry) name.now }
+        ensures { option_map found_of result
+            ≡ field_form (setting_view self.now) (found_of base.entry) name.now }
     {
         match base {
             Found::Named(record) => self.record_field(record, name),
@@ -321,7 +330,8 @@ impl<'n, 'a> Setting<'n, 'a> {
     }
 
     fn record_field(&self, owner: &[u8], name: &Name) -> Option<Found<'a>>
-        ensures { option_map found_of result ≡ field_of (known_by self.now.names.now owner.now) name.now }
+        ensures { option_map found_of result
+            ≡ field_of (known_by self.now.names.now owner.now) name.now }
     {
         match self.names.find(owner) {
             Some(Meaning::Record(fields)) => field_named(fields, name.bytes()),
@@ -331,8 +341,11 @@ impl<'n, 'a> Setting<'n, 'a> {
 
     // A field behind a base.
     fn field(&self, base: Judged<'a>, name: &Name) -> Judged<'a>
-        ensures form { option_map found_of result.form ≡ with_type (option_map found_of base.entry.form) (λ t. field_form (setting_view self.now) t name.now) }
-        ensures fault { result.fault ≡ lesser base.entry.fault (of_field (setting_view self.now) (option_map found_of base.entry.form) name.now) }
+        ensures form { option_map found_of result.form
+            ≡ with_type (option_map found_of base.entry.form)
+            (λ t. field_form (setting_view self.now) t name.now) }
+        ensures fault { result.fault ≡ lesser base.entry.fault
+            (of_field (setting_view self.now) (option_map found_of base.entry.form) name.now) }
     {
         match base.form {
             Some(found) => {
@@ -349,8 +362,10 @@ impl<'n, 'a> Setting<'n, 'a> {
     // Fields behind a base, one after another.
     #[tactic(auto, using(crate::proofs::Calls::both_step, crate::proofs::Steps::path_end, crate::proofs::Steps::fault_end))]
     fn fields(&self, base: Judged<'a>, names: &[Ident]) -> Judged<'a>
-        ensures form { option_map found_of result.form ≡ path_form (setting_view self.now) (option_map found_of base.entry.form) names.now }
-        ensures fault { result.fault ≡ lesser base.entry.fault (path_fault (setting_view self.now) (option_map found_of base.entry.form) names.now) }
+        ensures form { option_map found_of result.form
+            ≡ path_form (setting_view self.now) (option_map found_of base.entry.form) names.now }
+        ensures fault { result.fault ≡ lesser base.entry.fault
+            (path_fault (setting_view self.now) (option_map found_of base.entry.form) names.now) }
     {
         let mut judged = base;
         for name in names {
@@ -361,7 +376,8 @@ impl<'n, 'a> Setting<'n, 'a> {
 
     /// The target of an assignment: a variable in force, or a field in one.
     pub fn target(&self, path: &[Ident]) -> Judged<'a>
-        ensures form { option_map found_of result.form ≡ target_form (setting_view self.now) path.now }
+        ensures form { option_map found_of result.form
+            ≡ target_form (setting_view self.now) path.now }
         ensures fault { result.fault ≡ target_fault (setting_view self.now) path.now }
     {
         match path {
@@ -375,7 +391,8 @@ impl<'n, 'a> Setting<'n, 'a> {
 
     // What a method is called on in a statement: a variable, a constant, or a field in one.
     fn base(&self, path: &[Ident]) -> Judged<'a>
-        ensures form { option_map found_of result.form ≡ base_form (setting_view self.now) path.now }
+        ensures form { option_map found_of result.form
+            ≡ base_form (setting_view self.now) path.now }
         ensures fault { result.fault ≡ base_fault (setting_view self.now) path.now }
     {
         match path {
@@ -395,8 +412,11 @@ impl<'n, 'a> Setting<'n, 'a> {
         callee: Option<Callee<'a>>,
         judged: Option<u8>,
     ) -> Judged<'a>
-        ensures form { option_map found_of result.form ≡ gives_of (option_map callee_of callee.entry) }
-        ensures fault { result.fault ≡ lesser judged (calls (exprs_of args.now) (option_map callee_of callee.entry) (placed (setting_view self.now) whole)) }
+        ensures form { option_map found_of result.form
+            ≡ gives_of (option_map callee_of callee.entry) }
+        ensures fault { result.fault ≡ lesser judged
+            (calls (exprs_of args.now) (option_map callee_of callee.entry)
+            (placed (setting_view self.now) whole)) }
     {
         Judged {
             form: gives_of(callee),
@@ -406,7 +426,8 @@ impl<'n, 'a> Setting<'n, 'a> {
 
     // A call of a method on an expression.
     fn method(&self, base: Judged<'a>, callee: Option<Callee<'a>>, args: &[Expr]) -> Option<u8>
-        ensures { result ≡ calls_on (option_map found_of base.entry.form) (exprs_of args.now) (option_map callee_of callee.entry) (placed (setting_view self.now) false) }
+        ensures { result ≡ calls_on (option_map found_of base.entry.form) (exprs_of args.now)
+            (option_map callee_of callee.entry) (placed (setting_view self.now) false) }
     {
         match base.form {
             Some(_) => self.placed_call(false, args, callee),
@@ -422,8 +443,11 @@ impl<'n, 'a> Setting<'n, 'a> {
         callee: Option<Callee<'a>>,
         judged: Option<u8>,
     ) -> Judged<'a>
-        ensures form { option_map found_of result.form ≡ gives_of (option_map callee_of callee.entry) }
-        ensures fault { result.fault ≡ lesser base.entry.fault (lesser judged (calls_on (option_map found_of base.entry.form) (exprs_of args.now) (option_map callee_of callee.entry) (placed (setting_view self.now) false))) }
+        ensures form { option_map found_of result.form
+            ≡ gives_of (option_map callee_of callee.entry) }
+        ensures fault { result.fault ≡ lesser base.entry.fault
+            (lesser judged (calls_on (option_map found_of base.entry.form) (exprs_of args.now)
+            (option_map callee_of callee.entry) (placed (setting_view self.now) false))) }
     {
         let called = self.method(base, callee, args);
         Judged {
@@ -435,7 +459,8 @@ impl<'n, 'a> Setting<'n, 'a> {
     /// An expression; an effect may stand where it is whole.
     #[cycle(judge)]
     pub fn judge(&self, whole: bool, expr: &'a Expr) -> Judged<'a>
-        ensures form { option_map found_of result.form ≡ form (setting_view self.now) (expr_of expr.now) }
+        ensures form { option_map found_of result.form
+            ≡ form (setting_view self.now) (expr_of expr.now) }
         ensures fault { result.fault ≡ fault (setting_view self.now) whole (expr_of expr.now) }
     {
         match expr {
@@ -477,8 +502,14 @@ impl<'n, 'a> Setting<'n, 'a> {
     // A call of a method on a base.
     #[cycle(judge)]
     fn judge_method(&self, of: &'a Expr, name: &'a Ident, args: &'a [Expr]) -> Judged<'a>
-        ensures form { option_map found_of result.form ≡ gives_of (called_on (form (setting_view self.now) (expr_of of.now)) name.now.name) }
-        ensures fault { result.fault ≡ lesser (fault (setting_view self.now) false (expr_of of.now)) (lesser (faults (setting_view self.now) 0 (needs_of (called_on (form (setting_view self.now) (expr_of of.now)) name.now.name)) (exprs_of args.now)) (calls_on (form (setting_view self.now) (expr_of of.now)) (exprs_of args.now) (called_on (form (setting_view self.now) (expr_of of.now)) name.now.name) (placed (setting_view self.now) false))) }
+        ensures form { option_map found_of result.form
+            ≡ gives_of (called_on (form (setting_view self.now) (expr_of of.now)) name.now.name) }
+        ensures fault { result.fault ≡ lesser (fault (setting_view self.now) false (expr_of of.now))
+            (lesser (faults (setting_view self.now) 0
+            (needs_of (called_on (form (setting_view self.now) (expr_of of.now)) name.now.name))
+            (exprs_of args.now)) (calls_on (form (setting_view self.now) (expr_of of.now))
+            (exprs_of args.now) (called_on (form (setting_view self.now) (expr_of of.now))
+            name.now.name) (placed (setting_view self.now) false))) }
     {
         let base = self.judge(false, of);
         let callee = called_on(base.form, name.name.bytes());
@@ -490,7 +521,8 @@ impl<'n, 'a> Setting<'n, 'a> {
     #[cycle(judge)]
     #[tactic(auto, using(crate::proofs::Steps::args_step, crate::proofs::Steps::args_end))]
     fn judge_args(&self, needs: Needs<'a>, args: &'a [Expr]) -> Option<u8>
-        ensures { result ≡ faults (setting_view self.now) 0 (needs_view needs.entry) (exprs_of args.now) }
+        ensures { result ≡ faults (setting_view self.now) 0 (needs_view needs.entry)
+            (exprs_of args.now) }
     {
         let mut fault = None;
         for (number, arg) in args.iter().enumerate() {
@@ -505,7 +537,8 @@ impl<'n, 'a> Setting<'n, 'a> {
 
     /// An expression of which this type is wanted.
     pub fn wanted(&self, whole: bool, expr: &'a Expr, ty: Found<'a>) -> Option<u8>
-        ensures { result ≡ wanted (setting_view self.now) whole (expr_of expr.now) (found_of ty.entry) }
+        ensures { result ≡ wanted (setting_view self.now) whole (expr_of expr.now)
+            (found_of ty.entry) }
     {
         let judged = self.judge(whole, expr);
         lesser(judged.fault, wants(judged.form, ty))

@@ -87,7 +87,8 @@ pub fn meaning_of(decl: &Decl) -> Meaning<'_>
 
 /// The predefined record alone.
 pub fn predefined<'a>(alloc: Global, packet: &'a [Param]) -> Result<Meanings<'a>, NoMemory>
-    ensures { IfOk result (λ m. rows_of m ≡ (codes "Packet", RecordOf (map field_row (params_of packet.now))) ∷ []) }
+    ensures { IfOk result (λ m. rows_of m
+        ≡ (codes "Packet", RecordOf (map field_row (params_of packet.now))) ∷ []) }
 {
     let mut meanings = IndexMap::new(alloc);
     meanings.insert(b"Packet".as_slice(), Meaning::Record(packet))?;
@@ -136,7 +137,8 @@ pub fn is_predefined(name: &[u8]) -> bool
 // Notes what a field of a record says of it: that it holds a reference, or which record it holds.
 #[tactic(auto, using(crate::proofs::Holders::note_found, crate::proofs::Holders::note_missing, crate::proofs::Holders::note_reference, crate::proofs::Holders::note_nothing))]
 fn note_field(meanings: &Meanings<'_>, ty: &Ty, uses: &mut Uses) -> Result<(), NoMemory>
-    ensures { IfOk result (λ _. (g : ℕ → Bool) → uses_hold g uses.new ≡ (uses_hold g uses.old || holds_by (numbered meanings.now g) (type_of ty.now))) }
+    ensures { IfOk result (λ _. (g : ℕ → Bool) → uses_hold g uses.new
+        ≡ (uses_hold g uses.old || holds_by (numbered meanings.now g) (type_of ty.now))) }
 {
     match ty {
         Ty::Named(name) => match meanings.get_index_of(name.bytes()) {
@@ -153,7 +155,8 @@ fn note_field(meanings: &Meanings<'_>, ty: &Ty, uses: &mut Uses) -> Result<(), N
 
 #[tactic(auto, using(crate::proofs::Holders::fields_step, crate::proofs::Holders::fields_end))]
 fn fields_uses(alloc: Global, meanings: &Meanings<'_>, fields: &[Param]) -> Result<Uses, NoMemory>
-    ensures { IfOk result (λ u. (g : ℕ → Bool) → uses_hold g u ≡ fields_hold (numbered meanings.now g) (map field_row (params_of fields.now))) }
+    ensures { IfOk result (λ u. (g : ℕ → Bool) → uses_hold g u
+        ≡ fields_hold (numbered meanings.now g) (map field_row (params_of fields.now))) }
 {
     let mut uses = Uses {
         direct: false,
@@ -170,7 +173,8 @@ fn meaning_uses(
     meanings: &Meanings<'_>,
     meaning: Meaning<'_>,
 ) -> Result<Uses, NoMemory>
-    ensures { IfOk result (λ u. (g : ℕ → Bool) → uses_hold g u ≡ meaning_holds (numbered meanings.now g) (Some (meaning_of meaning.entry))) }
+    ensures { IfOk result (λ u. (g : ℕ → Bool) → uses_hold g u
+        ≡ meaning_holds (numbered meanings.now g) (Some (meaning_of meaning.entry))) }
 {
     match meaning {
         Meaning::Record(fields) => fields_uses(alloc, meanings, fields),
@@ -182,7 +186,8 @@ fn meaning_uses(
 // What the record with this number holds; what is no record holds nothing.
 fn uses_at(alloc: Global, meanings: &Meanings<'_>, number: usize) -> Result<Uses, NoMemory>
     requires { number < length meanings.now.entries }
-    ensures { IfOk result (λ u. (g : ℕ → Bool) → Some (uses_hold g u) ≡ option_map (row_holds meanings.now g) (slice_get meanings.now.entries number)) }
+    ensures { IfOk result (λ u. (g : ℕ → Bool) → Some (uses_hold g u)
+        ≡ option_map (row_holds meanings.now g) (slice_get meanings.now.entries number)) }
 {
     match meanings.get_index(number) {
         Some((_name, meaning)) => meaning_uses(alloc, meanings, *meaning),
@@ -204,7 +209,9 @@ fn all_uses(alloc: Global, meanings: &Meanings<'_>) -> Result<Vec<Uses>, NoMemor
 // The records that hold a reference, by their numbers.
 #[tactic(auto, using(crate::proofs::Holders::holders_are))]
 fn holders(alloc: Global, meanings: &Meanings<'_>) -> Result<Vec<bool>, NoMemory>
-    ensures { IfOk result (λ v. (n : ℕ) → length meanings.now.entries ≤ n → (x : List ℕ) → numbered meanings.now (marked v.items) x ≡ record_holds (named (rows_of meanings.now)) n x) }
+    ensures { IfOk result (λ v. (n : ℕ) → length meanings.now.entries ≤ n → (x : List ℕ)
+        → numbered meanings.now (marked v.items) x
+        ≡ record_holds (named (rows_of meanings.now)) n x) }
 {
     let uses = all_uses(alloc, meanings)?;
     settled(alloc, &uses)
@@ -212,7 +219,9 @@ fn holders(alloc: Global, meanings: &Meanings<'_>) -> Result<Vec<bool>, NoMemory
 
 // Puts in what a declaration declares, where its name is new.
 fn put<'a>(meanings: &mut Meanings<'a>, decl: &'a Decl) -> Result<(), NoMemory>
-    ensures known { IfOk result (λ _. (ds : List DeclTree) → named (rows_of meanings.new ++ map row_of ds) ≡ named (rows_of meanings.old ++ (row_of (decl_of decl.now) ∷ map row_of ds))) }
+    ensures known { IfOk result (λ _. (ds : List DeclTree)
+        → named (rows_of meanings.new ++ map row_of ds)
+        ≡ named (rows_of meanings.old ++ (row_of (decl_of decl.now) ∷ map row_of ds))) }
     ensures few { IfOk result (λ _. length meanings.new.entries ≤ length meanings.old.entries + 1) }
 {
     let name = name_of(decl);
@@ -246,7 +255,8 @@ impl<'a> Names<'a> {
     pub fn new(alloc: Global, packet: &'a [Param], decls: &'a [Decl]) -> Result<Names<'a>, NoMemory>
         requires { map field_row (params_of packet.now) ≡ packet_fields }
         ensures known { IfOk result (λ n. known_by n ≡ known (map decl_of decls.now)) }
-        ensures holds { IfOk result (λ n. flag_of n ≡ record_holds (known (map decl_of decls.now)) (suc (length decls.now))) }
+        ensures holds { IfOk result (λ n. flag_of n
+            ≡ record_holds (known (map decl_of decls.now)) (suc (length decls.now))) }
     {
         let meanings = first_meanings(alloc, packet, decls)?;
         let holds = holders(alloc, &meanings)?;

@@ -48,7 +48,9 @@ fn name_fault(before: &Meanings<'_>, name: &Name) -> Option<u8>
 
 // The record of a field is declared before, and its name is that of no field before it.
 fn field_fault(before: &Meanings<'_>, names: &IndexSet<&[u8]>, field: &Param) -> Option<u8>
-    ensures { result ≡ lesser (unless (type_known (named (rows_of before.now)) (type_of field.now.ty)) UNKNOWN_NAME) (unless (not (among (texts_of names.now) field.now.name.name)) TWICE) }
+    ensures { result ≡ lesser (unless (type_known (named (rows_of before.now))
+        (type_of field.now.ty)) UNKNOWN_NAME)
+        (unless (not (among (texts_of names.now) field.now.name.name)) TWICE) }
 {
     lesser(
         unless(type_known(before, &field.ty), UNKNOWN_NAME),
@@ -62,7 +64,8 @@ fn fields_fault(
     before: &Meanings<'_>,
     fields: &[Param],
 ) -> Result<Option<u8>, NoMemory>
-    ensures { IfOk result (λ o. o ≡ fields_fault (named (rows_of before.now)) (λ x. false) (params_of fields.now)) }
+    ensures { IfOk result (λ o. o ≡ fields_fault (named (rows_of before.now)) (λ x. false)
+        (params_of fields.now)) }
 {
     let mut names: IndexSet<&[u8]> = IndexSet::new(alloc);
     let mut fault = None;
@@ -78,7 +81,8 @@ fn judge_record(
     before: &Meanings<'_>,
     declared: &RecordDecl,
 ) -> Result<(), SourceFault>
-    ensures { Says (item declared.now.at (record_fault (named (rows_of before.now)) (record_of declared.now))) result }
+    ensures { Says (item declared.now.at
+        (record_fault (named (rows_of before.now)) (record_of declared.now))) result }
 {
     let fields = fields_fault(alloc, before, &declared.fields)?;
     item(
@@ -89,14 +93,16 @@ fn judge_record(
 
 // A parameter's name is that of none before it, not predefined, and none at the top.
 fn free(setting: &Setting<'_, '_>, name: &[u8]) -> bool
-    ensures { result ≡ not (is_there (named (vars_of setting.now.vars) name.now) || is_predefined name.now || is_there ((setting_view setting.now).known name.now)) }
+    ensures { result ≡ not (is_there (named (vars_of setting.now.vars) name.now) || is_predefined
+        name.now || is_there ((setting_view setting.now).known name.now)) }
 {
     !(setting.has_var(name) || is_predefined(name) || setting.has_name(name))
 }
 
 // What fails at a parameter.
 fn param_fault(setting: &Setting<'_, '_>, param: &Param) -> Option<u8>
-    ensures { result ≡ param_fault (setting_view setting.now) (λ x. is_there (named (vars_of setting.now.vars) x)) (param_of param.now) }
+    ensures { result ≡ param_fault (setting_view setting.now)
+        (λ x. is_there (named (vars_of setting.now.vars) x)) (param_of param.now) }
 {
     lesser(
         setting.written(&param.ty),
@@ -111,8 +117,10 @@ fn add_param<'a>(
     fault: Option<u8>,
 ) -> Result<(), NoMemory>
     requires only { ParamsOnly walk.old }
-    requires fault { fault ≡ param_fault (setting_view walk.old.setting) (taken_in walk.old) (param_of param.now) }
-    ensures { IfOk result (λ _. NewParam walk.old walk.new param.now.name.name (type_of param.now.ty) fault) }
+    requires fault { fault ≡ param_fault (setting_view walk.old.setting) (taken_in walk.old)
+        (param_of param.now) }
+    ensures { IfOk result (λ _. NewParam walk.old walk.new param.now.name.name
+        (type_of param.now.ty) fault) }
 {
     let name = param.name.name.bytes();
     walk.setting.vars.insert(name, Found::of(&param.ty))?;
@@ -123,7 +131,8 @@ fn add_param<'a>(
 // Parameters, which are in force from here on.
 fn params_fault<'a>(walk: &mut Walk<'_, 'a>, params: &'a [Param]) -> Result<Option<u8>, NoMemory>
     requires empty { (vars_of walk.old.setting.vars ≡ []) × (texts_of walk.old.states ≡ []) }
-    ensures fault { IfOk result (λ o. o ≡ params_fault (setting_view walk.old.setting) (λ x. false) (params_of params.now)) }
+    ensures fault { IfOk result (λ o. o
+        ≡ params_fault (setting_view walk.old.setting) (λ x. false) (params_of params.now)) }
     ensures env { IfOk result (λ o. o ≡ None → ParamsIn walk.old walk.new (params_of params.now)) }
 {
     let mut fault = None;
@@ -154,8 +163,11 @@ fn header_fault<'a>(
     routine: Routine<'a>,
 ) -> Result<Option<u8>, NoMemory>
     requires empty { (vars_of walk.old.setting.vars ≡ []) × (texts_of walk.old.states ≡ []) }
-    ensures fault { IfOk result (λ o. o ≡ header_fault (named (rows_of before.now)) (setting_view walk.old.setting) (routine_of routine.entry)) }
-    ensures env { IfOk result (λ o. o ≡ None → ParamsIn walk.old walk.new (params_of routine.entry.params.now)) }
+    ensures fault { IfOk result (λ o. o
+        ≡ header_fault (named (rows_of before.now)) (setting_view walk.old.setting)
+        (routine_of routine.entry)) }
+    ensures env { IfOk result (λ o. o ≡ None
+        → ParamsIn walk.old walk.new (params_of routine.entry.params.now)) }
 {
     let name = name_fault(before, &routine.name.name);
     let returns = walk.setting.written(routine.returns);
@@ -189,7 +201,8 @@ fn judge_routine<'a>(
     before: &Meanings<'_>,
     routine: Routine<'a>,
 ) -> Result<(), SourceFault>
-    ensures { Says (routine_refusal (named (rows_of before.now)) (setting_by names.now routine.entry.plain) (routine_of routine.entry)) result }
+    ensures { Says (routine_refusal (named (rows_of before.now))
+        (setting_by names.now routine.entry.plain) (routine_of routine.entry)) result }
 {
     let mut walk = start(alloc, names, routine);
     let header = header_fault(before, &mut walk, routine)?;
@@ -238,7 +251,8 @@ fn declaration<'a>(
     before: &Meanings<'_>,
     decl: &'a Decl,
 ) -> Result<(), SourceFault>
-    ensures { Says (decl_refusal (setting_by names.now) (named (rows_of before.now)) (decl_of decl.now)) result }
+    ensures { Says (decl_refusal (setting_by names.now) (named (rows_of before.now))
+        (decl_of decl.now)) result }
 {
     match decl {
         Decl::Struct(declared) => judge_record(alloc, before, declared),
@@ -253,7 +267,8 @@ fn declaration<'a>(
 #[tactic(auto, using(crate::proofs::Inserts::row_inserted))]
 fn declare<'a>(before: &mut Meanings<'a>, decl: &'a Decl) -> Result<(), NoMemory>
     requires { named (rows_of before.old) (row_of (decl_of decl.now)).0 ≡ None }
-    ensures { IfOk result (λ _. rows_of before.new ≡ rows_of before.old ++ row_of (decl_of decl.now) ∷ []) }
+    ensures { IfOk result (λ _. rows_of before.new
+        ≡ rows_of before.old ++ row_of (decl_of decl.now) ∷ []) }
 {
     before.insert(name_of(decl), meaning_of(decl))?;
     Ok(())

@@ -141,7 +141,8 @@ fn packet_sizes<'a>(alloc: Global) -> Result<Sizes<'a>, NoMemory>
 
 /// No record of these declarations is too large; each is made of those before it.
 pub fn sizes(alloc: Global, decls: &[Decl]) -> Result<(), SourceFault>
-    ensures { Says (first_large ((codes "Packet", packet_size) ∷ []) (map decl_of decls.now)) result }
+    ensures { Says (first_large ((codes "Packet", packet_size) ∷ []) (map decl_of decls.now))
+        result }
 {
     let mut sizes = packet_sizes(alloc)?;
     for decl in decls {

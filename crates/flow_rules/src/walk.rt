@@ -119,7 +119,8 @@ impl<'n, 'a> Walk<'n, 'a> {
 
     // A new variable has a name that is free.
     fn fresh(&self, state: bool, name: &Ident) -> Option<u8>
-        ensures { result ≡ fresh (setting_view self.now.setting) (texts_of self.now.states) state name.now.name }
+        ensures { result ≡ fresh (setting_view self.now.setting) (texts_of self.now.states) state
+            name.now.name }
     {
         let bytes = name.name.bytes();
         let taken = self.setting.has_var(bytes)
@@ -136,7 +137,8 @@ impl<'n, 'a> Walk<'n, 'a> {
     }
 
     fn into(&self, into: &Into) -> Option<u8>
-        ensures { result ≡ into_fault (setting_view self.now.setting) (texts_of self.now.states) (into_of into.now) }
+        ensures { result ≡ into_fault (setting_view self.now.setting) (texts_of self.now.states)
+            (into_of into.now) }
     {
         lesser(
             self.setting.written(&into.ty),
@@ -148,7 +150,8 @@ impl<'n, 'a> Walk<'n, 'a> {
     }
 
     fn maybe_into(&self, into: &Option<Into>) -> Option<u8>
-        ensures { result ≡ maybe_into (setting_view self.now.setting) (texts_of self.now.states) (option_map into_of into.now) }
+        ensures { result ≡ maybe_into (setting_view self.now.setting) (texts_of self.now.states)
+            (option_map into_of into.now) }
     {
         match into {
             Some(into) => self.into(into),
@@ -160,7 +163,8 @@ impl<'n, 'a> Walk<'n, 'a> {
     #[tactic(auto, using(crate::proofs::Inserts::row_inserted))]
     fn declare(&mut self, name: &'a Ident, ty: Found<'a>) -> Result<(), SourceFault>
         requires { named (vars_of self.old.setting.vars) name.now.name ≡ None }
-        ensures declared { IfOk result (λ _. (around : Around) → env_of self.new around ≡ with_var (env_of self.old around) name.now.name (found_of ty.entry)) }
+        ensures declared { IfOk result (λ _. (around : Around) → env_of self.new around
+            ≡ with_var (env_of self.old around) name.now.name (found_of ty.entry)) }
         ensures memory { IfErr result (λ e. e ≡ OutOfMemory) }
     {
         self.setting.vars.insert(name.name.bytes(), ty)?;
@@ -170,8 +174,10 @@ impl<'n, 'a> Walk<'n, 'a> {
     // The name of a state variable stays taken behind the scope of the variable.
     #[tactic(auto, using(crate::proofs::Parts::noted_none))]
     fn note_state(&mut self, into: &'a Into) -> Result<(), SourceFault>
-        requires { fresh (setting_view self.old.setting) (texts_of self.old.states) into.now.state into.now.name.name ≡ None }
-        ensures noted { IfOk result (λ _. (around : Around) → env_of self.new around ≡ with_states (env_of self.old around) (if_state into.now.state into.now.name.name)) }
+        requires { fresh (setting_view self.old.setting) (texts_of self.old.states) into.now.state
+            into.now.name.name ≡ None }
+        ensures noted { IfOk result (λ _. (around : Around) → env_of self.new around
+            ≡ with_states (env_of self.old around) (if_state into.now.state into.now.name.name)) }
         ensures setting { IfOk result (λ _. self.new.setting ≡ self.old.setting) }
         ensures memory { IfErr result (λ e. e ≡ OutOfMemory) }
     {
@@ -183,8 +189,10 @@ impl<'n, 'a> Walk<'n, 'a> {
     }
 
     fn declared(&mut self, into: &'a Into) -> Result<(), SourceFault>
-        requires { fresh (setting_view self.old.setting) (texts_of self.old.states) into.now.state into.now.name.name ≡ None }
-        ensures declared { IfOk result (λ _. (around : Around) → env_of self.new around ≡ declared (env_of self.old around) (into_of into.now)) }
+        requires { fresh (setting_view self.old.setting) (texts_of self.old.states) into.now.state
+            into.now.name.name ≡ None }
+        ensures declared { IfOk result (λ _. (around : Around) → env_of self.new around
+            ≡ declared (env_of self.old around) (into_of into.now)) }
         ensures memory { IfErr result (λ e. e ≡ OutOfMemory) }
     {
         self.note_state(into)?;
@@ -192,8 +200,10 @@ impl<'n, 'a> Walk<'n, 'a> {
     }
 
     fn waited(&mut self, into: &'a Option<Into>) -> Result<(), SourceFault>
-        requires { maybe_into (setting_view self.old.setting) (texts_of self.old.states) (option_map into_of into.now) ≡ None }
-        ensures waited { IfOk result (λ _. (around : Around) → env_of self.new around ≡ waited (env_of self.old around) (option_map into_of into.now)) }
+        requires { maybe_into (setting_view self.old.setting) (texts_of self.old.states)
+            (option_map into_of into.now) ≡ None }
+        ensures waited { IfOk result (λ _. (around : Around) → env_of self.new around
+            ≡ waited (env_of self.old around) (option_map into_of into.now)) }
         ensures memory { IfErr result (λ e. e ≡ OutOfMemory) }
     {
         match into {
@@ -209,7 +219,8 @@ impl<'n, 'a> Walk<'n, 'a> {
     }
 
     fn maybe_test(&self, test: &'a Option<Expr>) -> Option<u8>
-        ensures { result ≡ maybe_test (setting_view self.now.setting) (option_map expr_of test.now) }
+        ensures { result ≡ maybe_test (setting_view self.now.setting)
+            (option_map expr_of test.now) }
     {
         match test {
             Some(test) => self.test(test),
@@ -218,7 +229,8 @@ impl<'n, 'a> Walk<'n, 'a> {
     }
 
     fn thrown(&self, caught: bool, error: &'a Option<Expr>) -> Option<u8>
-        ensures { result ≡ throw_fault (setting_view self.now.setting) caught (option_map expr_of error.now) }
+        ensures { result ≡ throw_fault (setting_view self.now.setting) caught
+            (option_map expr_of error.now) }
     {
         match error {
             Some(error) => self.setting.wanted(false, error, Found::Error),
@@ -227,7 +239,8 @@ impl<'n, 'a> Walk<'n, 'a> {
     }
 
     fn value(&self, ty: &'a Ty, value: &'a Option<Expr>) -> Option<u8>
-        ensures { result ≡ value_fault (setting_view self.now.setting) (type_of ty.now) (option_map expr_of value.now) }
+        ensures { result ≡ value_fault (setting_view self.now.setting) (type_of ty.now)
+            (option_map expr_of value.now) }
     {
         match value {
             Some(value) => self.setting.wanted(true, value, Found::of(ty)),
@@ -236,13 +249,15 @@ impl<'n, 'a> Walk<'n, 'a> {
     }
 
     fn declaration(&self, into: &'a Into, value: &'a Option<Expr>) -> Option<u8>
-        ensures { result ≡ declare_fault (setting_view self.now.setting) (texts_of self.now.states) (into_of into.now) (option_map expr_of value.now) }
+        ensures { result ≡ declare_fault (setting_view self.now.setting) (texts_of self.now.states)
+            (into_of into.now) (option_map expr_of value.now) }
     {
         lesser(self.into(into), self.value(&into.ty, value))
     }
 
     fn assignment(&self, target: &Target, value: &'a Expr) -> Option<u8>
-        ensures { result ≡ assign_fault (setting_view self.now.setting) target.now.path.items (expr_of value.now) }
+        ensures { result ≡ assign_fault (setting_view self.now.setting) target.now.path.items
+            (expr_of value.now) }
     {
         let target = self.setting.target(&target.path);
         let value = self.setting.judge(true, value);
@@ -254,14 +269,17 @@ impl<'n, 'a> Walk<'n, 'a> {
     }
 
     fn operand(&self, op: Op, target: Option<Found<'a>>, value: &'a Expr) -> Option<u8>
-        ensures { result ≡ lesser (fault (setting_view self.now.setting) false (expr_of value.now)) (operands op (option_map found_of target.entry) (form (setting_view self.now.setting) (expr_of value.now))) }
+        ensures { result ≡ lesser (fault (setting_view self.now.setting) false (expr_of value.now))
+            (operands op (option_map found_of target.entry)
+            (form (setting_view self.now.setting) (expr_of value.now))) }
     {
         let value = self.setting.judge(false, value);
         lesser(value.fault, operands(op, target, value.form))
     }
 
     fn change(&self, target: Option<Found<'a>>, change: &'a Change) -> Option<u8>
-        ensures { result ≡ change_fault (setting_view self.now.setting) (option_map found_of target.entry) (change_of change.now) }
+        ensures { result ≡ change_fault (setting_view self.now.setting)
+            (option_map found_of target.entry) (change_of change.now) }
     {
         match change {
             Change::Plus(value) => self.operand(Op::Add, target, value),
@@ -271,14 +289,16 @@ impl<'n, 'a> Walk<'n, 'a> {
     }
 
     fn modification(&self, target: &Target, change: &'a Change) -> Option<u8>
-        ensures { result ≡ modify_fault (setting_view self.now.setting) target.now.path.items (change_of change.now) }
+        ensures { result ≡ modify_fault (setting_view self.now.setting) target.now.path.items
+            (change_of change.now) }
     {
         let target = self.setting.target(&target.path);
         lesser(target.fault, self.change(target.form, change))
     }
 
     fn waiting(&self, waiting: &'a Waiting) -> Option<u8>
-        ensures { result ≡ wait_fault (setting_view self.now.setting) (texts_of self.now.states) (waiting_of waiting.now) }
+        ensures { result ≡ wait_fault (setting_view self.now.setting) (texts_of self.now.states)
+            (waiting_of waiting.now) }
     {
         let wanted = wait_type(waiting.next, &waiting.into);
         lesser(
@@ -293,7 +313,9 @@ impl<'n, 'a> Walk<'n, 'a> {
     // Statements of a body of their own, whose variables are in force in it alone.
     #[cycle(walk)]
     fn scoped(&mut self, around: Around, body: &'a [Stmt]) -> Result<(), SourceFault>
-        ensures leads { Leads (env_of self.old around) (env_of self.new around) (body_refusal (env_of self.old around) (body_of body.now)) (body_slots (body_of body.now)) result }
+        ensures leads { Leads (env_of self.old around) (env_of self.new around)
+            (body_refusal (env_of self.old around) (body_of body.now))
+            (body_slots (body_of body.now)) result }
     {
         let count = self.setting.vars.len();
         self.body(around, body)?;
@@ -304,7 +326,8 @@ impl<'n, 'a> Walk<'n, 'a> {
     /// Statements one after another.
     #[cycle(walk)]
     pub fn body(&mut self, around: Around, body: &'a [Stmt]) -> Result<(), SourceFault>
-        ensures answer { BodyAnswer (env_of self.old around) (env_of self.new around) (body_of body.now) result }
+        ensures answer { BodyAnswer (env_of self.old around) (env_of self.new around)
+            (body_of body.now) result }
     {
         for stmt in body {
             self.stmt(around, stmt)?;
@@ -314,7 +337,9 @@ impl<'n, 'a> Walk<'n, 'a> {
 
     #[cycle(walk)]
     fn otherwise(&mut self, around: Around, body: &'a Option<Vec<Stmt>>) -> Result<(), SourceFault>
-        ensures leads { Leads (env_of self.old around) (env_of self.new around) (else_refusal (env_of self.old around) (else_of body.now)) (else_slots (else_of body.now)) result }
+        ensures leads { Leads (env_of self.old around) (env_of self.new around)
+            (else_refusal (env_of self.old around) (else_of body.now))
+            (else_slots (else_of body.now)) result }
     {
         match body {
             Some(body) => self.scoped(around, body),
@@ -325,7 +350,8 @@ impl<'n, 'a> Walk<'n, 'a> {
     // The init or the step of a `for`.
     #[cycle(walk)]
     fn part(&mut self, around: Around, part: &'a Option<Box<Stmt>>) -> Result<(), SourceFault>
-        ensures answer { PartAnswer (env_of self.old around) (env_of self.new around) (simple_of part.now) result }
+        ensures answer { PartAnswer (env_of self.old around) (env_of self.new around)
+            (simple_of part.now) result }
     {
         match part {
             Some(stmt) => self.stmt(around, stmt),
@@ -342,7 +368,9 @@ impl<'n, 'a> Walk<'n, 'a> {
         handler: &'a [Stmt],
     ) -> Result<(), SourceFault>
         requires { named (vars_of self.old.setting.vars) error.now.name ≡ None }
-        ensures leads { Leads (env_of self.old around) (env_of self.new around) (body_refusal (in_catch (with_var (env_of self.old around) error.now.name ErrorType)) (body_of handler.now)) (body_slots (body_of handler.now)) result }
+        ensures leads { Leads (env_of self.old around) (env_of self.new around)
+            (body_refusal (in_catch (with_var (env_of self.old around) error.now.name ErrorType))
+            (body_of handler.now)) (body_slots (body_of handler.now)) result }
     {
         let count = self.setting.vars.len();
         self.declare(error, Found::Error)?;
@@ -353,7 +381,8 @@ impl<'n, 'a> Walk<'n, 'a> {
 
     #[cycle(walk)]
     fn branch(&mut self, around: Around, branch: &'a When) -> Result<(), SourceFault>
-        ensures answer { BranchAnswer (env_of self.old around) (env_of self.new around) (branch_of branch.now) result }
+        ensures answer { BranchAnswer (env_of self.old around) (env_of self.new around)
+            (branch_of branch.now) result }
     {
         let count = self.setting.vars.len();
         item(branch.at, self.waiting(&branch.waiting))?;
@@ -365,7 +394,9 @@ impl<'n, 'a> Walk<'n, 'a> {
 
     #[cycle(walk)]
     fn branches(&mut self, around: Around, branches: &'a [When]) -> Result<(), SourceFault>
-        ensures leads { Leads (env_of self.old around) (env_of self.new around) (branch_refusal (env_of self.old around) (branches_of branches.now)) (branch_slots (branches_of branches.now)) result }
+        ensures leads { Leads (env_of self.old around) (env_of self.new around)
+            (branch_refusal (env_of self.old around) (branches_of branches.now))
+            (branch_slots (branches_of branches.now)) result }
     {
         for branch in branches {
             self.branch(around, branch)?;
@@ -375,7 +406,8 @@ impl<'n, 'a> Walk<'n, 'a> {
 
     #[cycle(walk)]
     fn stmt(&mut self, around: Around, stmt: &'a Stmt) -> Result<(), SourceFault>
-        ensures answer { StmtAnswer (env_of self.old around) (env_of self.new around) (stmt_of stmt.now) result }
+        ensures answer { StmtAnswer (env_of self.old around) (env_of self.new around)
+            (stmt_of stmt.now) result }
     {
         let at = stmt.at;
         match &stmt.kind {

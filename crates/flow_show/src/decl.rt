@@ -28,7 +28,8 @@ impl Source {
 
     // Parameters behind another.
     fn put_more_params(&mut self, params: &[Param]) -> Result<(), NoMemory>
-        ensures { IfOk result (λ _. self.new ≡ self.old ++ more_params_text (params_of params.now)) }
+        ensures { IfOk result (λ _. self.new
+            ≡ self.old ++ more_params_text (params_of params.now)) }
     {
         for param in params {
             self.put(b", ")?;
@@ -49,7 +50,8 @@ impl Source {
 
     /// A record.
     pub fn put_record(&mut self, declared: &RecordDecl) -> Result<(), NoMemory>
-        ensures { IfOk result (λ _. self.new ≡ self.old ++ decl_text (StructDecl (record_of declared.now))) }
+        ensures { IfOk result (λ _. self.new
+            ≡ self.old ++ decl_text (StructDecl (record_of declared.now))) }
     {
         self.put(b"struct ")?;
         self.put(declared.name.name.bytes())?;
@@ -65,7 +67,9 @@ impl Source {
         params: &Vec<Param>,
         body: &Vec<Stmt>,
     ) -> Result<(), NoMemory>
-        ensures { IfOk result (λ _. self.new ≡ self.old ++ behind_result name.now (params_of params.now.items) (body_of body.now.items)) }
+        ensures { IfOk result (λ _. self.new
+            ≡ self.old ++ behind_result name.now (params_of params.now.items)
+            (body_of body.now.items)) }
     {
         self.put(b" ")?;
         self.put(name.name.bytes())?;
@@ -79,7 +83,9 @@ impl Source {
 
     /// A plain function.
     pub fn put_function(&mut self, function: &FunctionDecl) -> Result<(), NoMemory>
-        ensures { IfOk result (λ _. self.new ≡ self.old ++ routine_text (type_text (type_of function.now.returns)) (function_of function.now)) }
+        ensures { IfOk result (λ _. self.new
+            ≡ self.old ++ routine_text (type_text (type_of function.now.returns))
+            (function_of function.now)) }
     {
         self.put_type(&function.returns)?;
         self.put_routine(&function.name, &function.params, &function.body)?;
@@ -87,7 +93,9 @@ impl Source {
     }
 
     fn put_actor(&mut self, actor: &ActorDecl) -> Result<(), NoMemory>
-        ensures { IfOk result (λ _. self.new ≡ self.old ++ routine_text (codes "ACTOR Future<" ++ type_text (type_of actor.now.returns) ++ codes ">") (actor_of actor.now)) }
+        ensures { IfOk result (λ _. self.new
+            ≡ self.old ++ routine_text (codes "ACTOR Future<" ++ type_text
+            (type_of actor.now.returns) ++ codes ">") (actor_of actor.now)) }
     {
         self.put(b"ACTOR Future<")?;
         self.put_type(&actor.returns)?;

@@ -56,7 +56,8 @@ impl Source {
     // A type of one argument behind its word and `<`.
     #[cycle(type_of)]
     fn put_wrapped(&mut self, front: &[u8], of: &Ty) -> Result<(), NoMemory>
-        ensures { IfOk result (λ _. self.new ≡ self.old ++ (front.now ++ type_text (type_of of.now) ++ codes ">")) }
+        ensures { IfOk result (λ _. self.new
+            ≡ self.old ++ (front.now ++ type_text (type_of of.now) ++ codes ">")) }
     {
         self.put(front)?;
         self.put_type(of)?;
@@ -137,7 +138,8 @@ impl Source {
     /// The arguments of a call, in parentheses.
     #[cycle(expr)]
     pub fn put_args(&mut self, args: &[Expr]) -> Result<(), NoMemory>
-        ensures { IfOk result (λ _. self.new ≡ self.old ++ codes "(" ++ args_text (exprs_of args.now) ++ codes ")") }
+        ensures { IfOk result (λ _. self.new
+            ≡ self.old ++ codes "(" ++ args_text (exprs_of args.now) ++ codes ")") }
     {
         self.put(b"(")?;
         if let [first, rest @ ..] = args {

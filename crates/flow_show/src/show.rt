@@ -30,8 +30,10 @@ pub fn show(alloc: Global, program: &Program) -> Result<Vec<u8>, NoMemory>
 /// What was written is always a first part of the text. `Failed` comes only where the sink's count
 /// rose. One declaration at a time is held in memory.
 pub fn show_lines<S: Sink>(alloc: Global, program: &Program, out: &mut S) -> Result<(), OutFault>
-    ensures whole { OnOk result (Appends (S.seen out.old).written (S.seen out.new).written (Canon (program_of program.now))) }
-    ensures part { AppendsPart (S.seen out.old).written (S.seen out.new).written (Canon (program_of program.now)) }
+    ensures whole { OnOk result (Appends (S.seen out.old).written (S.seen out.new).written
+        (Canon (program_of program.now))) }
+    ensures part { AppendsPart (S.seen out.old).written (S.seen out.new).written
+        (Canon (program_of program.now)) }
     ensures cause { HasCause (S.seen out.old).faults (S.seen out.new).faults result }
 {
     for decl in &program.decls {
@@ -69,7 +71,8 @@ fn line_length(text: &[u8]) -> usize
 /// Writes a text, each line of it by one call where the sink takes it whole. What was written is
 /// always a first part of the text. `Failed` comes only where the sink's count rose.
 pub fn write_lines<S: Sink>(out: &mut S, text: &[u8]) -> Result<(), OutFault>
-    ensures whole { OnOk result (Appends (S.seen out.old).written (S.seen out.new).written text.now) }
+    ensures whole { OnOk result (Appends (S.seen out.old).written (S.seen out.new).written
+        text.now) }
     ensures part { AppendsPart (S.seen out.old).written (S.seen out.new).written text.now }
     ensures cause { HasCause (S.seen out.old).faults (S.seen out.new).faults result }
 {

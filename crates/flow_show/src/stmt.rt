@@ -44,7 +44,8 @@ impl Source {
     }
 
     fn put_into_part(&mut self, into: &Option<Into>) -> Result<(), NoMemory>
-        ensures { IfOk result (λ _. self.new ≡ self.old ++ into_part (option_map into_of into.now)) }
+        ensures { IfOk result (λ _. self.new
+            ≡ self.old ++ into_part (option_map into_of into.now)) }
     {
         match into {
             None => Ok(()),
@@ -66,7 +67,8 @@ impl Source {
 
     // An expression that may be absent, with these bytes before it.
     fn put_maybe(&mut self, before: &[u8], expr: &Option<Expr>) -> Result<(), NoMemory>
-        ensures { IfOk result (λ _. self.new ≡ self.old ++ maybe_text before.now (option_map expr_of expr.now)) }
+        ensures { IfOk result (λ _. self.new
+            ≡ self.old ++ maybe_text before.now (option_map expr_of expr.now)) }
     {
         match expr {
             None => Ok(()),
@@ -100,7 +102,8 @@ impl Source {
     }
 
     fn put_declare(&mut self, into: &Into, value: &Option<Expr>) -> Result<(), NoMemory>
-        ensures { IfOk result (λ _. self.new ≡ self.old ++ declare_text (into_of into.now) (option_map expr_of value.now)) }
+        ensures { IfOk result (λ _. self.new
+            ≡ self.old ++ declare_text (into_of into.now) (option_map expr_of value.now)) }
     {
         self.put_into(into)?;
         self.put_maybe(b" = ", value)
@@ -108,7 +111,8 @@ impl Source {
 
     /// An assignment without its semicolon.
     pub fn put_assign(&mut self, target: &Target, value: &Expr) -> Result<(), NoMemory>
-        ensures { IfOk result (λ _. self.new ≡ self.old ++ assign_text target.now.path.items (expr_of value.now)) }
+        ensures { IfOk result (λ _. self.new
+            ≡ self.old ++ assign_text target.now.path.items (expr_of value.now)) }
     {
         self.put_path(&target.path)?;
         self.put(b" = ")?;
@@ -133,7 +137,8 @@ impl Source {
     }
 
     fn put_modify(&mut self, target: &Target, change: &Change) -> Result<(), NoMemory>
-        ensures { IfOk result (λ _. self.new ≡ self.old ++ modify_text target.now.path.items (change_of change.now)) }
+        ensures { IfOk result (λ _. self.new
+            ≡ self.old ++ modify_text target.now.path.items (change_of change.now)) }
     {
         self.put_path(&target.path)?;
         self.put_change(change)
@@ -141,7 +146,8 @@ impl Source {
 
     /// A call statement without its semicolon.
     pub fn put_call(&mut self, target: &Target, args: &[Expr]) -> Result<(), NoMemory>
-        ensures { IfOk result (λ _. self.new ≡ self.old ++ call_text target.now.path.items (exprs_of args.now)) }
+        ensures { IfOk result (λ _. self.new
+            ≡ self.old ++ call_text target.now.path.items (exprs_of args.now)) }
     {
         self.put_path(&target.path)?;
         self.put_args(args)
@@ -187,7 +193,8 @@ impl Source {
         expr: &Expr,
         back: &[u8],
     ) -> Result<(), NoMemory>
-        ensures { IfOk result (λ _. self.new ≡ self.old ++ line level (front.now ++ expr_text (expr_of expr.now) ++ back.now)) }
+        ensures { IfOk result (λ _. self.new
+            ≡ self.old ++ line level (front.now ++ expr_text (expr_of expr.now) ++ back.now)) }
     {
         self.put_indent(level)?;
         self.put(front)?;
@@ -233,7 +240,8 @@ impl Source {
 
     // The line between a `try` and its handler.
     fn put_catch(&mut self, level: usize, error: &Ident) -> Result<(), NoMemory>
-        ensures { IfOk result (λ _. self.new ≡ self.old ++ line level (codes "} catch (Error& " ++ error.now.name ++ codes ") {")) }
+        ensures { IfOk result (λ _. self.new
+            ≡ self.old ++ line level (codes "} catch (Error& " ++ error.now.name ++ codes ") {")) }
     {
         self.put_indent(level)?;
         self.put(b"} catch (Error& ")?;
@@ -245,7 +253,9 @@ impl Source {
 
     // The line of a `throw`.
     fn put_throw(&mut self, level: usize, error: &Option<Expr>) -> Result<(), NoMemory>
-        ensures { IfOk result (λ _. self.new ≡ self.old ++ line level (codes "throw" ++ maybe_text (codes " ") (option_map expr_of error.now) ++ codes ";")) }
+        ensures { IfOk result (λ _. self.new
+            ≡ self.old ++ line level (codes "throw" ++ maybe_text (codes " ")
+            (option_map expr_of error.now) ++ codes ";")) }
     {
         self.put_indent(level)?;
         self.put(b"throw")?;
@@ -263,7 +273,9 @@ impl Source {
         into: &Into,
         value: &Option<Expr>,
     ) -> Result<(), NoMemory>
-        ensures { IfOk result (λ _. self.new ≡ self.old ++ line level (declare_text (into_of into.now) (option_map expr_of value.now) ++ codes ";")) }
+        ensures { IfOk result (λ _. self.new
+            ≡ self.old ++ line level (declare_text (into_of into.now) (option_map expr_of value.now)
+            ++ codes ";")) }
     {
         self.put_indent(level)?;
         self.put_declare(into, value)?;
@@ -280,7 +292,9 @@ impl Source {
         target: &Target,
         value: &Expr,
     ) -> Result<(), NoMemory>
-        ensures { IfOk result (λ _. self.new ≡ self.old ++ line level (assign_text target.now.path.items (expr_of value.now) ++ codes ";")) }
+        ensures { IfOk result (λ _. self.new
+            ≡ self.old ++ line level (assign_text target.now.path.items (expr_of value.now) ++ codes
+            ";")) }
     {
         self.put_indent(level)?;
         self.put_assign(target, value)?;
@@ -297,7 +311,9 @@ impl Source {
         target: &Target,
         change: &Change,
     ) -> Result<(), NoMemory>
-        ensures { IfOk result (λ _. self.new ≡ self.old ++ line level (modify_text target.now.path.items (change_of change.now) ++ codes ";")) }
+        ensures { IfOk result (λ _. self.new
+            ≡ self.old ++ line level (modify_text target.now.path.items (change_of change.now)
+            ++ codes ";")) }
     {
         self.put_indent(level)?;
         self.put_modify(target, change)?;
@@ -314,7 +330,9 @@ impl Source {
         target: &Target,
         args: &[Expr],
     ) -> Result<(), NoMemory>
-        ensures { IfOk result (λ _. self.new ≡ self.old ++ line level (call_text target.now.path.items (exprs_of args.now) ++ codes ";")) }
+        ensures { IfOk result (λ _. self.new
+            ≡ self.old ++ line level (call_text target.now.path.items (exprs_of args.now) ++ codes
+            ";")) }
     {
         self.put_indent(level)?;
         self.put_call(target, args)?;
@@ -326,7 +344,8 @@ impl Source {
     // The line of a wait.
     #[tactic(auto, using(crate::proofs::Texts::ended_line))]
     fn put_wait_line(&mut self, level: usize, waiting: &Waiting) -> Result<(), NoMemory>
-        ensures { IfOk result (λ _. self.new ≡ self.old ++ line level (waiting_text (waiting_of waiting.now) ++ codes ";")) }
+        ensures { IfOk result (λ _. self.new
+            ≡ self.old ++ line level (waiting_text (waiting_of waiting.now) ++ codes ";")) }
     {
         self.put_indent(level)?;
         self.put_waiting(waiting)?;
@@ -432,7 +451,8 @@ impl Source {
     // A body, one level further in.
     #[cycle(stmt)]
     fn put_deeper(&mut self, level: usize, body: &[Stmt]) -> Result<(), NoMemory>
-        ensures { IfOk result (λ _. self.new ≡ self.old ++ body_text (suc level) (body_of body.now)) }
+        ensures { IfOk result (λ _. self.new
+            ≡ self.old ++ body_text (suc level) (body_of body.now)) }
     {
         self.put_body(inner(level)?, body)
     }
@@ -469,7 +489,8 @@ impl Source {
     // The line of a `catch`, its body and a closing line.
     #[cycle(stmt)]
     fn put_handler(&mut self, level: usize, error: &Ident, body: &[Stmt]) -> Result<(), NoMemory>
-        ensures { IfOk result (λ _. self.new ≡ self.old ++ handler_text level error.now (body_of body.now)) }
+        ensures { IfOk result (λ _. self.new
+            ≡ self.old ++ handler_text level error.now (body_of body.now)) }
     {
         self.put_catch(level, error)?;
         self.put_inner(level, body)?;
@@ -489,7 +510,8 @@ impl Source {
     #[cycle(stmt)]
     #[tactic(auto, using(crate::proofs::Texts::branches_step, crate::proofs::Texts::branches_end))]
     fn put_whens(&mut self, level: usize, branches: &[When]) -> Result<(), NoMemory>
-        ensures { IfOk result (λ _. self.new ≡ self.old ++ branches_text level (branches_of branches.now)) }
+        ensures { IfOk result (λ _. self.new
+            ≡ self.old ++ branches_text level (branches_of branches.now)) }
     {
         for branch in branches {
             self.put_when(level, branch)?;

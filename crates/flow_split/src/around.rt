@@ -65,7 +65,8 @@ fn further(depth: usize, scopes: usize) -> Result<usize, NoMemory>
 impl Looped {
     // One scope further in, within a try body or not.
     fn deeper(&self, tried: bool) -> Result<Looped, NoMemory>
-        ensures { IfOk result (λ l. looped_of l ≡ record (deeper (looped_of self.now)) { tried = tried }) }
+        ensures { IfOk result (λ l. looped_of l
+            ≡ record (deeper (looped_of self.now)) { tried = tried }) }
     {
         Ok(Looped {
             depth: further(self.depth, 1)?,
@@ -110,7 +111,8 @@ impl<'a> Around<'a> {
 
     /// The body of a loop, so many scopes further in.
     pub fn pass(&self, scopes: usize, again: Jump, out: u32) -> Result<Around<'a>, NoMemory>
-        ensures { IfOk result (λ w. around_of w ≡ pass (around_of self.now) scopes (jump_of again) out) }
+        ensures { IfOk result (λ w. around_of w
+            ≡ pass (around_of self.now) scopes (jump_of again) out) }
     {
         Ok(Around {
             exit: Exit::Scope(again),
@@ -128,7 +130,8 @@ impl<'a> Around<'a> {
 
     /// A try body.
     pub fn try_body(&self, exit: Exit, handler: Handler) -> Result<Around<'a>, NoMemory>
-        ensures { IfOk result (λ w. around_of w ≡ guarded (around_of self.now) (exit_of exit) (hand_of handler)) }
+        ensures { IfOk result (λ w. around_of w
+            ≡ guarded (around_of self.now) (exit_of exit) (hand_of handler)) }
     {
         Ok(Around {
             exit,
@@ -141,7 +144,8 @@ impl<'a> Around<'a> {
 
     /// The handler of a catch with this variable.
     pub fn catch_body(&self, exit: Exit, name: &'a Name) -> Result<Around<'a>, NoMemory>
-        ensures { IfOk result (λ w. around_of w ≡ handling (around_of self.now) (exit_of exit) name.now) }
+        ensures { IfOk result (λ w. around_of w
+            ≡ handling (around_of self.now) (exit_of exit) name.now) }
     {
         Ok(Around {
             exit,

@@ -41,7 +41,8 @@ impl Size {
 
     // With so many blocks and locals more.
     fn with(self, blocks: u32, locals: u32) -> Result<Size, NoMemory>
-        ensures { IfOk result (λ n. n ≡ record { blocks = self.blocks + blocks; locals = self.locals + locals }) }
+        ensures { IfOk result (λ n. n ≡ record
+            { blocks = self.blocks + blocks; locals = self.locals + locals }) }
     {
         Ok(Size {
             blocks: sum(self.blocks, blocks)?,
@@ -51,14 +52,16 @@ impl Size {
 
     // With the block of the next statement, where nothing goes on from the one before.
     fn behind(self, goes_on: bool) -> Result<Size, NoMemory>
-        ensures { IfOk result (λ n. n ≡ record { blocks = self.blocks + begin_blocks goes_on; locals = self.locals }) }
+        ensures { IfOk result (λ n. n ≡ record
+            { blocks = self.blocks + begin_blocks goes_on; locals = self.locals }) }
     {
         if goes_on { Ok(self) } else { self.with(1, 0) }
     }
 
     // With those of another.
     fn and(self, other: Size) -> Result<Size, NoMemory>
-        ensures { IfOk result (λ n. n ≡ record { blocks = self.blocks + other.blocks; locals = self.locals + other.locals }) }
+        ensures { IfOk result (λ n. n ≡ record
+            { blocks = self.blocks + other.blocks; locals = self.locals + other.locals }) }
     {
         self.with(other.blocks, other.locals)
     }
@@ -143,8 +146,10 @@ pub fn body_size(tried: bool, body: &[Stmt]) -> Result<Size, NoMemory>
 
 #[cycle(size)]
 fn stmt_size(tried: bool, stmt: &Stmt) -> Result<Size, NoMemory>
-    ensures blocks { IfOk result (λ n. (k : Body) → blocks_in tried (stmt_of stmt.now k) ≡ n.blocks + rest_blocks (not (ends_with (stmt_of stmt.now End))) tried k) }
-    ensures locals { IfOk result (λ n. (k : Body) → locals_in (stmt_of stmt.now k) ≡ n.locals + locals_in k) }
+    ensures blocks { IfOk result (λ n. (k : Body) → blocks_in tried (stmt_of stmt.now k)
+        ≡ n.blocks + rest_blocks (not (ends_with (stmt_of stmt.now End))) tried k) }
+    ensures locals { IfOk result (λ n. (k : Body) → locals_in (stmt_of stmt.now k)
+        ≡ n.locals + locals_in k) }
 {
     match &stmt.kind {
         StmtKind::Block(body) => Ok(body_size(tried, body)?.with(1, 0)?),
@@ -192,8 +197,10 @@ pub fn branches_size(tried: bool, branches: &[When]) -> Result<Size, NoMemory>
 /// The blocks and locals of a branch, with the block in which it begins.
 #[cycle(size)]
 pub fn branch_size(tried: bool, branch: &When) -> Result<Size, NoMemory>
-    ensures blocks { IfOk result (λ n. (bs : Branches) → branch_blocks tried (branch_of branch.now bs) ≡ n.blocks + branch_blocks tried bs) }
-    ensures locals { IfOk result (λ n. (bs : Branches) → branch_local_count (branch_of branch.now bs) ≡ n.locals + branch_local_count bs) }
+    ensures blocks { IfOk result (λ n. (bs : Branches)
+        → branch_blocks tried (branch_of branch.now bs) ≡ n.blocks + branch_blocks tried bs) }
+    ensures locals { IfOk result (λ n. (bs : Branches)
+        → branch_local_count (branch_of branch.now bs) ≡ n.locals + branch_local_count bs) }
 {
     let size = body_size(tried, &branch.body)?;
     size.with(1, maybe_size(&branch.waiting.into))

@@ -41,7 +41,8 @@ fn is_predefined_effect(call: Predefined) -> bool
 
 // Whether a program has an actor of this name.
 fn has_actor(program: &Program, name: &[u8]) -> bool
-    ensures { result ≡ is_there (position (bytes_eq name.now) (names_of (program_of program.now)).actors) }
+    ensures { result ≡ is_there (position (bytes_eq name.now)
+        (names_of (program_of program.now)).actors) }
 {
     for decl in &program.decls {
         if let Decl::Actor(actor) = decl {

@@ -78,7 +78,16 @@ fn number(things: usize) -> Result<u32, NoMemory>
 impl Emitter {
     /// No blocks yet, and the first one is open.
     pub fn new(alloc: Global) -> Emitter
-        ensures { emitted result ≡ record { scopes = []; next = 0; blocks = []; groups = []; is_open = true; acts = false; body = [] } }
+        ensures { emitted result ≡ record {
+          scopes = [];
+          next = 0;
+          blocks = [];
+          groups = [];
+          is_open = true;
+          acts = false;
+          body =
+              [];
+        } }
     {
         Emitter {
             alloc,
@@ -149,7 +158,13 @@ impl Emitter {
     // The catch part of the block at hand where there is a handler: the locals in force that its try
     // body declared are dropped.
     fn part(&self, handler: Handler, depth: usize) -> Result<Catcher, NoMemory>
-        ensures { IfOk result (λ c. catcher_of c ≡ record { block = handler.block; error = Some handler.error; drops = inner_locals depth self.now.scopes }) }
+        ensures { IfOk result (λ c. catcher_of c
+            ≡ record {
+              block = handler.block;
+              error = Some handler.error;
+              drops = inner_locals depth
+                  self.now.scopes;
+            }) }
     {
         let inner = self.scopes.inner(self.alloc, depth)?;
         catcher(self.alloc, &inner, handler.block, Some(handler.error))
@@ -157,7 +172,9 @@ impl Emitter {
 
     // What the block at hand has as its catch part. A block in which no statement stands has none.
     fn caught(&self, around: &Around) -> Result<Option<Catcher>, NoMemory>
-        ensures { IfOk result (λ c. option_map catcher_of c ≡ catch_part self.now.acts (around_of around.now).hand (inner_locals around.now.depth self.now.scopes)) }
+        ensures { IfOk result (λ c. option_map catcher_of c
+            ≡ catch_part self.now.acts (around_of around.now).hand
+            (inner_locals around.now.depth self.now.scopes)) }
     {
         match around.handler {
             Some(handler) => {
@@ -173,7 +190,8 @@ impl Emitter {
 
     /// The block at hand ends so.
     pub fn close(&mut self, around: &Around, last: Last) -> Result<(), NoMemory>
-        ensures { OnOk result (emitted self.new ≡ closed (around_of around.now) (last_of last) (emitted self.old)) }
+        ensures { OnOk result (emitted self.new
+            ≡ closed (around_of around.now) (last_of last) (emitted self.old)) }
     {
         let catcher = self.caught(around)?;
         let body = std::mem::replace(&mut self.body, Vec::new(self.alloc));
@@ -189,7 +207,8 @@ impl Emitter {
 
     /// The block at hand ends with a statement.
     pub fn close_with(&mut self, around: &Around, last: Last) -> Result<(), NoMemory>
-        ensures { OnOk result (emitted self.new ≡ closed (around_of around.now) (last_of last) (acted [] (emitted self.old))) }
+        ensures { OnOk result (emitted self.new
+            ≡ closed (around_of around.now) (last_of last) (acted [] (emitted self.old))) }
     {
         self.acts = true;
         self.close(around, last)
@@ -207,7 +226,8 @@ impl Emitter {
 
     /// The locals of the innermost scope are dropped, where it has any.
     pub fn drop_scope(&mut self) -> Result<(), NoMemory>
-        ensures { OnOk result (emitted self.new ≡ put (drop_of (scope self.old.scopes)) (emitted self.old)) }
+        ensures { OnOk result (emitted self.new
+            ≡ put (drop_of (scope self.old.scopes)) (emitted self.old)) }
     {
         let numbers = self.scopes.innermost(self.alloc)?;
         self.put_drop(numbers)
@@ -215,7 +235,8 @@ impl Emitter {
 
     /// The end of a body.
     pub fn finish(&mut self, around: &Around) -> Result<(), NoMemory>
-        ensures { OnOk result (emitted self.new ≡ closed_end (around_of around.now) (emitted self.old)) }
+        ensures { OnOk result (emitted self.new
+            ≡ closed_end (around_of around.now) (emitted self.old)) }
     {
         match around.exit {
             Exit::Text(close) => {
@@ -232,7 +253,8 @@ impl Emitter {
 
     /// The end of a body, where a block is still open.
     pub fn finish_open(&mut self, around: &Around) -> Result<(), NoMemory>
-        ensures { OnOk result (emitted self.new ≡ ended_by (around_of around.now) (emitted self.old)) }
+        ensures { OnOk result (emitted self.new
+            ≡ ended_by (around_of around.now) (emitted self.old)) }
     {
         if self.is_open {
             self.finish(around)
@@ -243,7 +265,8 @@ impl Emitter {
 
     // These locals are dropped.
     fn put_numbers(&mut self, numbers: Vec<u32>) -> Result<(), NoMemory>
-        ensures { OnOk result (emitted self.new ≡ put (DropInstr numbers.items ∷ []) (emitted self.old)) }
+        ensures { OnOk result (emitted self.new
+            ≡ put (DropInstr numbers.items ∷ []) (emitted self.old)) }
     {
         self.body.push(Instr::Drop(numbers))?;
         Ok(())
@@ -252,7 +275,8 @@ impl Emitter {
     // The scopes up to the loop are left, each with its drop.
     #[tactic(auto, using(crate::proofs::Drops::drops_next, crate::proofs::Drops::drops_end))]
     fn drop_scopes(&mut self, depth: usize) -> Result<(), NoMemory>
-        ensures { OnOk result (emitted self.new ≡ put (map DropInstr (left_lists depth self.old.scopes)) (emitted self.old)) }
+        ensures { OnOk result (emitted self.new
+            ≡ put (map DropInstr (left_lists depth self.old.scopes)) (emitted self.old)) }
     {
         for numbers in self.scopes.left(self.alloc, depth)? {
             self.put_numbers(numbers)?;
@@ -262,7 +286,8 @@ impl Emitter {
 
     // The drops of a `break` or a `continue`, and its jump.
     fn leave_scopes(&mut self, around: &Around, jump: Jump) -> Result<(), NoMemory>
-        ensures { OnOk result (emitted self.new ≡ left_loop (around_of around.now) (jump_of jump) (emitted self.old)) }
+        ensures { OnOk result (emitted self.new
+            ≡ left_loop (around_of around.now) (jump_of jump) (emitted self.old)) }
     {
         self.drop_scopes(around.looped.depth)?;
         self.close(around, jump.last())
@@ -270,7 +295,8 @@ impl Emitter {
 
     /// A `break` or a `continue` with this jump: out of a try body it goes to a block outside first.
     pub fn exit_loop(&mut self, around: &Around, jump: Jump) -> Result<(), NoMemory>
-        ensures { OnOk result (emitted self.new ≡ shut_by (around_of around.now) (jump_of jump) (emitted self.old)) }
+        ensures { OnOk result (emitted self.new
+            ≡ shut_by (around_of around.now) (jump_of jump) (emitted self.old)) }
     {
         if around.looped.tried {
             let outside = self.block()?;
@@ -284,7 +310,8 @@ impl Emitter {
 
     /// The place that a variable gets by its declaration: its slot, or the next local.
     pub fn place(&self, context: &Context, into: &Into, next: u32) -> Option<Slotted>
-        ensures { result ≡ place_in (names_in context.now) (slots_in context.now) (into_of into.now) next self.now.scopes }
+        ensures { result ≡ place_in (names_in context.now) (slots_in context.now) (into_of into.now)
+            next self.now.scopes }
     {
         if into.state {
             context.place_of(&self.scopes, into.name.name.bytes())
@@ -295,7 +322,8 @@ impl Emitter {
 
     /// The place that the variable of a wait gets, where it has one.
     pub fn place_maybe(&self, context: &Context, into: &Option<Into>, next: u32) -> Option<Slotted>
-        ensures { result ≡ taken_in (names_in context.now) (slots_in context.now) (option_map into_of into.now) next self.now.scopes }
+        ensures { result ≡ taken_in (names_in context.now) (slots_in context.now)
+            (option_map into_of into.now) next self.now.scopes }
     {
         match into {
             None => None,
@@ -316,7 +344,8 @@ impl Emitter {
 
     /// The variable of a wait is in force from now on.
     pub fn declare_maybe(&mut self, into: &Option<Into>) -> Result<(), NoMemory>
-        ensures { OnOk result (emitted self.new ≡ taking (option_map into_of into.now) (emitted self.old)) }
+        ensures { OnOk result (emitted self.new
+            ≡ taking (option_map into_of into.now) (emitted self.old)) }
     {
         match into {
             None => Ok(()),

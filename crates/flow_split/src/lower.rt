@@ -57,7 +57,9 @@ pub fn lower(
     actor: &ActorDecl,
     layout: &Layout,
 ) -> Result<Class, NoMemory>
-    ensures { IfOk result (λ c. class_of c ≡ lowered_class (names_of (program_of program.now)) (laid layout.now) (actor_of actor.now)) }
+    ensures { IfOk result (λ c. class_of c
+        ≡ lowered_class (names_of (program_of program.now)) (laid layout.now)
+        (actor_of actor.now)) }
 {
     let _slots = count(layout.slots.len())?;
     let context = Context {

@@ -56,7 +56,9 @@ fn single(alloc: Global, name: Ident) -> Result<Target, NoMemory>
 impl<'a> Context<'a> {
     // An assignment of an expression of the text to a path over places.
     fn assigned(&self, scopes: &Scopes, target: Target, value: &Expr) -> Result<Instr, NoMemory>
-        ensures { IfOk result (λ i. instr_of i ≡ assigned (names_in self.now) (slots_in self.now) scopes.now target.path.items (expr_of value.now)) }
+        ensures { IfOk result (λ i. instr_of i
+            ≡ assigned (names_in self.now) (slots_in self.now) scopes.now target.path.items
+            (expr_of value.now)) }
     {
         let over = self.over(scopes, value)?;
         if is_effect(self.program, value) {
@@ -68,7 +70,8 @@ impl<'a> Context<'a> {
 
     // The value of a path over places, as an expression: a variable and its fields.
     fn read_over(&self, scopes: &Scopes, first: &Ident, rest: &[Ident]) -> Result<Expr, NoMemory>
-        ensures { IfOk result (λ e. expr_of e ≡ path_from (VarExpr (ident_over (slots_in self.now) scopes.now first.now)) rest.now) }
+        ensures { IfOk result (λ e. expr_of e
+            ≡ path_from (VarExpr (ident_over (slots_in self.now) scopes.now first.now)) rest.now) }
     {
         let mut expr = Expr::Var(ident_over(self.alloc, &self.layout.slots, scopes, first)?);
         for name in rest {
@@ -85,7 +88,9 @@ impl<'a> Context<'a> {
         old: Expr,
         amount: &Expr,
     ) -> Result<Expr, NoMemory>
-        ensures { IfOk result (λ e. expr_of e ≡ BinaryExpr op (expr_of old) (ParenExpr (over (slots_in self.now) scopes.now (expr_of amount.now)))) }
+        ensures { IfOk result (λ e. expr_of e
+            ≡ BinaryExpr op (expr_of old) (ParenExpr
+            (over (slots_in self.now) scopes.now (expr_of amount.now)))) }
     {
         let amount = self.over(scopes, amount)?;
         let by = Expr::Paren(Box::new(self.alloc, amount)?);
@@ -106,7 +111,8 @@ impl<'a> Context<'a> {
     // What a change in place makes of an old value: `x += e` is `x = x + (e)`, and `x++` is
     // `x = x + 1`.
     fn changed(&self, scopes: &Scopes, old: Expr, change: &Change) -> Result<Expr, NoMemory>
-        ensures { IfOk result (λ e. expr_of e ≡ change_over (slots_in self.now) scopes.now (change_of change.now) (expr_of old)) }
+        ensures { IfOk result (λ e. expr_of e
+            ≡ change_over (slots_in self.now) scopes.now (change_of change.now) (expr_of old)) }
     {
         match change {
             Change::Plus(amount) => self.with_amount(scopes, Op::Add, old, amount),
@@ -131,7 +137,9 @@ impl Emitter {
 
     // A declared variable gets what its type has at first, or a new cell.
     fn put_first(&mut self, into: &Into, place: Option<Slotted>) -> Result<(), NoMemory>
-        ensures { OnOk result (emitted self.new ≡ acted (first_at (into_of into.now) place (first_value (type_of into.now.ty))) (emitted self.old)) }
+        ensures { OnOk result (emitted self.new
+            ≡ acted (first_at (into_of into.now) place (first_value (type_of into.now.ty)))
+            (emitted self.old)) }
     {
         match first_value(self.alloc, &into.ty)? {
             Some(value) => {
@@ -150,7 +158,9 @@ impl Emitter {
         into: &Into,
         value: &Option<Expr>,
     ) -> Result<(), NoMemory>
-        ensures { OnOk result (emitted self.new ≡ acted (declares (names_in context.now) (slots_in context.now) self.old.scopes self.old.next (into_of into.now) (option_map expr_of value.now)) (emitted self.old)) }
+        ensures { OnOk result (emitted self.new
+            ≡ acted (declares (names_in context.now) (slots_in context.now) self.old.scopes
+            self.old.next (into_of into.now) (option_map expr_of value.now)) (emitted self.old)) }
     {
         let place = self.place(context, into, self.next);
         match value {
@@ -171,7 +181,10 @@ impl Emitter {
         into: &Into,
         value: &Option<Expr>,
     ) -> Result<(), NoMemory>
-        ensures { OnOk result (emitted self.new ≡ declaring (into_of into.now) (acted (declares (names_in context.now) (slots_in context.now) self.old.scopes self.old.next (into_of into.now) (option_map expr_of value.now)) (emitted self.old))) }
+        ensures { OnOk result (emitted self.new
+            ≡ declaring (into_of into.now) (acted
+            (declares (names_in context.now) (slots_in context.now) self.old.scopes self.old.next
+            (into_of into.now) (option_map expr_of value.now)) (emitted self.old))) }
     {
         self.put_value(context, into, value)?;
         self.declare(into)
@@ -184,7 +197,10 @@ impl Emitter {
         target: &Target,
         value: &Expr,
     ) -> Result<(), NoMemory>
-        ensures { OnOk result (emitted self.new ≡ acted (assigned (names_in context.now) (slots_in context.now) self.old.scopes (path_over (slots_in context.now) self.old.scopes target.now.path.items) (expr_of value.now) ∷ []) (emitted self.old)) }
+        ensures { OnOk result (emitted self.new
+            ≡ acted (assigned (names_in context.now) (slots_in context.now) self.old.scopes
+            (path_over (slots_in context.now) self.old.scopes target.now.path.items)
+            (expr_of value.now) ∷ []) (emitted self.old)) }
     {
         let path = context.path_over(&self.scopes, &target.path)?;
         let instr = context.assigned(&self.scopes, path, value)?;
@@ -201,7 +217,10 @@ impl Emitter {
         by: &Change,
     ) -> Result<(), NoMemory>
         requires { target.now.path.items ≡ first.now ∷ rest.now }
-        ensures { OnOk result (emitted self.new ≡ acted (changed (names_in context.now) (slots_in context.now) self.old.scopes target.now.path.items (change target.now.path.items (change_of by.now))) (emitted self.old)) }
+        ensures { OnOk result (emitted self.new
+            ≡ acted (changed (names_in context.now) (slots_in context.now) self.old.scopes
+            target.now.path.items (change target.now.path.items (change_of by.now)))
+            (emitted self.old)) }
     {
         let old = context.read_over(&self.scopes, first, rest)?;
         let value = context.changed(&self.scopes, old, by)?;
@@ -216,7 +235,10 @@ impl Emitter {
         target: &Target,
         by: &Change,
     ) -> Result<(), NoMemory>
-        ensures { OnOk result (emitted self.new ≡ acted (changed (names_in context.now) (slots_in context.now) self.old.scopes target.now.path.items (change target.now.path.items (change_of by.now))) (emitted self.old)) }
+        ensures { OnOk result (emitted self.new
+            ≡ acted (changed (names_in context.now) (slots_in context.now) self.old.scopes
+            target.now.path.items (change target.now.path.items (change_of by.now)))
+            (emitted self.old)) }
     {
         match target.path.as_slice() {
             [] => {
@@ -234,7 +256,10 @@ impl Emitter {
         target: &Target,
         args: &[Expr],
     ) -> Result<(), NoMemory>
-        ensures { OnOk result (emitted self.new ≡ acted (ActInstr (act_over (slots_in context.now) self.old.scopes target.now.path.items) (over_all (slots_in context.now) self.old.scopes (exprs_of args.now)) ∷ []) (emitted self.old)) }
+        ensures { OnOk result (emitted self.new
+            ≡ acted (ActInstr (act_over (slots_in context.now) self.old.scopes
+            target.now.path.items) (over_all (slots_in context.now) self.old.scopes
+            (exprs_of args.now)) ∷ []) (emitted self.old)) }
     {
         let path = act_over(self.alloc, &context.layout.slots, &self.scopes, target)?;
         let args = context.over_all(&self.scopes, args)?;

@@ -38,7 +38,9 @@ impl Emitter {
         next: u32,
         block: u32,
     ) -> Result<Callback, NoMemory>
-        ensures { IfOk result (λ k. callback_of k ≡ callback (names_in context.now) (slots_in context.now) self.now.scopes (waiting_of waiting.now) next block) }
+        ensures { IfOk result (λ k. callback_of k
+            ≡ callback (names_in context.now) (slots_in context.now) self.now.scopes
+            (waiting_of waiting.now) next block) }
     {
         Ok(Callback {
             next: waiting.next,
@@ -56,7 +58,10 @@ impl Emitter {
         branches: &[When],
         first: u32,
     ) -> Result<Vec<Callback>, NoMemory>
-        ensures { IfOk result (λ v. callbacks_of v.items ≡ callbacks (names_in context.now) (slots_in context.now) self.now.scopes tried (record { block = first; local = self.now.next; group = 0 }) (branches_of branches.now)) }
+        ensures { IfOk result (λ v. callbacks_of v.items
+            ≡ callbacks (names_in context.now) (slots_in context.now) self.now.scopes tried
+            (record { block = first; local = self.now.next; group = 0 })
+            (branches_of branches.now)) }
     {
         let mut callbacks = Vec::new(self.alloc);
         let mut next = self.next;
@@ -77,7 +82,9 @@ impl Emitter {
         around: &Around,
         callbacks: Vec<Callback>,
     ) -> Result<(), NoMemory>
-        ensures { OnOk result (emitted self.new ≡ waiting_for (around_of around.now) (callbacks_of callbacks.items) (emitted self.old)) }
+        ensures { OnOk result (emitted self.new
+            ≡ waiting_for (around_of around.now) (callbacks_of callbacks.items)
+            (emitted self.old)) }
     {
         let number = self.group()?;
         self.groups.push(group(context.layout, number, callbacks)?)?;
@@ -92,7 +99,9 @@ impl Emitter {
         waiting: &Waiting,
     ) -> Result<(), NoMemory>
         requires { self.old.is_open ≡ true }
-        ensures { OnOk result ((at : Place) → Emits (names_in context.now) (slots_in context.now) (around_of around.now) (WaitStmt at (waiting_of waiting.now)) (emitted self.old) (emitted self.new)) }
+        ensures { OnOk result ((at : Place)
+            → Emits (names_in context.now) (slots_in context.now) (around_of around.now)
+            (WaitStmt at (waiting_of waiting.now)) (emitted self.old) (emitted self.new)) }
     {
         let block = self.block()?;
         let callback = self.callback(context, waiting, self.next, block)?;
@@ -110,7 +119,9 @@ impl Emitter {
         caught: Option<&Name>,
         at: Place,
     ) -> Result<Expr, NoMemory>
-        ensures { IfOk result (λ e. expr_of e ≡ thrown (names_in context.now) (slots_in context.now) self.now.scopes at None (option_map (λ x. x.now) caught.entry)) }
+        ensures { IfOk result (λ e. expr_of e
+            ≡ thrown (names_in context.now) (slots_in context.now) self.now.scopes at None
+            (option_map (λ x. x.now) caught.entry)) }
     {
         let place = match caught {
             None => None,
@@ -130,7 +141,9 @@ impl Emitter {
         at: Place,
         error: &Option<Expr>,
     ) -> Result<Expr, NoMemory>
-        ensures { IfOk result (λ e. expr_of e ≡ thrown (names_in context.now) (slots_in context.now) self.now.scopes at (option_map expr_of error.now) (around_of around.now).caught) }
+        ensures { IfOk result (λ e. expr_of e
+            ≡ thrown (names_in context.now) (slots_in context.now) self.now.scopes at
+            (option_map expr_of error.now) (around_of around.now).caught) }
     {
         match error {
             Some(error) => context.over(&self.scopes, error),
@@ -145,7 +158,10 @@ impl Emitter {
         around: &Around,
         value: &Expr,
     ) -> Result<(), NoMemory>
-        ensures { OnOk result (emitted self.new ≡ closed (around_of around.now) (ReturnLast (over (slots_in context.now) self.old.scopes (expr_of value.now))) (acted [] (emitted self.old))) }
+        ensures { OnOk result (emitted self.new
+            ≡ closed (around_of around.now)
+            (ReturnLast (over (slots_in context.now) self.old.scopes (expr_of value.now)))
+            (acted [] (emitted self.old))) }
     {
         let value = context.over(&self.scopes, value)?;
         self.close_with(around, Last::Return(value))
@@ -158,7 +174,11 @@ impl Emitter {
         at: Place,
         error: &Option<Expr>,
     ) -> Result<(), NoMemory>
-        ensures { OnOk result (emitted self.new ≡ closed (around_of around.now) (ThrowLast (thrown (names_in context.now) (slots_in context.now) self.old.scopes at (option_map expr_of error.now) (around_of around.now).caught)) (acted [] (emitted self.old))) }
+        ensures { OnOk result (emitted self.new
+            ≡ closed (around_of around.now)
+            (ThrowLast (thrown (names_in context.now) (slots_in context.now) self.old.scopes at
+            (option_map expr_of error.now) (around_of around.now).caught))
+            (acted [] (emitted self.old))) }
     {
         let value = self.thrown(context, around, at, error)?;
         self.close_with(around, Last::Throw(value))
@@ -173,7 +193,8 @@ impl Emitter {
         body: &[Stmt],
     ) -> Result<(), NoMemory>
         requires { self.old.is_open ≡ true }
-        ensures { OnOk result (EmitsScope (names_in context.now) (slots_in context.now) (around_of around.now) (body_of body.now) (emitted self.old) (emitted self.new)) }
+        ensures { OnOk result (EmitsScope (names_in context.now) (slots_in context.now)
+            (around_of around.now) (body_of body.now) (emitted self.old) (emitted self.new)) }
     {
         self.enter()?;
         self.put_body(context, around, body)?;
@@ -190,7 +211,8 @@ impl Emitter {
         branch: &When,
     ) -> Result<(), NoMemory>
         requires { self.old.is_open ≡ true }
-        ensures { OnOk result (EmitsWhen (names_in context.now) (slots_in context.now) (around_of around.now) (branch_of branch.now) (emitted self.old) (emitted self.new)) }
+        ensures { OnOk result (EmitsWhen (names_in context.now) (slots_in context.now)
+            (around_of around.now) (branch_of branch.now) (emitted self.old) (emitted self.new)) }
     {
         self.enter()?;
         self.declare_maybe(&branch.waiting.into)?;
@@ -209,7 +231,9 @@ impl Emitter {
         handler: &[Stmt],
     ) -> Result<(), NoMemory>
         requires { self.old.is_open ≡ true }
-        ensures { OnOk result (EmitsHandler (names_in context.now) (slots_in context.now) (around_of around.now) error.now (body_of handler.now) (emitted self.old) (emitted self.new)) }
+        ensures { OnOk result (EmitsHandler (names_in context.now) (slots_in context.now)
+            (around_of around.now) error.now (body_of handler.now) (emitted self.old)
+            (emitted self.new)) }
     {
         self.enter_catch(error)?;
         self.put_body(context, around, handler)?;
@@ -227,7 +251,8 @@ impl Emitter {
         body: &[Stmt],
     ) -> Result<(), NoMemory>
         requires { self.old.is_open ≡ true }
-        ensures { OnOk result (EmitsAll (names_in context.now) (slots_in context.now) (around_of around.now) (body_of body.now) (emitted self.old) (emitted self.new)) }
+        ensures { OnOk result (EmitsAll (names_in context.now) (slots_in context.now)
+            (around_of around.now) (body_of body.now) (emitted self.old) (emitted self.new)) }
     {
         for stmt in body {
             self.begin();
@@ -245,7 +270,8 @@ impl Emitter {
         part: &Option<Box<Stmt>>,
     ) -> Result<(), NoMemory>
         requires { self.old.is_open ≡ true }
-        ensures { OnOk result (EmitsPart (names_in context.now) (slots_in context.now) (around_of around.now) (simple_of part.now) (emitted self.old) (emitted self.new)) }
+        ensures { OnOk result (EmitsPart (names_in context.now) (slots_in context.now)
+            (around_of around.now) (simple_of part.now) (emitted self.old) (emitted self.new)) }
     {
         match part {
             None => self.finish_open(around),
@@ -260,7 +286,8 @@ impl Emitter {
     #[cycle(lower)]
     fn put_stmt(&mut self, context: &Context, around: &Around, stmt: &Stmt) -> Result<(), NoMemory>
         requires { self.old.is_open ≡ true }
-        ensures { OnOk result (Emits (names_in context.now) (slots_in context.now) (around_of around.now) (stmt_of stmt.now) (emitted self.old) (emitted self.new)) }
+        ensures { OnOk result (Emits (names_in context.now) (slots_in context.now)
+            (around_of around.now) (stmt_of stmt.now) (emitted self.old) (emitted self.new)) }
     {
         match &stmt.kind {
             StmtKind::Block(body) => self.put_block(context, around, body),
@@ -297,7 +324,9 @@ impl Emitter {
         body: &[Stmt],
     ) -> Result<(), NoMemory>
         requires { self.old.is_open ≡ true }
-        ensures { OnOk result ((at : Place) → Emits (names_in context.now) (slots_in context.now) (around_of around.now) (BlockStmt at (body_of body.now)) (emitted self.old) (emitted self.new)) }
+        ensures { OnOk result ((at : Place)
+            → Emits (names_in context.now) (slots_in context.now) (around_of around.now)
+            (BlockStmt at (body_of body.now)) (emitted self.old) (emitted self.new)) }
     {
         let size = body_size(around.looped.tried, body)?;
         let join = sum(self.block()?, size.blocks)?;
@@ -316,7 +345,10 @@ impl Emitter {
         body: &[Stmt],
     ) -> Result<(), NoMemory>
         requires { self.old.is_open ≡ true }
-        ensures { OnOk result ((at : Place) → Emits (names_in context.now) (slots_in context.now) (around_of around.now) (IfStmt at (expr_of test.now) (body_of body.now)) (emitted self.old) (emitted self.new)) }
+        ensures { OnOk result ((at : Place)
+            → Emits (names_in context.now) (slots_in context.now) (around_of around.now)
+            (IfStmt at (expr_of test.now) (body_of body.now)) (emitted self.old)
+            (emitted self.new)) }
     {
         let size = body_size(around.looped.tried, body)?;
         let main = self.block()?;
@@ -340,7 +372,10 @@ impl Emitter {
         other: &[Stmt],
     ) -> Result<(), NoMemory>
         requires { self.old.is_open ≡ true }
-        ensures { OnOk result ((at : Place) → Emits (names_in context.now) (slots_in context.now) (around_of around.now) (IfElseStmt at (expr_of test.now) (body_of body.now) (body_of other.now)) (emitted self.old) (emitted self.new)) }
+        ensures { OnOk result ((at : Place)
+            → Emits (names_in context.now) (slots_in context.now) (around_of around.now)
+            (IfElseStmt at (expr_of test.now) (body_of body.now) (body_of other.now))
+            (emitted self.old) (emitted self.new)) }
     {
         let size = body_size(around.looped.tried, body)?;
         let other_size = body_size(around.looped.tried, other)?;
@@ -366,7 +401,9 @@ impl Emitter {
         body: &[Stmt],
     ) -> Result<(), NoMemory>
         requires { self.old.is_open ≡ true }
-        ensures { OnOk result ((at : Place) → Emits (names_in context.now) (slots_in context.now) (around_of around.now) (LoopStmt at (body_of body.now)) (emitted self.old) (emitted self.new)) }
+        ensures { OnOk result ((at : Place)
+            → Emits (names_in context.now) (slots_in context.now) (around_of around.now)
+            (LoopStmt at (body_of body.now)) (emitted self.old) (emitted self.new)) }
     {
         let size = body_size(false, body)?;
         let head = self.block()?;
@@ -388,7 +425,10 @@ impl Emitter {
         body: &[Stmt],
     ) -> Result<(), NoMemory>
         requires { self.old.is_open ≡ true }
-        ensures { OnOk result ((at : Place) → Emits (names_in context.now) (slots_in context.now) (around_of around.now) (WhileStmt at (expr_of test.now) (body_of body.now)) (emitted self.old) (emitted self.new)) }
+        ensures { OnOk result ((at : Place)
+            → Emits (names_in context.now) (slots_in context.now) (around_of around.now)
+            (WhileStmt at (expr_of test.now) (body_of body.now)) (emitted self.old)
+            (emitted self.new)) }
     {
         let size = body_size(false, body)?;
         let head = self.block()?;
@@ -415,7 +455,9 @@ impl Emitter {
         out: u32,
     ) -> Result<(), NoMemory>
         requires { self.old.is_open ≡ true }
-        ensures { OnOk result (emitted self.new ≡ testing (slots_in context.now) (around_of around.now) (option_map expr_of test.now) main out (emitted self.old)) }
+        ensures { OnOk result (emitted self.new
+            ≡ testing (slots_in context.now) (around_of around.now) (option_map expr_of test.now)
+            main out (emitted self.old)) }
     {
         match test {
             None => Ok(()),
@@ -440,7 +482,10 @@ impl Emitter {
         body: &[Stmt],
     ) -> Result<(), NoMemory>
         requires { self.old.is_open ≡ true }
-        ensures { OnOk result ((at : Place) → Emits (names_in context.now) (slots_in context.now) (around_of around.now) (ForStmt at (simple_of init.now) (option_map expr_of test.now) (simple_of step.now) (body_of body.now)) (emitted self.old) (emitted self.new)) }
+        ensures { OnOk result ((at : Place)
+            → Emits (names_in context.now) (slots_in context.now) (around_of around.now)
+            (ForStmt at (simple_of init.now) (option_map expr_of test.now) (simple_of step.now)
+            (body_of body.now)) (emitted self.old) (emitted self.new)) }
     {
         let init_size = part_size(around.looped.tried, init)?;
         let size = body_size(false, body)?;
@@ -474,7 +519,10 @@ impl Emitter {
         handler: &[Stmt],
     ) -> Result<(), NoMemory>
         requires { self.old.is_open ≡ true }
-        ensures { OnOk result ((at : Place) (catch : Place) → Emits (names_in context.now) (slots_in context.now) (around_of around.now) (TryStmt at (body_of body.now) catch error.now (body_of handler.now)) (emitted self.old) (emitted self.new)) }
+        ensures { OnOk result ((at : Place) (catch : Place)
+            → Emits (names_in context.now) (slots_in context.now) (around_of around.now)
+            (TryStmt at (body_of body.now) catch error.now (body_of handler.now)) (emitted self.old)
+            (emitted self.new)) }
     {
         let size = body_size(true, body)?;
         let handler_size = body_size(around.looped.tried, handler)?;
@@ -507,7 +555,9 @@ impl Emitter {
         branches: &[When],
     ) -> Result<(), NoMemory>
         requires { self.old.is_open ≡ true }
-        ensures { OnOk result ((at : Place) → Emits (names_in context.now) (slots_in context.now) (around_of around.now) (ChooseStmt at (branches_of branches.now)) (emitted self.old) (emitted self.new)) }
+        ensures { OnOk result ((at : Place)
+            → Emits (names_in context.now) (slots_in context.now) (around_of around.now)
+            (ChooseStmt at (branches_of branches.now)) (emitted self.old) (emitted self.new)) }
     {
         let first = self.block()?;
         let size = branches_size(around.looped.tried, branches)?;
@@ -529,7 +579,9 @@ impl Emitter {
         around: &Around,
         branches: &[When],
     ) -> Result<(), NoMemory>
-        ensures { OnOk result (EmitsBranches (names_in context.now) (slots_in context.now) (around_of around.now) (branches_of branches.now) (emitted self.old) (emitted self.new)) }
+        ensures { OnOk result (EmitsBranches (names_in context.now) (slots_in context.now)
+            (around_of around.now) (branches_of branches.now) (emitted self.old)
+            (emitted self.new)) }
     {
         for branch in branches {
             self.begin();

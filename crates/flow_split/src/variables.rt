@@ -17,21 +17,24 @@ use flow_tree::ty::Ident;
 impl<'a> Context<'a> {
     /// An expression over places.
     pub fn over(&self, scopes: &Scopes, expr: &Expr) -> Result<Expr, NoMemory>
-        ensures { IfOk result (λ e. expr_of e ≡ over (slots_in self.now) scopes.now (expr_of expr.now)) }
+        ensures { IfOk result (λ e. expr_of e
+            ≡ over (slots_in self.now) scopes.now (expr_of expr.now)) }
     {
         over(self.alloc, &self.layout.slots, scopes, expr)
     }
 
     /// Expressions over places, in the same order.
     pub fn over_all(&self, scopes: &Scopes, exprs: &[Expr]) -> Result<Vec<Expr>, NoMemory>
-        ensures { IfOk result (λ v. exprs_of v.items ≡ over_all (slots_in self.now) scopes.now (exprs_of exprs.now)) }
+        ensures { IfOk result (λ v. exprs_of v.items
+            ≡ over_all (slots_in self.now) scopes.now (exprs_of exprs.now)) }
     {
         over_all(self.alloc, &self.layout.slots, scopes, exprs)
     }
 
     /// A path over places.
     pub fn path_over(&self, scopes: &Scopes, path: &[Ident]) -> Result<Target, NoMemory>
-        ensures { IfOk result (λ t. t.path.items ≡ path_over (slots_in self.now) scopes.now path.now) }
+        ensures { IfOk result (λ t. t.path.items
+            ≡ path_over (slots_in self.now) scopes.now path.now) }
     {
         path_over(self.alloc, &self.layout.slots, scopes, path)
     }

@@ -33,7 +33,8 @@ fn add_named(
     name: &Ident,
     found: &mut Vec<Use>,
 ) -> Result<(), NoMemory>
-    ensures { IfOk result (λ _. found.new.items ≡ found.old.items ++ named (in_force variables.now) point name.now) }
+    ensures { IfOk result (λ _. found.new.items
+        ≡ found.old.items ++ named (in_force variables.now) point name.now) }
 {
     add(found, variables.mention(point, name))
 }
@@ -46,7 +47,8 @@ pub fn add_expr(
     expr: &Expr,
     found: &mut Vec<Use>,
 ) -> Result<(), NoMemory>
-    ensures { IfOk result (λ _. found.new.items ≡ found.old.items ++ expr_uses (in_force variables.now) point (expr_of expr.now)) }
+    ensures { IfOk result (λ _. found.new.items
+        ≡ found.old.items ++ expr_uses (in_force variables.now) point (expr_of expr.now)) }
 {
     match expr {
         Expr::Int(_) => Ok(()),
@@ -79,7 +81,8 @@ pub fn add_exprs(
     exprs: &[Expr],
     found: &mut Vec<Use>,
 ) -> Result<(), NoMemory>
-    ensures { IfOk result (λ _. found.new.items ≡ found.old.items ++ exprs_uses (in_force variables.now) point (exprs_of exprs.now)) }
+    ensures { IfOk result (λ _. found.new.items
+        ≡ found.old.items ++ exprs_uses (in_force variables.now) point (exprs_of exprs.now)) }
 {
     for expr in exprs {
         add_expr(variables, point, expr, found)?;
@@ -94,7 +97,9 @@ pub fn add_maybe(
     expr: &Option<Expr>,
     found: &mut Vec<Use>,
 ) -> Result<(), NoMemory>
-    ensures { IfOk result (λ _. found.new.items ≡ found.old.items ++ maybe_uses (in_force variables.now) point (option_map expr_of expr.now)) }
+    ensures { IfOk result (λ _. found.new.items
+        ≡ found.old.items ++ maybe_uses (in_force variables.now) point
+        (option_map expr_of expr.now)) }
 {
     match expr {
         Some(expr) => add_expr(variables, point, expr, found),
@@ -109,7 +114,8 @@ pub fn add_target(
     target: &Target,
     found: &mut Vec<Use>,
 ) -> Result<(), NoMemory>
-    ensures { IfOk result (λ _. found.new.items ≡ found.old.items ++ target_uses (in_force variables.now) point target.now.path.items) }
+    ensures { IfOk result (λ _. found.new.items
+        ≡ found.old.items ++ target_uses (in_force variables.now) point target.now.path.items) }
 {
     match target.path.first() {
         Some(name) => add_named(variables, point, name, found),
@@ -124,7 +130,8 @@ pub fn add_base(
     target: &Target,
     found: &mut Vec<Use>,
 ) -> Result<(), NoMemory>
-    ensures { IfOk result (λ _. found.new.items ≡ found.old.items ++ base_uses (in_force variables.now) point target.now.path.items) }
+    ensures { IfOk result (λ _. found.new.items
+        ≡ found.old.items ++ base_uses (in_force variables.now) point target.now.path.items) }
 {
     if target.path.len() > 1 {
         return add_target(variables, point, target, found);
@@ -139,7 +146,8 @@ pub fn add_change(
     change: &Change,
     found: &mut Vec<Use>,
 ) -> Result<(), NoMemory>
-    ensures { IfOk result (λ _. found.new.items ≡ found.old.items ++ change_uses (in_force variables.now) point (change_of change.now)) }
+    ensures { IfOk result (λ _. found.new.items
+        ≡ found.old.items ++ change_uses (in_force variables.now) point (change_of change.now)) }
 {
     match change {
         Change::Plus(expr) => add_expr(variables, point, expr, found),

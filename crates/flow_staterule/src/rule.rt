@@ -120,7 +120,8 @@ fn is_lost_with(
     number: usize,
     waits: usize,
 ) -> Result<bool, NoMemory>
-    ensures { IfOk result (λ b. b ≡ is_lost_with (params_of params.now) (body_of body.now) number waits) }
+    ensures { IfOk result (λ b. b ≡ is_lost_with (params_of params.now) (body_of body.now) number
+        waits) }
 {
     let uses = uses_in(alloc, Looked(waits), params, body)?;
     match uses.get(number) {

@@ -109,7 +109,8 @@ impl<'a> Variables<'a> {
     /// Declares a variable.
     #[tactic(auto, using(crate::proofs::InForce::one_more, crate::proofs::InForce::take_before))]
     pub fn declare(&mut self, name: &'a Name, local: Option<Place>) -> Result<(), NoMemory>
-        ensures declares { IfOk result (λ _. in_force self.new ≡ record { name = name.now; local = local } ∷ in_force self.old) }
+        ensures declares { IfOk result (λ _. in_force self.new
+            ≡ record { name = name.now; local = local } ∷ in_force self.old) }
         ensures keeps { IfOk result (λ _. Extends self.old self.new) }
     {
         self.list.push(Variable { name, local })?;
@@ -118,7 +119,8 @@ impl<'a> Variables<'a> {
 
     /// Declares a variable of a statement.
     pub fn declare_into(&mut self, into: &'a Into) -> Result<(), NoMemory>
-        ensures declares { IfOk result (λ _. in_force self.new ≡ declared (into_of into.now) ∷ in_force self.old) }
+        ensures declares { IfOk result (λ _. in_force self.new
+            ≡ declared (into_of into.now) ∷ in_force self.old) }
         ensures keeps { IfOk result (λ _. Extends self.old self.new) }
     {
         let local = if into.state { None } else { Some(into.name.at) };

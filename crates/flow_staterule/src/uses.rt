@@ -59,7 +59,9 @@ pub fn uses_in<'a>(
     params: &'a [Param],
     body: &'a [Stmt],
 ) -> Result<Vec<Use>, NoMemory>
-    ensures { IfOk result (λ v. v.items ≡ uses looked.0 (reverse (map parameter (map param_of params.now))) begins None (body_of body.now)) }
+    ensures { IfOk result (λ v. v.items
+        ≡ uses looked.0 (reverse (map parameter (map param_of params.now))) begins None
+        (body_of body.now)) }
 {
     let mut finder = Finder {
         variables: declared_params(alloc, params)?,
@@ -89,7 +91,10 @@ fn declared_params<'a>(alloc: Global, params: &'a [Param]) -> Result<Variables<'
 impl Here {
     /// What is known behind a body that leads to none of what follows it: how many waits are looked for.
     fn past(self, body: &[Stmt]) -> Here
-        ensures { result ≡ record self { looked = record { 0 = left self.looked.0 (body_of body.now) } } }
+        ensures { result ≡ record self {
+          looked = record
+              { 0 = left self.looked.0 (body_of body.now) };
+        } }
     {
         Here {
             looked: self.looked.body(body).looked,
@@ -99,7 +104,10 @@ impl Here {
 
     /// What is known in the rounds of a loop, with so many variables in force.
     fn round(self, variables: usize, body: &[Stmt]) -> Here
-        ensures { result ≡ record self { point = behind variables self.point (head (ways self.looked.0 (body_of body.now))) } }
+        ensures { result ≡ record self {
+          point = behind variables self.point
+              (head (ways self.looked.0 (body_of body.now)));
+        } }
     {
         Here {
             point: self
@@ -115,7 +123,8 @@ impl<'a> Finder<'a> {
     #[tactic(auto, using(crate::proofs::Adding::body_next, crate::proofs::Adding::body_end, crate::proofs::InForce::take_twice, crate::proofs::InForce::take_all))]
     #[cycle(uses)]
     fn body(&mut self, here: Here, stmts: &'a [Stmt]) -> Result<(), NoMemory>
-        ensures uses { IfOk result (λ _. self.new.uses.items ≡ found self.old here (body_of stmts.now)) }
+        ensures uses { IfOk result (λ _. self.new.uses.items
+            ≡ found self.old here (body_of stmts.now)) }
         ensures keeps { IfOk result (λ _. Extends self.old.variables self.new.variables) }
     {
         let mut next = here;
@@ -129,7 +138,8 @@ impl<'a> Finder<'a> {
     #[cycle(uses)]
     fn stmt(&mut self, here: Here, stmt: &'a Stmt) -> Result<Here, NoMemory>
         ensures finds { IfOk result (λ _. Finds self.old self.new here (stmt_of stmt.now)) }
-        ensures behind { IfOk result (λ h. h ≡ known_behind (in_force self.old.variables) here (stmt_of stmt.now End)) }
+        ensures behind { IfOk result (λ h. h
+            ≡ known_behind (in_force self.old.variables) here (stmt_of stmt.now End)) }
         ensures keeps { IfOk result (λ _. Extends self.old.variables self.new.variables) }
     {
         let behind = self.behind(here, stmt);
@@ -153,8 +163,10 @@ impl<'a> Finder<'a> {
     /// Statements in a scope of their own.
     #[cycle(uses)]
     fn scope(&mut self, here: Here, stmts: &'a Vec<Stmt>) -> Result<(), NoMemory>
-        ensures uses { IfOk result (λ _. self.new.uses.items ≡ found self.old here (body_of stmts.now.items)) }
-        ensures variables { IfOk result (λ _. self.new.variables.list.items ≡ self.old.variables.list.items) }
+        ensures uses { IfOk result (λ _. self.new.uses.items
+            ≡ found self.old here (body_of stmts.now.items)) }
+        ensures variables { IfOk result (λ _. self.new.variables.list.items
+            ≡ self.old.variables.list.items) }
     {
         let count = self.variables.count();
         self.body(here, stmts)?;
@@ -251,16 +263,22 @@ impl<'a> Finder<'a> {
 
     /// The uses in an expression.
     fn expr(&mut self, here: Here, expr: &Expr) -> Result<(), NoMemory>
-        ensures uses { IfOk result (λ _. self.new.uses.items ≡ self.old.uses.items ++ expr_uses (in_force self.old.variables) here.point (expr_of expr.now)) }
-        ensures variables { IfOk result (λ _. self.new.variables.list.items ≡ self.old.variables.list.items) }
+        ensures uses { IfOk result (λ _. self.new.uses.items
+            ≡ self.old.uses.items ++ expr_uses (in_force self.old.variables) here.point
+            (expr_of expr.now)) }
+        ensures variables { IfOk result (λ _. self.new.variables.list.items
+            ≡ self.old.variables.list.items) }
     {
         add_expr(&self.variables, here.point, expr, &mut self.uses)
     }
 
     /// The uses in an expression, where it is there.
     fn maybe(&mut self, here: Here, expr: &Option<Expr>) -> Result<(), NoMemory>
-        ensures uses { IfOk result (λ _. self.new.uses.items ≡ self.old.uses.items ++ maybe_uses (in_force self.old.variables) here.point (option_map expr_of expr.now)) }
-        ensures variables { IfOk result (λ _. self.new.variables.list.items ≡ self.old.variables.list.items) }
+        ensures uses { IfOk result (λ _. self.new.uses.items
+            ≡ self.old.uses.items ++ maybe_uses (in_force self.old.variables) here.point
+            (option_map expr_of expr.now)) }
+        ensures variables { IfOk result (λ _. self.new.variables.list.items
+            ≡ self.old.variables.list.items) }
     {
         add_maybe(&self.variables, here.point, expr, &mut self.uses)
     }
@@ -268,8 +286,11 @@ impl<'a> Finder<'a> {
     /// The body of an `else`, where it is there.
     #[cycle(uses)]
     fn otherwise(&mut self, here: Here, body: &'a Option<Vec<Stmt>>) -> Result<(), NoMemory>
-        ensures uses { IfOk result (λ _. self.new.uses.items ≡ self.old.uses.items ++ else_uses here.looked.0 (in_force self.old.variables) here.point here.caught (else_of body.now)) }
-        ensures variables { IfOk result (λ _. self.new.variables.list.items ≡ self.old.variables.list.items) }
+        ensures uses { IfOk result (λ _. self.new.uses.items
+            ≡ self.old.uses.items ++ else_uses here.looked.0 (in_force self.old.variables)
+            here.point here.caught (else_of body.now)) }
+        ensures variables { IfOk result (λ _. self.new.variables.list.items
+            ≡ self.old.variables.list.items) }
     {
         match body {
             Some(body) => self.scope(here, body),
@@ -279,8 +300,10 @@ impl<'a> Finder<'a> {
 
     /// What is known in the rounds of a `for`, behind its init.
     fn round(&self, begun: Here, step: &Option<Box<Stmt>>, body: &Vec<Stmt>) -> Round
-        ensures body { result.body ≡ for_body (length (in_force self.now.variables)) begun (simple_of step.now) (body_of body.now.items) }
-        ensures step { result.step ≡ for_step (length (in_force self.now.variables)) begun (simple_of step.now) (body_of body.now.items) }
+        ensures body { result.body ≡ for_body (length (in_force self.now.variables)) begun
+            (simple_of step.now) (body_of body.now.items) }
+        ensures step { result.step ≡ for_step (length (in_force self.now.variables)) begun
+            (simple_of step.now) (body_of body.now.items) }
     {
         let stepped = begun.looked.part(step);
         let inner = stepped.looked.body(body).ways;
@@ -305,9 +328,12 @@ impl<'a> Finder<'a> {
     #[tactic(auto, using(crate::proofs::Adding::none_behind, crate::proofs::Adding::none_found, crate::proofs::Adding::part_found, crate::proofs::InForce::take_all))]
     #[cycle(uses)]
     fn part(&mut self, here: Here, part: &'a Option<Box<Stmt>>) -> Result<Here, NoMemory>
-        ensures uses { IfOk result (λ _. self.new.uses.items ≡ found self.old here (simple_of part.now)) }
-        ensures behind { IfOk result (λ h. h ≡ known_behind (in_force self.old.variables) here (simple_of part.now)) }
-        ensures variables { IfOk result (λ _. in_force self.new.variables ≡ declaring (in_force self.old.variables) (simple_of part.now)) }
+        ensures uses { IfOk result (λ _. self.new.uses.items
+            ≡ found self.old here (simple_of part.now)) }
+        ensures behind { IfOk result (λ h. h
+            ≡ known_behind (in_force self.old.variables) here (simple_of part.now)) }
+        ensures variables { IfOk result (λ _. in_force self.new.variables
+            ≡ declaring (in_force self.old.variables) (simple_of part.now)) }
         ensures keeps { IfOk result (λ _. Extends self.old.variables self.new.variables) }
     {
         match part {
@@ -319,8 +345,10 @@ impl<'a> Finder<'a> {
     /// The step of a `for`, where it is there.
     #[cycle(uses)]
     fn step(&mut self, here: Here, part: &'a Option<Box<Stmt>>) -> Result<(), NoMemory>
-        ensures uses { IfOk result (λ _. self.new.uses.items ≡ found self.old here (simple_of part.now)) }
-        ensures variables { IfOk result (λ _. self.new.variables.list.items ≡ self.old.variables.list.items) }
+        ensures uses { IfOk result (λ _. self.new.uses.items
+            ≡ found self.old here (simple_of part.now)) }
+        ensures variables { IfOk result (λ _. self.new.variables.list.items
+            ≡ self.old.variables.list.items) }
     {
         let count = self.variables.count();
         self.part(here, part)?;
@@ -330,7 +358,8 @@ impl<'a> Finder<'a> {
 
     /// What is known in the handler of a `try` with this body.
     fn caught(&self, here: Here, body: &[Stmt], error: &Ident) -> Here
-        ensures { result ≡ in_handler (length (in_force self.now.variables)) here (body_of body.now) error.now }
+        ensures { result ≡ in_handler (length (in_force self.now.variables)) here (body_of body.now)
+            error.now }
     {
         let passed = here.looked.body(body);
         let number = self.variables.count();
@@ -352,8 +381,12 @@ impl<'a> Finder<'a> {
         error: &'a Ident,
         handler: &'a Vec<Stmt>,
     ) -> Result<(), NoMemory>
-        ensures uses { IfOk result (λ _. self.new.uses.items ≡ self.old.uses.items ++ uses here.looked.0 (caught_as error.now ∷ in_force self.old.variables) here.point here.caught (body_of handler.now.items)) }
-        ensures variables { IfOk result (λ _. self.new.variables.list.items ≡ self.old.variables.list.items) }
+        ensures uses { IfOk result (λ _. self.new.uses.items
+            ≡ self.old.uses.items ++ uses here.looked.0
+            (caught_as error.now ∷ in_force self.old.variables) here.point here.caught
+            (body_of handler.now.items)) }
+        ensures variables { IfOk result (λ _. self.new.variables.list.items
+            ≡ self.old.variables.list.items) }
     {
         let count = self.variables.count();
         self.variables.declare(&error.name, Some(error.at))?;
@@ -366,8 +399,11 @@ impl<'a> Finder<'a> {
     #[tactic(auto, using(crate::proofs::Adding::branches_next, crate::proofs::Adding::branches_end))]
     #[cycle(uses)]
     fn choose(&mut self, here: Here, branches: &'a [When]) -> Result<(), NoMemory>
-        ensures uses { IfOk result (λ _. self.new.uses.items ≡ self.old.uses.items ++ choose_uses here.looked.0 (in_force self.old.variables) here.point here.caught (branches_of branches.now)) }
-        ensures variables { IfOk result (λ _. self.new.variables.list.items ≡ self.old.variables.list.items) }
+        ensures uses { IfOk result (λ _. self.new.uses.items
+            ≡ self.old.uses.items ++ choose_uses here.looked.0 (in_force self.old.variables)
+            here.point here.caught (branches_of branches.now)) }
+        ensures variables { IfOk result (λ _. self.new.variables.list.items
+            ≡ self.old.variables.list.items) }
     {
         let count = self.variables.count();
         let point = here.point.behind(count, here.looked.waited());
@@ -387,8 +423,10 @@ impl<'a> Finder<'a> {
     #[tactic(auto, using(crate::proofs::EachKind::after_branch))]
     #[cycle(uses)]
     fn branch(&mut self, point: Point, here: Here, branch: &'a When) -> Result<Here, NoMemory>
-        ensures uses { IfOk result (λ h. (bs : Branches) → in_branches self.new point h bs ≡ in_branches self.old point here (branch_of branch.now bs)) }
-        ensures variables { IfOk result (λ _. self.new.variables.list.items ≡ self.old.variables.list.items) }
+        ensures uses { IfOk result (λ h. (bs : Branches) → in_branches self.new point h bs
+            ≡ in_branches self.old point here (branch_of branch.now bs)) }
+        ensures variables { IfOk result (λ _. self.new.variables.list.items
+            ≡ self.old.variables.list.items) }
     {
         let next = here.past(&branch.body);
         let count = self.variables.count();
@@ -406,7 +444,8 @@ impl<'a> Finder<'a> {
 
     /// Declares the variable of a wait.
     fn bind(&mut self, waiting: &'a Waiting) -> Result<(), NoMemory>
-        ensures variables { IfOk result (λ _. in_force self.new.variables ≡ with_into (in_force self.old.variables) (waiting_of waiting.now).into) }
+        ensures variables { IfOk result (λ _. in_force self.new.variables
+            ≡ with_into (in_force self.old.variables) (waiting_of waiting.now).into) }
         ensures keeps { IfOk result (λ _. Extends self.old.variables self.new.variables) }
         ensures uses { IfOk result (λ _. self.new.uses.items ≡ self.old.uses.items) }
     {
@@ -418,8 +457,11 @@ impl<'a> Finder<'a> {
 
     /// A `throw`: without a value it uses the variable of the innermost catch.
     fn thrown(&mut self, here: Here, at: Place, value: &Option<Expr>) -> Result<(), NoMemory>
-        ensures uses { IfOk result (λ _. self.new.uses.items ≡ self.old.uses.items ++ thrown_uses here.point here.caught at (option_map expr_of value.now) (in_force self.old.variables)) }
-        ensures variables { IfOk result (λ _. self.new.variables.list.items ≡ self.old.variables.list.items) }
+        ensures uses { IfOk result (λ _. self.new.uses.items
+            ≡ self.old.uses.items ++ thrown_uses here.point here.caught at
+            (option_map expr_of value.now) (in_force self.old.variables)) }
+        ensures variables { IfOk result (λ _. self.new.variables.list.items
+            ≡ self.old.variables.list.items) }
     {
         match value {
             Some(value) => self.expr(here, value),

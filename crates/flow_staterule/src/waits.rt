@@ -22,7 +22,8 @@ pub fn wait_places(alloc: Global, stmts: &[Stmt]) -> Result<Vec<Place>, NoMemory
 #[tactic(auto, using(crate::proofs::Places::body_next, crate::proofs::Places::body_end))]
 #[cycle(waits)]
 fn list_body(places: &mut Vec<Place>, stmts: &[Stmt]) -> Result<(), NoMemory>
-    ensures { IfOk result (λ _. places.new.items ≡ places.old.items ++ wait_places (body_of stmts.now)) }
+    ensures { IfOk result (λ _. places.new.items
+        ≡ places.old.items ++ wait_places (body_of stmts.now)) }
 {
     for stmt in stmts {
         list_stmt(places, stmt)?;
@@ -32,7 +33,8 @@ fn list_body(places: &mut Vec<Place>, stmts: &[Stmt]) -> Result<(), NoMemory>
 
 #[cycle(waits)]
 fn list_stmt(places: &mut Vec<Place>, stmt: &Stmt) -> Result<(), NoMemory>
-    ensures { IfOk result (λ _. (k : Body) → places.new.items ++ wait_places k ≡ places.old.items ++ wait_places (stmt_of stmt.now k)) }
+    ensures { IfOk result (λ _. (k : Body) → places.new.items ++ wait_places k
+        ≡ places.old.items ++ wait_places (stmt_of stmt.now k)) }
 {
     match &stmt.kind {
         StmtKind::Block(body) => {
@@ -85,7 +87,8 @@ fn list_stmt(places: &mut Vec<Place>, stmt: &Stmt) -> Result<(), NoMemory>
 
 #[cycle(waits)]
 fn list_else(places: &mut Vec<Place>, body: &Option<Vec<Stmt>>) -> Result<(), NoMemory>
-    ensures { IfOk result (λ _. places.new.items ≡ places.old.items ++ else_places (else_of body.now)) }
+    ensures { IfOk result (λ _. places.new.items
+        ≡ places.old.items ++ else_places (else_of body.now)) }
 {
     match body {
         Some(body) => list_body(places, body),
@@ -95,7 +98,8 @@ fn list_else(places: &mut Vec<Place>, body: &Option<Vec<Stmt>>) -> Result<(), No
 
 #[cycle(waits)]
 fn list_part(places: &mut Vec<Place>, part: &Option<Box<Stmt>>) -> Result<(), NoMemory>
-    ensures { IfOk result (λ _. places.new.items ≡ places.old.items ++ wait_places (simple_of part.now)) }
+    ensures { IfOk result (λ _. places.new.items
+        ≡ places.old.items ++ wait_places (simple_of part.now)) }
 {
     match part {
         Some(stmt) => {
@@ -109,7 +113,8 @@ fn list_part(places: &mut Vec<Place>, part: &Option<Box<Stmt>>) -> Result<(), No
 #[tactic(auto, using(crate::proofs::Places::branches_next, crate::proofs::Places::branches_end))]
 #[cycle(waits)]
 fn list_branches(places: &mut Vec<Place>, branches: &[When]) -> Result<(), NoMemory>
-    ensures { IfOk result (λ _. places.new.items ≡ places.old.items ++ branch_places (branches_of branches.now)) }
+    ensures { IfOk result (λ _. places.new.items
+        ≡ places.old.items ++ branch_places (branches_of branches.now)) }
 {
     for branch in branches {
         list_branch(places, branch)?;
@@ -119,7 +124,8 @@ fn list_branches(places: &mut Vec<Place>, branches: &[When]) -> Result<(), NoMem
 
 #[cycle(waits)]
 fn list_branch(places: &mut Vec<Place>, branch: &When) -> Result<(), NoMemory>
-    ensures { IfOk result (λ _. (bs : Branches) → places.new.items ++ branch_places bs ≡ places.old.items ++ branch_places (branch_of branch.now bs)) }
+    ensures { IfOk result (λ _. (bs : Branches) → places.new.items ++ branch_places bs
+        ≡ places.old.items ++ branch_places (branch_of branch.now bs)) }
 {
     list_body(places, &branch.body)?;
     Ok(())

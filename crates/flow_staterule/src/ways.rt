@@ -96,7 +96,13 @@ impl Ways {
 
     /// A `break`.
     fn breaking() -> Ways
-        ensures { result ≡ record { ends = never; breaks = at_once; continues = never; throws = at_once } }
+        ensures { result ≡ record {
+          ends = never;
+          breaks = at_once;
+          continues = never;
+          throws =
+              at_once;
+        } }
     {
         Ways {
             breaks: Reached::AT_ONCE,
@@ -106,7 +112,13 @@ impl Ways {
 
     /// A `continue`.
     fn continuing() -> Ways
-        ensures { result ≡ record { ends = never; breaks = never; continues = at_once; throws = at_once } }
+        ensures { result ≡ record {
+          ends = never;
+          breaks = never;
+          continues = at_once;
+          throws =
+              at_once;
+        } }
     {
         Ways {
             continues: Reached::AT_ONCE,
@@ -272,8 +284,10 @@ impl Looked {
     #[tactic(auto, using(crate::proofs::Passing::past_two, crate::proofs::EachWay::waits_while, crate::proofs::EachWay::waits_loop, crate::proofs::EachWay::waits_try, crate::proofs::EachWay::waits_for, crate::proofs::EachWay::waits_choose, crate::proofs::EachWay::waits_if, crate::proofs::EachWay::ways_if, crate::proofs::EachWay::ways_for, crate::proofs::EachWay::ways_choose))]
     #[cycle(ways)]
     pub fn stmt(self, stmt: &Stmt) -> Passed
-        ensures ways { (k : Body) → ways self.0 (stmt_of stmt.now k) ≡ sequence result.ways (ways result.looked.0 k) }
-        ensures looked { (k : Body) → self.0 - length (body_groups (stmt_of stmt.now k)) ≡ result.looked.0 - length (body_groups k) }
+        ensures ways { (k : Body) → ways self.0 (stmt_of stmt.now k)
+            ≡ sequence result.ways (ways result.looked.0 k) }
+        ensures looked { (k : Body) → self.0 - length (body_groups (stmt_of stmt.now k))
+            ≡ result.looked.0 - length (body_groups k) }
     {
         match &stmt.kind {
             StmtKind::Block(body) => self.joined(Ways::node(Reached::AT_ONCE), body),
@@ -383,7 +397,8 @@ impl Looked {
     #[cycle(ways)]
     fn branches(self, branches: &[When]) -> Passed
         ensures ways { result.ways ≡ branch_ways self.0 (branches_of branches.now) }
-        ensures looked { result.looked.0 ≡ self.0 - length (branch_groups (branches_of branches.now)) }
+        ensures looked { result.looked.0 ≡ self.0 - length
+            (branch_groups (branches_of branches.now)) }
     {
         let mut passed = self.none_of(Ways::node(Reached::NEVER));
         for branch in branches {
@@ -400,8 +415,10 @@ impl Looked {
     #[tactic(auto, using(crate::proofs::Passing::past_two))]
     #[cycle(ways)]
     fn branch(self, branch: &When) -> Passed
-        ensures ways { (k : Branches) → branch_ways self.0 (branch_of branch.now k) ≡ both result.ways (branch_ways result.looked.0 k) }
-        ensures looked { (k : Branches) → self.0 - length (branch_groups (branch_of branch.now k)) ≡ result.looked.0 - length (branch_groups k) }
+        ensures ways { (k : Branches) → branch_ways self.0 (branch_of branch.now k)
+            ≡ both result.ways (branch_ways result.looked.0 k) }
+        ensures looked { (k : Branches) → self.0 - length (branch_groups (branch_of branch.now k))
+            ≡ result.looked.0 - length (branch_groups k) }
     {
         self.body(&branch.body)
     }

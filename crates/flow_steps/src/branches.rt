@@ -59,8 +59,10 @@ impl Process {
 
     // A copy of what a single result holds, whose references count.
     fn copied_from(&mut self, cell: CellId) -> Result<Outcome, Fault>
-        ensures copy { IfOk result (λ o. content_in self.old.heap.cells cell.0 ≡ Some (outcome_of o)) }
-        ensures counted { IfOk result (λ o. self.new ≡ on_heap (hold_all (outcome_refs o)) self.old) }
+        ensures copy { IfOk result (λ o. content_in self.old.heap.cells cell.0
+            ≡ Some (outcome_of o)) }
+        ensures counted { IfOk result (λ o. self.new
+            ≡ on_heap (hold_all (outcome_refs o)) self.old) }
     {
         if self.heap.cells().references(cell).is_none() {
             return Err(Fault::Astray);
@@ -75,8 +77,11 @@ impl Process {
 
     // The first element of a stream, or else its end.
     fn popped_from(&mut self, cell: CellId) -> Result<Outcome, Fault>
-        ensures first { IfOk result (λ o. IsSomeAnd (thing self.old.heap.streams.things cell.0) (λ s. head s.queue s.end ≡ head_of o)) }
-        ensures rest { OnOk result (IsSomeAnd (thing self.old.heap.streams.things cell.0) (λ s. self.new ≡ on_heap (stream_put cell.0 (record s { queue = tail s.queue })) self.old)) }
+        ensures first { IfOk result (λ o. IsSomeAnd (thing self.old.heap.streams.things cell.0)
+            (λ s. head s.queue s.end ≡ head_of o)) }
+        ensures rest { OnOk result (IsSomeAnd (thing self.old.heap.streams.things cell.0)
+            (λ s. self.new ≡ on_heap (stream_put cell.0 (record s { queue = tail s.queue }))
+            self.old)) }
     {
         if self.heap.streams().references(cell).is_none() {
             return Err(Fault::Astray);

@@ -80,7 +80,8 @@ impl Process {
         kind: Kind,
     ) -> Result<CellId, Fault>
         ensures number { IfOk result (λ k. k.0 ≡ next_cell self.old.heap) }
-        ensures given { IfOk result (λ k. Gives goal actor (Ref kind k) (on_heap (made kind) self.old) self.new) }
+        ensures given { IfOk result (λ k. Gives goal actor (Ref kind k)
+            (on_heap (made kind) self.old) self.new) }
     {
         let cell = self.new_cell(kind)?;
         self.gives(actor, goal, Value::Ref(kind, cell))?;

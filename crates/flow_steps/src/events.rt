@@ -36,7 +36,8 @@ impl Process {
 
     /// The answer to an open request: its cell is set and fires, and then the request's promise is dropped.
     pub fn answer(&mut self, cell: CellId, outcome: Outcome) -> Result<(), Fault>
-        ensures { OnOk result (self.new ≡ brought kind.Promise cell.0 outcome (on_heap (answered cell.0) self.old)) }
+        ensures { OnOk result (self.new ≡ brought kind.Promise cell.0 outcome
+            (on_heap (answered cell.0) self.old)) }
     {
         if !self.heap.is_requested(cell) {
             return Err(Fault::Astray);
@@ -48,7 +49,8 @@ impl Process {
 
     /// An element comes to a port's stream, which fires.
     pub fn bring(&mut self, cell: CellId, item: Value) -> Result<(), Fault>
-        ensures { OnOk result (self.new ≡ brought kind.PromiseStream cell.0 (outcome.Value item) self.old) }
+        ensures { OnOk result (self.new ≡ brought kind.PromiseStream cell.0 (outcome.Value item)
+            self.old) }
     {
         self.give_in(Kind::PromiseStream, cell, Outcome::Value(item))
     }

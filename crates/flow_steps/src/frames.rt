@@ -125,8 +125,10 @@ impl Process {
         value: Option<Value>,
     ) -> Result<Option<Value>, Fault>
         ensures tasks { self.new.heap.tasks ≡ self.old.heap.tasks }
-        ensures changed { OnOk result (IsSomeAnd (thing self.old.heap.frames.things actor.0) (λ f. self.new ≡ on_heap (frame_put actor.0 (with_place f place value)) self.old)) }
-        ensures held { IfOk result (λ o. IsSomeAnd (thing self.old.heap.frames.things actor.0) (λ f. o ≡ slice_index_or f.places place None)) }
+        ensures changed { OnOk result (IsSomeAnd (thing self.old.heap.frames.things actor.0)
+            (λ f. self.new ≡ on_heap (frame_put actor.0 (with_place f place value)) self.old)) }
+        ensures held { IfOk result (λ o. IsSomeAnd (thing self.old.heap.frames.things actor.0)
+            (λ f. o ≡ slice_index_or f.places place None)) }
     {
         let Some(places) = self.heap.frames().places_of(actor) else {
             return Err(Fault::Astray);
@@ -140,7 +142,8 @@ impl Process {
     /// Has a frame go on at a block and an instruction of it.
     pub(crate) fn go(&mut self, actor: ActorId, block: u32, instruction: u32) -> Result<(), Fault>
         ensures tasks { self.new.heap.tasks ≡ self.old.heap.tasks }
-        ensures gone { OnOk result (IsSomeAnd (thing self.old.heap.frames.things actor.0) (λ f. self.new ≡ on_heap (frame_put actor.0 (gone_to block instruction f)) self.old)) }
+        ensures gone { OnOk result (IsSomeAnd (thing self.old.heap.frames.things actor.0)
+            (λ f. self.new ≡ on_heap (frame_put actor.0 (gone_to block instruction f)) self.old)) }
     {
         if !self.heap.frames().contains(actor) {
             return Err(Fault::Astray);

@@ -177,7 +177,8 @@ impl Process {
     }
 
     fn first_waiter(&self, cell: CellId) -> Option<Waiter>
-        ensures { ForSome (thing self.now.heap.cells.things cell.0) (λ c. result ≡ slice_get c.waiters 0) }
+        ensures { ForSome (thing self.now.heap.cells.things cell.0)
+            (λ c. result ≡ slice_get c.waiters 0) }
     {
         self.heap.cells().references(cell)?;
         self.heap.cells().first_waiter(cell)
@@ -209,7 +210,8 @@ impl Process {
     // The actor is gone: a turn and the line; then its result is set, where a future refers to it, and otherwise the cell
     // goes and the value is dropped.
     fn close(&mut self, actor: ActorId, outcome: Outcome) -> Result<(), Fault>
-        ensures { OnOk result (IsSomeAnd (thing self.old.heap.actors.things actor.0) (λ n. self.new ≡ closed actor outcome n.result self.old)) }
+        ensures { OnOk result (IsSomeAnd (thing self.old.heap.actors.things actor.0)
+            (λ n. self.new ≡ closed actor outcome n.result self.old)) }
     {
         let cell = self.forget(actor)?;
         self.close_result(actor, cell, outcome)?;
@@ -251,7 +253,8 @@ impl Process {
     // The frame of an actor is closed, and its result is told.
     fn forget(&mut self, actor: ActorId) -> Result<Option<CellId>, Fault>
         ensures gone { OnOk result (self.new ≡ on_heap (finished actor.0) self.old) }
-        ensures told { IfOk result (λ k. IsSomeAnd (thing self.old.heap.actors.things actor.0) (λ n. k ≡ n.result)) }
+        ensures told { IfOk result (λ k. IsSomeAnd (thing self.old.heap.actors.things actor.0)
+            (λ n. k ≡ n.result)) }
     {
         if !self.heap.unfinished(actor) || !self.heap.may_finish(actor) {
             return Err(Fault::Astray);
@@ -275,7 +278,9 @@ impl Process {
 
     // A promise of a single result counts no more, where others or futures do.
     fn end_promise(&mut self, cell: CellId) -> Result<(), Fault>
-        ensures { OnOk result (IsSomeAnd (thing self.old.heap.cells.things cell.0) (λ c. self.new ≡ on_heap (cell_put cell.0 (record c { references = released Promise c.references })) self.old)) }
+        ensures { OnOk result (IsSomeAnd (thing self.old.heap.cells.things cell.0)
+            (λ c. self.new ≡ on_heap (cell_put cell.0
+            (record c { references = released Promise c.references })) self.old)) }
     {
         let Some(references) = self.heap.cells().references(cell) else {
             return Err(Fault::Astray);

@@ -127,7 +127,8 @@ impl Process {
     #[tactic(auto, using(crate::proofs::Holding::value_dropped))]
     /// What an outcome holds is dropped.
     pub(crate) fn drop_outcome(&mut self, outcome: &Outcome) -> Result<(), Fault>
-        ensures { OnOk result (self.new ≡ on_heap (refs_dropped (outcome_refs outcome.now)) self.old) }
+        ensures { OnOk result (self.new ≡ on_heap (refs_dropped (outcome_refs outcome.now))
+            self.old) }
     {
         match outcome {
             Outcome::Value(value) => Ok(self.heap.push_drops(value)?),
@@ -137,7 +138,9 @@ impl Process {
 
     // A single result is set.
     fn set(&mut self, cell: CellId, outcome: Outcome) -> Result<(), Fault>
-        ensures { OnOk result (IsSomeAnd (thing self.old.heap.cells.things cell.0) (λ c. self.new ≡ on_heap (cell_put cell.0 (record c { content = Some outcome })) self.old)) }
+        ensures { OnOk result (IsSomeAnd (thing self.old.heap.cells.things cell.0)
+            (λ c. self.new ≡ on_heap (cell_put cell.0 (record c { content = Some outcome }))
+            self.old)) }
     {
         if self.heap.cells().references(cell).is_none()
             || self.heap.cells().content(cell).is_some()
@@ -150,7 +153,8 @@ impl Process {
 
     // A stream without an end gets an element.
     fn send(&mut self, cell: CellId, value: Value) -> Result<(), Fault>
-        ensures { OnOk result (IsSomeAnd (thing self.old.heap.streams.things cell.0) (λ s. self.new ≡ on_heap (stream_put cell.0 (with_item s value)) self.old)) }
+        ensures { OnOk result (IsSomeAnd (thing self.old.heap.streams.things cell.0)
+            (λ s. self.new ≡ on_heap (stream_put cell.0 (with_item s value)) self.old)) }
     {
         if self.heap.streams().references(cell).is_none() {
             return Err(Fault::Astray);
@@ -164,7 +168,9 @@ impl Process {
 
     // A stream without an end gets one.
     fn end(&mut self, cell: CellId, error: ErrorCode) -> Result<(), Fault>
-        ensures { OnOk result (IsSomeAnd (thing self.old.heap.streams.things cell.0) (λ s. self.new ≡ on_heap (stream_put cell.0 (record s { end = Some error })) self.old)) }
+        ensures { OnOk result (IsSomeAnd (thing self.old.heap.streams.things cell.0)
+            (λ s. self.new ≡ on_heap (stream_put cell.0 (record s { end = Some error }))
+            self.old)) }
     {
         if self.heap.streams().references(cell).is_none() {
             return Err(Fault::Astray);
@@ -178,7 +184,8 @@ impl Process {
 
     // A stream without an end gets an element or its end.
     fn send_outcome(&mut self, cell: CellId, outcome: Outcome) -> Result<(), Fault>
-        ensures { OnOk result (IsSomeAnd (thing self.old.heap.streams.things cell.0) (λ s. self.new ≡ on_heap (stream_put cell.0 (sent outcome s)) self.old)) }
+        ensures { OnOk result (IsSomeAnd (thing self.old.heap.streams.things cell.0)
+            (λ s. self.new ≡ on_heap (stream_put cell.0 (sent outcome s)) self.old)) }
     {
         match outcome {
             Outcome::Value(value) => self.send(cell, value),
@@ -305,7 +312,8 @@ impl Process {
 
     /// The kind of a reference to wait at a cell, if there is such a cell.
     pub(crate) fn kind_at(&self, cell: CellId) -> Option<Kind>
-        ensures { result ≡ kind_in (thing self.now.heap.cells.things cell.0) (thing self.now.heap.streams.things cell.0) }
+        ensures { result ≡ kind_in (thing self.now.heap.cells.things cell.0)
+            (thing self.now.heap.streams.things cell.0) }
     {
         if self.heap.cells().references(cell).is_some() {
             return Some(Kind::Future);

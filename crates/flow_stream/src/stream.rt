@@ -65,7 +65,8 @@ impl<T> Stream<T> {
     pub(crate) fn release(&mut self, side: Side) -> Loss
         requires { 0 < count_of side self.old.references }
         ensures loss { result ≡ loss side (released side self.old.references) }
-        ensures counts { self.new ≡ record self.old { references = released side self.old.references } }
+        ensures counts { self.new ≡ record self.old
+            { references = released side self.old.references } }
     {
         self.references.release(side)
     }

@@ -52,7 +52,8 @@ impl<T> Streams<T> {
     where
         T: Drop,
         requires { self.old.greatest < cell.0 }
-        ensures ok { OnOk result (self.new ≡ record { things = added self.old.things cell.0 empty; greatest = cell.0 }) }
+        ensures ok { OnOk result (self.new
+            ≡ record { things = added self.old.things cell.0 empty; greatest = cell.0 }) }
         ensures err { OnErr result (self.new ≡ self.old) }
     {
         self.streams.insert(cell.0, Stream::new(self.alloc))
@@ -79,8 +80,11 @@ impl<T> Streams<T> {
     /// Counts one more reference of a side, which stays below 2^64.
     pub fn hold(&mut self, cell: CellId, side: Side)
         requires there { IsSome (thing self.old.things cell.0) }
-        requires fits { ForSome (thing self.old.things cell.0) (λ s. count_of side s.references + 1 < 2 ^ 64) }
-        ensures { ForSome (thing self.old.things cell.0) (λ s. self.new ≡ with_thing self.old cell.0 (record s { references = held side s.references })) }
+        requires fits { ForSome (thing self.old.things cell.0)
+            (λ s. count_of side s.references + 1 < 2 ^ 64) }
+        ensures { ForSome (thing self.old.things cell.0)
+            (λ s. self.new ≡ with_thing self.old cell.0
+            (record s { references = held side s.references })) }
     {
         self.streams.get_mut(cell.0).hold(side);
     }
@@ -88,9 +92,13 @@ impl<T> Streams<T> {
     /// Counts one reference less of a side that counts, and says what that leaves.
     pub fn release(&mut self, cell: CellId, side: Side) -> Loss
         requires there { IsSome (thing self.old.things cell.0) }
-        requires counts { ForSome (thing self.old.things cell.0) (λ s. 0 < count_of side s.references) }
-        ensures loss { ForSome (thing self.old.things cell.0) (λ s. result ≡ loss side (released side s.references)) }
-        ensures counts { ForSome (thing self.old.things cell.0) (λ s. self.new ≡ with_thing self.old cell.0 (record s { references = released side s.references })) }
+        requires counts { ForSome (thing self.old.things cell.0)
+            (λ s. 0 < count_of side s.references) }
+        ensures loss { ForSome (thing self.old.things cell.0)
+            (λ s. result ≡ loss side (released side s.references)) }
+        ensures counts { ForSome (thing self.old.things cell.0)
+            (λ s. self.new ≡ with_thing self.old cell.0
+            (record s { references = released side s.references })) }
     {
         self.streams.get_mut(cell.0).release(side)
     }
@@ -102,7 +110,8 @@ impl<T> Streams<T> {
         T: Drop,
         requires there { IsSome (thing self.old.things cell.0) }
         requires endless { ForSome (thing self.old.things cell.0) (λ s. s.end ≡ None) }
-        ensures ok { ForSome (thing self.old.things cell.0) (λ s. OnOk result (self.new ≡ with_thing self.old cell.0 (with_item s item))) }
+        ensures ok { ForSome (thing self.old.things cell.0)
+            (λ s. OnOk result (self.new ≡ with_thing self.old cell.0 (with_item s item))) }
         ensures err { OnErr result (self.new ≡ self.old) }
     {
         self.streams.get_mut(cell.0).push(item)
@@ -112,7 +121,8 @@ impl<T> Streams<T> {
     pub fn end(&mut self, cell: CellId, error: ErrorCode)
         requires there { IsSome (thing self.old.things cell.0) }
         requires endless { ForSome (thing self.old.things cell.0) (λ s. s.end ≡ None) }
-        ensures { ForSome (thing self.old.things cell.0) (λ s. self.new ≡ with_thing self.old cell.0 (record s { end = Some error })) }
+        ensures { ForSome (thing self.old.things cell.0)
+            (λ s. self.new ≡ with_thing self.old cell.0 (record s { end = Some error })) }
     {
         self.streams.get_mut(cell.0).end(error);
     }
@@ -136,7 +146,8 @@ impl<T> Streams<T> {
     /// The element of a stream at a place from 0, the oldest first: `None` past the last.
     pub fn item(&self, cell: CellId, place: usize) -> Option<&T>
         requires { IsSome (thing self.now.things cell.0) }
-        ensures { ForSome (thing self.now.things cell.0) (λ s. option_copied result ≡ slice_get s.queue place) }
+        ensures { ForSome (thing self.now.things cell.0)
+            (λ s. option_copied result ≡ slice_get s.queue place) }
     {
         self.stream(cell).item(place)
     }
@@ -171,7 +182,8 @@ impl<T> Streams<T> {
     pub fn pop(&mut self, cell: CellId) -> Head<T>
         requires { IsSome (thing self.old.things cell.0) }
         ensures head { ForSome (thing self.old.things cell.0) (λ s. result ≡ head s.queue s.end) }
-        ensures rest { ForSome (thing self.old.things cell.0) (λ s. self.new ≡ with_thing self.old cell.0 (record s { queue = tail s.queue })) }
+        ensures rest { ForSome (thing self.old.things cell.0)
+            (λ s. self.new ≡ with_thing self.old cell.0 (record s { queue = tail s.queue })) }
     {
         self.streams.get_mut(cell.0).pop()
     }
@@ -179,8 +191,11 @@ impl<T> Streams<T> {
     /// Has a waiter wait at a stream. Where one stands there, nothing changes and the answer is `Busy`.
     pub fn add_waiter(&mut self, cell: CellId, waiter: Waiter) -> Wait
         requires { IsSome (thing self.old.things cell.0) }
-        ensures wait { ForSome (thing self.old.things cell.0) (λ s. result ≡ (if is_some s.waiter then Busy else Added)) }
-        ensures waiter { ForSome (thing self.old.things cell.0) (λ s. self.new ≡ with_thing self.old cell.0 (record s { waiter = or_waiter s.waiter waiter })) }
+        ensures wait { ForSome (thing self.old.things cell.0)
+            (λ s. result ≡ (if is_some s.waiter then Busy else Added)) }
+        ensures waiter { ForSome (thing self.old.things cell.0)
+            (λ s. self.new ≡ with_thing self.old cell.0
+            (record s { waiter = or_waiter s.waiter waiter })) }
     {
         self.streams.get_mut(cell.0).add_waiter(waiter)
     }
@@ -196,7 +211,8 @@ impl<T> Streams<T> {
     /// Has nobody wait at a stream.
     pub fn remove_waiter(&mut self, cell: CellId)
         requires { IsSome (thing self.old.things cell.0) }
-        ensures { ForSome (thing self.old.things cell.0) (λ s. self.new ≡ with_thing self.old cell.0 (record s { waiter = None })) }
+        ensures { ForSome (thing self.old.things cell.0)
+            (λ s. self.new ≡ with_thing self.old cell.0 (record s { waiter = None })) }
     {
         self.streams.get_mut(cell.0).remove_waiter();
     }
@@ -204,7 +220,8 @@ impl<T> Streams<T> {
     /// Removes a stream without a reference and without a waiter, and gives its elements, oldest first.
     pub fn remove(&mut self, cell: CellId) -> VecDeque<T>
         requires there { IsSome (thing self.old.things cell.0) }
-        requires references { ForSome (thing self.old.things cell.0) (λ s. s.references ≡ no_counts) }
+        requires references { ForSome (thing self.old.things cell.0)
+            (λ s. s.references ≡ no_counts) }
         requires waiter { ForSome (thing self.old.things cell.0) (λ s. s.waiter ≡ None) }
         ensures items { ForSome (thing self.old.things cell.0) (λ s. result.items ≡ s.queue) }
         ensures rest { self.new ≡ record self.old { things = removed self.old.things cell.0 } }

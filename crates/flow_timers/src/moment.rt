@@ -58,7 +58,8 @@ impl<T: Drop> Moment<T> {
     /// How many events have a number up to this: mostly all of them, which only the last one is asked for.
     fn place_after(&self, number: u64) -> usize
         ensures bound { result ≤ length self.now }
-        ensures place { IsPartitionPoint (λ e. e.number ≤ number) (λ e. number < e.number) self.now result }
+        ensures place { IsPartitionPoint (λ e. e.number ≤ number) (λ e. number < e.number) self.now
+            result }
     {
         let Some(last) = self.events.back() else {
             return 0;
@@ -72,7 +73,8 @@ impl<T: Drop> Moment<T> {
     // How many events have a number up to this.
     fn search_after(&self, number: u64) -> usize
         ensures bound { result ≤ length self.now }
-        ensures place { IsPartitionPoint (λ e. e.number ≤ number) (λ e. number < e.number) self.now result }
+        ensures place { IsPartitionPoint (λ e. e.number ≤ number) (λ e. number < e.number) self.now
+            result }
     {
         self.events.partition_point(|event| event.number <= number)
     }
@@ -98,7 +100,8 @@ impl<T> Moment<T> {
     /// How many events have a number below this: mostly none of them, which only the first one is asked for.
     fn place_from(&self, number: u64) -> usize
         ensures bound { result ≤ length self.now }
-        ensures place { IsPartitionPoint (λ e. e.number < number) (λ e. number ≤ e.number) self.now result }
+        ensures place { IsPartitionPoint (λ e. e.number < number) (λ e. number ≤ e.number) self.now
+            result }
     {
         let Some(first) = self.events.front() else {
             return 0;
@@ -112,7 +115,8 @@ impl<T> Moment<T> {
     // How many events have a number below this.
     fn search_from(&self, number: u64) -> usize
         ensures bound { result ≤ length self.now }
-        ensures place { IsPartitionPoint (λ e. e.number < number) (λ e. number ≤ e.number) self.now result }
+        ensures place { IsPartitionPoint (λ e. e.number < number) (λ e. number ≤ e.number) self.now
+            result }
     {
         self.events.partition_point(|event| event.number < number)
     }

@@ -53,7 +53,8 @@ fn refusal_outcome(fault: SourceFault) -> Told
 fn bytes_of<F: Files>(alloc: Global, name: &str, files: &mut F) -> Result<Vec<u8>, Told>
     ensures content { (F.seen files.new).content ≡ (F.seen files.old).content }
     ensures others { MovesOnly name.now (F.seen files.old) (F.seen files.new) }
-    ensures within { ReadsWithin (PROGRAM_BYTES + 1) name.now (F.seen files.old) (F.seen files.new) }
+    ensures within { ReadsWithin (PROGRAM_BYTES + 1) name.now (F.seen files.old)
+        (F.seen files.new) }
     ensures read { FileRead name.now (F.seen files.old) (F.seen files.new) result }
 {
     match read_file(alloc, files, name, PROGRAM_BYTES) {
@@ -80,7 +81,8 @@ fn load<F: Files>(alloc: Global, name: &str, files: &mut F) -> Result<Sound, Tol
 
 // What `format` on this program comes to.
 fn format<F: Files>(alloc: Global, name: &str, files: &mut F) -> Told
-    ensures { (words : List (List ℕ)) → AreFormat words name.now → Decided words (F.seen files.old) (F.seen files.new) (Outcome.Told result) }
+    ensures { (words : List (List ℕ)) → AreFormat words name.now
+        → Decided words (F.seen files.old) (F.seen files.new) (Outcome.Told result) }
 {
     let bytes = match bytes_of(alloc, name, files) {
         Ok(bytes) => bytes,
@@ -116,7 +118,8 @@ fn classes_of(alloc: Global, sound: &Sound) -> Result<ClassProgram, Told>
 
 // What `check` on this program comes to.
 fn check<F: Files>(alloc: Global, name: &str, files: &mut F) -> Told
-    ensures { (words : List (List ℕ)) → AreCheck words name.now → Decided words (F.seen files.old) (F.seen files.new) (Outcome.Told result) }
+    ensures { (words : List (List ℕ)) → AreCheck words name.now
+        → Decided words (F.seen files.old) (F.seen files.new) (Outcome.Told result) }
 {
     let sound = match load(alloc, name, files) {
         Ok(sound) => sound,
@@ -130,7 +133,8 @@ fn check<F: Files>(alloc: Global, name: &str, files: &mut F) -> Told
 
 // What `compile` on this program comes to.
 fn compiled<F: Files>(alloc: Global, name: &str, files: &mut F) -> Told
-    ensures { (words : List (List ℕ)) → AreCompile words name.now → Decided words (F.seen files.old) (F.seen files.new) (Outcome.Told result) }
+    ensures { (words : List (List ℕ)) → AreCompile words name.now
+        → Decided words (F.seen files.old) (F.seen files.new) (Outcome.Told result) }
 {
     let sound = match load(alloc, name, files) {
         Ok(sound) => sound,
@@ -206,7 +210,8 @@ fn run_in(
 // What `run` on this program and this world comes to. The world is read only where the program passes all rules.
 fn run<F: Files>(alloc: Global, name: &str, world: &str, frames: bool, files: &mut F) -> Outcome
     ensures in_range { InRange result }
-    ensures decided { (words : List (List ℕ)) → AreRun words name.now world.now frames → Decided words (F.seen files.old) (F.seen files.new) result }
+    ensures decided { (words : List (List ℕ)) → AreRun words name.now world.now frames
+        → Decided words (F.seen files.old) (F.seen files.new) result }
 {
     let sound = match load(alloc, name, files) {
         Ok(sound) => sound,
@@ -229,7 +234,8 @@ fn run<F: Files>(alloc: Global, name: &str, world: &str, frames: bool, files: &m
 /// What the command line comes to.
 pub fn decide<F: Files>(alloc: Global, words: &[String], files: &mut F) -> Outcome
     ensures in_range { InRange result }
-    ensures decided { Decided (map string_bytes words.now) (F.seen files.old) (F.seen files.new) result }
+    ensures decided { Decided (map string_bytes words.now) (F.seen files.old) (F.seen files.new)
+        result }
 {
     match command_of(words) {
         None => Outcome::Told(Told::Usage),

@@ -59,14 +59,17 @@ fn is_one_parameter(params: &[Param]) -> bool
 
 // Whether an actor has the head of the form.
 fn is_main(actor: &ActorDecl) -> bool
-    ensures { IsTrue result ↔ bare_routine (actor_of actor.now) ≡ main_of (bare_body (body_of actor.now.body.items)) }
+    ensures { IsTrue result ↔ bare_routine (actor_of actor.now)
+        ≡ main_of (bare_body (body_of actor.now.body.items)) }
 {
     is_void(&actor.returns) && is_named(&actor.name, b"main") && is_one_parameter(&actor.params)
 }
 
 // The actor, where that is the whole program.
 fn only_actor<'a>(decls: &'a [Decl]) -> Option<&'a ActorDecl>
-    ensures { MatchOption result ((a : RoutineTree) → map bare_decl (map decl_of decls.now) ≡ one_actor a → ⊥) (λ a. map bare_decl (map decl_of decls.now) ≡ one_actor (bare_routine (actor_of a.now))) }
+    ensures { MatchOption result ((a : RoutineTree) → map bare_decl (map decl_of decls.now)
+        ≡ one_actor a → ⊥) (λ a. map bare_decl (map decl_of decls.now)
+        ≡ one_actor (bare_routine (actor_of a.now))) }
 {
     match decls {
         [Decl::Actor(actor)] => Some(actor),
@@ -76,7 +79,8 @@ fn only_actor<'a>(decls: &'a [Decl]) -> Option<&'a ActorDecl>
 
 // The text that an expression is.
 fn text_of<'a>(expr: &'a Expr) -> Option<&'a Text>
-    ensures { MatchOption result ((t : List ℕ) → bare_expr (expr_of expr.now) ≡ TextExpr t → ⊥) (λ t. bare_expr (expr_of expr.now) ≡ TextExpr t.now) }
+    ensures { MatchOption result ((t : List ℕ) → bare_expr (expr_of expr.now) ≡ TextExpr t → ⊥)
+        (λ t. bare_expr (expr_of expr.now) ≡ TextExpr t.now) }
 {
     match expr {
         Expr::Text(text) => Some(text),
@@ -96,7 +100,9 @@ fn is_void_value(expr: &Expr) -> bool
 // The text that is the one argument.
 #[tactic(auto, using(crate::proofs::Forms::one_argument))]
 fn only_text<'a>(args: &'a [Expr]) -> Option<&'a Text>
-    ensures { MatchOption result ((t : List ℕ) → bare_exprs (exprs_of args.now) ≡ MoreExprs (TextExpr t) NoExprs → ⊥) (λ t. bare_exprs (exprs_of args.now) ≡ MoreExprs (TextExpr t.now) NoExprs) }
+    ensures { MatchOption result ((t : List ℕ) → bare_exprs (exprs_of args.now)
+        ≡ MoreExprs (TextExpr t) NoExprs → ⊥)
+        (λ t. bare_exprs (exprs_of args.now) ≡ MoreExprs (TextExpr t.now) NoExprs) }
 {
     match args {
         [arg] => text_of(arg),
@@ -115,7 +121,9 @@ fn is_trace(path: &[Ident]) -> bool
 
 // The text that a statement prints, where it is a print.
 fn printed_text<'a>(stmt: &'a Stmt) -> Option<&'a Text>
-    ensures { MatchOption result ((t : List ℕ) (rest b : Body) → bare_body (stmt_of stmt.now rest) ≡ print t b → ⊥) (λ t. (rest : Body) → bare_body (stmt_of stmt.now rest) ≡ print t.now (bare_body rest)) }
+    ensures { MatchOption result ((t : List ℕ) (rest b : Body) → bare_body (stmt_of stmt.now rest)
+        ≡ print t b → ⊥) (λ t. (rest : Body) → bare_body (stmt_of stmt.now rest)
+        ≡ print t.now (bare_body rest)) }
 {
     match &stmt.kind {
         StmtKind::Call(target, args) => {
@@ -152,7 +160,9 @@ fn are_ending(stmts: &[Stmt]) -> bool
 // The text that the first statement prints, where that is a print, and the statements behind it.
 fn first_print<'a>(stmts: &'a [Stmt]) -> Option<(&'a Text, &'a [Stmt])>
     ensures shorter { IfSome result (λ x. length x.1.now < length stmts.now) }
-    ensures print { MatchOption result ((t : List ℕ) (b : Body) → bare_body (body_of stmts.now) ≡ print t b → ⊥) (λ x. bare_body (body_of stmts.now) ≡ print x.0.now (bare_body (body_of x.1.now))) }
+    ensures print { MatchOption result
+        ((t : List ℕ) (b : Body) → bare_body (body_of stmts.now) ≡ print t b → ⊥)
+        (λ x. bare_body (body_of stmts.now) ≡ print x.0.now (bare_body (body_of x.1.now))) }
 {
     match stmts {
         [first, rest @ ..] => match printed_text(first) {
@@ -166,7 +176,9 @@ fn first_print<'a>(stmts: &'a [Stmt]) -> Option<(&'a Text, &'a [Stmt])>
 // The texts of a body of the form.
 #[tactic(auto, using(crate::proofs::Forms::print_more, crate::proofs::Forms::ends_so))]
 fn texts_of(alloc: Global, body: &[Stmt]) -> Result<Option<Vec<Text>>, NoMemory>
-    ensures { IfOk result (λ o. MatchOption o ((ts : List (List ℕ)) → bare_body (body_of body.now) ≡ prints ts ending → ⊥) (λ v. bare_body (body_of body.now) ≡ prints v.items ending)) }
+    ensures { IfOk result (λ o. MatchOption o
+        ((ts : List (List ℕ)) → bare_body (body_of body.now) ≡ prints ts ending → ⊥)
+        (λ v. bare_body (body_of body.now) ≡ prints v.items ending)) }
 {
     let mut texts = Vec::new(alloc);
     let mut rest = body;
@@ -183,7 +195,9 @@ fn texts_of(alloc: Global, body: &[Stmt]) -> Result<Option<Vec<Text>>, NoMemory>
 /// The texts that a program of the form prints, in order. `None` comes exactly where it hasn't the
 /// form.
 pub fn printed_texts(alloc: Global, program: &Program) -> Result<Option<Vec<Text>>, NoMemory>
-    ensures { IfOk result (λ o. MatchOption o ((ts : List (List ℕ)) → PrintsOnly (program_of program.now) ts → ⊥) (λ v. PrintsOnly (program_of program.now) v.items)) }
+    ensures { IfOk result (λ o. MatchOption o
+        ((ts : List (List ℕ)) → PrintsOnly (program_of program.now) ts → ⊥)
+        (λ v. PrintsOnly (program_of program.now) v.items)) }
 {
     let Some(actor) = only_actor(&program.decls) else {
         return Ok(None);

@@ -53,8 +53,10 @@ fn trace_lines(alloc: Global, texts: Vec<Text>) -> Result<Vec<Line>, NoMemory>
 
 // Writes the lines, each by one call where the sink takes it whole.
 fn put_lines<S: Sink>(alloc: Global, lines: &[Line], out: &mut S) -> Result<(), OutFault>
-    ensures whole { OnOk result (Appends (S.seen out.old).written (S.seen out.new).written (bytes_of lines.now)) }
-    ensures part { AppendsPart (S.seen out.old).written (S.seen out.new).written (bytes_of lines.now) }
+    ensures whole { OnOk result (Appends (S.seen out.old).written (S.seen out.new).written
+        (bytes_of lines.now)) }
+    ensures part { AppendsPart (S.seen out.old).written (S.seen out.new).written
+        (bytes_of lines.now) }
     ensures cause { HasCause (S.seen out.old).faults (S.seen out.new).faults result }
 {
     let Ok(mut buffer) = LineBuf::new(alloc) else {
@@ -69,8 +71,10 @@ fn put_lines<S: Sink>(alloc: Global, lines: &[Line], out: &mut S) -> Result<(), 
 
 // Writes the trace of the texts.
 fn put_trace<S: Sink>(alloc: Global, texts: Vec<Text>, out: &mut S) -> Result<(), OutFault>
-    ensures whole { OnOk result (Appends (S.seen out.old).written (S.seen out.new).written (bytes_of (trace_of texts.items))) }
-    ensures part { AppendsPart (S.seen out.old).written (S.seen out.new).written (bytes_of (trace_of texts.items)) }
+    ensures whole { OnOk result (Appends (S.seen out.old).written (S.seen out.new).written
+        (bytes_of (trace_of texts.items))) }
+    ensures part { AppendsPart (S.seen out.old).written (S.seen out.new).written
+        (bytes_of (trace_of texts.items)) }
     ensures cause { HasCause (S.seen out.old).faults (S.seen out.new).faults result }
 {
     let Ok(lines) = trace_lines(alloc, texts) else {
@@ -81,8 +85,10 @@ fn put_trace<S: Sink>(alloc: Global, texts: Vec<Text>, out: &mut S) -> Result<()
 
 // Writes the line of a refusal.
 fn put_refusal<S: Sink>(alloc: Global, fault: &SourceFault, out: &mut S) -> Result<(), OutFault>
-    ensures whole { OnOk result (Appends (S.seen out.old).written (S.seen out.new).written (refusal_text fault.now)) }
-    ensures part { AppendsPart (S.seen out.old).written (S.seen out.new).written (refusal_text fault.now) }
+    ensures whole { OnOk result (Appends (S.seen out.old).written (S.seen out.new).written
+        (refusal_text fault.now)) }
+    ensures part { AppendsPart (S.seen out.old).written (S.seen out.new).written
+        (refusal_text fault.now) }
     ensures cause { HasCause (S.seen out.old).faults (S.seen out.new).faults result }
 {
     let Ok(line) = refusal_line(alloc, fault) else {
@@ -93,8 +99,10 @@ fn put_refusal<S: Sink>(alloc: Global, fault: &SourceFault, out: &mut S) -> Resu
 
 // Writes the line of a refusal of the world.
 fn put_world_refusal<S: Sink>(alloc: Global, fault: WorldFault, out: &mut S) -> Result<(), OutFault>
-    ensures whole { OnOk result (Appends (S.seen out.old).written (S.seen out.new).written (world_refusal fault)) }
-    ensures part { AppendsPart (S.seen out.old).written (S.seen out.new).written (world_refusal fault) }
+    ensures whole { OnOk result (Appends (S.seen out.old).written (S.seen out.new).written
+        (world_refusal fault)) }
+    ensures part { AppendsPart (S.seen out.old).written (S.seen out.new).written
+        (world_refusal fault) }
     ensures cause { HasCause (S.seen out.old).faults (S.seen out.new).faults result }
 {
     let Ok(line) = world_line(alloc, fault) else {
@@ -105,7 +113,8 @@ fn put_world_refusal<S: Sink>(alloc: Global, fault: WorldFault, out: &mut S) -> 
 
 // Writes the text of an outcome that is no run.
 fn put<S: Sink>(alloc: Global, outcome: Told, out: &mut S) -> Result<(), OutFault>
-    ensures whole { OnOk result (Appends (S.seen out.old).written (S.seen out.new).written (text_of outcome)) }
+    ensures whole { OnOk result (Appends (S.seen out.old).written (S.seen out.new).written
+        (text_of outcome)) }
     ensures part { AppendsPart (S.seen out.old).written (S.seen out.new).written (text_of outcome) }
     ensures cause { HasCause (S.seen out.old).faults (S.seen out.new).faults result }
 {

@@ -44,7 +44,8 @@ fn words<'a>(
 ) -> Pieces<'a>
     ensures words { words_of result ≡ first.now
         ∷ piece_words second.entry ++ piece_words third.entry ++ piece_words fourth.entry ++ piece_words fifth.entry ++ [] }
-    ensures room { room_of result ≡ length first.now + piece_room second.entry + piece_room third.entry + piece_room fourth.entry + piece_room fifth.entry + 1 }
+    ensures room { room_of result ≡ length first.now + piece_room second.entry + piece_room
+        third.entry + piece_room fourth.entry + piece_room fifth.entry + 1 }
 {
     Pieces {
         first,
@@ -68,7 +69,8 @@ fn event<'a>(
 ) -> Pieces<'a>
     ensures words { words_of result ≡ codes "event" ∷ decimal number ∷ decimal time ∷ what.now
         ∷ piece_words fifth.entry ++ piece_words sixth.entry ++ piece_words seventh.entry }
-    ensures room { room_of result ≡ 49 + length what.now + piece_room fifth.entry + piece_room sixth.entry + piece_room seventh.entry }
+    ensures room { room_of result ≡ 49 + length what.now + piece_room fifth.entry + piece_room
+        sixth.entry + piece_room seventh.entry }
 {
     Pieces {
         first: b"event",

@@ -44,7 +44,8 @@ fn guess(alloc: Global, bytes: &[u8]) -> Result<Option<Line>, NoMemory>
 pub fn read_line(alloc: Global, bytes: &[u8]) -> Result<Line, LineFault>
     ensures spelled { IfOk result (λ line. Spells line bytes.now) }
     ensures range { IfOk result (λ line. IsLine line) }
-    ensures every { (line : Line) → IsLine line → Spells line bytes.now → IfOk result (λ found. found ≡ line) }
+    ensures every { (line : Line) → IsLine line → Spells line bytes.now
+        → IfOk result (λ found. found ≡ line) }
     ensures form { result ≡ Err Form → (line : Line) → IsLine line → Spells line bytes.now → ⊥ }
 {
     let Some(line) = guess(alloc, bytes)? else {

@@ -119,7 +119,8 @@ impl Scanner {
     }
 
     fn next_word(&mut self) -> Result<(), NoMemory>
-        ensures { OnOk result (self.new ≡ record self.old { words = self.old.words ++ self.old.word ∷ []; word = no_word }) }
+        ensures { OnOk result (self.new ≡ record self.old
+            { words = self.old.words ++ self.old.word ∷ []; word = no_word }) }
     {
         let word = mem::replace(&mut self.word, Word::new(self.alloc));
         self.words.push(word)?;
@@ -127,7 +128,8 @@ impl Scanner {
     }
 
     fn open_quote(&mut self)
-        ensures { self.new ≡ record self.old { word = record self.old.word { quoted = true }; mode = Quoted } }
+        ensures { self.new ≡ record self.old
+            { word = record self.old.word { quoted = true }; mode = Quoted } }
     {
         self.word.open_quote();
         self.mode = Mode::Quoted;

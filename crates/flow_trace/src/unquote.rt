@@ -26,7 +26,8 @@ fn guess(alloc: Global, bytes: &[u8]) -> Result<Option<Text>, NoMemory>
 /// no text has these bytes.
 pub fn unquote(alloc: Global, bytes: &[u8]) -> Result<Text, LineFault>
     ensures spelled { IfOk result (λ text. bytes.now ≡ quoted text) }
-    ensures every { (text : List ℕ) → IsText text → bytes.now ≡ quoted text → IfOk result (λ found. found ≡ text) }
+    ensures every { (text : List ℕ) → IsText text → bytes.now ≡ quoted text
+        → IfOk result (λ found. found ≡ text) }
     ensures form { result ≡ Err Form → (text : List ℕ) → IsText text → bytes.now ≡ quoted text → ⊥ }
 {
     let Some(text) = guess(alloc, bytes)? else {

@@ -27,7 +27,8 @@ pub struct Typed {
 pub fn check(alloc: Global, program: Program) -> Result<Typed, SourceFault>
     ensures checked { Checked (program_of program) result }
     ensures program { IfOk result (λ t. t.program ≡ program) }
-    ensures variables { IfOk result (λ t. variable_lists t.variables.items ≡ map variables_of (program_of program).decls) }
+    ensures variables { IfOk result (λ t. variable_lists t.variables.items
+        ≡ map variables_of (program_of program).decls) }
 {
     judge_program(alloc, &program)?;
     let variables = all_variables(alloc, &program.decls)?;
@@ -46,7 +47,8 @@ impl Typed {
     /// of the text. A record has none.
     pub fn variables(&self, decl: usize) -> &[Variable]
         requires { decl < length self.now.variables.items }
-        ensures { slice_get (variable_lists self.now.variables.items) decl ≡ Some (variable_list result.now) }
+        ensures { slice_get (variable_lists self.now.variables.items) decl
+            ≡ Some (variable_list result.now) }
     {
         &self.variables[decl]
     }

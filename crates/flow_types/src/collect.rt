@@ -50,7 +50,8 @@ fn error_variable(alloc: Global, name: &Ident) -> Result<Variable, NoMemory>
 
 #[tactic(auto, using(crate::proofs::Adding::params_step, crate::proofs::Adding::params_end))]
 fn add_params(alloc: Global, params: &[Param], found: &mut Vec<Variable>) -> Result<(), NoMemory>
-    ensures { IfOk result (λ _. variable_list found.new.items ≡ variable_list found.old.items ++ map param_variable (params_of params.now)) }
+    ensures { IfOk result (λ _. variable_list found.new.items
+        ≡ variable_list found.old.items ++ map param_variable (params_of params.now)) }
 {
     for param in params {
         found.push(param_variable(alloc, param)?)?;
@@ -60,14 +61,16 @@ fn add_params(alloc: Global, params: &[Param], found: &mut Vec<Variable>) -> Res
 
 #[tactic(auto, using(crate::proofs::Adding::map_end))]
 fn add_into(alloc: Global, into: &Into, found: &mut Vec<Variable>) -> Result<(), NoMemory>
-    ensures { IfOk result (λ _. variable_list found.new.items ≡ variable_list found.old.items ++ (into_variable (into_of into.now) ∷ [])) }
+    ensures { IfOk result (λ _. variable_list found.new.items
+        ≡ variable_list found.old.items ++ (into_variable (into_of into.now) ∷ [])) }
 {
     found.push(into_variable(alloc, into)?)?;
     Ok(())
 }
 
 fn add_maybe(alloc: Global, into: &Option<Into>, found: &mut Vec<Variable>) -> Result<(), NoMemory>
-    ensures { IfOk result (λ _. variable_list found.new.items ≡ variable_list found.old.items ++ into_variables (option_map into_of into.now)) }
+    ensures { IfOk result (λ _. variable_list found.new.items
+        ≡ variable_list found.old.items ++ into_variables (option_map into_of into.now)) }
 {
     match into {
         Some(into) => add_into(alloc, into, found),
@@ -77,7 +80,8 @@ fn add_maybe(alloc: Global, into: &Option<Into>, found: &mut Vec<Variable>) -> R
 
 #[tactic(auto, using(crate::proofs::Adding::map_end))]
 fn add_error(alloc: Global, name: &Ident, found: &mut Vec<Variable>) -> Result<(), NoMemory>
-    ensures { IfOk result (λ _. variable_list found.new.items ≡ variable_list found.old.items ++ (error_variable name.now ∷ [])) }
+    ensures { IfOk result (λ _. variable_list found.new.items
+        ≡ variable_list found.old.items ++ (error_variable name.now ∷ [])) }
 {
     found.push(error_variable(alloc, name)?)?;
     Ok(())
@@ -86,7 +90,8 @@ fn add_error(alloc: Global, name: &Ident, found: &mut Vec<Variable>) -> Result<(
 #[cycle(add)]
 #[tactic(auto, using(crate::proofs::Adding::body_step, crate::proofs::Adding::body_end))]
 fn add_body(alloc: Global, body: &[Stmt], found: &mut Vec<Variable>) -> Result<(), NoMemory>
-    ensures { IfOk result (λ _. variable_list found.new.items ≡ variable_list found.old.items ++ body_variables (body_of body.now)) }
+    ensures { IfOk result (λ _. variable_list found.new.items
+        ≡ variable_list found.old.items ++ body_variables (body_of body.now)) }
 {
     for stmt in body {
         add_stmt(alloc, stmt, found)?;
@@ -100,7 +105,8 @@ fn add_else(
     body: &Option<Vec<Stmt>>,
     found: &mut Vec<Variable>,
 ) -> Result<(), NoMemory>
-    ensures { IfOk result (λ _. variable_list found.new.items ≡ variable_list found.old.items ++ else_variables (else_of body.now)) }
+    ensures { IfOk result (λ _. variable_list found.new.items
+        ≡ variable_list found.old.items ++ else_variables (else_of body.now)) }
 {
     match body {
         Some(body) => add_body(alloc, body, found),
@@ -115,7 +121,8 @@ fn add_part(
     part: &Option<Box<Stmt>>,
     found: &mut Vec<Variable>,
 ) -> Result<(), NoMemory>
-    ensures { IfOk result (λ _. variable_list found.new.items ≡ variable_list found.old.items ++ body_variables (simple_of part.now)) }
+    ensures { IfOk result (λ _. variable_list found.new.items
+        ≡ variable_list found.old.items ++ body_variables (simple_of part.now)) }
 {
     match part {
         Some(stmt) => {
@@ -138,7 +145,8 @@ fn add_branch(alloc: Global, branch: &When, found: &mut Vec<Variable>) -> Result
 #[cycle(add)]
 #[tactic(auto, using(crate::proofs::Adding::branches_step, crate::proofs::Adding::branches_end))]
 fn add_branches(alloc: Global, branches: &[When], found: &mut Vec<Variable>) -> Result<(), NoMemory>
-    ensures { IfOk result (λ _. variable_list found.new.items ≡ variable_list found.old.items ++ branch_variables (branches_of branches.now)) }
+    ensures { IfOk result (λ _. variable_list found.new.items
+        ≡ variable_list found.old.items ++ branch_variables (branches_of branches.now)) }
 {
     for branch in branches {
         add_branch(alloc, branch, found)?;

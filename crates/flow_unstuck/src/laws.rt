@@ -47,9 +47,12 @@ pub fn functions_fit()
 /// afterwards where what every walk to there fills is filled. So it is of classes that keep the rules, written as what each
 /// instruction has to do with types, and valid classes do.
 pub fn frames_ask_what_fits()
-    ensures kept { (r : RawTree) (actors : List RoutineTree) → ClassRules r actors → FramesAskWhatFits r actors }
-    ensures rules { (r : RawTree) → IsValid r → AreWritten r → FunctionsKept r → ClassRules r (heads r) }
-    ensures valid { (r : RawTree) → IsValid r → AreWritten r → FunctionsKept r → FramesAskWhatFits r (heads r) }
+    ensures kept { (r : RawTree) (actors : List RoutineTree) → ClassRules r actors
+        → FramesAskWhatFits r actors }
+    ensures rules { (r : RawTree) → IsValid r → AreWritten r → FunctionsKept r
+        → ClassRules r (heads r) }
+    ensures valid { (r : RawTree) → IsValid r → AreWritten r → FunctionsKept r
+        → FramesAskWhatFits r (heads r) }
 {}
 
 /// What an actor of valid classes does keeps a process fitting, for some types of its cells, and has a meaning: its next step,
@@ -59,9 +62,11 @@ pub fn frames_ask_what_fits()
 /// effect has a place. Cells of open requests keep their types, and a cell that a step asks the world to set is of what the world
 /// answers.
 pub fn steps_keep_fitting()
-    ensures actors { (r : RawTree) → IsValid r → AreWritten r → FunctionsKept r → ActorsKeepFitting r }
+    ensures actors { (r : RawTree) → IsValid r → AreWritten r → FunctionsKept r
+        → ActorsKeepFitting r }
     ensures placed { (r : RawTree) → IsValid r → AreWritten r → FunctionsKept r → ResultsPlaced r }
-    ensures steps { (r : RawTree) → IsValid r → AreWritten r → FunctionsKept r → StepsKeepFitting r }
+    ensures steps { (r : RawTree) → IsValid r → AreWritten r → FunctionsKept r
+        → StepsKeepFitting r }
 {}
 
 /// A process in which nothing is fits, and one that was killed; and one that is booted or stopped, to which a packet comes, or

@@ -29,7 +29,8 @@ fn leads_on(number: usize, last: &Last) -> bool
 }
 
 fn all_lead_on(blocks: &[Block]) -> bool
-    ensures { result ≡ all_blocks (λ n (b : BlockTree). leads_on n b.last) 0 (map block_of blocks.now) }
+    ensures { result ≡ all_blocks (λ n (b : BlockTree). leads_on n b.last) 0
+        (map block_of blocks.now) }
 {
     for number in 0..blocks.len() {
         if !leads_on(number, &blocks[number].last) {
@@ -146,7 +147,8 @@ fn catches(
     number: usize,
     catcher: &Option<Catcher>,
 ) -> Result<bool, NoMemory>
-    ensures { IfOk result (λ b. b ≡ catches (class_of class.now) number (option_map catcher_of catcher.now)) }
+    ensures { IfOk result (λ b. b ≡ catches (class_of class.now) number
+        (option_map catcher_of catcher.now)) }
 {
     let Some(catcher) = catcher else {
         return Ok(true);
@@ -156,7 +158,9 @@ fn catches(
 }
 
 fn all_catch(alloc: Global, class: &Class, blocks: &[Block]) -> Result<bool, NoMemory>
-    ensures { IfOk result (λ b. b ≡ all_blocks (λ n (b : BlockTree). catches (class_of class.now) n b.catcher) 0 (map block_of blocks.now)) }
+    ensures { IfOk result (λ b. b ≡ all_blocks
+        (λ n (b : BlockTree). catches (class_of class.now) n b.catcher) 0
+        (map block_of blocks.now)) }
 {
     for number in 0..blocks.len() {
         if !catches(alloc, class, number, &blocks[number].catcher)? {

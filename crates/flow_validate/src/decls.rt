@@ -75,7 +75,8 @@ pub fn head_of(alloc: Global, class: &Class) -> Result<Decl, NoMemory>
 
 /// Records behind these declarations.
 pub fn add_records(decls: &mut Vec<Decl>, records: Vec<RecordDecl>) -> Result<(), NoMemory>
-    ensures { IfOk result (λ _. map decl_of decls.new.items ≡ map decl_of decls.old.items ++ map tree.StructDecl (map record_of records.items)) }
+    ensures { IfOk result (λ _. map decl_of decls.new.items
+        ≡ map decl_of decls.old.items ++ map tree.StructDecl (map record_of records.items)) }
 {
     for record in records {
         decls.push(Decl::Struct(record))?;
@@ -85,7 +86,8 @@ pub fn add_records(decls: &mut Vec<Decl>, records: Vec<RecordDecl>) -> Result<()
 
 /// Functions behind these declarations.
 pub fn add_functions(decls: &mut Vec<Decl>, functions: Vec<FunctionDecl>) -> Result<(), NoMemory>
-    ensures { IfOk result (λ _. map decl_of decls.new.items ≡ map decl_of decls.old.items ++ map tree.FunctionDecl (map function_of functions.items)) }
+    ensures { IfOk result (λ _. map decl_of decls.new.items
+        ≡ map decl_of decls.old.items ++ map tree.FunctionDecl (map function_of functions.items)) }
 {
     for function in functions {
         decls.push(Decl::Function(function))?;
@@ -95,7 +97,8 @@ pub fn add_functions(decls: &mut Vec<Decl>, functions: Vec<FunctionDecl>) -> Res
 
 /// Heads of classes behind these declarations.
 pub fn add_heads(alloc: Global, decls: &mut Vec<Decl>, classes: &[Class]) -> Result<(), NoMemory>
-    ensures { IfOk result (λ _. map decl_of decls.new.items ≡ map decl_of decls.old.items ++ map head_of (map class_of classes.now)) }
+    ensures { IfOk result (λ _. map decl_of decls.new.items
+        ≡ map decl_of decls.old.items ++ map head_of (map class_of classes.now)) }
 {
     for class in classes {
         decls.push(head_of(alloc, class)?)?;
@@ -112,8 +115,10 @@ pub struct Plain {
 
 /// The records and functions among declarations.
 pub fn apart(alloc: Global, decls: Vec<Decl>) -> Result<Plain, NoMemory>
-    ensures records { IfOk result (λ p. map record_of p.records.items ≡ records_in (map decl_of decls.items)) }
-    ensures functions { IfOk result (λ p. map function_of p.functions.items ≡ functions_in (map decl_of decls.items)) }
+    ensures records { IfOk result (λ p. map record_of p.records.items
+        ≡ records_in (map decl_of decls.items)) }
+    ensures functions { IfOk result (λ p. map function_of p.functions.items
+        ≡ functions_in (map decl_of decls.items)) }
 {
     let mut plain = Plain {
         records: Vec::new(alloc),

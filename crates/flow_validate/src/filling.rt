@@ -62,7 +62,8 @@ fn is_any(bits: u64) -> bool
 impl Walks {
     // A walk leads to a block with these places empty.
     fn enter(&mut self, block: u32, empty: u64) -> Result<(), NoMemory>
-        ensures { IfOk result (λ _. Entered (standing self.old) (standing self.new) (plain_way empty block ∷ [])) }
+        ensures { IfOk result (λ _. Entered (standing self.old) (standing self.new)
+            (plain_way empty block ∷ [])) }
     {
         let number = block as usize;
         if number >= self.entries.len() {
@@ -83,7 +84,8 @@ impl Walks {
         catcher: &Option<Catcher>,
         thrown: u64,
     ) -> Result<(), NoMemory>
-        ensures { IfOk result (λ _. Entered (standing self.old) (standing self.new) (handler_ways (class_of class.now) window (option_map catcher_of catcher.now) thrown)) }
+        ensures { IfOk result (λ _. Entered (standing self.old) (standing self.new)
+            (handler_ways (class_of class.now) window (option_map catcher_of catcher.now) thrown)) }
     {
         let Some(catcher) = catcher else {
             return Ok(());
@@ -99,7 +101,8 @@ impl Walks {
         callback: &Callback,
         empty: u64,
     ) -> Result<(), NoMemory>
-        ensures { IfOk result (λ _. Entered (standing self.old) (standing self.new) (branch_way window empty (callback_of callback.now) ∷ [])) }
+        ensures { IfOk result (λ _. Entered (standing self.old) (standing self.new)
+            (branch_way window empty (callback_of callback.now) ∷ [])) }
     {
         self.enter(callback.block, empty & !into_bit(window, callback.into))
     }
@@ -110,7 +113,8 @@ impl Walks {
         callbacks: &[Callback],
         empty: u64,
     ) -> Result<(), NoMemory>
-        ensures { IfOk result (λ _. Entered (standing self.old) (standing self.new) (map (branch_way window empty) (map callback_of callbacks.now))) }
+        ensures { IfOk result (λ _. Entered (standing self.old) (standing self.new)
+            (map (branch_way window empty) (map callback_of callbacks.now))) }
     {
         for callback in callbacks {
             self.enter_branch(window, callback, empty)?;
@@ -120,7 +124,8 @@ impl Walks {
 
     // A condition leads to one block or the other.
     fn enter_both(&mut self, holds: u32, fails: u32, empty: u64) -> Result<(), NoMemory>
-        ensures { IfOk result (λ _. Entered (standing self.old) (standing self.new) (plain_way empty holds ∷ plain_way empty fails ∷ [])) }
+        ensures { IfOk result (λ _. Entered (standing self.old) (standing self.new)
+            (plain_way empty holds ∷ plain_way empty fails ∷ [])) }
     {
         self.enter(holds, empty)?;
         self.enter(fails, empty)
@@ -133,7 +138,8 @@ impl Walks {
         group: u32,
         empty: u64,
     ) -> Result<(), NoMemory>
-        ensures { IfOk result (λ _. Entered (standing self.old) (standing self.new) (last_ways (class_of class.now) window (last.ChooseLast group) empty)) }
+        ensures { IfOk result (λ _. Entered (standing self.old) (standing self.new)
+            (last_ways (class_of class.now) window (last.ChooseLast group) empty)) }
     {
         match group_of(class, group) {
             Some(group) => self.enter_branches(window, &group.callbacks, empty),
@@ -149,7 +155,8 @@ impl Walks {
         last: &Last,
         empty: u64,
     ) -> Result<(), NoMemory>
-        ensures { IfOk result (λ _. Entered (standing self.old) (standing self.new) (last_ways (class_of class.now) window (last_of last.now) empty)) }
+        ensures { IfOk result (λ _. Entered (standing self.old) (standing self.new)
+            (last_ways (class_of class.now) window (last_of last.now) empty)) }
     {
         match last {
             Last::Goto(block) | Last::Pass(block) => self.enter(*block, empty),
@@ -167,7 +174,10 @@ impl Walks {
         block: &Block,
         passage: Passage,
     ) -> Result<(), NoMemory>
-        ensures { IfOk result (λ _. Entered (standing self.old) (standing self.new) (handler_ways (class_of class.now) window (option_map catcher_of block.now.catcher) passage.thrown ++ last_ways (class_of class.now) window (last_of block.now.last) passage.empty)) }
+        ensures { IfOk result (λ _. Entered (standing self.old) (standing self.new)
+            (handler_ways (class_of class.now) window (option_map catcher_of block.now.catcher)
+            passage.thrown ++ last_ways (class_of class.now) window (last_of block.now.last)
+            passage.empty)) }
     {
         self.enter_handler(window, class, &block.catcher, passage.thrown)?;
         self.leave(window, class, &block.last, passage.empty)
@@ -183,7 +193,8 @@ impl Walks {
     ) -> Result<bool, NoMemory>
         requires same_length { length self.old.entries.items ≡ length (class_of class.now).blocks }
         requires touches { AreTouches (class_of class.now) (items_of touches.now) }
-        ensures { IfOk result (λ filled. PassesOr (class_of class.now) window (standing self.old) (standing self.new) block filled) }
+        ensures { IfOk result (λ filled. PassesOr (class_of class.now) window (standing self.old)
+            (standing self.new) block filled) }
     {
         let number = block as usize;
         if number >= self.entries.len() {
@@ -209,7 +220,8 @@ impl Walks {
     ) -> Result<bool, NoMemory>
         requires touches { AreTouches (class_of class.now) (items_of touches.now) }
         requires walks { AreWalks (class_of class.now) window (standing self.old) }
-        ensures { IfOk result (FilledOr (class_of class.now) ((j : ℕ) → j < 64 → IsFilled (class_of class.now) (place_in window j))) }
+        ensures { IfOk result (FilledOr (class_of class.now)
+            ((j : ℕ) → j < 64 → IsFilled (class_of class.now) (place_in window j))) }
     {
         while let Some(block) = self.todo.pop() {
             if !self.pass(window, class, touches, block)? {
@@ -241,7 +253,8 @@ fn into_bit(window: Window, into: Option<Slotted>) -> u64
 }
 
 fn touches_of(alloc: Global, class: &Class, blocks: &[Block]) -> Result<Vec<Vec<Touch>>, NoMemory>
-    ensures { IfOk result (λ v. items_of v.items ≡ map (small_block (class_of class.now)) (map block_of blocks.now)) }
+    ensures { IfOk result (λ v. items_of v.items
+        ≡ map (small_block (class_of class.now)) (map block_of blocks.now)) }
 {
     let mut all = Vec::new(alloc);
     for block in blocks {
@@ -290,7 +303,8 @@ fn window_filled(
     touches: &[Vec<Touch>],
 ) -> Result<bool, NoMemory>
     requires touches { AreTouches (class_of class.now) (items_of touches.now) }
-    ensures { IfOk result (FilledOr (class_of class.now) ((j : ℕ) → j < 64 → IsFilled (class_of class.now) (place_in window j))) }
+    ensures { IfOk result (FilledOr (class_of class.now)
+        ((j : ℕ) → j < 64 → IsFilled (class_of class.now) (place_in window j))) }
 {
     let mut walks = first_walks(alloc, window, class)?;
     walks.pass_all(window, class, touches)
@@ -305,7 +319,8 @@ fn kind_filled(
     touches: &[Vec<Touch>],
 ) -> Result<bool, NoMemory>
     requires touches { AreTouches (class_of class.now) (items_of touches.now) }
-    ensures { IfOk result (FilledOr (class_of class.now) (AreFilledBelow (class_of class.now) locals count)) }
+    ensures { IfOk result (FilledOr (class_of class.now)
+        (AreFilledBelow (class_of class.now) locals count)) }
 {
     for number in 0..count.div_ceil(64) {
         let window = Window {

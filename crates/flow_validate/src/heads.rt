@@ -49,7 +49,9 @@ pub fn declarations_kept<'a>(
     decls: &'a [Decl],
 ) -> Result<bool, NoMemory>
     requires { map field_row (params_of packet.now) ≡ packet_fields }
-    ensures { IfOk result (λ b. b ≡ is_none (or_else (decls_refusal (setting_by names.now) [] (map decl_of decls.now)) (first_large ((codes "Packet", packet_size) ∷ []) (map decl_of decls.now)))) }
+    ensures { IfOk result (λ b. b ≡ is_none
+        (or_else (decls_refusal (setting_by names.now) [] (map decl_of decls.now))
+        (first_large ((codes "Packet", packet_size) ∷ []) (map decl_of decls.now)))) }
 {
     if is_refused(declarations(alloc, names, packet, decls))? {
         return Ok(false);
@@ -69,7 +71,8 @@ fn types_known(names: &Names<'_>, types: &[Ty]) -> bool
 }
 
 fn slots_known(names: &Names<'_>, slots: &[Slot]) -> bool
-    ensures { result ≡ list_all (λ (s : SlotTree). type_known (known_by names.now) s.ty) (map slot_of slots.now) }
+    ensures { result ≡ list_all (λ (s : SlotTree). type_known (known_by names.now) s.ty)
+        (map slot_of slots.now) }
 {
     for slot in slots {
         if !names.type_known(&slot.ty) {
@@ -100,7 +103,8 @@ fn is_free(taken: &IndexSet<&[u8]>, name: &[u8]) -> bool
 
 // Whether the head of a class stands where these names are taken.
 fn head_kept(names: &Names<'_>, taken: &IndexSet<&[u8]>, class: &Class) -> bool
-    ensures { (ds : List DeclTree) → AreTaken (texts_of taken.now) ds → result ≡ head_kept (known ds) (known_by names.now) (class_of class.now) }
+    ensures { (ds : List DeclTree) → AreTaken (texts_of taken.now) ds → result
+        ≡ head_kept (known ds) (known_by names.now) (class_of class.now) }
 {
     if !is_free(taken, class.name.bytes()) {
         return false;
@@ -119,7 +123,8 @@ pub fn broken_head<'a>(
     classes: &'a [Class],
 ) -> Result<Option<u32>, NoMemory>
     requires few { length classes.now < 2 ^ 32 }
-    ensures { IfOk result (λ o. o ≡ first_head (known_by names.now) (map decl_of decls.now) 0 (map class_of classes.now)) }
+    ensures { IfOk result (λ o. o ≡ first_head (known_by names.now) (map decl_of decls.now) 0
+        (map class_of classes.now)) }
 {
     let mut taken = names_taken(alloc, decls)?;
     for (place, class) in classes.iter().enumerate() {

@@ -93,7 +93,8 @@ fn has_all_in(class: &Class, expr: &Expr) -> bool
 #[cycle(places)]
 fn has_all_in_args(class: &Class, args: &[Expr]) -> bool
     requires { HasFewPlaces (class_of class.now) }
-    ensures { result ≡ list_all (has_place (class_of class.now)) (exprs_places (exprs_of args.now)) }
+    ensures { result ≡ list_all (has_place (class_of class.now))
+        (exprs_places (exprs_of args.now)) }
 {
     for arg in args {
         if !has_all_in(class, arg) {
@@ -136,7 +137,8 @@ fn has_locals(class: &Class, numbers: &[u32]) -> bool
 
 fn has_instr(class: &Class, instr: &Instr) -> bool
     requires { HasFewPlaces (class_of class.now) }
-    ensures { result ≡ list_all (has_place (class_of class.now)) (instr_places (instr_of instr.now)) }
+    ensures { result ≡ list_all (has_place (class_of class.now))
+        (instr_places (instr_of instr.now)) }
 {
     match instr {
         Instr::Set(target, value) | Instr::Effect(target, value) => {
@@ -163,7 +165,8 @@ fn has_group(class: &Class, number: u32) -> bool
 }
 
 fn has_error(class: &Class, error: Option<u32>) -> bool
-    ensures { result ≡ list_all (has_place (class_of class.now)) (listed (option_map place.Local error)) }
+    ensures { result ≡ list_all (has_place (class_of class.now))
+        (listed (option_map place.Local error)) }
 {
     match error {
         Some(number) => has_local(class, number),
@@ -200,7 +203,8 @@ fn has_last(class: &Class, last: &Last) -> bool
 
 fn has_body(class: &Class, body: &[Instr]) -> bool
     requires { HasFewPlaces (class_of class.now) }
-    ensures { result ≡ list_all (λ (i : InstrTree). list_all (has_place (class_of class.now)) (instr_places i)) (map instr_of body.now) }
+    ensures { result ≡ list_all (λ (i : InstrTree). list_all (has_place (class_of class.now))
+        (instr_places i)) (map instr_of body.now) }
 {
     for instr in body {
         if !has_instr(class, instr) {
@@ -263,7 +267,8 @@ fn has_blocks(class: &Class, blocks: &[Block]) -> bool
 
 fn has_groups(class: &Class, groups: &[Group]) -> bool
     requires { HasFewPlaces (class_of class.now) }
-    ensures { result ≡ list_all (list_all (has_operand (class_of class.now))) (map group_of groups.now) }
+    ensures { result ≡ list_all (list_all (has_operand (class_of class.now)))
+        (map group_of groups.now) }
 {
     for group in groups {
         if !has_operands(class, &group.callbacks) {

@@ -33,7 +33,8 @@ pub enum Touch {
 
 // The place of a name is read, if it is the name of one.
 fn add_name(touches: &mut Vec<Touch>, name: &Name) -> Result<(), NoMemory>
-    ensures { IfOk result (λ _. touches.new.items ≡ touches.old.items ++ reads_of (listed (place_named name.now))) }
+    ensures { IfOk result (λ _. touches.new.items
+        ≡ touches.old.items ++ reads_of (listed (place_named name.now))) }
 {
     if let Some(place) = place_named(name.bytes()) {
         touches.push(Touch::Reads(place))?;
@@ -43,7 +44,8 @@ fn add_name(touches: &mut Vec<Touch>, name: &Name) -> Result<(), NoMemory>
 
 #[cycle(reads)]
 fn add_reads(touches: &mut Vec<Touch>, expr: &Expr) -> Result<(), NoMemory>
-    ensures { IfOk result (λ _. touches.new.items ≡ touches.old.items ++ reads_of (expr_places (expr_of expr.now))) }
+    ensures { IfOk result (λ _. touches.new.items
+        ≡ touches.old.items ++ reads_of (expr_places (expr_of expr.now))) }
 {
     match expr {
         Expr::Int(_) | Expr::Text(_) | Expr::Bool(_) | Expr::VoidValue => Ok(()),
@@ -65,7 +67,8 @@ fn add_reads(touches: &mut Vec<Touch>, expr: &Expr) -> Result<(), NoMemory>
 
 #[cycle(reads)]
 fn add_args_reads(touches: &mut Vec<Touch>, args: &[Expr]) -> Result<(), NoMemory>
-    ensures { IfOk result (λ _. touches.new.items ≡ touches.old.items ++ reads_of (exprs_places (exprs_of args.now))) }
+    ensures { IfOk result (λ _. touches.new.items
+        ≡ touches.old.items ++ reads_of (exprs_places (exprs_of args.now))) }
 {
     for arg in args {
         add_reads(touches, arg)?;
@@ -75,7 +78,8 @@ fn add_args_reads(touches: &mut Vec<Touch>, args: &[Expr]) -> Result<(), NoMemor
 
 // A path to a field of a place reads it, and so does a call on it.
 fn add_base_read(touches: &mut Vec<Touch>, path: &[Ident]) -> Result<(), NoMemory>
-    ensures { IfOk result (λ _. touches.new.items ≡ touches.old.items ++ reads_of (base_place path.now)) }
+    ensures { IfOk result (λ _. touches.new.items
+        ≡ touches.old.items ++ reads_of (base_place path.now)) }
 {
     match path {
         [] | [_] => Ok(()),
@@ -85,7 +89,8 @@ fn add_base_read(touches: &mut Vec<Touch>, path: &[Ident]) -> Result<(), NoMemor
 
 // A path that is one place fills it.
 fn add_fill(touches: &mut Vec<Touch>, path: &[Ident]) -> Result<(), NoMemory>
-    ensures { IfOk result (λ _. touches.new.items ≡ touches.old.items ++ map touch.Fills (small_places (filled_path path.now))) }
+    ensures { IfOk result (λ _. touches.new.items
+        ≡ touches.old.items ++ map touch.Fills (small_places (filled_path path.now))) }
 {
     let [only] = path else {
         return Ok(());
@@ -97,7 +102,10 @@ fn add_fill(touches: &mut Vec<Touch>, path: &[Ident]) -> Result<(), NoMemory>
 }
 
 fn add_put(touches: &mut Vec<Touch>, path: &[Ident], value: &Expr) -> Result<(), NoMemory>
-    ensures { IfOk result (λ _. touches.new.items ≡ touches.old.items ++ reads_of (base_place path.now) ++ reads_of (expr_places (expr_of value.now)) ++ map touch.Fills (small_places (filled_path path.now))) }
+    ensures { IfOk result (λ _. touches.new.items
+        ≡ touches.old.items ++ reads_of (base_place path.now) ++ reads_of
+        (expr_places (expr_of value.now)) ++ map touch.Fills
+        (small_places (filled_path path.now))) }
 {
     add_base_read(touches, path)?;
     add_reads(touches, value)?;
@@ -105,7 +113,8 @@ fn add_put(touches: &mut Vec<Touch>, path: &[Ident], value: &Expr) -> Result<(),
 }
 
 fn add_emptied(touches: &mut Vec<Touch>, numbers: &[u32]) -> Result<(), NoMemory>
-    ensures { IfOk result (λ _. touches.new.items ≡ touches.old.items ++ map touch.Empties numbers.now) }
+    ensures { IfOk result (λ _. touches.new.items
+        ≡ touches.old.items ++ map touch.Empties numbers.now) }
 {
     for number in numbers {
         touches.push(Touch::Empties(*number))?;
@@ -114,7 +123,8 @@ fn add_emptied(touches: &mut Vec<Touch>, numbers: &[u32]) -> Result<(), NoMemory
 }
 
 fn add_instr(touches: &mut Vec<Touch>, instr: &Instr) -> Result<(), NoMemory>
-    ensures { IfOk result (λ _. touches.new.items ≡ touches.old.items ++ small_instr (instr_of instr.now)) }
+    ensures { IfOk result (λ _. touches.new.items
+        ≡ touches.old.items ++ small_instr (instr_of instr.now)) }
 {
     touches.push(Touch::Throws)?;
     match instr {
@@ -130,7 +140,8 @@ fn add_instr(touches: &mut Vec<Touch>, instr: &Instr) -> Result<(), NoMemory>
 }
 
 fn add_body(touches: &mut Vec<Touch>, body: &[Instr]) -> Result<(), NoMemory>
-    ensures { IfOk result (λ _. touches.new.items ≡ touches.old.items ++ small_body (map instr_of body.now)) }
+    ensures { IfOk result (λ _. touches.new.items
+        ≡ touches.old.items ++ small_body (map instr_of body.now)) }
 {
     for instr in body {
         add_instr(touches, instr)?;
@@ -140,7 +151,8 @@ fn add_body(touches: &mut Vec<Touch>, body: &[Instr]) -> Result<(), NoMemory>
 
 // The operands of a group are read before it waits.
 fn add_operands(touches: &mut Vec<Touch>, callbacks: &[Callback]) -> Result<(), NoMemory>
-    ensures { IfOk result (λ _. touches.new.items ≡ touches.old.items ++ reads_of (operands (map callback_of callbacks.now))) }
+    ensures { IfOk result (λ _. touches.new.items
+        ≡ touches.old.items ++ reads_of (operands (map callback_of callbacks.now))) }
 {
     for callback in callbacks {
         add_reads(touches, &callback.operand)?;
@@ -150,7 +162,8 @@ fn add_operands(touches: &mut Vec<Touch>, callbacks: &[Callback]) -> Result<(), 
 
 /// The callbacks of a group, numbered from 1.
 pub fn group_of(class: &Class, number: u32) -> Option<&Group>
-    ensures { option_map (λ (g : Bor code.Group). group_of g.now) result ≡ group_at (class_of class.now).groups number }
+    ensures { option_map (λ (g : Bor code.Group). group_of g.now) result
+        ≡ group_at (class_of class.now).groups number }
 {
     if number == 0 {
         return None;
@@ -162,7 +175,9 @@ pub fn group_of(class: &Class, number: u32) -> Option<&Group>
 }
 
 fn add_wait(touches: &mut Vec<Touch>, class: &Class, group: u32) -> Result<(), NoMemory>
-    ensures { IfOk result (λ _. touches.new.items ≡ touches.old.items ++ reads_of (group_reads (group_at (class_of class.now).groups group)) ++ touch.Waits ∷ touch.Throws ∷ []) }
+    ensures { IfOk result (λ _. touches.new.items
+        ≡ touches.old.items ++ reads_of (group_reads (group_at (class_of class.now).groups group))
+        ++ touch.Waits ∷ touch.Throws ∷ []) }
 {
     if let Some(group) = group_of(class, group) {
         add_operands(touches, &group.callbacks)?;
@@ -172,7 +187,8 @@ fn add_wait(touches: &mut Vec<Touch>, class: &Class, group: u32) -> Result<(), N
 }
 
 fn add_last(touches: &mut Vec<Touch>, class: &Class, last: &Last) -> Result<(), NoMemory>
-    ensures { IfOk result (λ _. touches.new.items ≡ touches.old.items ++ small_last (class_of class.now) (last_of last.now)) }
+    ensures { IfOk result (λ _. touches.new.items
+        ≡ touches.old.items ++ small_last (class_of class.now) (last_of last.now)) }
 {
     touches.push(Touch::Throws)?;
     match last {

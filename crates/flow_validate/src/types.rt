@@ -74,7 +74,8 @@ fn put_fault<'a>(
     target: &Target,
     value: &'a Expr,
 ) -> Option<u8>
-    ensures { result ≡ put_fault (setting_view setting.now) effect target.now.path.items (expr_of value.now) }
+    ensures { result ≡ put_fault (setting_view setting.now) effect target.now.path.items
+        (expr_of value.now) }
 {
     let into = setting.target(&target.path);
     let value = setting.judge(effect, value);
@@ -114,14 +115,16 @@ fn is_effect<'a>(setting: &Setting<'_, 'a>, value: &'a Expr) -> bool
 }
 
 fn has_type<'a>(setting: &Setting<'_, 'a>, effect: bool, value: &'a Expr, ty: Found<'a>) -> bool
-    ensures { result ≡ has_type (setting_view setting.now) effect (expr_of value.now) (found_of ty.entry) }
+    ensures { result ≡ has_type (setting_view setting.now) effect (expr_of value.now)
+        (found_of ty.entry) }
 {
     setting.wanted(effect, value, ty).is_none()
 }
 
 // The type of a place.
 fn type_at(class: &Class, place: Slotted) -> Option<&Ty>
-    ensures { option_map (λ (t : Bor code.Ty). type_of t.now) result ≡ type_at (class_of class.now) place }
+    ensures { option_map (λ (t : Bor code.Ty). type_of t.now) result
+        ≡ type_at (class_of class.now) place }
 {
     match place {
         Slotted::Slot(number) => match class.slots.get(number as usize) {
@@ -153,7 +156,8 @@ fn is_promise(class: &Class, place: Slotted) -> bool
 }
 
 fn instr_fits<'a>(class: &'a Class, setting: &Setting<'_, 'a>, instr: &'a Instr) -> bool
-    ensures { result ≡ instr_fits (class_of class.now) (setting_view setting.now) (instr_of instr.now) }
+    ensures { result ≡ instr_fits (class_of class.now) (setting_view setting.now)
+        (instr_of instr.now) }
 {
     match instr {
         Instr::Set(target, value) => put_fault(setting, false, target, value).is_none(),
@@ -167,7 +171,8 @@ fn instr_fits<'a>(class: &'a Class, setting: &Setting<'_, 'a>, instr: &'a Instr)
 }
 
 fn last_fits<'a>(class: &'a Class, setting: &Setting<'_, 'a>, last: &'a Last) -> bool
-    ensures { result ≡ last_fits (class_of class.now) (setting_view setting.now) (last_of last.now) }
+    ensures { result ≡ last_fits (class_of class.now) (setting_view setting.now)
+        (last_of last.now) }
 {
     match last {
         Last::Test(test, _, _) => has_type(setting, false, test, Found::Bool),
@@ -202,7 +207,8 @@ fn taken_type(class: &Class, into: Option<Slotted>) -> Option<Inner<'_>>
 }
 
 fn callback_fits<'a>(class: &'a Class, setting: &Setting<'_, 'a>, callback: &'a Callback) -> bool
-    ensures { result ≡ callback_fits (class_of class.now) (setting_view setting.now) (callback_of callback.now) }
+    ensures { result ≡ callback_fits (class_of class.now) (setting_view setting.now)
+        (callback_of callback.now) }
 {
     match taken_type(class, callback.into) {
         Some(taken) => has_type(
@@ -216,7 +222,8 @@ fn callback_fits<'a>(class: &'a Class, setting: &Setting<'_, 'a>, callback: &'a 
 }
 
 fn body_fits<'a>(class: &'a Class, setting: &Setting<'_, 'a>, body: &'a [Instr]) -> bool
-    ensures { result ≡ list_all (instr_fits (class_of class.now) (setting_view setting.now)) (map instr_of body.now) }
+    ensures { result ≡ list_all (instr_fits (class_of class.now) (setting_view setting.now))
+        (map instr_of body.now) }
 {
     for instr in body {
         if !instr_fits(class, setting, instr) {
@@ -227,7 +234,8 @@ fn body_fits<'a>(class: &'a Class, setting: &Setting<'_, 'a>, body: &'a [Instr])
 }
 
 fn blocks_fit<'a>(class: &'a Class, setting: &Setting<'_, 'a>) -> bool
-    ensures { result ≡ list_all (block_fits (class_of class.now) (setting_view setting.now)) (class_of class.now).blocks }
+    ensures { result ≡ list_all (block_fits (class_of class.now) (setting_view setting.now))
+        (class_of class.now).blocks }
 {
     for block in &class.blocks {
         if !(body_fits(class, setting, &block.body) && last_fits(class, setting, &block.last)) {
@@ -238,7 +246,8 @@ fn blocks_fit<'a>(class: &'a Class, setting: &Setting<'_, 'a>) -> bool
 }
 
 fn group_fits<'a>(class: &'a Class, setting: &Setting<'_, 'a>, group: &'a Group) -> bool
-    ensures { result ≡ list_all (callback_fits (class_of class.now) (setting_view setting.now)) (group_of group.now) }
+    ensures { result ≡ list_all (callback_fits (class_of class.now) (setting_view setting.now))
+        (group_of group.now) }
 {
     for callback in &group.callbacks {
         if !callback_fits(class, setting, callback) {
@@ -249,7 +258,9 @@ fn group_fits<'a>(class: &'a Class, setting: &Setting<'_, 'a>, group: &'a Group)
 }
 
 fn groups_fit<'a>(class: &'a Class, setting: &Setting<'_, 'a>) -> bool
-    ensures { result ≡ list_all (list_all (callback_fits (class_of class.now) (setting_view setting.now))) (class_of class.now).groups }
+    ensures { result ≡ list_all (list_all
+        (callback_fits (class_of class.now) (setting_view setting.now)))
+        (class_of class.now).groups }
 {
     for group in &class.groups {
         if !group_fits(class, setting, group) {
@@ -286,7 +297,8 @@ fn add_locals<'a>(vars: &mut Vars<'a>, names: &'a [Name], locals: &'a [Ty]) -> R
     requires few { length locals.now < 2 ^ 32 }
     requires names { AreNames true names.now }
     requires enough { length locals.now ≤ length names.now }
-    ensures { IfOk result (λ _. vars_of vars.new ≡ vars_of vars.old ++ local_rows 0 (map type_of locals.now)) }
+    ensures { IfOk result (λ _. vars_of vars.new
+        ≡ vars_of vars.old ++ local_rows 0 (map type_of locals.now)) }
 {
     for (ty, name) in locals.iter().zip(names) {
         vars.insert(name.bytes(), Found::of(ty))?;
@@ -302,7 +314,8 @@ pub fn variables<'a>(
 ) -> Result<Vars<'a>, NoMemory>
     requires few { HasFewPlaces (class_of class.now) }
     requires enough { AreEnough names.now.slots.items names.now.locals.items (class_of class.now) }
-    ensures { IfOk result (λ m. vars_of m ≡ slot_rows 0 (class_of class.now).slots ++ local_rows 0 (class_of class.now).locals) }
+    ensures { IfOk result (λ m. vars_of m
+        ≡ slot_rows 0 (class_of class.now).slots ++ local_rows 0 (class_of class.now).locals) }
 {
     let mut vars: Vars<'a> = IndexMap::new(alloc);
     add_slots(&mut vars, &names.slots, &class.slots)?;
@@ -313,7 +326,8 @@ pub fn variables<'a>(
 // The greatest number of slots of a class.
 fn most_slots(classes: &[Class]) -> u32
     requires { AreFew (map class_of classes.now) }
-    ensures { (i : ℕ) (c : ClassTree) → slice_get (map class_of classes.now) i ≡ Some c → length c.slots ≤ result }
+    ensures { (i : ℕ) (c : ClassTree) → slice_get (map class_of classes.now) i ≡ Some c
+        → length c.slots ≤ result }
 {
     let mut most: u32 = 0;
     for class in classes {
@@ -325,7 +339,8 @@ fn most_slots(classes: &[Class]) -> u32
 // The greatest number of locals of a class.
 fn most_locals(classes: &[Class]) -> u32
     requires { AreFew (map class_of classes.now) }
-    ensures { (i : ℕ) (c : ClassTree) → slice_get (map class_of classes.now) i ≡ Some c → length c.locals ≤ result }
+    ensures { (i : ℕ) (c : ClassTree) → slice_get (map class_of classes.now) i ≡ Some c
+        → length c.locals ≤ result }
 {
     let mut most: u32 = 0;
     for class in classes {
@@ -337,7 +352,8 @@ fn most_locals(classes: &[Class]) -> u32
 /// Names for the places of these classes.
 pub fn place_names(alloc: Global, classes: &[Class]) -> Result<PlaceNames, NoMemory>
     requires { AreFew (map class_of classes.now) }
-    ensures { IfOk result (λ n. AreEnoughFor n.slots.items n.locals.items (map class_of classes.now)) }
+    ensures { IfOk result (λ n. AreEnoughFor n.slots.items n.locals.items
+        (map class_of classes.now)) }
 {
     Ok(PlaceNames {
         slots: names_of(alloc, false, most_slots(classes))?,

@@ -38,8 +38,10 @@ fn broken_rule<'a>(
     class: &'a Class,
 ) -> Result<Option<u8>, NoMemory>
     requires few { HasFewPlaces (class_of class.now) }
-    requires places { AreEnough places.now.slots.items places.now.locals.items (class_of class.now) }
-    ensures rule { (r : RawTree) → Sees r names.now → IfOk result (λ o. o ≡ broken_rule r (class_of class.now)) }
+    requires places { AreEnough places.now.slots.items places.now.locals.items
+        (class_of class.now) }
+    ensures rule { (r : RawTree) → Sees r names.now
+        → IfOk result (λ o. o ≡ broken_rule r (class_of class.now)) }
     ensures named { IfOk result (λ o. o ≡ None → names_exist (class_of class.now) ≡ true) }
 {
     if !names_exist(class) {
@@ -73,7 +75,8 @@ fn class_rule<'a>(
     class: &'a Class,
 ) -> Result<Option<u8>, NoMemory>
     requires few { HasFewPlaces (class_of class.now) }
-    requires places { AreEnough places.now.slots.items places.now.locals.items (class_of class.now) }
+    requires places { AreEnough places.now.slots.items places.now.locals.items
+        (class_of class.now) }
     ensures { (r : RawTree) → Sees r names.now → IfOk result (ClassTold r (class_of class.now)) }
 {
     if let Some(rule) = broken_rule(alloc, names, places, class)? {
@@ -94,9 +97,12 @@ fn judge_classes<'a>(
 ) -> Result<(), Invalid>
     requires few { AreFew (map class_of classes.now) }
     requires many { length classes.now < 2 ^ 32 }
-    requires places { AreEnoughFor places.now.slots.items places.now.locals.items (map class_of classes.now) }
-    ensures sound { (r : RawTree) → Sees r names.now → r.classes ≡ map class_of classes.now → IfOk result (λ _. AreSoundClasses r) }
-    ensures refused { (r : RawTree) → Sees r names.now → r.classes ≡ map class_of classes.now → AreHeadsKept r → IfErr result (Told r) }
+    requires places { AreEnoughFor places.now.slots.items places.now.locals.items
+        (map class_of classes.now) }
+    ensures sound { (r : RawTree) → Sees r names.now → r.classes ≡ map class_of classes.now
+        → IfOk result (λ _. AreSoundClasses r) }
+    ensures refused { (r : RawTree) → Sees r names.now → r.classes ≡ map class_of classes.now
+        → AreHeadsKept r → IfErr result (Told r) }
 {
     for (place, class) in classes.iter().enumerate() {
         if let Some(rule) = class_rule(alloc, names, places, class)? {
@@ -119,8 +125,10 @@ fn judge_heads<'a>(
 ) -> Result<(), Invalid>
     requires packet { map field_row (params_of packet.now) ≡ packet_fields }
     requires many { length classes.now < 2 ^ 32 }
-    ensures kept { (r : RawTree) → Sees r names.now → plain_decls r ≡ map decl_of plain.now → r.classes ≡ map class_of classes.now → IfOk result (λ _. AreHeadsKept r) }
-    ensures refused { (r : RawTree) → Sees r names.now → plain_decls r ≡ map decl_of plain.now → r.classes ≡ map class_of classes.now → IfErr result (Told r) }
+    ensures kept { (r : RawTree) → Sees r names.now → plain_decls r ≡ map decl_of plain.now
+        → r.classes ≡ map class_of classes.now → IfOk result (λ _. AreHeadsKept r) }
+    ensures refused { (r : RawTree) → Sees r names.now → plain_decls r ≡ map decl_of plain.now
+        → r.classes ≡ map class_of classes.now → IfErr result (Told r) }
 {
     if !declarations_kept(alloc, names, packet, plain)? {
         return Err(Invalid::Rule {
@@ -205,8 +213,10 @@ fn release(alloc: Global, gathered: Gathered) -> Result<RawClasses, NoMemory>
 // The verdict by the names at the top.
 fn judge_named<'a>(alloc: Global, names: &Names<'a>, gathered: &'a Gathered) -> Result<(), Invalid>
     requires { IsReady gathered.now }
-    ensures valid { (r : RawTree) → Sees r names.now → AreParts r gathered.now → IfOk result (λ _. IsValid r) }
-    ensures refused { (r : RawTree) → Sees r names.now → AreParts r gathered.now → IfErr result (Told r) }
+    ensures valid { (r : RawTree) → Sees r names.now → AreParts r gathered.now
+        → IfOk result (λ _. IsValid r) }
+    ensures refused { (r : RawTree) → Sees r names.now → AreParts r gathered.now
+        → IfErr result (Told r) }
 {
     judge_heads(
         alloc,

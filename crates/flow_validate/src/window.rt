@@ -104,7 +104,8 @@ impl Passage {
 
     // One more touch.
     fn touched(self, window: Window, touch: Touch) -> Passage
-        ensures { (s : place.Slotted → Passing) → ArePassing window self s → ArePassing window result (λ p. touched p touch (s p)) }
+        ensures { (s : place.Slotted → Passing) → ArePassing window self s
+            → ArePassing window result (λ p. touched p touch (s p)) }
     {
         match touch {
             Touch::Throws => Passage {
@@ -132,7 +133,8 @@ impl Passage {
 
     /// All these touches, one after another.
     pub fn through(self, window: Window, touches: &[Touch]) -> Passage
-        ensures { (s : place.Slotted → Passing) → ArePassing window self s → ArePassing window result (λ p. passed p touches.now (s p)) }
+        ensures { (s : place.Slotted → Passing) → ArePassing window self s
+            → ArePassing window result (λ p. passed p touches.now (s p)) }
     {
         let mut passage = self;
         for touch in touches {

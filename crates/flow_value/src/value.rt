@@ -100,7 +100,8 @@ impl Value {
     }
 
     fn add_refs(&self, found: &mut Vec<(Kind, CellId)>) -> Result<(), NoMemory>
-        ensures { OnOk result (map ref_of found.new.items ≡ map ref_of found.old.items ++ refs_of (value_of self.now)) }
+        ensures { OnOk result (map ref_of found.new.items
+            ≡ map ref_of found.old.items ++ refs_of (value_of self.now)) }
     {
         match self {
             Value::Struct(record) => {

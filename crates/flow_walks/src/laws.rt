@@ -29,5 +29,6 @@ pub fn lost_by_walk()
 /// What the grammar derives has parts of its `for`s as the laws above ask: its init declares or changes a variable, and its
 /// step changes one, where they are there.
 pub fn parts_are_simple()
-    ensures { (tokens : Tokens) (program : ProgramTree) → IsProgram tokens program → AllHaveSimpleParts program.decls }
+    ensures { (tokens : Tokens) (program : ProgramTree) → IsProgram tokens program
+        → AllHaveSimpleParts program.decls }
 {}

@@ -33,7 +33,8 @@ fn next_number(rest: &[u8]) -> Option<(u128, &[u8])>
 
 /// The one number that is left.
 fn one_number(rest: &[u8]) -> Option<u128>
-    ensures { MatchOption result ((n : ℕ) → fields rest.now ≢ number n ∷ []) (λ n. fields rest.now ≡ number n ∷ []) }
+    ensures { MatchOption result ((n : ℕ) → fields rest.now ≢ number n ∷ [])
+        (λ n. fields rest.now ≡ number n ∷ []) }
 {
     let Some((value, more)) = next_number(rest) else {
         return None;
@@ -97,7 +98,8 @@ fn long_order(word: &[u8], m: u128, n: u128) -> Option<Order>
 /// The order that is left of an `at` line.
 #[tactic(auto, using(crate::proofs::FieldLemmas::no_order_empty, crate::proofs::FieldLemmas::no_order))]
 fn order(rest: &[u8]) -> Option<Order>
-    ensures { MatchOption result ((order : Order) → fields rest.now ≢ order_form order) (λ order. fields rest.now ≡ order_form order) }
+    ensures { MatchOption result ((order : Order) → fields rest.now ≢ order_form order)
+        (λ order. fields rest.now ≡ order_form order) }
 {
     let Some((word, more)) = first_piece(rest) else {
         return None;

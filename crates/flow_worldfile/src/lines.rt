@@ -54,7 +54,8 @@ pub fn first_line(text: &[u8]) -> (&[u8], &[u8])
 
 /// The first field of a line, as bytes, and what stands after it. None where the line has no field.
 pub fn first_piece(line: &[u8]) -> Option<(&[u8], &[u8])>
-    ensures parts { MatchOption result (pieces line.now ≡ []) (λ parts. pieces line.now ≡ parts.0.now ∷ pieces parts.1.now) }
+    ensures parts { MatchOption result (pieces line.now ≡ [])
+        (λ parts. pieces line.now ≡ parts.0.now ∷ pieces parts.1.now) }
     ensures some { IfSome result (λ parts. 0 < length parts.0.now) }
 {
     let mut rest = line;
@@ -112,7 +113,8 @@ fn value_of(piece: &[u8]) -> u128
 
 /// The number that a field is.
 pub fn number_of(piece: &[u8]) -> Option<u128>
-    ensures { MatchOption result (field_of piece.now ≡ text piece.now) (λ n. field_of piece.now ≡ number n) }
+    ensures { MatchOption result (field_of piece.now ≡ text piece.now)
+        (λ n. field_of piece.now ≡ number n) }
 {
     if is_numeral(piece) {
         Some(value_of(piece))

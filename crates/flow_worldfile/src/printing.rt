@@ -56,7 +56,8 @@ fn push_line(out: &mut String, line: Directive) -> Result<(), NoMemory>
 
 /// Adds lines.
 fn push_lines(out: &mut String, lines: &[Directive]) -> Result<(), NoMemory>
-    ensures { OnOk result (string_bytes out.new ≡ string_bytes out.old ++ flat_map line_text lines.now) }
+    ensures { OnOk result (string_bytes out.new
+        ≡ string_bytes out.old ++ flat_map line_text lines.now) }
 {
     for line in lines {
         push_line(out, *line)?;
@@ -66,7 +67,8 @@ fn push_lines(out: &mut String, lines: &[Directive]) -> Result<(), NoMemory>
 
 /// Adds a line for each word.
 fn push_words(out: &mut String, words: &[u32]) -> Result<(), NoMemory>
-    ensures { OnOk result (string_bytes out.new ≡ string_bytes out.old ++ flat_map line_text (map Word words.now)) }
+    ensures { OnOk result (string_bytes out.new
+        ≡ string_bytes out.old ++ flat_map line_text (map Word words.now)) }
 {
     for word in words {
         push_line(out, Directive::Word(u128::from(*word)))?;
@@ -76,7 +78,8 @@ fn push_words(out: &mut String, words: &[u32]) -> Result<(), NoMemory>
 
 /// Adds a line for each act of a script.
 fn push_script(out: &mut String, script: &[At]) -> Result<(), NoMemory>
-    ensures { OnOk result (string_bytes out.new ≡ string_bytes out.old ++ flat_map line_text (map at_line (map timed script.now))) }
+    ensures { OnOk result (string_bytes out.new
+        ≡ string_bytes out.old ++ flat_map line_text (map at_line (map timed script.now))) }
 {
     for at in script {
         push_line(out, Directive::At(u128::from(at.time), at.act.order()))?;
