@@ -11,7 +11,8 @@ use Rattle.flow_heapstate.specs.Restoring.{frame_of, noted_if, restored, RisesFr
 use Rattle.flow_heapstate.specs.Sound.{RiseTo, SoundActor, SoundHeap, RestsWith}
 use Rattle.flow_heapstate.specs.declared.state.ActorState.{ActorState}
 use Rattle.flow_heapstate.specs.declared.state.HeapState.{HeapState}
-use Rattle.flow_heapstate.proofs.Numbers.{has_with, all_there}
+use Rattle.flow_cancel.proofs.Noted.{has_with}
+use Rattle.flow_heapstate.proofs.Numbers.{all_there}
 use Rattle.flow_heapstate.proofs.Recounting.{recounted, cell_number, stream_number, cell_counted, stream_counted}
 use Rattle.flow_heapstate.proofs.Filled.{last_of, all_noted, requested, ported, actor_number, frames_of, notes_of}
 use Rattle.flow_heapstate.proofs.Restored.{in_order, whole, restored_is, cell_counts, stream_counts, cells_count, streams_count, counted_at}

@@ -12,6 +12,7 @@ use Rattle.std.specs.declared.option.Option.TheVariants.{None, Some}
 use Rattle.flow_base.specs.declared.ids.CellId.{CellId}
 use Rattle.flow_class.specs.Classes.{RawTree}
 use Rattle.flow_cancel.specs.Heap.{HeapTree, has_number, with_number, without_number}
+use Rattle.flow_cancel.proofs.Noted.{at_number, either_first, has_with}
 use Rattle.flow_meaning.specs.Numbered.{Numbered, thing, added, removed}
 use Rattle.flow_meaning.specs.Cells.{is_some}
 use Rattle.flow_meaning.specs.Process.{Proc}
@@ -23,16 +24,6 @@ use Rattle.flow_meaning.specs.Step.{on_core}
 use Rattle.flow_picture.specs.Shows.{Shows, nobody, cell_number}
 use Rattle.flow_picture.specs.Rested.{NumbersRise, PortsRise, OneEach}
 use Rattle.flow_picture.specs.Beside as change
-
--- a number is compared
-pub at_number : (k x : ℕ) → is_at (nat_cmp k) x ≡ nat_eq k x
-at_number k x = by_order (nat_lt k x) refl (nat_eq k x) refl
-  where
-    by_order : (t : Bool) → nat_lt k x ≡ t → (u : Bool) → nat_eq k x ≡ u → is_at (nat_cmp k) x ≡ u
-    by_order true e true f = absurd (grind (arith, nat_tests, e, f))
-    by_order true e false f = rw e refl
-    by_order false e true f = rw (e, f) refl
-    by_order false e false f = rw (e, f) refl
 
 greater : (k x : ℕ) → x < k → nat_cmp k x ≡ nat_cmp 1 0
 greater k x l = let e : nat_lt k x ≡ false = grind (arith, nat_tests, l) in let f : nat_eq k x ≡ false = grind (arith, nat_tests, l) in rw (e, f) refl
@@ -52,27 +43,6 @@ closed_same k (n ∷ ns) = rw (at_number k n) (by_test (nat_eq k n) (closed_same
     by_test false e = ap (λ ks. n ∷ ks) e
 
 -- which numbers are among them afterwards
-either_first : (a b c : Bool) → (a || (b || c)) ≡ (b || (a || c))
-either_first true true c = refl
-either_first true false c = refl
-either_first false b c = refl
-
-has_with : (j k : ℕ) (ns : List ℕ) → has_number (with_number ns k) j ≡ (nat_eq j k || has_number ns j)
-has_with j k [] = ap (λ t. t || false) (at_number j k)
-has_with j k (n ∷ ns) = by_order (nat_lt k n) refl (nat_eq k n) refl (has_with j k ns)
-  where
-    twice : (t b : Bool) → (t || b) ≡ (t || (t || b))
-    twice true b = refl
-    twice false b = refl
-
-    by_order : (t : Bool) → nat_lt k n ≡ t → (u : Bool) → nat_eq k n ≡ u → has_number (with_number ns k) j ≡ (nat_eq j k || has_number ns j) → has_number (with_number (n ∷ ns) k) j ≡ (nat_eq j k || has_number (n ∷ ns) j)
-    by_order true e u f rest = rw e (ap (λ t. t || has_number (n ∷ ns) j) (at_number j k))
-    by_order false e true f rest =
-        let same : k ≡ n = grind (arith, nat_tests, f) in
-        rw (e, f) (ap (λ t. t || has_number ns j) (at_number j n) ∙ twice (nat_eq j n) (has_number ns j) ∙ ap (λ m. nat_eq j m || (nat_eq j n || has_number ns j)) (sym same) ∙ ap (λ t. nat_eq j k || (t || has_number ns j)) (sym (at_number j n)))
-    by_order false e false f rest =
-        rw (e, f) (ap (λ t. is_at (nat_cmp j) n || t) rest ∙ either_first (is_at (nat_cmp j) n) (nat_eq j k) (has_number ns j))
-
 port_added : (j port k : ℕ) (xs : Numbered ℕ) → is_some (port_of j (added xs port k)) ≡ (nat_eq j k || is_some (port_of j xs))
 port_added j port k [] = by_test (nat_eq j k)
   where
