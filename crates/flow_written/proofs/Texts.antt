@@ -77,9 +77,26 @@ class_written c h =
     subst (λ bs. Derived (λ ts. ClassRule ts (record c { blocks = bs }))) (sym some.2) (record {
       tokens = _;
       rule = rules.class p p p p p p p h.returns.tokens slots.tokens locals.tokens blocks.tokens groups.tokens h.returns.rule h.params slots.rule locals.rule blocks.rule groups.rule refl;
-      are = ((said_spelled (codes "class") said_class, tt), ((h.name, tt), ((said_spelled (codes "returns") said_returns, tt), both_are h.returns.tokens _ h.returns.are
-          ((said_spelled (codes "params") said_params, tt), ((number_spelled c.params h.params, tt), ((sign_spelled sign.OpenCurly, tt), both_are slots.tokens _ slots.are
-          (both_are locals.tokens _ locals.are (both_are blocks.tokens _ blocks.are (both_are groups.tokens _ groups.are ((sign_spelled sign.CloseCurly, tt), tt)))))))))));
+      are = (
+        (said_spelled (codes "class") said_class, tt),
+        (
+          (h.name, tt),
+          (
+            (said_spelled (codes "returns") said_returns, tt),
+            both_are h.returns.tokens _ h.returns.are (
+              (said_spelled (codes "params") said_params, tt),
+              (
+                (number_spelled c.params h.params, tt),
+                (
+                  (sign_spelled sign.OpenCurly, tt),
+                  both_are slots.tokens _ slots.are
+                      (both_are locals.tokens _ locals.are (both_are blocks.tokens _ blocks.are (both_are groups.tokens _ groups.are ((sign_spelled sign.CloseCurly, tt), tt)))),
+                ),
+              ),
+            ),
+          ),
+        ),
+      );
     })
 
 each : {A : Type 0} (rule : List Marked → A → Type 0) (xs : List A) → AllByRecursion (λ x. Derived (λ ts. rule ts x)) xs → Derived (λ ts. EachRule rule ts xs)
