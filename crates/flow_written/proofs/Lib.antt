@@ -1,3 +1,4 @@
 pub mod Spelled
 pub mod Written
 pub mod Texts
+pub mod Renamed
