@@ -2,3 +2,4 @@ pub mod Spelled
 pub mod Written
 pub mod Texts
 pub mod Renamed
+pub mod Names

@@ -1,12 +1,12 @@
 -- An expression of a program is one of a class: at a lesser depth, and over places.
-use Rattle.std.proofs.Common.{◌≡◌, ◌≤◌, ℕ, suc, List, [], ◌∷◌, ◌++◌, refl, subst, arith}
+use Rattle.std.proofs.Common.{◌≤◌, ℕ, suc, List, [], ◌∷◌, ◌++◌, refl, subst, arith}
 use Rattle.flow_tree.specs.declared.limits.TheConstants.{DEPTH}
 use Rattle.flow_tree.specs.declared.token.Token.TheVariants as token
 use Rattle.flow_tree.specs.declared.token.Sign.TheVariants as sign
 use Rattle.flow_tree.specs.declared.ty.Ident.{Ident}
 use Rattle.flow_tree.specs.Tree.{ExprTree, ExprTrees}
 use Rattle.flow_tree.specs.Decls.{SlotTree}
-use Rattle.flow_tree.specs.GrammarToken.{Part, Node, Marked, begin, opens}
+use Rattle.flow_tree.specs.GrammarToken.{Part, Node, Marked, begin}
 use Rattle.flow_tree.specs.Grammar.{sign_at, name_at, op_sign, ExprRule, ArgsRule, MoreArgsRule, number, text, truth, falsehood, void, variable, call, paren, field, method, negation, minus, binary, no_args, some_args, end_args, more_args}
 use Rattle.flow_class.specs.Places.{place_named}
 use Rattle.flow_class.specs.Scopes.{Scope, ident_over, over, over_all}

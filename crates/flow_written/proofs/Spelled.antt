@@ -1,5 +1,5 @@
 -- Tokens that can be spelled.
-use Rattle.std.proofs.Common.{◌≡◌, ◌⊎◌, inl, inr, eqb, nat_le, ◌<◌, ◌≤◌, ◌^◌, ℕ, zero, suc, nat_eq, pos, Bool, true, false, ◌&&◌, ◌||◌, not, List, [], ◌∷◌, ◌++◌, length, get_or, decimal, refl, sym, ap, ◌∙◌, subst, arith, rules, if◌then◌else◌}
+use Rattle.std.proofs.Common.{◌≡◌, ◌⊎◌, inl, inr, eqb, nat_le, ◌<◌, ◌≤◌, ◌^◌, ℕ, zero, suc, nat_eq, pos, Bool, true, false, ◌&&◌, ◌||◌, List, [], ◌∷◌, ◌++◌, length, get_or, decimal, refl, sym, ap, subst, arith, rules, if◌then◌else◌}
 use Rattle.std.specs.Prelude.{codes, IsTrue}
 use Rattle.std.specs.List.{list_all, AllByRecursion}
 use Rattle.std.specs.Str.Parse.{digits_value}
@@ -7,13 +7,11 @@ use Rattle.std.proofs.lemmas.Bool.Decides.{nat_tests}
 use Rattle.std.proofs.lemmas.Fmt.{decimal_digit, decimal_nonempty, first_decimal, digits_decimal, digits_value-decimal, length-decimal-le}
 use Rattle.std.proofs.lemmas.Str.Parse.{IsNumeralModel, numerals_by_value}
 use Rattle.flow_base.specs.Names.{digit, letter, name_byte, is_name_text}
-use Rattle.flow_base.specs.declared.place.Place.{Place}
-use Rattle.flow_tree.specs.declared.token.Token.{Token}
 use Rattle.flow_tree.specs.declared.token.Token.TheVariants as token
 use Rattle.flow_tree.specs.declared.token.Word as words
 use Rattle.flow_tree.specs.declared.token.Word.TheVariants.{Actor, Struct, State, Wait, WaitNext, Choose, When, Loop, While, For, If, Else, Break, Continue, Return, Throw, Try, Catch, Yes, No, Int, Bool as Bool', Str, Void, Error, Future, FutureStream, Promise, PromiseStream}
 use Rattle.flow_tree.specs.declared.token.Sign as signs
-use Rattle.flow_tree.specs.Spelling.{Spells, IsBounded, word_bytes, sign_bytes, is_number_text}
+use Rattle.flow_tree.specs.Spelling.{word_bytes, sign_bytes, is_number_text}
 use Rattle.flow_class.specs.declared.class.Slotted.{Slotted}
 use Rattle.flow_class.specs.declared.class.Slotted.TheVariants.{Slot, Local}
 use Rattle.flow_class.specs.Places.{place_name}
@@ -168,6 +166,11 @@ said_spelled w said_error = name_spelled (codes "error") refl (omega arith) refl
 pub both_are : (xs ys : List Marked) → AreTokens xs → AreTokens ys → AreTokens (xs ++ ys)
 both_are [] ys h g = g
 both_are (x ∷ xs) ys h g = (h.0, both_are xs ys h.1 g)
+
+-- the name that names nothing
+pub nothing_spelled : IsSpelled (token.Name (codes "_"))
+unfolding same any
+nothing_spelled = name_spelled (codes "_") refl (omega arith) refl
 
 -- numbers
 own : IsNumeralModel (λ ds. list_all digit ds ≡ true) (digits_value 10)

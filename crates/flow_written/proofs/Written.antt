@@ -1,19 +1,17 @@
 -- What can be written is derived by some tokens.
-use Rattle.std.proofs.Common.{◌≡◌, ◌≤◌, ℕ, suc, ◌+◌, pos, Bool, true, false, List, [], ◌∷◌, ◌++◌, length, Option, Some, None, refl, sym, ap, ◌∙◌, subst, arith}
+use Rattle.std.proofs.Common.{ℕ, Bool, true, false, List, [], ◌∷◌, ◌++◌, Option, Some, None, refl}
 use Rattle.std.specs.Prelude.{codes}
 use Rattle.std.specs.List.{AllByRecursion}
 use Rattle.flow_base.specs.declared.place.Place.{Place}
-use Rattle.flow_tree.specs.declared.token.Token.TheVariants as token
 use Rattle.flow_tree.specs.declared.token.Word.TheVariants as word
 use Rattle.flow_tree.specs.declared.token.Sign.TheVariants as sign
-use Rattle.flow_tree.specs.GrammarToken.{Marked}
 use Rattle.flow_tree.specs.GrammarStmt.{OperandRule, wait, wait_next}
 use Rattle.flow_class.specs.declared.class.Slotted.{Slotted}
-use Rattle.flow_class.specs.declared.class.Slotted.TheVariants.{Slot, Local}
-use Rattle.flow_class.specs.Classes.{CatcherTree, InstrTree, SetInstr, EffectInstr, NewInstr, ActInstr, DropInstr, LastTree, GotoLast, PassLast, TestLast, ChooseLast, ReturnLast, ThrowLast, BlockTree, CallbackTree, ClassTree, RawTree}
+use Rattle.flow_class.specs.declared.class.Slotted.TheVariants.{Local}
+use Rattle.flow_class.specs.Classes.{CatcherTree, InstrTree, SetInstr, EffectInstr, NewInstr, ActInstr, DropInstr, LastTree, GotoLast, PassLast, TestLast, ChooseLast, ReturnLast, ThrowLast, BlockTree, CallbackTree}
 use Rattle.flow_classprint.specs.ClassGrammar as rules
 use Rattle.flow_classprint.specs.ClassGrammar.{IsNumber, IsPlace, AreTokens, WholeRule, LocalsRule, MaybeLocalsRule, ErrorRule, CatchRule, AssignRule, InstrRule, InstrsRule, LastRule, BlockRule, IntoRule, CallbackRule}
-use Rattle.flow_written.specs.Writable.{Derived, ExprWritable, AreNumbers, SomeNumbers, InstrWritable, LastWritable, IsMaybeNumber, IsMaybePlace, CatchWritable, BlockWritable, CallbackWritable}
+use Rattle.flow_written.specs.Writable.{Derived, ExprWritable, AreNumbers, InstrWritable, LastWritable, IsMaybeNumber, IsMaybePlace, CatchWritable, BlockWritable, CallbackWritable}
 use Rattle.flow_written.proofs.Spelled.{sign_spelled, word_spelled, said_spelled, number_spelled, place_spelled, both_are, Said, said_set, said_do, said_new, said_act, said_drop, said_goto, said_pass, said_test, said_block, said_callback, said_into, said_error}
 
 abbrev pub p : Place

@@ -7,7 +7,7 @@ use Rattle.flow_tree.specs.declared.limits.TheConstants.{BRANCHES}
 use Rattle.flow_tree.specs.declared.token.Token.TheVariants as token
 use Rattle.flow_tree.specs.declared.ty.Ident.{Ident}
 use Rattle.flow_tree.specs.Tree.{TypeTree, ExprTree, ExprTrees}
-use Rattle.flow_tree.specs.Decls.{SlotTree, RecordTree, RoutineTree}
+use Rattle.flow_tree.specs.Decls.{SlotTree}
 use Rattle.flow_tree.specs.GrammarToken.{Marked}
 use Rattle.flow_tree.specs.Grammar.{TypeRule, ExprRule, ArgsRule}
 use Rattle.flow_class.specs.declared.class.Slotted.{Slotted}
