@@ -3,3 +3,4 @@ pub mod Written
 pub mod Texts
 pub mod Renamed
 pub mod Names
+pub mod Paths

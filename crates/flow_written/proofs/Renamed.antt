@@ -14,11 +14,11 @@ use Rattle.flow_classprint.specs.ClassGrammar.{IsFree, AreFree, AllAreFree, IsSp
 use Rattle.flow_written.specs.Writable.{Derived}
 use Rattle.flow_written.proofs.Spelled.{both_are}
 
-are_front : (xs ys : List Marked) → AreTokens (xs ++ ys) → AreTokens xs
+pub are_front : (xs ys : List Marked) → AreTokens (xs ++ ys) → AreTokens xs
 are_front [] ys h = tt
 are_front (x ∷ xs) ys h = (h.0, are_front xs ys h.1)
 
-are_back : (xs ys : List Marked) → AreTokens (xs ++ ys) → AreTokens ys
+pub are_back : (xs ys : List Marked) → AreTokens (xs ++ ys) → AreTokens ys
 are_back [] ys h = h
 are_back (x ∷ xs) ys h = are_back xs ys h.1
 
