@@ -22,11 +22,11 @@ pub are_back : (xs ys : List Marked) → AreTokens (xs ++ ys) → AreTokens ys
 are_back [] ys h = h
 are_back (x ∷ xs) ys h = are_back xs ys h.1
 
-unbegin : (part : Part) (xs : List Marked) → AreTokens (begin part xs) → AreTokens xs
+pub unbegin : (part : Part) (xs : List Marked) → AreTokens (begin part xs) → AreTokens xs
 unbegin part [] h = tt
 unbegin part (x ∷ xs) h = ((h.0.0, h.0.1.1), h.1)
 
-rebegin : (d : ℕ) (xs : List Marked) → d ≤ DEPTH → AreTokens xs → AreTokens (begin (Node d) xs)
+pub rebegin : (d : ℕ) (xs : List Marked) → d ≤ DEPTH → AreTokens xs → AreTokens (begin (Node d) xs)
 rebegin d [] l h = tt
 rebegin d (x ∷ xs) l h = ((h.0.0, (l, h.0.1)), h.1)
 

@@ -172,6 +172,11 @@ pub nothing_spelled : IsSpelled (token.Name (codes "_"))
 unfolding same any
 nothing_spelled = name_spelled (codes "_") refl (omega arith) refl
 
+-- the error of an actor that ends without a result
+pub cancelled_spelled : IsSpelled (token.Name (codes "operation_cancelled"))
+unfolding same any
+cancelled_spelled = name_spelled (codes "operation_cancelled") refl (omega arith) refl
+
 -- numbers
 own : IsNumeralModel (λ ds. list_all digit ds ≡ true) (digits_value 10)
 own = numerals_by_value _ (search rules)
