@@ -27,10 +27,10 @@ use Rattle.flow_written.proofs.Bodies.{IntoSaid, TakenSaid, BodySaid, BranchesSa
 use Rattle.flow_written.proofs.Chunks.{all_more}
 
 -- the slots and locals of a body
-abbrev SlotsSaid : List SlotTree → Type 0
+abbrev pub SlotsSaid : List SlotTree → Type 0
 SlotsSaid ss = AllByRecursion SlotWritable ss
 
-abbrev TypesSaid : List TypeTree → Type 0
+abbrev pub TypesSaid : List TypeTree → Type 0
 TypesSaid ts = AllByRecursion TypeWritable ts
 
 declared_said : (i : IntoTree) → IntoSaid i → SlotsSaid (declared_slots i)
@@ -150,7 +150,7 @@ params_said (some_params first more q qs eq) h =
     (one_param q (fine_front first _ t), params_after qs (fine_back first _ t))
 
 actor_said : {actor : Bool} {at : Place} {t : TypeTree} {all : List Marked} {a : RoutineTree} → RoutineRule actor at t all a → Fine all → TypeWritable t → ActorSaid a
-actor_said (routine q r s close x params xs {ps = ps} {body = body} qs b eq) h t =
+actor_said (routine {ps = ps} {body = body} q r s close x params xs qs b eq) h t =
     let u = subst Fine eq h in
     let v = (fine_back params _ u.1.1).1.1 in
     let said = stmts b (omega arith) (fine_front xs _ v) in

@@ -11,8 +11,9 @@ use Rattle.flow_tree.specs.Tree.{ExprTree, ExprTrees}
 use Rattle.flow_tree.specs.Body.{IntoTree, WaitTree, ChangeTree, PlusChange, MinusChange, UpChange, DownChange, Body, End, BlockStmt, IfStmt, IfElseStmt, WhileStmt, ForStmt, LoopStmt, BreakStmt, ContinueStmt, ReturnStmt, ThrowStmt, TryStmt, ChooseStmt, DeclareStmt, AssignStmt, ModifyStmt, CallStmt, WaitStmt, Branches, NoBranches, MoreBranches}
 use Rattle.flow_tree.specs.GrammarToken.{Marked}
 use Rattle.flow_tree.specs.Grammar.{ExprRule, ArgsRule}
-use Rattle.flow_tree.specs.GrammarStmt.{Counts, IntoRule, declared, OperandRule, wait, wait_next, WaitingRule, plain_wait, into_wait, PathRule, AssignRule, assign, plus, minus, up, down, InitRule, declare, declare_value, change, InitPart, no_init, some_init, StepPart, no_step, some_step, MaybeExprRule, no_expr, some_expr, PlainRule, if_stmt, if_else_stmt, while_stmt, for_stmt, loop_stmt, break_stmt, continue_stmt, return_stmt, throw_stmt, try_stmt, choose_stmt, init_stmt, wait_stmt, call_stmt, StmtRule, block_stmt, plain_stmt, BlockRule, braces, BodyRule, block_body, one_body, StmtsRule, no_stmts, more_stmts, WhensRule, no_whens, more_whens, WhenRule, branch}
+use Rattle.flow_tree.specs.GrammarStmt.{Counts, IntoRule, declared, OperandRule, wait, wait_next, WaitingRule, plain_wait, into_wait, PathRule, last_name, more_names, AssignRule, assign, plus, minus, up, down, InitRule, declare, declare_value, change, InitPart, no_init, some_init, StepPart, no_step, some_step, MaybeExprRule, no_expr, some_expr, PlainRule, if_stmt, if_else_stmt, while_stmt, for_stmt, loop_stmt, break_stmt, continue_stmt, return_stmt, throw_stmt, try_stmt, choose_stmt, init_stmt, wait_stmt, call_stmt, StmtRule, block_stmt, plain_stmt, BlockRule, braces, BodyRule, block_body, one_body, StmtsRule, no_stmts, more_stmts, WhensRule, no_whens, more_whens, WhenRule, branch}
 use Rattle.flow_ast.specs.Slots.{branch_waits}
+use Rattle.flow_lowered.specs.Parts.{HasRoot}
 use Rattle.flow_classprint.specs.ClassGrammar.{IsSpelled}
 use Rattle.flow_written.specs.Writable.{Derived, TypeWritable}
 use Rattle.flow_written.proofs.Paths.{retyped}
@@ -36,11 +37,12 @@ MaybeSaid (Some e) = ExprSaid e
 abbrev pub PathSaid : List Ident → Type 0
 PathSaid xs = Derived (λ ts. PathRule ts xs)
 
+has_root : {ts : List Marked} {xs : List Ident} → PathRule ts xs → HasRoot xs
+has_root (last_name x) = tt
+has_root (more_names x p more r eq) = tt
+
 pub no_path : PathSaid [] → ⊥
-no_path h = without h.tokens h.rule
-  where
-    without : (ts : List Marked) → PathRule ts [] → ⊥
-    without ts r = cc
+no_path h = has_root h.rule
 
 abbrev pub IntoSaid : IntoTree → Type 0
 IntoSaid i = TypeWritable i.ty × IsSpelled (token.Name i.name.name)

@@ -10,7 +10,7 @@ use Rattle.flow_tree.specs.declared.limits.TheConstants.{BRANCHES}
 use Rattle.flow_tree.specs.declared.token.Sign.TheVariants as sign
 use Rattle.flow_tree.specs.declared.ty.Ident.{Ident}
 use Rattle.flow_tree.specs.Spelling.{empty}
-use Rattle.flow_tree.specs.Tree.{TypeTree, IntType, BoolType, StringType, ExprTree, IntExpr, TextExpr, BoolExpr, ExprTrees}
+use Rattle.flow_tree.specs.Tree.{TypeTree, IntType, BoolType, StringType, ExprTree, VarExpr}
 use Rattle.flow_tree.specs.Decls.{SlotTree}
 use Rattle.flow_tree.specs.Grammar.{number, text, falsehood, variable, call, no_args}
 use Rattle.flow_tree.specs.GrammarStmt.{last_name}
@@ -25,7 +25,7 @@ use Rattle.flow_class.specs.Scopes.{Scope, Var, Mark, scope, outside, find, plac
 use Rattle.flow_catch.specs.Inner.{listed, left_lists}
 use Rattle.flow_choose.specs.Places.{ident_at}
 use Rattle.flow_meaning.specs.Evaluating.{Names, effect_in}
-use Rattle.flow_meaning.specs.Items.{change}
+use Rattle.flow_meaning.specs.Items.{path_from, modified, change}
 use Rattle.flow_split.specs.Around.{Exit, Text, Scoped, Part, Hand, Around, inner, pass, guarded, handling}
 use Rattle.flow_split.specs.Counts.{local_count, into_count, locals_in, branch_local_count, Next, begun, taken, grouped, past, past_branches}
 use Rattle.flow_split.specs.Lowered.{Chunk, blocks_of, joined, ends, acting, drop_of, dropping, cancelled, finished, before_rest, exits, exited, with_local, with_into, with_taken, later, first_value, new_at, first_at, tested, assign_by, assigned, changed, place_by as placed_by, place_in, declares, thrown, callback, callbacks, test_before, lowered, branches}
@@ -141,11 +141,11 @@ small_later _ l s le h = h
 find_small : (s : Scope) (x : List ℕ) → SmallScope s → IsMaybeNumber (find s x)
 find_small [] x h = tt
 find_small (Mark ∷ s) x h = find_small s x h
-find_small (Var y k ∷ s) x h = by_name (bytes_eq x y)
+find_small (Var y k ∷ s) x h = by_name (bytes_eq x y) (find_small s x h.1)
   where
-    by_name : (b : Bool) → IsMaybeNumber (if b then Some k else find s x)
-    by_name true = h.0
-    by_name false = find_small s x h.1
+    by_name : (b : Bool) → IsMaybeNumber (find s x) → IsMaybeNumber (if b then Some k else find s x)
+    by_name true r = h.0
+    by_name false r = r
 
 position_small : (q : SlotTree → Bool) (ss : List SlotTree) → length ss ≤ 2 ^ 32 → (o : Option ℕ) → position q ss ≡ o → IsMaybeNumber o
 position_small q ss le None e = tt
@@ -218,7 +218,7 @@ module _ (ns : Names) (slots : List SlotTree) (le : length slots ≤ 2 ^ 32) whe
   changed_said : (s : Scope) → SmallScope s → (xs : List Ident) (d : ChangeTree) → PathSaid xs → ChangeSaid d → InstrsSaid (changed ns slots s xs (change xs d))
   changed_said s h [] d k c = tt
   changed_said s h (x ∷ xs) d k c = (
-    assigned_said s (path_over slots s (x ∷ xs)) _ (target_over s h (x ∷ xs) k)
+    assigned_said s (path_over slots s (x ∷ xs)) (modified d (path_from (VarExpr x) xs)) (target_over s h (x ∷ xs) k)
         (λ r. modified_over slots s (place_small slots s le h) x xs d (names_spelled (x ∷ xs) k) c r),
     tt,
   )

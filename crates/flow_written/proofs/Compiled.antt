@@ -79,11 +79,11 @@ all_light : (ds : List DeclTree) → first_heavy ds ≡ None → EachActor IsLig
 all_light [] e = tt
 all_light (StructDecl r ∷ ds) e = all_light ds e
 all_light (FunctionDecl f ∷ ds) e = all_light ds e
-all_light (ActorDecl a ∷ ds) e = by_weight (nat_lt WEIGHT (weight a)) refl e
+all_light (ActorDecl a ∷ ds) e = by_weight (nat_lt WEIGHT (weight a)) refl e (all_light ds)
   where
-    by_weight : (b : Bool) → nat_lt WEIGHT (weight a) ≡ b → (if b then Some a.at else first_heavy ds) ≡ None → IsLight a × EachActor IsLight ds
-    by_weight true is f = absurd (some_none f)
-    by_weight false is f = (grind (arith, nat_tests, is), all_light ds f)
+    by_weight : (b : Bool) → nat_lt WEIGHT (weight a) ≡ b → (if b then Some a.at else first_heavy ds) ≡ None → (first_heavy ds ≡ None → EachActor IsLight ds) → IsLight a × EachActor IsLight ds
+    by_weight true is f rest = absurd (some_none f)
+    by_weight false is f rest = (grind (arith, nat_tests, is), rest f)
 
 -- the class of an actor
 class_few : (ns : Names) (a : RoutineTree) (n : ℕ) → n ≤ TOKENS → Formed n a → IsLight a → IsFew (class_in ns a)
@@ -92,7 +92,7 @@ class_few ns a n le formed light =
     let same = lowered_groups ns (slots_of a) [] (whole a.close) (record { block = 1; local = 0; group = 1 }) a.body in
     record {
       params = omega (arith, formed.few, le);
-      slots = omega (arith, formed.few, le, length-append (map param_slot a.params) (body_slots a.body), length-map param_slot a.params, slots);
+      slots = omega (arith, formed.few, le, length-append (map param_slot a.params) (body_slots a.body), length-map a.params param_slot, slots);
       locals = omega (arith, formed.few, le, locals_count a.body);
       blocks = omega (arith, light, lowered_within ns (layout_of a) a);
       groups = omega (arith, light, same, groups_within a.body);
@@ -100,7 +100,7 @@ class_few ns a n le formed light =
 
 class_said : (ns : Names) (a : RoutineTree) (n : ℕ) → n ≤ TOKENS → Formed n a → ActorSaid a → ClassSaid (class_in ns a)
 class_said ns a n le formed h =
-    let few : length (slots_of a) ≤ 2 ^ 32 = omega (arith, formed.few, le, length-append (map param_slot a.params) (body_slots a.body), length-map param_slot a.params, slots_count a.body) in
+    let few : length (slots_of a) ≤ 2 ^ 32 = omega (arith, formed.few, le, length-append (map param_slot a.params) (body_slots a.body), length-map a.params param_slot, slots_count a.body) in
     let c = lowered_said ns (slots_of a) few a.body [] (whole a.close) (record { block = 1; local = 0; group = 1 }) h.body tt (tt, tt) (omega (arith, formed.few, le)) in
     record {
       name = h.name;

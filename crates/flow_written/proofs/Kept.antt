@@ -53,7 +53,7 @@ in_both q xs ys h = both (list_all q xs) (list_all q ys) (sym (list_all-append q
 is_less : (a b : ℕ) → nat_lt a b ≡ true → a < b
 is_less a b h = grind (arith, nat_tests, h)
 
-no_fault : (o : Option ℕ) → is_none o ≡ true → o ≡ None
+pub no_fault : (o : Option ℕ) → is_none o ≡ true → o ≡ None
 no_fault None h = refl
 no_fault (Some k) h = absurd (false≢true h)
 
@@ -95,19 +95,19 @@ rooted p x h e = record { to = p; is = ap place_named (bytes_same x (place_name 
 
 slot_rooted : (n : ℕ) (ss : List SlotTree) (x : List ℕ) (t : TypeTree) → n + length ss < 2 ^ 32 → named (slot_rows n ss) x ≡ Some t → Rooted x
 slot_rooted n [] x t l e = absurd (none_some e)
-slot_rooted n (s ∷ ss) x t l e = by_name (bytes_eq x (place_name (Slot n))) refl e
+slot_rooted n (s ∷ ss) x t l e = by_name (bytes_eq x (place_name (Slot n))) refl e (slot_rooted (suc n) ss x t (omega (arith, l)))
   where
-    by_name : (b : Bool) → bytes_eq x (place_name (Slot n)) ≡ b → (if b then Some s.ty else named (slot_rows (suc n) ss) x) ≡ Some t → Rooted x
-    by_name true is f = rooted (Slot n) x (omega (arith, l)) is
-    by_name false is f = slot_rooted (suc n) ss x t (omega (arith, l)) f
+    by_name : (b : Bool) → bytes_eq x (place_name (Slot n)) ≡ b → (if b then Some s.ty else named (slot_rows (suc n) ss) x) ≡ Some t → (named (slot_rows (suc n) ss) x ≡ Some t → Rooted x) → Rooted x
+    by_name true is f rest = rooted (Slot n) x (omega (arith, l)) is
+    by_name false is f rest = rest f
 
 local_rooted : (n : ℕ) (ts : List TypeTree) (x : List ℕ) (t : TypeTree) → n + length ts < 2 ^ 32 → named (local_rows n ts) x ≡ Some t → Rooted x
 local_rooted n [] x t l e = absurd (none_some e)
-local_rooted n (s ∷ ts) x t l e = by_name (bytes_eq x (place_name (Local n))) refl e
+local_rooted n (s ∷ ts) x t l e = by_name (bytes_eq x (place_name (Local n))) refl e (local_rooted (suc n) ts x t (omega (arith, l)))
   where
-    by_name : (b : Bool) → bytes_eq x (place_name (Local n)) ≡ b → (if b then Some s else named (local_rows (suc n) ts) x) ≡ Some t → Rooted x
-    by_name true is f = rooted (Local n) x (omega (arith, l)) is
-    by_name false is f = local_rooted (suc n) ts x t (omega (arith, l)) f
+    by_name : (b : Bool) → bytes_eq x (place_name (Local n)) ≡ b → (if b then Some s else named (local_rows (suc n) ts) x) ≡ Some t → (named (local_rows (suc n) ts) x ≡ Some t → Rooted x) → Rooted x
+    by_name true is f rest = rooted (Local n) x (omega (arith, l)) is
+    by_name false is f rest = rest f
 
 path_written : (x : Ident) (xs : List Ident) → Rooted x.name → PathSaid (x ∷ xs) → PathWritable (x ∷ xs)
 path_written x xs r h = record { tokens = h.tokens; rule = var_path r.to r.is r.small h.rule; are = h.are }
@@ -192,12 +192,12 @@ module _ (r : RawTree) (c : ClassTree) (few : IsFew c) (sized : AllSized (known 
   group_is (suc n) h = let l = within c.groups n h in omega (arith, l, few.groups)
 
   last_writable : (l : LastTree) → LastSaid l → has_last c l ≡ true → LastWritable l
-  last_writable (GotoLast b) h n = block_is b (both (has_block c b) true (three (has_group c (GotoLast b)) (list_all (has_block c) (b ∷ [])) _ n).1).0
-  last_writable (PassLast b) h n = block_is b (both (has_block c b) true (three (has_group c (PassLast b)) (list_all (has_block c) (b ∷ [])) _ n).1).0
+  last_writable (GotoLast b) h n = block_is b (both (has_block c b) true (three (has_group c (GotoLast b)) (list_all (has_block c) (b ∷ [])) (list_all (has_place c) []) n).1).0
+  last_writable (PassLast b) h n = block_is b (both (has_block c b) true (three (has_group c (PassLast b)) (list_all (has_block c) (b ∷ [])) (list_all (has_place c) []) n).1).0
   last_writable (TestLast e y z) h n =
-      let t = both (has_block c y) _ (three (has_group c (TestLast e y z)) (list_all (has_block c) (y ∷ z ∷ [])) _ n).1 in
+      let t = both (has_block c y) _ (three (has_group c (TestLast e y z)) (list_all (has_block c) (y ∷ z ∷ [])) (list_all (has_place c) (expr_places e)) n).1 in
       (h, block_is y t.0, block_is z (both (has_block c z) true t.1).0)
-  last_writable (ChooseLast g) h n = group_is g (three (has_group c (ChooseLast g)) _ _ n).0
+  last_writable (ChooseLast g) h n = group_is g (three (has_group c (ChooseLast g)) (list_all (has_block c) []) (list_all (has_place c) []) n).0
   last_writable (ReturnLast e) h n = h
   last_writable (ThrowLast e) h n = h
 

@@ -41,19 +41,19 @@ where_named (r ∷ xs) ys x a e = by_name (bytes_eq x r.0) refl e (where_named x
 
 pub named_front : {A : Type 0} (xs ys : List (List ℕ × A)) (x : List ℕ) (a : A) → named xs x ≡ Some a → named (xs ++ ys) x ≡ Some a
 named_front [] ys x a e = absurd (none_some e)
-named_front (r ∷ xs) ys x a e = by_name (bytes_eq x r.0) e
+named_front (r ∷ xs) ys x a e = by_name (bytes_eq x r.0) e (named_front xs ys x a)
   where
-    by_name : (b : Bool) → (if b then Some r.1 else named xs x) ≡ Some a → (if b then Some r.1 else named (xs ++ ys) x) ≡ Some a
-    by_name true f = f
-    by_name false f = named_front xs ys x a f
+    by_name : (b : Bool) → (if b then Some r.1 else named xs x) ≡ Some a → (named xs x ≡ Some a → named (xs ++ ys) x ≡ Some a) → (if b then Some r.1 else named (xs ++ ys) x) ≡ Some a
+    by_name true f rest = f
+    by_name false f rest = rest f
 
 named_back : {A : Type 0} (xs ys : List (List ℕ × A)) (x : List ℕ) → named xs x ≡ None → named (xs ++ ys) x ≡ named ys x
 named_back [] ys x e = refl
-named_back (r ∷ xs) ys x e = by_name (bytes_eq x r.0) e
+named_back (r ∷ xs) ys x e = by_name (bytes_eq x r.0) e (named_back xs ys x)
   where
-    by_name : (b : Bool) → (if b then Some r.1 else named xs x) ≡ None → (if b then Some r.1 else named (xs ++ ys) x) ≡ named ys x
-    by_name true f = absurd (some_none f)
-    by_name false f = named_back xs ys x f
+    by_name : (b : Bool) → (if b then Some r.1 else named xs x) ≡ None → (named xs x ≡ None → named (xs ++ ys) x ≡ named ys x) → (if b then Some r.1 else named (xs ++ ys) x) ≡ named ys x
+    by_name true f rest = absurd (some_none f)
+    by_name false f rest = rest f
 
 -- what one row has
 row_is : {A : Type 0} (r : List ℕ × A) (x : List ℕ) (a : A) → named (r ∷ []) x ≡ Some a → (bytes_eq x r.0 ≡ true) × (r.1 ≡ a)
@@ -124,7 +124,7 @@ no_record : (m : Meaning) (fs : List (List ℕ × TypeTree)) → NoRecord m → 
 no_record m fs h e = subst NoRecord e h
 
 sized_other : (before : List DeclTree) (d : DeclTree) (ns : List (List ℕ × Size)) → NoRecord (row_of d).1 → Sized (known before) ns → Sized (known (before ++ d ∷ [])) ns
-sized_other before d ns no h = record {
+sized_other before d ns other h = record {
   large = h.large;
   records = λ x fs e. by_place x fs (known_where before d x (RecordOf fs) e);
   only = λ x z e. known_front before d x (h.only x z e);
@@ -132,7 +132,7 @@ sized_other before d ns no h = record {
   where
     by_place : (x : List ℕ) (fs : List (List ℕ × TypeTree)) → Where (packet_row ∷ map row_of before) (row_of d ∷ []) x (RecordOf fs) → HasSize ns x fs
     by_place x fs (front e) = h.records x fs e
-    by_place x fs (back e f) = absurd (no_record (row_of d).1 fs no (row_is (row_of d) x (RecordOf fs) f).1)
+    by_place x fs (back e f) = absurd (no_record (row_of d).1 fs other (row_is (row_of d) x (RecordOf fs) f).1)
 
 -- a record: its fields name records before it
 is_record_held : (m : Option Meaning) → is_record m ≡ true → (fs : List (List ℕ × TypeTree)) × (m ≡ Some (RecordOf fs))
@@ -177,14 +177,17 @@ sized_record : (before : List DeclTree) (r : RecordTree) (ns : List (List ℕ ×
 sized_record before r ns kept within h = subst (Sized (known (before ++ StructDecl r ∷ []))) (sym (with_new ns r unsized)) (record { large = larger; records = sizes; only = mine })
   where
     unknown : known before r.name.name ≡ None
-    unknown = no_such (known before r.name.name) (not_or (is_predefined r.name.name) (is_there (known before r.name.name)) (holds _ _ (no_first (name_fault (known before) r.name.name) _ kept)))
+    unknown = no_such (known before r.name.name) (not_or (is_predefined r.name.name) (is_there (known before r.name.name)) (holds (not (is_predefined r.name.name || is_there (known before r.name.name))) _ (no_first (name_fault (known before) r.name.name) _ kept)))
+
+    unnamed : (x : List ℕ) → known before x ≡ None → named ns x ≡ None
+    unnamed x e = by_size (named ns x) refl
+      where
+        by_size : (o : Option Size) → named ns x ≡ o → o ≡ None
+        by_size None g = refl
+        by_size (Some z) g = let m = h.only x z g in absurd (none_some (sym e ∙ m.is))
 
     unsized : named ns r.name.name ≡ None
-    unsized = by_size (named ns r.name.name) refl
-      where
-        by_size : (o : Option Size) → named ns r.name.name ≡ o → o ≡ None
-        by_size None e = refl
-        by_size (Some z) e = let m = h.only r.name.name z e in absurd (none_some (sym unknown ∙ m.is))
+    unsized = unnamed r.name.name unknown
 
     larger : (x : List ℕ) (z : Size) → named (ns ++ (r.name.name, record_size ns r) ∷ []) x ≡ Some z → z.nesting ≤ NESTING
     larger x z e = by_place (where_named ns ((r.name.name, record_size ns r) ∷ []) x z e)
@@ -210,13 +213,6 @@ sized_record before r ns kept within h = subst (Sized (known (before ++ StructDe
                   (fields_sized (known before) ns h (λ y. false) r.fields (record_size ns r).nesting (no_second (name_fault (known before) r.name.name) _ kept) (omega arith));
             } in
             subst (HasSize (ns ++ (r.name.name, record_size ns r) ∷ []) x) (same (map field_row r.fields) row.1) new
-          where
-            unnamed : (x : List ℕ) → known before x ≡ None → named ns x ≡ None
-            unnamed x e = by_size (named ns x) refl
-              where
-                by_size : (o : Option Size) → named ns x ≡ o → o ≡ None
-                by_size None g = refl
-                by_size (Some z) g = let m = h.only x z g in absurd (none_some (sym e ∙ m.is))
 
     mine : (x : List ℕ) (z : Size) → named (ns ++ (r.name.name, record_size ns r) ∷ []) x ≡ Some z → Held (known (before ++ StructDecl r ∷ []) x)
     mine x z e = by_place (where_named ns ((r.name.name, record_size ns r) ∷ []) x z e)
@@ -275,22 +271,22 @@ pub no_records : (ds : List DeclTree) → AllByRecursion (λ d. NoRecord (row_of
 no_records [] h k s = subst (λ l. AllSized (known l)) (sym (append-nil k)) s
 no_records (d ∷ ds) h k s = behind_more k ds d (no_records ds h.1 (k ++ d ∷ []) (record { sizes = s.sizes; sized = sized_other k d s.sizes h.0 s.sized }))
 
+among : (ns : List (List ℕ × Size)) (n : ℕ) (fs : List (List ℕ × TypeTree)) (x : List ℕ) (u : TypeTree) → Fields ns n fs → named fs x ≡ Some u → nest ns u < n
+among ns n [] x u g e = absurd (none_some e)
+among ns n (f ∷ fs) x u g e = by_name (bytes_eq x f.0) e (among ns n fs x u g.1)
+  where
+    by_name : (b : Bool) → (if b then Some f.1 else named fs x) ≡ Some u → (named fs x ≡ Some u → nest ns u < n) → nest ns u < n
+    by_name true q rest = subst (λ t. nest ns t < n) (some_same f.1 u q) g.0.1
+    by_name false q rest = rest q
+
 -- paths
 module _ (s : Setting) (ns : List (List ℕ × Size)) (h : Sized s.known ns) where
   field_in : (o : Option Meaning) (r x : List ℕ) (u : TypeTree) → s.known r ≡ o → field_of o x ≡ Some u → nest ns u < nest ns (NamedType r)
   field_in (Some (RecordOf fs)) r x u is e =
       let z = h.records r fs is in
       let size : nest ns (NamedType r) ≡ z.size.nesting = ap (λ o. (or_leaf o).nesting) z.is in
-      let lt = among z.size.nesting fs z.fields e in
+      let lt = among ns z.size.nesting fs x u z.fields e in
       omega (arith, lt, size)
-    where
-      among : (n : ℕ) (fs : List (List ℕ × TypeTree)) → Fields ns n fs → named fs x ≡ Some u → nest ns u < n
-      among n [] g e = absurd (none_some e)
-      among n (f ∷ fs) g e = by_name (bytes_eq x f.0) e
-        where
-          by_name : (b : Bool) → (if b then Some f.1 else named fs x) ≡ Some u → nest ns u < n
-          by_name true q = subst (λ t. nest ns t < n) (some_same f.1 u q) g.0.1
-          by_name false q = among n fs g.1 q
   field_in (Some (FunctionOf ts t)) r x u is e = absurd (none_some e)
   field_in (Some (ActorOf ts t)) r x u is e = absurd (none_some e)
   field_in None r x u is e = absurd (none_some e)
