@@ -1,16 +1,15 @@
 -- What the grammar derives of declarations: records and functions can be written, and of an actor its name, its types and its body can be
 -- said.
-use Rattle.std.proofs.Common.{◌≡◌, ℕ, Bool, true, false, List, [], ◌∷◌, ◌++◌, map, if◌then◌else◌, subst, arith}
+use Rattle.std.proofs.Common.{ℕ, Bool, true, false, List, [], ◌∷◌, ◌++◌, map, if◌then◌else◌, subst, arith}
 use Rattle.std.specs.List.{AllByRecursion}
 use Rattle.std.specs.declared.option.Option.{Option}
 use Rattle.std.specs.declared.option.Option.TheVariants.{None, Some}
 use Rattle.flow_base.specs.declared.place.Place.{Place}
-use Rattle.flow_tree.specs.declared.limits.TheConstants.{DEPTH}
 use Rattle.flow_tree.specs.declared.token.Token.TheVariants as token
 use Rattle.flow_tree.specs.declared.token.Word.TheVariants as word
 use Rattle.flow_tree.specs.Tree.{TypeTree, ErrorType}
 use Rattle.flow_tree.specs.Body.{IntoTree, Body, End, BlockStmt, IfStmt, IfElseStmt, WhileStmt, ForStmt, LoopStmt, BreakStmt, ContinueStmt, ReturnStmt, ThrowStmt, TryStmt, ChooseStmt, DeclareStmt, AssignStmt, ModifyStmt, CallStmt, WaitStmt, Branches, NoBranches, MoreBranches}
-use Rattle.flow_tree.specs.Decls.{ParamTree, SlotTree, RecordTree, RoutineTree, DeclTree, StructDecl, FunctionDecl, ActorDecl}
+use Rattle.flow_tree.specs.Decls.{ParamTree, SlotTree, RoutineTree, DeclTree, StructDecl, FunctionDecl, ActorDecl}
 use Rattle.flow_tree.specs.GrammarToken.{Declaration, Node, Variable, Marked, begin}
 use Rattle.flow_tree.specs.Grammar.{error_type}
 use Rattle.flow_tree.specs.GrammarDecl.{ParamRule, param, MoreParamsRule, end_params, more_params, ParamsRule, no_params, some_params, RoutineRule, routine, DeclRule, record_decl, function_decl, actor_decl, DeclsRule, no_decls, more_decls}
@@ -18,7 +17,7 @@ use Rattle.flow_ast.specs.Slots.{param_slot, declared_slots, into_slots, body_sl
 use Rattle.flow_layout.specs.Locals.{declared_locals, into_locals, body_locals, branch_locals}
 use Rattle.flow_meaning.specs.Source.{records_in, functions_in}
 use Rattle.flow_classprint.specs.ClassGrammar.{IsSpelled, RecordRule, record_rule, FunctionRule, function_rule}
-use Rattle.flow_written.specs.Writable.{Derived, TypeWritable, SlotWritable}
+use Rattle.flow_written.proofs.Writable.{Derived, TypeWritable, SlotWritable}
 use Rattle.flow_written.proofs.Spelled.{word_spelled}
 use Rattle.flow_written.proofs.Written.{p}
 use Rattle.flow_written.proofs.Paths.{retyped}

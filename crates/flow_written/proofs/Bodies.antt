@@ -1,6 +1,6 @@
 -- What the grammar derives of a body can be said: each expression, path, type and list of arguments is derived by tokens that can be
 -- spelled, and a wait has a branch at least and 64 at most.
-use Rattle.std.proofs.Common.{ℕ, suc, ◌+◌, ◌≤◌, ◌≡◌, Bool, List, [], ◌∷◌, ◌++◌, length, refl, ap, subst, arith}
+use Rattle.std.proofs.Common.{ℕ, suc, ◌+◌, ◌≤◌, ◌≡◌, Bool, List, [], length, refl, subst, arith}
 use Rattle.std.specs.declared.option.Option.{Option}
 use Rattle.std.specs.declared.option.Option.TheVariants.{None, Some}
 use Rattle.flow_base.specs.declared.place.Place.{Place}
@@ -15,7 +15,7 @@ use Rattle.flow_tree.specs.GrammarStmt.{Counts, IntoRule, declared, OperandRule,
 use Rattle.flow_ast.specs.Slots.{branch_waits}
 use Rattle.flow_lowered.specs.Parts.{HasRoot}
 use Rattle.flow_classprint.specs.ClassGrammar.{IsSpelled}
-use Rattle.flow_written.specs.Writable.{Derived, TypeWritable}
+use Rattle.flow_written.proofs.Writable.{Derived, TypeWritable}
 use Rattle.flow_written.proofs.Paths.{retyped}
 use Rattle.flow_written.proofs.Lexed.{Fine, fine_front, fine_back, fine_are, statement_unbegun}
 

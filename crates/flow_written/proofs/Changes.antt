@@ -1,7 +1,5 @@
 -- Expressions of a body over places: whole ones, and what a change in place makes of an old value.
-use Rattle.std.proofs.Common.{◌≡◌, ◌≤◌, ◌+◌, ℕ, zero, suc, pos, List, [], ◌∷◌, length, Option, Some, None, refl, sym, subst, arith}
-use Rattle.std.specs.Prelude.{codes}
-use Rattle.flow_base.specs.declared.place.Place.{Place}
+use Rattle.std.proofs.Common.{◌≡◌, ◌≤◌, ◌+◌, ℕ, zero, suc, pos, List, [], ◌∷◌, length, refl, subst, arith}
 use Rattle.flow_tree.specs.declared.limits.TheConstants.{DEPTH, NESTING}
 use Rattle.flow_tree.specs.declared.token.Token.TheVariants as token
 use Rattle.flow_tree.specs.declared.token.Sign.TheVariants as sign
@@ -11,12 +9,12 @@ use Rattle.flow_tree.specs.Tree.{ExprTree, IntExpr, VarExpr, FieldExpr, BinaryEx
 use Rattle.flow_tree.specs.Body.{ChangeTree, PlusChange, MinusChange, UpChange, DownChange}
 use Rattle.flow_tree.specs.Decls.{SlotTree}
 use Rattle.flow_tree.specs.GrammarToken.{Node, Marked, begin}
-use Rattle.flow_tree.specs.Grammar.{sign_at, name_at, ExprRule, number, variable, paren, field, binary}
+use Rattle.flow_tree.specs.Grammar.{ExprRule, number, variable, paren, field, binary}
 use Rattle.flow_tree.specs.GrammarStmt.{PathRule, last_name, more_names}
 use Rattle.flow_class.specs.Scopes.{Scope, place_of, over, over_all, ident_over}
 use Rattle.flow_meaning.specs.Items.{path_from, modified}
 use Rattle.flow_classprint.specs.ClassGrammar.{AreFree, IsSpelled, AreTokens}
-use Rattle.flow_written.specs.Writable.{Derived, ExprWritable, ArgsWritable, IsMaybePlace}
+use Rattle.flow_written.proofs.Writable.{Derived, ExprWritable, ArgsWritable, IsMaybePlace}
 use Rattle.flow_written.proofs.Spelled.{sign_spelled, number_spelled, both_are}
 use Rattle.flow_written.proofs.Written.{p}
 use Rattle.flow_written.proofs.Renamed.{rebegin, renamed, all_renamed}

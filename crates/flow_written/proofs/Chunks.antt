@@ -14,13 +14,11 @@ use Rattle.flow_tree.specs.Tree.{TypeTree, IntType, BoolType, StringType, ExprTr
 use Rattle.flow_tree.specs.Decls.{SlotTree}
 use Rattle.flow_tree.specs.Grammar.{number, text, falsehood, variable, call, no_args}
 use Rattle.flow_tree.specs.GrammarStmt.{last_name}
-use Rattle.flow_tree.specs.Body.{IntoTree, WaitTree, ChangeTree, Body, End, BlockStmt, IfStmt, IfElseStmt, WhileStmt, ForStmt, LoopStmt, BreakStmt, ContinueStmt, ReturnStmt, ThrowStmt, TryStmt, ChooseStmt, DeclareStmt, AssignStmt, ModifyStmt, CallStmt, WaitStmt, Branches, NoBranches, MoreBranches}
-use Rattle.flow_ast.specs.Slots.{branch_waits}
+use Rattle.flow_tree.specs.Body.{IntoTree, ChangeTree, Body, End, BlockStmt, IfStmt, IfElseStmt, WhileStmt, ForStmt, LoopStmt, BreakStmt, ContinueStmt, ReturnStmt, ThrowStmt, TryStmt, ChooseStmt, DeclareStmt, AssignStmt, ModifyStmt, CallStmt, WaitStmt, Branches, NoBranches, MoreBranches}
 use Rattle.flow_ast.specs.Typing.{is_there}
 use Rattle.flow_ast.specs.Leaving.{has_statement}
 use Rattle.flow_class.specs.declared.class.Slotted.{Slotted}
-use Rattle.flow_class.specs.declared.class.Slotted.TheVariants as place
-use Rattle.flow_class.specs.Classes.{InstrTree, ActInstr, DropInstr, LastTree, GotoLast, PassLast, TestLast, ChooseLast, ReturnLast, ThrowLast, BlockTree, CallbackTree}
+use Rattle.flow_class.specs.Classes.{InstrTree, ActInstr, DropInstr, LastTree, GotoLast, PassLast, TestLast, ChooseLast, ReturnLast, ThrowLast, CallbackTree}
 use Rattle.flow_class.specs.Scopes.{Scope, Var, Mark, scope, outside, find, place_by, place_of, var_over, path_over, act_over, over, over_all}
 use Rattle.flow_catch.specs.Inner.{listed, left_lists}
 use Rattle.flow_choose.specs.Places.{ident_at}
@@ -29,15 +27,15 @@ use Rattle.flow_meaning.specs.Items.{path_from, modified, change}
 use Rattle.flow_split.specs.Around.{Exit, Text, Scoped, Part, Hand, Around, inner, pass, guarded, handling}
 use Rattle.flow_split.specs.Counts.{local_count, into_count, locals_in, branch_local_count, Next, begun, taken, grouped, past, past_branches}
 use Rattle.flow_split.specs.Lowered.{Chunk, blocks_of, joined, ends, acting, drop_of, dropping, cancelled, finished, before_rest, exits, exited, with_local, with_into, with_taken, later, first_value, new_at, first_at, tested, assign_by, assigned, changed, place_by as placed_by, place_in, declares, thrown, callback, callbacks, test_before, lowered, branches}
-use Rattle.flow_classprint.specs.ClassGrammar.{IsNumber, AreTokens}
-use Rattle.flow_written.specs.Writable.{ExprWritable, IsMaybeNumber, IsMaybePlace}
+use Rattle.flow_classprint.specs.ClassGrammar.{IsNumber}
+use Rattle.flow_written.proofs.Writable.{ExprWritable, IsMaybeNumber, IsMaybePlace}
 use Rattle.flow_written.proofs.Spelled.{sign_spelled, word_spelled, number_spelled, cancelled_spelled}
 use Rattle.flow_written.proofs.Written.{p}
 use Rattle.flow_written.proofs.Names.{over_good, over_no_constant}
 use Rattle.flow_written.proofs.Paths.{path_renamed}
-use Rattle.flow_written.proofs.Bodies.{ExprSaid, MaybeSaid, PathSaid, no_path, IntoSaid, WaitSaid, ChangeSaid, BodySaid, BranchesSaid, branches_of}
+use Rattle.flow_written.proofs.Bodies.{MaybeSaid, PathSaid, no_path, ChangeSaid, BodySaid, BranchesSaid, branches_of}
 use Rattle.flow_written.proofs.Changes.{Reached, names_spelled, whole_over, args_over, modified_over}
-use Rattle.flow_written.proofs.Said.{TargetSaid, CalledSaid, DropsSaid, InstrSaid, InstrsSaid, LastSaid, BlockSaid, CallbackSaid, GroupSaid}
+use Rattle.flow_written.proofs.Said.{TargetSaid, CalledSaid, InstrSaid, InstrsSaid, LastSaid, BlockSaid, CallbackSaid, GroupSaid}
 
 -- so it is in a chunk
 pub record ChunkSaid (ch : Chunk) : Type 0 where

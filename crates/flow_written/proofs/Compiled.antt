@@ -1,30 +1,27 @@
 -- Some class text derives the classes of a program that the front accepts and that isn't too heavy.
-use Rattle.std.proofs.Common.{◌≡◌, ℕ, zero, suc, ◌+◌, ◌*◌, ◌^◌, ◌<◌, ◌≤◌, nat_lt, Bool, true, false, List, [], ◌∷◌, ◌++◌, length, map, slice_get, if◌then◌else◌, refl, ap, sym, subst, ◌∙◌, arith, length-append}
+use Rattle.std.proofs.Common.{◌≡◌, ℕ, suc, ◌^◌, ◌≤◌, nat_lt, Bool, true, false, List, [], ◌∷◌, length, map, slice_get, if◌then◌else◌, refl, ap, sym, ◌∙◌, arith, length-append}
 use Rattle.std.specs.List.{AllByRecursion}
 use Rattle.std.proofs.lemmas.Bool.Decides.{nat_tests}
 use Rattle.std.proofs.lemmas.List.{length-map}
-use Rattle.std.specs.declared.option.Option.{Option}
 use Rattle.std.specs.declared.option.Option.TheVariants.{None, Some}
-use Rattle.flow_tree.specs.declared.limits.TheConstants.{TOKENS, WEIGHT, BRANCHES}
+use Rattle.flow_tree.specs.declared.limits.TheConstants.{TOKENS, WEIGHT}
 use Rattle.flow_tree.specs.declared.decl.Program.{Program}
-use Rattle.flow_tree.specs.Body.{IntoTree, Body, End, BlockStmt, IfStmt, IfElseStmt, WhileStmt, ForStmt, LoopStmt, BreakStmt, ContinueStmt, ReturnStmt, ThrowStmt, TryStmt, ChooseStmt, DeclareStmt, AssignStmt, ModifyStmt, CallStmt, WaitStmt, Branches, NoBranches, MoreBranches}
-use Rattle.flow_tree.specs.Decls.{ParamTree, RecordTree, RoutineTree, DeclTree, StructDecl, FunctionDecl, ActorDecl}
+use Rattle.flow_tree.specs.Body.{Body, End, BlockStmt, IfStmt, IfElseStmt, WhileStmt, ForStmt, LoopStmt, BreakStmt, ContinueStmt, ReturnStmt, ThrowStmt, TryStmt, ChooseStmt, DeclareStmt, AssignStmt, ModifyStmt, CallStmt, WaitStmt, Branches, NoBranches, MoreBranches}
+use Rattle.flow_tree.specs.Decls.{RoutineTree, DeclTree, StructDecl, FunctionDecl, ActorDecl}
 use Rattle.flow_tree.specs.DeclView.{program_of}
 use Rattle.flow_ast.specs.Slots.{param_slot, body_slots, slots_of}
 use Rattle.flow_class.specs.Classes.{ClassTree, RawTree}
-use Rattle.flow_layout.specs.Locals.{locals_of}
 use Rattle.flow_layout.specs.Laying.{layout_of}
 use Rattle.flow_meaning.specs.Evaluating.{Names}
 use Rattle.flow_meaning.specs.Source.{names_of, actors_in}
 use Rattle.flow_rules.specs.Known.{row_of, known}
-use Rattle.flow_rules.specs.Rules.{setting_of, decls_refusal, first_large}
+use Rattle.flow_rules.specs.Rules.{setting_of, decls_refusal}
 use Rattle.flow_valid.specs.Heads.{plain_decls, all_decls, declarations_kept, head_of}
 use Rattle.flow_valid.specs.Named.{names_exist}
 use Rattle.flow_valid.specs.Validity.{leads_forward, groups_chosen, catchers_kept, types_fit, first_broken, broken_rule, IsValid}
 use Rattle.flow_split.specs.Around.{whole}
 use Rattle.flow_split.specs.Counts.{groups_in, branch_group_count}
 use Rattle.flow_split.specs.Weight.{weight, body_weight, branch_weight}
-use Rattle.flow_split.specs.Lowered.{lowered}
 use Rattle.flow_split.proofs.Lengths.{lowered_groups}
 use Rattle.flow_lower.specs.Compiled.{class_in, compiled}
 use Rattle.flow_lower.specs.Weighing.{first_heavy}
@@ -33,16 +30,17 @@ use Rattle.flow_lowered.proofs.Further.{locals_count}
 use Rattle.flow_fits.proofs.Names.{some_none}
 use Rattle.flow_fits.proofs.Agreement.{neither_first, neither_second}
 use Rattle.flow_front.specs.Verdict.{IsSound}
-use Rattle.flow_faithful.proofs.Grammar.{variables, states_in, slots_count}
+use Rattle.flow_faithful.proofs.Grammar.{slots_count}
 use Rattle.flow_faithful.proofs.Whole.{EachActor, Formed, decls_formed, program_decls, as_many}
 use Rattle.flow_lawful.proofs.Filled.{all_valid}
 use Rattle.flow_classprint.specs.ClassGrammar.{IsWritten}
-use Rattle.flow_written.specs.Writable.{ClassWritable, IsWritable}
+use Rattle.flow_written.specs.Laws.{AreLight}
+use Rattle.flow_written.proofs.Writable.{ClassWritable}
 use Rattle.flow_written.proofs.Texts.{text_written}
 use Rattle.flow_written.proofs.Lexed.{program_fine}
-use Rattle.flow_written.proofs.Chunks.{ChunkSaid, lowered_said}
+use Rattle.flow_written.proofs.Chunks.{lowered_said}
 use Rattle.flow_written.proofs.Nesting.{AllSized, NoRecord, plain_sized, no_records}
-use Rattle.flow_written.proofs.Kept.{IsFew, ClassSaid, both, no_fault, class_writable}
+use Rattle.flow_written.proofs.Kept.{IsFew, ClassSaid, no_fault, class_writable}
 use Rattle.flow_written.proofs.Actors.{ActorSaid, DeclsSaid, locals_said, decls_said, records_written, functions_written}
 
 -- a body has no more groups than it weighs
@@ -153,7 +151,7 @@ module _ (r : RawTree) (ns : Names) (n : ℕ) (le : n ≤ TOKENS) (sized : AllSi
       let t = named_and_typed r c k.0 in
       (class_writable r c (class_few ns a n le f.0 l.0) sized t.0 t.1 (class_said ns a n le f.0 h.0), classes_writable ds h.1 f.1 l.1 k.1)
 
-pub compiled_written : (text : List ℕ) (program : Program) → IsSound text program → first_heavy (program_of program).decls ≡ None → IsWritten (compiled (program_of program))
+pub compiled_written : (text : List ℕ) (program : Program) → IsSound text program → AreLight program → IsWritten (compiled (program_of program))
 compiled_written text program sound light =
     let t = program_of program in
     let r = compiled t in

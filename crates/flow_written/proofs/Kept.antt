@@ -19,22 +19,21 @@ use Rattle.flow_ast.specs.Typing.{is_there}
 use Rattle.flow_class.specs.declared.class.Slotted.{Slotted}
 use Rattle.flow_class.specs.declared.class.Slotted.TheVariants.{Slot, Local}
 use Rattle.flow_class.specs.Places.{place_name, place_named}
-use Rattle.flow_class.specs.Code.{type_at, group_at}
+use Rattle.flow_class.specs.Code.{group_at}
 use Rattle.flow_class.specs.Classes.{CatcherTree, InstrTree, SetInstr, EffectInstr, NewInstr, ActInstr, DropInstr, LastTree, GotoLast, PassLast, TestLast, ChooseLast, ReturnLast, ThrowLast, BlockTree, CallbackTree, ClassTree, RawTree}
-use Rattle.flow_rules.specs.Least.{lesser, unless}
 use Rattle.flow_rules.specs.Known.{known}
 use Rattle.flow_rules.specs.Judged.{Setting, variable_as, variable_form, fault, form}
 use Rattle.flow_rules.specs.Items.{path_fault, target_form, target_fault, assigned, base_fault, ends_of, call_fault}
 use Rattle.flow_valid.specs.Heads.{all_decls}
-use Rattle.flow_valid.specs.Named.{listed, expr_places, exprs_places, path_place, base_place, instr_places, last_places, catcher_places, targets, has_place, has_block, has_catcher, has_group, has_last, has_named, has_operand, names_exist}
-use Rattle.flow_valid.specs.Validity.{slot_rows, local_rows, class_setting, put_fault, is_effect, instr_fits, last_fits, block_fits, callback_fits, types_fit}
-use Rattle.flow_fits.proofs.Names.{none_some, some_none, there, no_first, no_second, holds, bytes_same}
+use Rattle.flow_valid.specs.Named.{listed, expr_places, instr_places, has_place, has_block, has_catcher, has_group, has_last, has_named, has_operand, names_exist}
+use Rattle.flow_valid.specs.Validity.{slot_rows, local_rows, class_setting, put_fault, is_effect, instr_fits, last_fits, block_fits, types_fit}
+use Rattle.flow_fits.proofs.Names.{none_some, there, no_first, holds, bytes_same}
 use Rattle.flow_classprint.specs.ClassGrammar.{IsNumber, IsPlace, IsSpelled, var_path, callee, method}
-use Rattle.flow_written.specs.Writable.{PathWritable, CalleeWritable, AreNumbers, SomeNumbers, InstrWritable, LastWritable, IsMaybeNumber, IsMaybePlace, CatchWritable, BlockWritable, CallbackWritable, GroupWritable, SlotWritable, TypeWritable, SomeBlocks, FewFrom, all_callbacks, ClassWritable}
+use Rattle.flow_written.proofs.Writable.{PathWritable, CalleeWritable, AreNumbers, SomeNumbers, InstrWritable, LastWritable, IsMaybeNumber, IsMaybePlace, CatchWritable, BlockWritable, CallbackWritable, GroupWritable, SlotWritable, TypeWritable, SomeBlocks, FewFrom, all_callbacks, ClassWritable}
 use Rattle.flow_written.proofs.Names.{place_again}
 use Rattle.flow_written.proofs.Bodies.{PathSaid, no_path}
 use Rattle.flow_written.proofs.Changes.{Reached}
-use Rattle.flow_written.proofs.Said.{TargetSaid, CalledSaid, DropsSaid, InstrSaid, InstrsSaid, LastSaid, BlockSaid, CallbackSaid, GroupSaid}
+use Rattle.flow_written.proofs.Said.{CalledSaid, DropsSaid, InstrSaid, InstrsSaid, LastSaid, BlockSaid, CallbackSaid, GroupSaid}
 use Rattle.flow_written.proofs.Nesting.{AllSized, Where, where_named, front, back, reached}
 
 -- tests that hold
@@ -53,7 +52,7 @@ in_both q xs ys h = both (list_all q xs) (list_all q ys) (sym (list_all-append q
 is_less : (a b : ℕ) → nat_lt a b ≡ true → a < b
 is_less a b h = grind (arith, nat_tests, h)
 
-pub no_fault : (o : Option ℕ) → is_none o ≡ true → o ≡ None
+pub no_fault : {A : Type 0} (o : Option A) → is_none o ≡ true → o ≡ None
 no_fault None h = refl
 no_fault (Some k) h = absurd (false≢true h)
 

@@ -1,3 +1,4 @@
+pub mod Writable
 pub mod Spelled
 pub mod Written
 pub mod Texts

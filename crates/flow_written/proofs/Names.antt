@@ -13,7 +13,7 @@ use Rattle.flow_class.specs.Places.{place_name, place_named}
 use Rattle.flow_class.specs.Scopes.{Scope, place_of, var_over, name_over, ident_over}
 use Rattle.flow_class.proofs.Numbers.{place_back}
 use Rattle.flow_classprint.specs.ClassGrammar.{IsPlace, IsFree, IsSpelled}
-use Rattle.flow_written.specs.Writable.{IsMaybePlace}
+use Rattle.flow_written.proofs.Writable.{IsMaybePlace}
 use Rattle.flow_written.proofs.Spelled.{nothing_spelled, place_spelled}
 
 bytes_same : (x y : List ℕ) → bytes_eq x y ≡ true → x ≡ y

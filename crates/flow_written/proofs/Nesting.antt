@@ -1,5 +1,5 @@
 -- A path has no more fields than records lie inside one another, and these are 16 at most.
-use Rattle.std.proofs.Common.{◌≡◌, ◌⊎◌, inl, inr, ℕ, suc, ◌≤◌, ◌<◌, ◌+◌, max, nat_lt, Bool, true, false, not, ◌||◌, List, [], ◌∷◌, ◌++◌, length, map, if◌then◌else◌, refl, ap, sym, subst, ◌∙◌, arith}
+use Rattle.std.proofs.Common.{◌≡◌, ℕ, suc, ◌≤◌, ◌<◌, nat_lt, Bool, true, false, not, ◌||◌, List, [], ◌∷◌, ◌++◌, length, map, if◌then◌else◌, refl, ap, sym, subst, ◌∙◌, arith}
 use Rattle.std.specs.Prelude.{codes}
 use Rattle.std.specs.List.{AllByRecursion}
 use Rattle.std.specs.Str.{bytes_eq}
@@ -14,12 +14,12 @@ use Rattle.flow_tree.specs.Tree.{TypeTree, NamedType}
 use Rattle.flow_tree.specs.Decls.{ParamTree, RecordTree, DeclTree, StructDecl, FunctionDecl, ActorDecl}
 use Rattle.flow_ast.specs.TypingNames.{named}
 use Rattle.flow_ast.specs.Typing.{is_there, packet_fields}
-use Rattle.flow_rules.specs.Least.{lesser, unless}
+use Rattle.flow_rules.specs.Least.{unless}
 use Rattle.flow_rules.specs.Known.{Meaning, RecordOf, FunctionOf, ActorOf, field_row, row_of, packet_row, known, is_record, type_known, is_predefined}
 use Rattle.flow_rules.specs.Judged.{Setting, field_of, field_form, of_field}
 use Rattle.flow_rules.specs.Items.{path_fault, target_fault}
 use Rattle.flow_rules.specs.Rules.{name_fault, with_name, fields_fault, record_fault, decl_refusal, decls_refusal, Size, packet_size, or_leaf, type_size, fields_size, record_size, too_large, large_record, with_size, first_large}
-use Rattle.flow_fits.proofs.Names.{some_none, none_some, some_same, Held, there, no_first, no_second, holds, bytes_self}
+use Rattle.flow_fits.proofs.Names.{some_none, none_some, some_same, Held, there, no_first, no_second, holds}
 use Rattle.flow_fits.proofs.Agreement.{neither_first, neither_second, no_item}
 
 -- names in two tables

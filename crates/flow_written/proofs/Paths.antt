@@ -7,7 +7,7 @@ use Rattle.flow_tree.specs.GrammarToken.{Marked}
 use Rattle.flow_tree.specs.Grammar.{TypeRule, int_type, bool_type, string_type, void_type, error_type, named_type, wrapped_type}
 use Rattle.flow_tree.specs.GrammarStmt.{PathRule, last_name, more_names}
 use Rattle.flow_classprint.specs.ClassGrammar.{IsSpelled, AreTokens}
-use Rattle.flow_written.specs.Writable.{Derived}
+use Rattle.flow_written.proofs.Writable.{Derived}
 use Rattle.flow_written.proofs.Spelled.{both_are}
 use Rattle.flow_written.proofs.Renamed.{are_front, are_back}
 

@@ -11,7 +11,7 @@ use Rattle.flow_tree.specs.Grammar.{sign_at, name_at, op_sign, ExprRule, ArgsRul
 use Rattle.flow_class.specs.Places.{place_named}
 use Rattle.flow_class.specs.Scopes.{Scope, ident_over, over, over_all}
 use Rattle.flow_classprint.specs.ClassGrammar.{IsFree, AreFree, AllAreFree, IsSpelled, AreTokens}
-use Rattle.flow_written.specs.Writable.{Derived}
+use Rattle.flow_written.proofs.Writable.{Derived}
 use Rattle.flow_written.proofs.Spelled.{both_are}
 
 pub are_front : (xs ys : List Marked) → AreTokens (xs ++ ys) → AreTokens xs

@@ -8,7 +8,7 @@ use Rattle.flow_tree.specs.declared.ty.Ident.{Ident}
 use Rattle.flow_ast.specs.TypingNames.{named, constant_names}
 use Rattle.flow_class.specs.Classes.{InstrTree, SetInstr, EffectInstr, NewInstr, ActInstr, DropInstr, LastTree, GotoLast, PassLast, TestLast, ChooseLast, ReturnLast, ThrowLast, BlockTree, CallbackTree}
 use Rattle.flow_classprint.specs.ClassGrammar.{IsSpelled}
-use Rattle.flow_written.specs.Writable.{ExprWritable, ArgsWritable}
+use Rattle.flow_written.proofs.Writable.{ExprWritable, ArgsWritable}
 use Rattle.flow_written.proofs.Bodies.{PathSaid}
 use Rattle.flow_written.proofs.Changes.{Reached}
 

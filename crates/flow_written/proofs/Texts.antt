@@ -9,7 +9,7 @@ use Rattle.flow_tree.specs.GrammarToken.{Marked}
 use Rattle.flow_class.specs.Classes.{BlockTree, CallbackTree, ClassTree, RawTree}
 use Rattle.flow_classprint.specs.ClassGrammar as rules
 use Rattle.flow_classprint.specs.ClassGrammar.{IsNumber, AreTokens, NumberedRule, CallbackRule, GroupsRule, SlotRule, LocalRule, BlockRule, ClassRule, EachRule, TextRule, IsWritten}
-use Rattle.flow_written.specs.Writable.{Derived, TypeWritable, CallbackWritable, GroupWritable, SlotWritable, SomeBlocks, BlockWritable, FewFrom, all_callbacks, ClassWritable, IsWritable}
+use Rattle.flow_written.proofs.Writable.{Derived, TypeWritable, CallbackWritable, GroupWritable, SlotWritable, SomeBlocks, BlockWritable, FewFrom, all_callbacks, ClassWritable, IsWritable}
 use Rattle.flow_written.proofs.Spelled.{sign_spelled, said_spelled, number_spelled, both_are, said_params, said_classes, said_class, said_returns, said_slot, said_local, said_group}
 use Rattle.flow_written.proofs.Written.{p, block_written, callback_written}
 

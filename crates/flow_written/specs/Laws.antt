@@ -8,7 +8,12 @@ use Rattle.flow_lower.specs.Weighing.{first_heavy}
 use Rattle.flow_front.specs.Verdict.{IsSound}
 use Rattle.flow_classprint.specs.ClassGrammar.{IsWritten}
 
--- So it is for each text that the front accepts as a program in which no actor is too heavy: some class text derives its records,
--- functions and classes. No node of that text is deeper than 64, its numbers are small, and each of its tokens can be spelled.
+-- no actor weighs more than 60,000
+abbrev pub AreLight : Program → Type 0
+AreLight p = first_heavy (program_of p).decls ≡ None
+
+-- For each text that the front accepts as a program of such actors, some class text derives its classes.
 abbrev pub CompilesToText : Type 0
-CompilesToText = (text : List ℕ) (program : Program) → IsSound text program → first_heavy (program_of program).decls ≡ None → IsWritten (compiled (program_of program))
+CompilesToText =
+    (text : List ℕ) (program : Program) → IsSound text program → AreLight program
+    → IsWritten (compiled (program_of program))

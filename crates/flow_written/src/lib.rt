@@ -1,4 +1,4 @@
-//! Class text: what is compiled can be written.
+//! Class text: the classes of a program that the front accepts can be written as class text.
 #![tactic(auto)]
 
 pub mod laws;
