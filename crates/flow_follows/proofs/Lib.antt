@@ -1,0 +1,6 @@
+pub mod Working
+pub mod Giving
+pub mod Cancelling
+pub mod Losing
+pub mod Bringing
+pub mod Making
