@@ -28,6 +28,7 @@ use Rattle.flow_picture.specs.Shows.{Somebody, cell_number}
 use Rattle.flow_picture.specs.Counted.{references, frames_hold, nothing_in_hand}
 use Rattle.flow_picture.specs.Rested.{Sorted}
 use Rattle.flow_picture.specs.Acting.{At}
+use Rattle.flow_picture.specs.Leaving.{left_wait}
 use Rattle.flow_picture.specs.Losing.{RightCell, Losing, Follows, free_port}
 use Rattle.flow_picture.specs.Losing as losing
 use Rattle.flow_picture.specs.Holds.{Holds, There, MayWait}
@@ -60,7 +61,7 @@ cancelled_halt false i e c = refl
 
 module _ (r : RawTree) (ls : List Line) (x : Scan) (m : Process) (p : Proc Frame) where
   pub actor_departed : law.ActorDeparted r ls x m p
-  actor_departed i s w at n = changed r ls x x m p (on_core (law.left_wait i at.entry) p) (withdrawn i m.heap) s (wait_left r m.heap p x i s.holds w at n) refl refl refl
+  actor_departed i s w at n = changed r ls x x m p (on_core (left_wait i at.entry) p) (withdrawn i m.heap) s (wait_left r m.heap p x i s.holds w at n) refl refl refl
 
   pub actor_stopped : law.ActorStopped r ls x m p
   actor_stopped i e s none w at = record {
@@ -79,11 +80,10 @@ module _ (r : RawTree) (ls : List Line) (x : Scan) (m : Process) (p : Proc Frame
       same = let y = b.entered in cc (y, at)
 
 -- the actor of a result in memory is that in the process
-SameOwner : Numbered Entry → Dropped → Option (ℕ × Entry) → Type 0
+abbrev pub SameOwner : Numbered Entry → Dropped → Option (ℕ × Entry) → Type 0
 SameOwner es after.Nothing None = Unit {0}
 SameOwner es (after.Cancel a) (Some y) = (a ≡ actor_id y.0) × (thing es y.0 ≡ Some y.1)
 SameOwner es _ _ = ⊥
-unfolding SameOwner
 
 module _ (r : RawTree) (h : HeapTree) (p : Proc Frame) (x : Scan) (hs : Holds r x h p) (sound : Sound p) (sorted : Sorted h) (k : ℕ) where
   person : (i : ℕ) (n : Note) → stored.thing h.actors.things i ≡ Some n → At r h p i

@@ -48,10 +48,11 @@ module _ (r : RawTree) (ls : List Line) (x : Scan) (m : Process) (p : Proc Frame
     where
       keeps : SameTask p (task.Keep j q k) (Keep i.0 spot (is.2, k.0))
       keeps =
-          let i_is : j.0 ≡ i.0 = ap (λ (k : ActorId). k.0) is.0 in
-          (is.2,
+          let i_is : j.0 ≡ i.0 = ap (λ (k : ActorId). k.0) is.0 in (
+            is.2,
             is.1 ∙ same.1 ∙ ap (λ sp. sp.first + kept_by (thing p.core.entries i.0)) same.0 ∙ ap (λ k. (spot_of_actor p.actors k).first + kept_by (thing p.core.entries k)) (sym i_is),
-            ap (λ sp. Keep i.0 sp (is.2, k.0)) same.0 ∙ ap (λ a. Keep a (spot_of_actor p.actors a) (is.2, k.0)) (sym i_is))
+            ap (λ sp. Keep i.0 sp (is.2, k.0)) same.0 ∙ ap (λ a. Keep a (spot_of_actor p.actors a) (is.2, k.0)) (sym i_is),
+          )
 
       one_of : (s : Side) (j : ℕ) → in_task s j (Keep i.0 spot (is.2, k.0)) ≡ count s j ((is.2, k.0) ∷ [])
       one_of s j = omega arith

@@ -2,5 +2,5 @@ pub mod Working
 pub mod Giving
 pub mod Cancelling
 pub mod Losing
-pub mod Bringing
+pub mod Brought
 pub mod Making

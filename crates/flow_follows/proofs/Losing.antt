@@ -64,7 +64,7 @@ unlisten_shown r ls k m p s none = record {
 }
 
 module _ (r : RawTree) (ls : List Line) (m : Process) (p : Proc Frame) (kd : Kind) (k : ℕ) (c : Cell) (s : Shown r ls (λ s j. one s j (side_of kd) k) m p) (none : m.asked ≡ None) (sound : Sound p)
-  (at : thing p.core.cells k ≡ Some c) (right : RightCell kd c) where
+    (at : thing p.core.cells k ≡ Some c) (right : RightCell kd c) where
   same_shown : (h : HeapTree) (q : Proc Frame) → Same r h q → q.core.lines ≡ p.core.lines → q.core.left ≡ p.core.left → q.core.halted ≡ p.core.halted → Shown r ls nothing_in_hand (with_heap h m) q
   same_shown h q same = changed r ls (λ s j. one s j (side_of kd) k) nothing_in_hand m p q h s (record { shows = same.0; counted = same.1 })
 

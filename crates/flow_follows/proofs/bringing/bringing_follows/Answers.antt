@@ -1,4 +1,4 @@
-use Rattle.flow_follows.proofs.Bringing.{content_follows, request_follows, main_follows, sending_follows}
+use Rattle.flow_follows.proofs.Brought.{content_follows, request_follows, main_follows, sending_follows}
 use Rattle.flow_follows.proofs.Making.{cell_made, cell_given, request_given, stream_given}
 use Rattle.flow_follows.proofs.bringing.bringing_follows.Goals as goal
 

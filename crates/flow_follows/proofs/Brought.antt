@@ -32,14 +32,14 @@ use Rattle.flow_meaning.specs.React.{send_by, send_in}
 use Rattle.flow_meaning.specs.Deliver.{closed_request, stop, stop_main}
 use Rattle.flow_meaning.specs.Step.{on_core}
 use Rattle.flow_meaning.specs.Frame.{Frame}
-use Rattle.flow_picture.specs.Shows.{CellShows, spot_of_actor, cell_number, error_number}
+use Rattle.flow_picture.specs.Shows.{Shows, CellShows, spot_of_actor, cell_number, error_number}
 use Rattle.flow_picture.specs.Losing.{RightCell}
 use Rattle.flow_picture.specs.Holds.{Holds, with_refs, There, AllThere, hold_all}
 use Rattle.flow_picture.proofs.Beside.{main_shown, request_closed}
 use Rattle.flow_picture.proofs.Cells.{as_single, as_stream}
 use Rattle.flow_picture.proofs.Referring.{of_pushed, of_answered, of_main}
 use Rattle.flow_picture.proofs.Shown.{pushed_shown}
-use Rattle.flow_picture.proofs.Holds.{found_single, found_stream}
+use Rattle.flow_picture.proofs.Loss.{memory_single, memory_stream}
 use Rattle.flow_steps.specs.declared.process.Process.{Process}
 use Rattle.flow_steps.specs.Doing.{turned, doing}
 use Rattle.flow_steps.specs.Holding.{on_heap, outcome_refs}
@@ -48,6 +48,18 @@ use Rattle.flow_follows.specs.Shown.{Shown, Follows, shows, ends, with_task}
 use Rattle.flow_follows.specs.Working.{Sendable}
 use Rattle.flow_follows.specs.Bringing as law
 use Rattle.flow_follows.proofs.Working.{changed, as_many_shown, turn_taken, task_done, refs_held, cell_filled}
+
+-- what stands in memory at the number of a cell
+module _ (r : RawTree) (h : HeapTree) (p : Proc Frame) where
+  pub found_single : (k : ℕ) (o : Option OutcomeTree) (ws : List Waiter) → Shows r h p → thing p.core.cells k ≡ Some (Single o ws) → (m : CellTree Outcome) × (stored.thing h.cells.things k ≡ Some m)
+  found_single k o ws s at =
+      memory_single (spot_of_actor p.actors) (stored.thing h.cells.things k) (stored.thing h.streams.things k) o ws
+      (subst (CellShows (spot_of_actor p.actors) (stored.thing h.cells.things k) (stored.thing h.streams.things k)) at (s.cells k))
+
+  pub found_stream : (k : ℕ) (q : List ValueTree) (e : Option ℕ) (w : Option Waiter) → Shows r h p → thing p.core.cells k ≡ Some (Stream q e w) → (m : StreamTree Value) × (stored.thing h.streams.things k ≡ Some m)
+  found_stream k q e w s at =
+      memory_stream (spot_of_actor p.actors) (stored.thing h.cells.things k) (stored.thing h.streams.things k) q e w
+      (subst (CellShows (spot_of_actor p.actors) (stored.thing h.cells.things k) (stored.thing h.streams.things k)) at (s.cells k))
 
 -- what is there stays where cells do
 pub there_by : (p q : Proc Frame) (z : Ref) → q.core.cells ≡ p.core.cells → There p z → There q z
@@ -69,8 +81,8 @@ module _ (r : RawTree) (ls : List Line) (x : Scan) (m : Process) (p : Proc Frame
   pub content_follows : law.ContentBrought r ls x m p
   content_follows kd k o s t to =
       turn_taken r ls x m p x (on_heap (content_brought kd k o)) (λ d. fill k (outcome_of o) d) s (λ n e s.
-        let q : Proc Frame = on_core (λ c. record c { left = n }) p in
-        shows (filled_at_once r ls x (turned m) q kd k o s (all_there_by p q (outcome_refs o) refl t) (sendable_by p q kd k refl to)))
+      let q : Proc Frame = on_core (λ c. record c { left = n }) p in
+      shows (filled_at_once r ls x (turned m) q kd k o s (all_there_by p q (outcome_refs o) refl t) (sendable_by p q kd k refl to)))
 
   -- an answered request
   pub request_follows : law.RequestAnswered r ls x m p
@@ -164,5 +176,5 @@ module _ (r : RawTree) (ls : List Line) (x : Scan) (m : Process) (p : Proc Frame
       by_complete false e f =
           subst (λ b. Follows r ls x (if b then doing (task.Throw i (record { 0 = already_set })) m else if nat_lt 0 m.left then on_heap (sent_into i kd k o) (turned m) else turned m) (on_core (send_by false i.0 k (outcome_of o)) p)) (sym e)
           (turn_taken r ls x m p x (on_heap (sent_into i kd k o)) (λ d. fill k (outcome_of o) (pushed (Run i.0) d)) s (λ n e s.
-            let q : Proc Frame = on_core (λ c. record c { left = n }) p in
-            shows (sent_at_once r ls x (turned m) q i kd k o s (all_there_by p q (outcome_refs o) refl t) (record { cell = to.cell; at = to.at; right = to.right; incomplete = f }))))
+          let q : Proc Frame = on_core (λ c. record c { left = n }) p in
+          shows (sent_at_once r ls x (turned m) q i kd k o s (all_there_by p q (outcome_refs o) refl t) (record { cell = to.cell; at = to.at; right = to.right; incomplete = f }))))
