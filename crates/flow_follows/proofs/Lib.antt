@@ -4,3 +4,4 @@ pub mod Cancelling
 pub mod Losing
 pub mod Brought
 pub mod Making
+pub mod Ended
