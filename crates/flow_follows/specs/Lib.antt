@@ -1,0 +1,4 @@
+pub mod Shown
+pub mod Working
+pub mod Bringing
+pub mod Closing

@@ -1,0 +1,7 @@
+//! The machine of heaps follows the class machine: what each definition of `flow_steps` makes of a process in memory is what the
+//! class machine makes of the process that it shows. The definitions stand in `specs/`; the functions of this crate have empty
+//! bodies: each contract is a law.
+#![tactic(auto)]
+
+pub mod bringing;
+pub mod work;
