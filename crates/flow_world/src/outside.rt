@@ -1,7 +1,11 @@
 // What is outside of the processes.
 
-ghost use Rattle.std.specs.Prelude.{◌≡◌, ◌+◌, ◌<◌, ◌≤◌, ◌^◌, pos, ◌+ℤ◌, ◌≤ℤ◌, ◌<ℤ◌, IfOk, IsErrOf};
+ghost use Rattle.std.specs.Prelude.{◌≡◌, ◌+◌, ◌<◌, ◌≤◌, ◌^◌, pos, ◌+ℤ◌, ◌≤ℤ◌, ◌<ℤ◌, IfOk, OnOk, IsErrOf};
+ghost use Rattle.flow_draw.specs.Words.{next_word, scaled};
+ghost use Rattle.flow_machine.specs.Requests.{call_of};
 ghost use Rattle.flow_machine.specs.declared.host.RunFault.TheVariants.{Failed};
+ghost use Rattle.flow_world.specs.Outside.{with_pending, with_word, next_delay, fate_of, letter};
+ghost use Rattle.flow_world.specs.Outside.{sent_by, DiskServes, DiskLoses, is_request_of, without_requests};
 
 use crate::asked::Asked;
 use flow_base::ids::{CellId, ProcId};
@@ -49,7 +53,8 @@ pub struct Outside {
 impl Outside {
     /// One more pending event. Want of memory too where its number would be past the last.
     pub fn add(&mut self, time: u64, what: What) -> Result<(), NoMemory>
-        ensures { self.new.net ≡ self.old.net }
+        ensures net { self.new.net ≡ self.old.net }
+        ensures added { OnOk result (self.new ≡ with_pending self.old time what) }
     {
         if self.timers.made() >= LAST_NUMBER {
             return Err(NoMemory);
@@ -66,6 +71,8 @@ impl Outside {
         ensures net { self.new.net ≡ self.old.net }
         ensures from { IfOk result (λ n. lo ≤ℤ n) }
         ensures below { IfOk result (λ n. n <ℤ (lo +ℤ pos width)) }
+        ensures number { IfOk result (λ n. n ≡ scaled lo width (next_word self.old.draws)) }
+        ensures drawn { OnOk result (self.new ≡ with_word self.old) }
     {
         if self.draws.used() >= LAST_NUMBER - 1 {
             return Err(NoMemory);
@@ -79,6 +86,8 @@ impl Outside {
     pub fn draw_delay(&mut self) -> Result<u64, NoMemory>
         ensures net { self.new.net ≡ self.old.net }
         ensures short { IfOk result (λ n. n < 1000000000) }
+        ensures delay { IfOk result (λ n. n ≡ next_delay self.old) }
+        ensures drawn { OnOk result (self.new ≡ with_word self.old) }
     {
         if self.draws.used() >= LAST_NUMBER - 1 {
             return Err(NoMemory);
@@ -110,7 +119,10 @@ impl Outside {
     ) -> Result<Fate, NoMemory>
         requires from { from.0 < self.old.net.processes }
         requires to { to.0 < self.old.net.processes }
-        ensures { self.new.net.processes ≡ self.old.net.processes }
+        ensures processes { self.new.net.processes ≡ self.old.net.processes }
+        ensures fate { IfOk result (λ f. f ≡ fate_of self.old from to) }
+        ensures sent { IfOk result (λ f. self.new
+            ≡ sent_by f (letter from to port text) self.old) }
     {
         if self.draws.used() >= LAST_NUMBER - 2 || self.net.sent() >= LAST_NUMBER {
             return Err(NoMemory);
@@ -125,7 +137,9 @@ impl Outside {
 impl Outside {
     /// The disk of a process serves a request.
     pub fn serve(&mut self, p: ProcId, asked: &Asked) -> Result<DiskReply, RunFault>
-        ensures { ¬ IsErrOf result Failed }
+        ensures cause { ¬ IsErrOf result Failed }
+        ensures served { IfOk result (λ reply.
+            DiskServes p (call_of asked.now) self.old self.new reply) }
     {
         let Some(disk) = self.disks.get_mut(usize::from(p.0)) else {
             return Err(RunFault::Astray);
@@ -144,7 +158,8 @@ impl Outside {
 
     /// The disk of a process loses what it may at a loss of power. Want of memory too where no more words are given.
     pub fn lose_disk(&mut self, p: ProcId) -> Result<Vec<Kept>, RunFault>
-        ensures { ¬ IsErrOf result Failed }
+        ensures cause { ¬ IsErrOf result Failed }
+        ensures lost { IfOk result (λ fates. DiskLoses p self.old self.new fates.items) }
     {
         let Some(disk) = self.disks.get_mut(usize::from(p.0)) else {
             return Err(RunFault::Astray);
@@ -157,7 +172,9 @@ impl Outside {
     }
 
     /// The timers and disk requests of a process are gone.
-    pub fn forget(&mut self, p: ProcId) -> Result<(), NoMemory> {
+    pub fn forget(&mut self, p: ProcId) -> Result<(), NoMemory>
+        ensures { OnOk result (self.new ≡ without_requests p self.old) }
+    {
         let mut gone = Vec::new(self.alloc);
         for (time, number, what) in self.timers.entries()? {
             if what.is_request_of(p) {
@@ -173,7 +190,9 @@ impl Outside {
 
 impl What {
     /// Whether it is a timer or a disk request of this process.
-    fn is_request_of(&self, p: ProcId) -> bool {
+    fn is_request_of(&self, p: ProcId) -> bool
+        ensures { result ≡ is_request_of p self.now }
+    {
         match self {
             What::Boots(_) | What::Arrives(..) => false,
             What::Rings(q, _) | What::Answers(q, _, _) => *q == p,
