@@ -1,5 +1,5 @@
-use Rattle.flow_shown.proofs.Requests.{word_drawn, timer_asked, packet_is_sent, disk_is_asked}
-use Rattle.flow_shown.proofs.laws.requests_shown.Goals as goal
+use Rattle.flow_world.proofs.Requests.{word_drawn, timer_asked, packet_is_sent, disk_is_asked}
+use Rattle.flow_world.proofs.laws.requests_shown.Goals as goal
 
 pub returns-clause-drawn : goal.returns-clause-drawn
 returns-clause-drawn c = word_drawn

@@ -1,5 +1,5 @@
 -- Pending events in memory and in the definitions, and the packets that they bring.
-use Rattle.std.proofs.Common.{◌≡◌, ℕ, zero, suc, ◌+◌, ◌<◌, ◌≤◌, nat_eq, Bool, true, false, not, List, [], ◌∷◌, refl, sym, ap, subst, ◌∙◌, arith, ⊥, if◌then◌else◌}
+use Rattle.std.proofs.Common.{◌≡◌, ℕ, zero, suc, ◌+◌, ◌<◌, ◌≤◌, nat_eq, Bool, true, false, not, List, [], ◌∷◌, refl, sym, ap, subst, ◌∙◌, arith, if◌then◌else◌}
 use Rattle.std.specs.Prelude.{filter}
 use Rattle.std.proofs.lemmas.Bool.Decides.{nat_tests}
 use Rattle.std.specs.declared.option.Option.TheVariants.{None, Some}
@@ -10,9 +10,9 @@ use Rattle.flow_meaning.specs.Outside.{What}
 use Rattle.flow_meaning.specs.World as meant
 use Rattle.flow_world.specs.declared.outside.What as kept
 use Rattle.flow_world.specs.declared.outside.What.TheVariants as kept_what
-use Rattle.flow_world.specs.Outside.{is_request_of, requests_gone}
-use Rattle.flow_shown.specs.Shows.{letter_at, ArrivalShows, WhatShows, EventShows, EventsShow, brings, coming, PacketsOnce}
-use Rattle.flow_shown.proofs.Letters.{same_number}
+use Rattle.flow_world.specs.Changes.{is_request_of, requests_gone}
+use Rattle.flow_world.specs.Shows.{letter_at, ArrivalShows, WhatShows, EventShows, EventsShow, brings, coming, PacketsOnce}
+use Rattle.flow_world.proofs.Letters.{same_number}
 
 -- an event shows what it did where its packet is on its way as before
 pub what_kept : (ls ms : List (ℕ × Letter)) (e : kept.What) (x : What) → ((m : ℕ) → 0 < brings m e → letter_at ms m ≡ letter_at ls m) → WhatShows ls e x → WhatShows ms e x
@@ -30,9 +30,10 @@ pub events_kept : (ls ms : List (ℕ × Letter)) (es : List (Pending kept.What))
 events_kept ls ms [] [] k h = h
 events_kept ls ms [] (x ∷ xs) k h = absurd h
 events_kept ls ms (e ∷ es) [] k h = absurd h
-events_kept ls ms (e ∷ es) (x ∷ xs) k h =
-    (record { time = h.0.time; number = h.0.number; what = what_kept ls ms e.what x.what (λ m b. k m (omega (arith, b))) h.0.what },
-     events_kept ls ms es xs (λ m b. k m (omega (arith, b))) h.1)
+events_kept ls ms (e ∷ es) (x ∷ xs) k h = (
+  record { time = h.0.time; number = h.0.number; what = what_kept ls ms e.what x.what (λ m b. k m (omega (arith, b))) h.0.what },
+  events_kept ls ms es xs (λ m b. k m (omega (arith, b))) h.1,
+)
 
 -- an event takes the same place
 same_order : (ls ms : List (ℕ × Letter)) (d e : Pending kept.What) (x y : Pending What) → EventShows ls d x → EventShows ms e y → comes_before d e ≡ comes_before x y
@@ -89,11 +90,12 @@ once_new n time number p es h m = by_test (nat_eq m (suc n)) refl
     by_test true e =
         let same : m ≡ suc n = grind (arith, nat_tests, e) in
         let nothing : coming m es ≡ 0 = (h m).1 (omega (arith, same)) in
-        let one : coming m (placed (record { time = time; number = number; what = kept_what.Arrives p (suc n) }) es) ≡ 1 = all ∙ ap (λ t. (if t then 1 else 0) + coming m es) e ∙ ap suc nothing in
+        let more : coming m (placed (record { time = time; number = number; what = kept_what.Arrives p (suc n) }) es) ≡ 1 + coming m es = all ∙ ap (λ t. (if t then 1 else 0) + coming m es) e in
+        let one : coming m (placed (record { time = time; number = number; what = kept_what.Arrives p (suc n) }) es) ≡ 1 = omega (arith, more, nothing) in
         (omega (arith, one), λ l. absurd (omega (arith, same, l)))
     by_test false e =
-        let as_before : coming m (placed (record { time = time; number = number; what = kept_what.Arrives p (suc n) }) es) ≡ coming m es = all ∙ ap (λ t. (if t then 1 else 0) + coming m es) e in
-        (omega (arith, as_before, (h m).0), λ l. as_before ∙ (h m).1 (omega (arith, l)))
+        let as_before : coming m (placed (record { time = time; number = number; what = kept_what.Arrives p (suc n) }) es) ≡ 0 + coming m es = all ∙ ap (λ t. (if t then 1 else 0) + coming m es) e in
+        (omega (arith, as_before, (h m).0), λ l. let nothing : coming m es ≡ 0 = (h m).1 (omega (arith, l)) in omega (arith, as_before, nothing))
 
 pub once_gone : (n : ℕ) (p : ProcId) (es : List (Pending kept.What)) → PacketsOnce n es → PacketsOnce n (requests_gone p es)
 once_gone n p es h m =
@@ -106,25 +108,25 @@ once_later n es h m = ((h m).0, λ l. (h m).1 (omega (arith, l)))
 pub once_left : (n : ℕ) (e : Pending kept.What) (es : List (Pending kept.What)) → PacketsOnce n (e ∷ es) → PacketsOnce n es
 once_left n e es h m = (omega (arith, (h m).0), λ l. let nothing : coming m (e ∷ es) ≡ 0 = (h m).1 l in omega (arith, nothing))
 
+either_order : (a b : ℕ) → nat_eq a b ≡ nat_eq b a
+either_order a b = by_tests (nat_eq a b) refl (nat_eq b a) refl
+  where
+    by_tests : (t : Bool) → nat_eq a b ≡ t → (u : Bool) → nat_eq b a ≡ u → nat_eq a b ≡ nat_eq b a
+    by_tests true e true f = e ∙ sym f
+    by_tests false e false f = e ∙ sym f
+    by_tests true e false f = absurd (grind (arith, nat_tests, e, f))
+    by_tests false e true f = absurd (grind (arith, nat_tests, e, f))
+
 -- the timers and disk requests of a process are the same
 same_request : (ls : List (ℕ × Letter)) (p : ProcId) (e : kept.What) (x : What) → WhatShows ls e x → is_request_of p e ≡ meant.is_of p.0 x
 same_request ls p (kept_what.Boots q) x h = rw h refl
-same_request ls p (kept_what.Rings q c) x h = rw h (turned q.0 p.0)
-  where
-    turned : (a b : ℕ) → nat_eq a b ≡ nat_eq b a
-    turned a b = by_test (nat_eq a b) refl (nat_eq b a) refl
-      where
-        by_test : (t : Bool) → nat_eq a b ≡ t → (u : Bool) → nat_eq b a ≡ u → nat_eq a b ≡ nat_eq b a
-        by_test true e true f = e ∙ sym f
-        by_test false e false f = e ∙ sym f
-        by_test true e false f = absurd (grind (arith, nat_tests, e, f))
-        by_test false e true f = absurd (grind (arith, nat_tests, e, f))
+same_request ls p (kept_what.Rings q c) x h = rw h (either_order q.0 p.0)
 same_request ls p (kept_what.Arrives q m) x h = by_letter (letter_at ls m) h
   where
     by_letter : (o : _) → ArrivalShows q.0 m o x → false ≡ meant.is_of p.0 x
     by_letter None h = absurd h
     by_letter (Some l) h = rw h.1 refl
-same_request ls p (kept_what.Answers q c a) x h = rw h (same_request ls p (kept_what.Rings q c) _ refl)
+same_request ls p (kept_what.Answers q c a) x h = rw h (either_order q.0 p.0)
 
 pub gone_shows : (ls : List (ℕ × Letter)) (p : ProcId) (es : List (Pending kept.What)) (xs : List (Pending What))
     → EventsShow ls es xs → EventsShow ls (requests_gone p es) (meant.without_requests p.0 xs)

@@ -1,5 +1,5 @@
-use Rattle.flow_shown.proofs.Events.{link_cut, link_healed, disk_served, event_is_taken, requests_are_gone}
-use Rattle.flow_shown.proofs.laws.events_shown.Goals as goal
+use Rattle.flow_world.proofs.Events.{link_cut, link_healed, disk_served, event_is_taken, requests_are_gone}
+use Rattle.flow_world.proofs.laws.events_shown.Goals as goal
 
 pub returns-clause-cut : goal.returns-clause-cut
 returns-clause-cut c = link_cut

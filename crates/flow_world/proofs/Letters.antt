@@ -1,5 +1,5 @@
 -- Packets on their way, found by number.
-use Rattle.std.proofs.Common.{◌≡◌, ℕ, nat_eq, nat_lt, Bool, true, false, List, [], ◌∷◌, refl, sym, ap, ◌∙◌, arith, ⊥}
+use Rattle.std.proofs.Common.{◌≡◌, ℕ, nat_eq, nat_lt, Bool, true, false, List, [], ◌∷◌, refl, sym, ap, ◌∙◌, arith}
 use Rattle.std.specs.Prelude.{cond}
 use Rattle.std.proofs.lemmas.Bool.Decides.{nat_tests}
 use Rattle.std.specs.Map.{remove_entry}
@@ -8,7 +8,7 @@ use Rattle.std.specs.BTreeMap.{is_at, insert_entry}
 use Rattle.std.specs.declared.option.Option.TheVariants.{None, Some}
 use Rattle.flow_cancel.proofs.Noted.{at_number}
 use Rattle.flow_simnet.specs.declared.packet.Letter.{Letter}
-use Rattle.flow_shown.specs.Shows.{letter_at}
+use Rattle.flow_world.specs.Shows.{letter_at}
 
 pub same_number : (k : ℕ) → nat_eq k k ≡ true
 same_number k = grind (arith, nat_tests)

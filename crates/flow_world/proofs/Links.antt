@@ -1,20 +1,32 @@
 -- The links that are cut: a table in memory, a list in the definitions.
-use Rattle.std.proofs.Common.{◌≡◌, ℕ, zero, suc, ◌+◌, ◌*◌, ◌<◌, ◌≤◌, nat_eq, Bool, true, false, List, [], ◌∷◌, length, refl, sym, ap, ◌∙◌, arith, ⊥, if◌then◌else◌}
+use Rattle.std.proofs.Common.{◌≡◌, ℕ, zero, suc, ◌+◌, ◌*◌, ◌<◌, ◌≤◌, nat_eq, Bool, true, false, List, [], ◌∷◌, length, refl, sym, ap, ◌∙◌, arith, if◌then◌else◌}
 use Rattle.std.specs.Prelude.{◌&&◌, ◌||◌, slice_set, slice_index_or}
 use Rattle.std.proofs.lemmas.Bool.Decides.{nat_tests}
 use Rattle.flow_simnet.specs.Links.{link}
 use Rattle.flow_meaning.specs.Outside.{is_link, is_cut, healed}
 
+first_and_later : (j : ℕ) → nat_eq zero (suc j) ≡ false
+first_and_later j = grind (arith, nat_tests)
+
+later_and_first : (i : ℕ) → nat_eq (suc i) zero ≡ false
+later_and_first i = grind (arith, nat_tests)
+
+both_later : (i j : ℕ) → nat_eq i j ≡ nat_eq (suc i) (suc j)
+both_later i j = by_tests (nat_eq i j) refl (nat_eq (suc i) (suc j)) refl
+  where
+    by_tests : (t : Bool) → nat_eq i j ≡ t → (u : Bool) → nat_eq (suc i) (suc j) ≡ u → nat_eq i j ≡ nat_eq (suc i) (suc j)
+    by_tests true e true f = e ∙ sym f
+    by_tests false e false f = e ∙ sym f
+    by_tests true e false f = absurd (grind (arith, nat_tests, e, f))
+    by_tests false e true f = absurd (grind (arith, nat_tests, e, f))
+
 -- a table with one place set
 pub at_set : (xs : List Bool) (i j : ℕ) (v : Bool) → i < length xs → slice_index_or (slice_set xs i v) j false ≡ (if nat_eq i j then v else slice_index_or xs j false)
 at_set [] i j v h = absurd (omega (arith, h))
 at_set (x ∷ xs) zero zero v h = refl
-at_set (x ∷ xs) zero (suc j) v h = refl
-at_set (x ∷ xs) (suc i) zero v h = refl
-at_set (x ∷ xs) (suc i) (suc j) v h = at_set xs i j v (omega (arith, h)) ∙ ap (λ t. if t then v else slice_index_or xs j false) (shifted i j)
-  where
-    shifted : (i j : ℕ) → nat_eq i j ≡ nat_eq (suc i) (suc j)
-    shifted i j = refl
+at_set (x ∷ xs) zero (suc j) v h = sym (ap (λ t. if t then v else slice_index_or xs j false) (first_and_later j))
+at_set (x ∷ xs) (suc i) zero v h = sym (ap (λ t. if t then v else x) (later_and_first i))
+at_set (x ∷ xs) (suc i) (suc j) v h = at_set xs i j v (omega (arith, h)) ∙ ap (λ t. if t then v else slice_index_or xs j false) (both_later i j)
 
 pub set_length : (xs : List Bool) (i : ℕ) (v : Bool) → length (slice_set xs i v) ≡ length xs
 set_length [] i v = refl
@@ -84,6 +96,12 @@ healed_cuts [] p q a b h i j k = by_test (is_link a b (p, q))
     by_test false = refl
 healed_cuts (c ∷ cs) p q a b h i j k = by_tests (is_link p q c) refl (is_link a b (p, q)) refl (is_link a b c) refl (healed_cuts cs p q a b h i j k)
   where
+    apart : is_link p q c ≡ true → is_link a b (p, q) ≡ false → is_link a b c ≡ true → ⊥
+    apart e f g = grind (arith, nat_tests, e, f, g)
+
+    joined : is_link p q c ≡ false → is_link a b (p, q) ≡ true → is_link a b c ≡ true → ⊥
+    joined e f g = grind (arith, nat_tests, e, f, g)
+
     by_tests : (s : Bool) → is_link p q c ≡ s → (t : Bool) → is_link a b (p, q) ≡ t → (u : Bool) → is_link a b c ≡ u
         → is_cut (healed cs p q) a b ≡ (if t then false else is_cut cs a b)
         → is_cut (if s then healed cs p q else c ∷ healed cs p q) a b ≡ (if t then false else (u || is_cut cs a b))
@@ -93,9 +111,3 @@ healed_cuts (c ∷ cs) p q a b h i j k = by_tests (is_link p q c) refl (is_link 
     by_tests false e true f true g rest = absurd (joined e f g)
     by_tests false e true f false g rest = rw g rest
     by_tests false e false f u g rest = rw g (ap (λ t. u || t) rest)
-
-    apart : is_link p q c ≡ true → is_link a b (p, q) ≡ false → is_link a b c ≡ true → ⊥
-    apart e f g = grind (arith, nat_tests, e, f, g)
-
-    joined : is_link p q c ≡ false → is_link a b (p, q) ≡ true → is_link a b c ≡ true → ⊥
-    joined e f g = grind (arith, nat_tests, e, f, g)

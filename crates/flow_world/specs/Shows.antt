@@ -10,7 +10,7 @@ use Rattle.flow_simnet.specs.declared.packet.Letter.{Letter}
 use Rattle.flow_simnet.specs.Links as table
 use Rattle.flow_machine.specs.Requests.{call_of}
 use Rattle.flow_meaning.specs.Outside.{What, Boots, Rings, Arrives, Answers, Outside, is_cut}
-use Rattle.flow_world.specs.declared.outside.Outside as memory
+use Rattle.flow_world.specs.Changes.{Surroundings}
 use Rattle.flow_world.specs.declared.outside.What as kept
 use Rattle.flow_world.specs.declared.outside.What.TheVariants as kept_what
 
@@ -60,7 +60,7 @@ CutsShow n net w = (p q : ℕ) → p < n → q < n → table.is_cut net.cuts p q
 
 -- All that is outside of the processes but the script: what the world's file fixes, the time, what was counted, the pending
 -- events in the order in which they come, the links that are cut, and the disks.
-pub record OutsideShows (m : memory.Outside) (w : Outside) : Type 0 where
+pub record OutsideShows (m : Surroundings) (w : Outside) : Type 0 where
   pub seed : m.draws.seed ≡ w.file.seed
   pub words : m.draws.listed ≡ w.file.words
   pub processes : m.net.processes ≡ w.file.processes
@@ -75,4 +75,4 @@ pub record OutsideShows (m : memory.Outside) (w : Outside) : Type 0 where
   pub packets : PacketsOnce m.net.sent m.timers.pending
   pub table : length m.net.cuts ≡ 4096
   pub cuts : CutsShow w.file.processes m.net w
-  pub disks : m.disks.items ≡ w.disks
+  pub disks : m.disks ≡ w.disks
