@@ -1,0 +1,5 @@
+pub mod Letters
+pub mod Coming
+pub mod Links
+pub mod Requests
+pub mod Events
