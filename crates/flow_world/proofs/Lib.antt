@@ -3,3 +3,4 @@ pub mod Coming
 pub mod Links
 pub mod Requests
 pub mod Events
+pub mod Numbers
