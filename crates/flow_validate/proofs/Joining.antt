@@ -1,6 +1,6 @@
 -- Where the touches of a block stand among those of all.
-use Rattle.std.proofs.Common.{◌≡◌, ℕ, zero, suc, ◌+◌, ◌-◌, ◌<◌, ◌≤◌, List, [], ◌∷◌, ◌++◌, take, drop, length, get_or, slice_get, refl, sym, subst, ap, ap₂, ◌∙◌, arith}
-use Rattle.std.specs.declared.option.Option.TheVariants.{None, Some}
+use Rattle.std.proofs.Common.{◌≡◌, ℕ, zero, suc, ◌+◌, ◌-◌, ◌<◌, ◌≤◌, List, [], ◌∷◌, ◌++◌, take, drop, length, get_or, slice_get, refl, sym, ap, ap₂, ◌∙◌, arith}
+use Rattle.std.specs.declared.option.Option.TheVariants.{Some}
 use Rattle.std.proofs.lemmas.Option.{slice_get_read}
 use Rattle.std.proofs.lemmas.List.{append-nil, append_assoc, length-append}
 use Rattle.std.proofs.Math.Seq.{take-append_seam, drop-append_seam}
@@ -90,8 +90,8 @@ stands t all i start end h lt first last =
       order = omega (arith, first, last, a, e);
       within = omega (arith, last, a, b, d, e, f, g);
       own = c.is ∙ ap Some (sym (take-append_seam c.own c.rest) ∙ ap (take (length c.own)) (sym (drop-append_seam front (c.own ++ c.rest)))
-      ∙ ap (λ (l : List Touch). take (length c.own) (drop (length front) l)) (sym (h.0 ∙ c.apart))
-      ∙ ap₂ (λ m n. take m (drop n t.all.items)) (sym many) (sym first));
+          ∙ ap (λ (l : List Touch). take (length c.own) (drop (length front) l)) (sym (h.0 ∙ c.apart))
+          ∙ ap₂ (λ m n. take m (drop n t.all.items)) (sym many) (sym first));
     }
 
 -- the touches of one block more

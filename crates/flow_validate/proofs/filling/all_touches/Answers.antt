@@ -1,8 +1,7 @@
-use Rattle.std.proofs.Common.{◌≡◌, List, map, ap, ◌∙◌, subst}
+use Rattle.std.proofs.Common.{List, map, ap}
 use Rattle.std.proofs.lemmas.Result.{IfOk-weaker}
 use Rattle.flow_class.specs.declared.class.Block.{Block}
 use Rattle.flow_class.specs.View.{class_of, block_of}
-use Rattle.flow_validate.specs.declared.touch.Touch.{Touch}
 use Rattle.flow_validate.specs.declared.touch.Touches.{Touches}
 use Rattle.flow_validate.specs.Joined.{AreJoined}
 use Rattle.flow_validate.specs.Small.{small_block}

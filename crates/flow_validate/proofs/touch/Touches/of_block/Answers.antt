@@ -1,6 +1,5 @@
-use Rattle.std.proofs.Common.{◌≡◌, ℕ, suc, ◌-◌, ◌<◌, ◌≤◌, List, Some, take, drop, length, sym, ap, subst, ◌∙◌, arith}
+use Rattle.std.proofs.Common.{◌-◌, ◌<◌, List, Some, take, drop, length, sym, ap, ◌∙◌, arith}
 use Rattle.flow_validate.specs.declared.touch.Touch.{Touch}
-use Rattle.flow_validate.specs.Joined.{joined}
 use Rattle.flow_validate.proofs.Joining.{ends_many, end_here, stands}
 use Rattle.flow_validate.proofs.touch.Touches.of_block.Goals as goal
 
