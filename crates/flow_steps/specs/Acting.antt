@@ -37,6 +37,7 @@ use Rattle.flow_meaning.specs.Lines.{print_line}
 use Rattle.flow_picture.specs.Holds.{hold_all}
 use Rattle.flow_steps.specs.declared.call.DiskCall.{DiskCall}
 use Rattle.flow_steps.specs.declared.call.DiskCall.TheVariants as disk
+use Rattle.flow_steps.specs.declared.call.Call.{Call}
 use Rattle.flow_steps.specs.declared.call.Call.TheVariants as call
 use Rattle.flow_steps.specs.declared.call.Goal.{Goal}
 use Rattle.flow_steps.specs.declared.frames.Stand.{Stand}
@@ -142,14 +143,15 @@ pub record Printed (i : ActorId) (args : List ValueTree) (p q : Process) : Type 
   pub told : q ≡ telling line (doing (task.Run i) p)
 
 -- A text is sent to a port of a process.
+abbrev pub IsMessage : ActorId → List ValueTree → Call → Type 0
+IsMessage i args (call.SendTo j process port text) =
+    (j ≡ i) × (int_of (arg args 0) ≡ Some process) × (int_of (arg args 1) ≡ Some port) × (text_of (arg args 2) ≡ Some text)
+IsMessage i args c = ⊥
+
 pub record MessageAsked (i : ActorId) (args : List ValueTree) (p q : Process) : Type 0 where
-  pub process : ℤ
-  pub port : ℤ
-  pub text : List ℕ
-  pub to : int_of (arg args 0) ≡ Some process
-  pub at : int_of (arg args 1) ≡ Some port
-  pub sends : text_of (arg args 2) ≡ Some text
-  pub asks : q ≡ asking (call.SendTo i process port text) p
+  pub message : Call
+  pub is_message : IsMessage i args message
+  pub asks : q ≡ asking message p
 
 -- a call statement of a predefined name
 abbrev pub PredefinedCalled : ActorId → Predefined → Values → Process → Process → Type 0

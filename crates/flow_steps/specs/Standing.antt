@@ -18,7 +18,8 @@ use Rattle.flow_code.specs.declared.class.Group.{Group}
 use Rattle.flow_code.specs.declared.class.Aim.{Aim}
 use Rattle.flow_code.specs.View.{group_numbered}
 use Rattle.flow_numbered.specs.Numbered.{thing}
-use Rattle.flow_frame.specs.Frames.{FrameTree, held_in, with_place}
+use Rattle.flow_frame.specs.declared.standing.Standing.{Standing}
+use Rattle.flow_frame.specs.Frames.{FrameTree, held_in, with_place, standing_of}
 use Rattle.flow_cancel.specs.Heap.{HeapTree}
 use Rattle.flow_cancel.specs.Dropping.{dropping}
 use Rattle.flow_picture.specs.Acting.{frame_put}
@@ -27,13 +28,17 @@ use Rattle.flow_steps.specs.declared.process.Process.{Process}
 use Rattle.flow_steps.specs.Holding.{on_heap}
 use Rattle.flow_steps.specs.Bringing.{gone_to}
 
--- the frame of an actor goes on at a block and an instruction of it
-abbrev pub going : (actor block instruction : ℕ) → Option (FrameTree Value) → HeapTree → HeapTree
-going i b n None h = h
-going i b n (Some f) h = frame_put i (gone_to b n f) h
+-- the frame of an actor becomes another
+abbrev pub reframed : (FrameTree Value → FrameTree Value) → (actor : ℕ) → Option (FrameTree Value) → HeapTree → HeapTree
+reframed g i None h = h
+reframed g i (Some f) h = frame_put i (g f) h
 
+abbrev pub with_frame : (FrameTree Value → FrameTree Value) → (actor : ℕ) → HeapTree → HeapTree
+with_frame g i h = reframed g i (thing h.frames.things i) h
+
+-- it goes on at a block and an instruction of it
 abbrev pub gone : (actor block instruction : ℕ) → HeapTree → HeapTree
-gone i b n h = going i b n (thing h.frames.things i) h
+gone i b n h = with_frame (gone_to b n) i h
 
 -- the frame of an actor says where the actor stands, where it doesn't yet
 abbrev pub noting : (noted : Bool) → (actor block instruction : ℕ) → HeapTree → HeapTree
@@ -48,8 +53,8 @@ abbrev pub block_in : Class → (state block : ℕ) → Option ℕ
 block_in c zero b = Some b
 block_in c (suc g) b = option_map (λ (x : Group). x.block) (group_numbered (suc g) c.groups.items)
 
--- An actor with this frame stands there.
-pub record StandsIn (classes : List Class) (i : ActorId) (f : FrameTree Value) (s : Stand) : Type 0 where
+-- An actor whose frame stands so stands there.
+pub record StandsIn (classes : List Class) (i : ActorId) (f : Standing) (s : Stand) : Type 0 where
   pub actor : s.actor ≡ i
   pub class : slice_get classes f.class ≡ Some s.class.now
   pub place : block_in s.class.now f.state f.block ≡ Some s.place
@@ -60,12 +65,15 @@ pub record StandsIn (classes : List Class) (i : ActorId) (f : FrameTree Value) (
 pub record StandsNow (classes : List Class) (i : ActorId) (p : Process) (s : Stand) : Type 0 where
   pub frame : FrameTree Value
   pub at : thing p.heap.frames.things i.0 ≡ Some frame
-  pub stands : StandsIn classes i frame s
+  pub stands : StandsIn classes i (standing_of frame) s
 
 -- It goes on at a block and an instruction, or at the next instruction; its frame doesn't say so yet.
 pub record GoesTo (s : Stand) (block instruction : ℕ) (t : Stand) : Type 0 where
   pub same : t ≡ record s { place = block; block = t.block; instruction = instruction; noted = false }
   pub at : slice_get s.class.now.blocks.items block ≡ Some t.block.now
+
+abbrev pub noted_stand : Stand → Stand
+noted_stand s = record s { noted = true }
 
 abbrev pub next_stand : Stand → Stand
 next_stand s = record s { instruction = suc s.instruction; noted = false }
@@ -74,12 +82,8 @@ next_stand s = record s { instruction = suc s.instruction; noted = false }
 abbrev pub place_held : (actor place : ℕ) → HeapTree → Option Value
 place_held i n h = held_in n (thing h.frames.things i)
 
-abbrev pub putting : (actor place : ℕ) → Option Value → Option (FrameTree Value) → HeapTree → HeapTree
-putting i n v None h = h
-putting i n v (Some f) h = frame_put i (with_place f n v) h
-
 abbrev pub place_put : (actor place : ℕ) → Option Value → HeapTree → HeapTree
-place_put i n v h = putting i n v (thing h.frames.things i) h
+place_put i n v h = with_frame (λ f. with_place f n v) i h
 
 -- whether a value may hold references
 abbrev pub may_refer : Value → Bool

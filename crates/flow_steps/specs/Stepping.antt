@@ -47,17 +47,17 @@ use Rattle.flow_steps.specs.declared.process.Process.{Process}
 use Rattle.flow_steps.specs.Doing.{turned, doing}
 use Rattle.flow_steps.specs.Holding.{on_heap, value_refs}
 use Rattle.flow_steps.specs.Bringing.{made}
-use Rattle.flow_steps.specs.Standing.{noted, GoesTo, next_stand, place_held, place_put, places_taken, places_emptied, referring, lost_from, field_path, Assigns}
+use Rattle.flow_steps.specs.Standing.{noted, noted_stand, GoesTo, next_stand, place_held, place_put, places_taken, places_emptied, referring, lost_from, field_path, Assigns}
 use Rattle.flow_steps.specs.Waiting.{Keeps, Waits, callbacks_of}
 use Rattle.flow_steps.specs.Sights.{setting_in, sight_in, Evaluates}
 use Rattle.flow_steps.specs.Acting.{Values, args_of, IsEffect, PredefinedCalled, MethodCalled}
 
 -- an expression of an actor, and arguments in order
-abbrev pub value_for : Code → Stand → Resolved → Process → Res ValueTree
-value_for code s e p = value_at (sight_in code s.actor.0 p) (node_of e) p.left
+abbrev pub value_for : Code → (actor : ℕ) → Resolved → Process → Res ValueTree
+value_for code i e p = value_at (sight_in code i p) (node_of e) p.left
 
-abbrev pub values_for : Code → Stand → List Resolved → Process → Res (List ValueTree)
-values_for code s es p = values_at (sight_in code s.actor.0 p) (nodes_of es) p.left
+abbrev pub values_for : Code → (actor : ℕ) → List Resolved → Process → Res (List ValueTree)
+values_for code i es p = values_at (sight_in code i p) (nodes_of es) p.left
 
 -- Values are left over. Where there are none, the actor goes on at once; else they are dropped before it goes on.
 abbrev pub OnAfter : Stand → List Value → Process → Pace → Process → Type 0
@@ -108,15 +108,15 @@ IsMethodOf code s aim m v p pace q = IsMethod code s aim m (Some v) p pace q
 
 abbrev pub MethodStep : Code → Stand → Aim → Method → List Resolved → Process → Pace → Process → Type 0
 MethodStep code s aim m [] p pace q = IsMethod code s aim m None p pace q
-MethodStep code s aim m (e ∷ []) p pace q = Evaluates s value_of (value_for code s e p) p (IsMethodOf code s aim m) pace q
+MethodStep code s aim m (e ∷ []) p pace q = Evaluates s value_of (value_for code s.actor.0 e p) p (IsMethodOf code s aim m) pace q
 MethodStep code s aim m _ p pace q = ⊥
 
 -- a step by an instruction
 abbrev pub Does : Code → Stand → Instruction → Process → Pace → Process → Type 0
-Does code s (instruction.Set aim e) p pace q = Evaluates s value_of (value_for code s e p) p (IsSet code s aim) pace q
+Does code s (instruction.Set aim e) p pace q = Evaluates s value_of (value_for code s.actor.0 e p) p (IsSet code s aim) pace q
 Does code s (instruction.Effect aim e args) p pace q = IsEffect code s goal.Stored e args.items p pace q
 Does code s (instruction.New place kd) p pace q = IsNew s place kd p pace q
-Does code s (instruction.Act a args) p pace q = Evaluates s args_of (values_for code s args.items p) p (IsAct code s a) pace q
+Does code s (instruction.Act a args) p pace q = Evaluates s args_of (values_for code s.actor.0 args.items p) p (IsAct code s a) pace q
 Does code s (instruction.Method aim m args) p pace q = MethodStep code s aim m args.items p pace q
 Does code s (instruction.Drop places) p pace q =
     OnAfter (next_stand s) (places_taken s.actor.0 places.items p.heap) (on_heap (places_emptied s.actor.0 places.items) p) pace q
@@ -144,13 +144,10 @@ OperandKept s n (value.Ref kd k) p pace q = Keeps s (record { callback = n; cell
 OperandKept s n _ p pace q = ⊥
 
 abbrev pub OperandStep : Code → Stand → (callback : ℕ) → Operand → Process → Pace → Process → Type 0
-OperandStep code s n (operand.Value e) p pace q = Evaluates s value_of (value_for code s e p) p (OperandKept s n) pace q
+OperandStep code s n (operand.Value e) p pace q = Evaluates s value_of (value_for code s.actor.0 e p) p (OperandKept s n) pace q
 OperandStep code s n (operand.Effect e args) p pace q = IsEffect code s (goal.Kept n) e args.items p pace q
 
 -- A wait: its next operand is asked for; when all are kept, the actor waits.
-abbrev pub noted_stand : Stand → Stand
-noted_stand s = record s { noted = true }
-
 abbrev pub kept_by : Stand → Process → ℕ
 kept_by s p = length (callbacks_of s.actor.0 p.heap)
 
@@ -189,10 +186,10 @@ IsThrow s _ p pace q = ⊥
 abbrev pub Ends : Code → Stand → Last → Process → Pace → Process → Type 0
 Ends code s (last.Goto b) p pace q = GoesOnAt s b p pace q
 Ends code s (last.Pass b) p pace q = Passes s b p pace q
-Ends code s (last.Test e yes no) p pace q = Evaluates s truth_value (value_for code s e p) p (IsTest s yes no) pace q
+Ends code s (last.Test e yes no) p pace q = Evaluates s truth_value (value_for code s.actor.0 e p) p (IsTest s yes no) pace q
 Ends code s (last.Choose g) p pace q = IsChoose code s g p pace q
-Ends code s (last.Return e) p pace q = Evaluates s value_of (value_for code s e p) p (IsReturn s) pace q
-Ends code s (last.Throw e) p pace q = Evaluates s value_of (value_for code s e p) p (IsThrow s) pace q
+Ends code s (last.Return e) p pace q = Evaluates s value_of (value_for code s.actor.0 e p) p (IsReturn s) pace q
+Ends code s (last.Throw e) p pace q = Evaluates s value_of (value_for code s.actor.0 e p) p (IsThrow s) pace q
 
 -- A step of an actor, by its instruction.
 pub data StepsOn (code : Code) (s : Stand) (p : Process) (pace : Pace) (q : Process) : Type 0 where

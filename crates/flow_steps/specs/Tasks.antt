@@ -104,15 +104,24 @@ pub record Stored (code : Code) (i : ActorId) (v : Value) (p q : Process) : Type
   pub assigns : Assigns code.fields i aim v p old between
   pub goes : q ≡ noted (next_stand stand) (on_heap (dropping (values old)) between)
 
+-- The newest task is taken off.
+abbrev pub popped : List Task → Process → Process
+popped ts p = on_heap (λ h. record h { tasks = ts }) p
+
+pub record TopTaken (t : Task) (p q : Process) : Type 0 where
+  pub tasks : List Task
+  pub top : p.heap.tasks ≡ t ∷ tasks
+  pub rest : q ≡ popped tasks p
+
 -- An operand is kept by an actor whose task is next.
 pub record IsKept (code : Code) (i : ActorId) (x : Held) (p q : Process) : Type 0 where
-  pub tasks : List Task
+  pub start : Process
   pub stand : Stand
   pub pace : Pace
   pub between : Process
-  pub next : p.heap.tasks ≡ task.Run i ∷ tasks
-  pub stands : StandsNow code.classes.items i (on_heap (λ h. record h { tasks = tasks }) p) stand
-  pub keeps : Keeps stand x (on_heap (λ h. record h { tasks = tasks }) p) pace between
+  pub next : TopTaken (task.Run i) p start
+  pub stands : StandsNow code.classes.items i start stand
+  pub keeps : Keeps stand x start pace between
   pub then : GoesOn code pace between q
 
 -- An error goes to the handler of the block, or out of the actor: the operands that are kept are dropped in order, and the
@@ -127,16 +136,24 @@ dropped_places i ns h = dropping (places_taken i ns h) (places_emptied i ns h)
 abbrev pub caught : ActorId → Catcher → ErrorCode → HeapTree → HeapTree
 caught i c e h = gone i.0 c.block 0 (withdrawn i.0 (with_error i.0 c.error e (dropped_places i.0 c.drops.items (pushed (task.Catch i e) h))))
 
-abbrev pub Raises : ActorId → Option Catcher → ErrorCode → HeapTree → HeapTree → Type 0
-Raises i (Some c) e h g = g ≡ caught i c e h
-Raises i None e h g = (t : Task) × IsClose i (outcome.Error e) t × (g ≡ withdrawn i.0 (lost_from i.0 0 (pushed t h)))
+abbrev pub failed : ActorId → Task → HeapTree → HeapTree
+failed i t h = withdrawn i.0 (lost_from i.0 0 (pushed t h))
+
+pub record FailsBy (i : ActorId) (e : ErrorCode) (p q : Process) : Type 0 where
+  pub task : Task
+  pub closes : IsClose i (outcome.Error e) task
+  pub fails : q ≡ on_heap (failed i task) p
+
+abbrev pub Raises : ActorId → Option Catcher → ErrorCode → Process → Process → Type 0
+Raises i (Some c) e p q = q ≡ on_heap (caught i c e) p
+Raises i None e p q = FailsBy i e p q
 
 pub record Raised (code : Code) (i : ActorId) (e : ErrorCode) (p q : Process) : Type 0 where
   pub stand : Stand
-  pub heap : HeapTree
+  pub between : Process
   pub stands : StandsNow code.classes.items i p stand
-  pub raises : Raises i stand.block.now.catcher e p.heap heap
-  pub told : q ≡ telling (line.Throw i e) (record p { heap = heap })
+  pub raises : Raises i stand.block.now.catcher e p between
+  pub told : q ≡ telling (line.Throw i e) between
 
 -- who waits at a cell, the oldest first
 abbrev pub cell_waiter : Option (CellTree Outcome) → Option Waiter
@@ -197,16 +214,13 @@ IsDone code (task.Close i o) p q = Closes i o.value p q
 
 -- The tasks of a process are done, the newest first, until a step asks something of the world, a turn was wanted in vain, or no
 -- task is left.
-abbrev pub popped : List Task → Process → Process
-popped ts p = on_heap (λ h. record h { tasks = ts }) p
-
 pub data Tasks (code : Code) : Process → Next → Process → Type 0 where
   spent : (p : Process) → p.spent ≡ true → Tasks code p next.Spent p
   rested : (p : Process) → p.spent ≡ false → p.heap.tasks ≡ [] → Tasks code p next.Rested p
-  asks : (p q : Process) (t : Task) (ts : List Task) → p.spent ≡ false → p.heap.tasks ≡ t ∷ ts → IsDone code t (popped ts p) q
+  asks : (p start q : Process) (t : Task) → p.spent ≡ false → TopTaken t p start → IsDone code t start q
       → is_some q.asked ≡ true → Tasks code p next.Asks q
-  further : (p between q : Process) (t : Task) (ts : List Task) (n : Next) → p.spent ≡ false → p.heap.tasks ≡ t ∷ ts
-      → IsDone code t (popped ts p) between → is_some between.asked ≡ false → Tasks code between n q → Tasks code p n q
+  further : (p start between q : Process) (t : Task) (n : Next) → p.spent ≡ false → TopTaken t p start
+      → IsDone code t start between → is_some between.asked ≡ false → Tasks code between n q → Tasks code p n q
 
 -- `main` is called with the process's number, where a turn is left: its result is held from the moment that its cell is made.
 pub record MainStarts (code : Code) (me : ProcId) (p q : Process) : Type 0 where

@@ -25,7 +25,6 @@ use Rattle.flow_cancel.specs.Heap.{HeapTree, pushed}
 use Rattle.flow_cancel.specs.Leaving.{waiter_of, withdrawn}
 use Rattle.flow_picture.specs.Changes.{cell_put, stream_put}
 use Rattle.flow_picture.specs.Holds.{hold_all}
-use Rattle.flow_picture.specs.Acting.{frame_put}
 use Rattle.flow_steps.specs.declared.frames.Stand.{Stand}
 use Rattle.flow_steps.specs.declared.next.Pace.{Pace}
 use Rattle.flow_steps.specs.declared.next.Pace.TheVariants.{On, Off}
@@ -34,7 +33,7 @@ use Rattle.flow_steps.specs.Doing.{turned, telling}
 use Rattle.flow_steps.specs.Seen.{content_in}
 use Rattle.flow_steps.specs.Holding.{on_heap, with_heap, outcome_refs}
 use Rattle.flow_steps.specs.Bringing.{head_of}
-use Rattle.flow_steps.specs.Standing.{gone, lost_from}
+use Rattle.flow_steps.specs.Standing.{with_frame, gone, lost_from}
 
 -- a wait at a cell needn't suspend
 abbrev pub ready_in : Option (CellTree Outcome) → Option (StreamTree Value) → Bool
@@ -58,12 +57,8 @@ first_ready h [] = None
 first_ready h (x ∷ xs) = if ready_at x.cell.0 h then Some x else first_ready h xs
 
 -- one operand more is kept
-abbrev pub keeping : (actor : ℕ) → Held → Option (FrameTree Value) → HeapTree → HeapTree
-keeping i x None h = h
-keeping i x (Some f) h = frame_put i (with_callback f x) h
-
 abbrev pub operand_kept : (actor : ℕ) → Held → HeapTree → HeapTree
-operand_kept i x h = keeping i x (thing h.frames.things i) h
+operand_kept i x h = with_frame (λ f. with_callback f x) i h
 
 -- An operand waits at its cell; a stream at which somebody waits refuses.
 abbrev pub Registered : Type 0
@@ -91,13 +86,13 @@ abbrev mutual
   register_then i xs (true, h) = register_all i xs h
   register_then i xs (false, h) = (false, h)
 
--- the frame of an actor waits in the state of a group
-abbrev pub suspending : (actor group : ℕ) → Option (FrameTree Value) → HeapTree → HeapTree
-suspending i g None h = h
-suspending i g (Some f) h = frame_put i (in_state g f) h
+-- what that comes to in a process: whether all wait, and the heap
+abbrev pub Registers : Registered → (all : Bool) → Process → Process → Type 0
+Registers r all p q = (all ≡ r.0) × (q ≡ with_heap r.1 p)
 
+-- the frame of an actor waits in the state of a group
 abbrev pub suspended_at : (actor group : ℕ) → HeapTree → HeapTree
-suspended_at i g h = suspending i g (thing h.frames.things i) h
+suspended_at i g h = with_frame (in_state g) i h
 
 -- an actor leaves its wait for a task: its operands are dropped, then its locals, and then the task comes
 abbrev pub left_for : Stand → Task → HeapTree → HeapTree
