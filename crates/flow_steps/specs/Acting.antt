@@ -124,8 +124,8 @@ pub record Starts (code : Code) (caller : ActorId) (g : Goal) (class : ℕ) (arg
 
 -- where a turn is left
 pub data ActorCalled (code : Code) (caller : ActorId) (g : Goal) (class : ℕ) (args : List Value) (p q : Process) : Type 0 where
-  spent : nat_lt 0 p.left ≡ false → q ≡ turned p → ActorCalled code caller g class args p q
-  starts : nat_lt 0 p.left ≡ true → Starts code caller g class args (turned p) q → ActorCalled code caller g class args p q
+  not_called : nat_lt 0 p.left ≡ false → q ≡ turned p → ActorCalled code caller g class args p q
+  actor_starts : nat_lt 0 p.left ≡ true → Starts code caller g class args (turned p) q → ActorCalled code caller g class args p q
 
 -- An effect with its arguments known; the frame of the actor says where it stands.
 abbrev pub EffectDone : Code → Stand → Goal → Effect → Values → Process → Pace → Process → Type 0

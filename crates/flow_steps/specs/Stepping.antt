@@ -127,8 +127,8 @@ abbrev pub GoesOnAt : Stand → (block : ℕ) → Process → Pace → Process �
 GoesOnAt s b p pace q = (t : Stand) × GoesTo s b 0 t × (pace ≡ On t) × (q ≡ p)
 
 pub data Passes (s : Stand) (b : ℕ) (p : Process) : Pace → Process → Type 0 where
-  spent : (t : Stand) (q : Process) → GoesTo s b 0 t → nat_lt 0 p.left ≡ false → q ≡ noted t (turned p) → Passes s b p Off q
-  passes : (t : Stand) (q : Process) → GoesTo s b 0 t → nat_lt 0 p.left ≡ true → q ≡ turned p → Passes s b p (On t) q
+  no_pass : (t : Stand) (q : Process) → GoesTo s b 0 t → nat_lt 0 p.left ≡ false → q ≡ noted t (turned p) → Passes s b p Off q
+  pass_begins : (t : Stand) (q : Process) → GoesTo s b 0 t → nat_lt 0 p.left ≡ true → q ≡ turned p → Passes s b p (On t) q
 
 -- one of two blocks, by a truth value
 abbrev pub truth_value : Bool → ValueTree
@@ -152,9 +152,9 @@ abbrev pub kept_by : Stand → Process → ℕ
 kept_by s p = length (callbacks_of s.actor.0 p.heap)
 
 pub data Chooses (code : Code) (s : Stand) (number : ℕ) (group : Group) (p : Process) (pace : Pace) (q : Process) : Type 0 where
-  asks : (b : Branch) → slice_get group.branches.items (kept_by s p) ≡ Some b
+  asks_operand : (b : Branch) → slice_get group.branches.items (kept_by s p) ≡ Some b
       → OperandStep code s (group.first + kept_by s p) b.operand p pace q → Chooses code s number group p pace q
-  waits : slice_get group.branches.items (kept_by s p) ≡ None → pace ≡ Off → Waits s number p q
+  all_kept : slice_get group.branches.items (kept_by s p) ≡ None → pace ≡ Off → Waits s number p q
       → Chooses code s number group p pace q
 
 pub record IsChoose (code : Code) (s : Stand) (number : ℕ) (p : Process) (pace : Pace) (q : Process) : Type 0 where
@@ -193,14 +193,14 @@ Ends code s (last.Throw e) p pace q = Evaluates s value_of (value_for code s.act
 
 -- A step of an actor, by its instruction.
 pub data StepsOn (code : Code) (s : Stand) (p : Process) (pace : Pace) (q : Process) : Type 0 where
-  instructs : (x : Instruction) → slice_get s.block.now.body.items s.instruction ≡ Some x → Does code s x p pace q
+  by_instruction : (x : Instruction) → slice_get s.block.now.body.items s.instruction ≡ Some x → Does code s x p pace q
       → StepsOn code s p pace q
-  ends : s.instruction ≡ length s.block.now.body.items → Ends code s s.block.now.last p pace q → StepsOn code s p pace q
+  by_last : s.instruction ≡ length s.block.now.body.items → Ends code s s.block.now.last p pace q → StepsOn code s p pace q
 
 -- A row of steps of an actor, up to one after which other tasks come first.
 pub data Runs (code : Code) : Stand → Process → Process → Type 0 where
-  on : (s t : Stand) (p between q : Process) → StepsOn code s p (On t) between → Runs code t between q → Runs code s p q
-  off : (s : Stand) (p q : Process) → StepsOn code s p Off q → Runs code s p q
+  runs_on : (s t : Stand) (p between q : Process) → StepsOn code s p (On t) between → Runs code t between q → Runs code s p q
+  runs_off : (s : Stand) (p q : Process) → StepsOn code s p Off q → Runs code s p q
 
 -- and where a step has been taken already
 abbrev pub GoesOn : Code → Pace → Process → Process → Type 0

@@ -215,11 +215,11 @@ IsDone code (task.Close i o) p q = Closes i o.value p q
 -- The tasks of a process are done, the newest first, until a step asks something of the world, a turn was wanted in vain, or no
 -- task is left.
 pub data Tasks (code : Code) : Process → Next → Process → Type 0 where
-  spent : (p : Process) → p.spent ≡ true → Tasks code p next.Spent p
-  rested : (p : Process) → p.spent ≡ false → p.heap.tasks ≡ [] → Tasks code p next.Rested p
-  asks : (p start q : Process) (t : Task) → p.spent ≡ false → TopTaken t p start → IsDone code t start q
+  all_spent : (p : Process) → p.spent ≡ true → Tasks code p next.Spent p
+  no_task : (p : Process) → p.spent ≡ false → p.heap.tasks ≡ [] → Tasks code p next.Rested p
+  task_asks : (p start q : Process) (t : Task) → p.spent ≡ false → TopTaken t p start → IsDone code t start q
       → is_some q.asked ≡ true → Tasks code p next.Asks q
-  further : (p start between q : Process) (t : Task) (n : Next) → p.spent ≡ false → TopTaken t p start
+  task_done : (p start between q : Process) (t : Task) (n : Next) → p.spent ≡ false → TopTaken t p start
       → IsDone code t start between → is_some between.asked ≡ false → Tasks code between n q → Tasks code p n q
 
 -- `main` is called with the process's number, where a turn is left: its result is held from the moment that its cell is made.
@@ -234,5 +234,5 @@ pub record MainStarts (code : Code) (me : ProcId) (p q : Process) : Type 0 where
       (doing (task.Run actor) (on_heap (λ h. record (hold kind.Future cell.0 h) { main = Some cell }) between)) q
 
 pub data MainCalled (code : Code) (me : ProcId) (p q : Process) : Type 0 where
-  spent : nat_lt 0 p.left ≡ false → q ≡ turned p → MainCalled code me p q
-  starts : nat_lt 0 p.left ≡ true → MainStarts code me (turned p) q → MainCalled code me p q
+  main_waits : nat_lt 0 p.left ≡ false → q ≡ turned p → MainCalled code me p q
+  main_starts : nat_lt 0 p.left ≡ true → MainStarts code me (turned p) q → MainCalled code me p q

@@ -131,8 +131,8 @@ pub record BranchTaken (s : Stand) (b : ℕ) (cell : CellId) (p q : Process) : T
   pub leaves : q ≡ telling (line.Take s.actor group b) (on_heap (left_for s task) between)
 
 pub data TakesBranch (s : Stand) (b : ℕ) (cell : CellId) (p q : Process) : Type 0 where
-  spent : nat_lt 0 p.left ≡ false → q ≡ turned p → TakesBranch s b cell p q
-  takes : nat_lt 0 p.left ≡ true → BranchTaken s b cell (turned p) q → TakesBranch s b cell p q
+  no_turn : nat_lt 0 p.left ≡ false → q ≡ turned p → TakesBranch s b cell p q
+  takes_branch : nat_lt 0 p.left ≡ true → BranchTaken s b cell (turned p) q → TakesBranch s b cell p q
 
 -- whether an actor is marked as cancelled
 abbrev pub is_marked : Option Note → Bool
@@ -145,23 +145,23 @@ marked_at i h = is_marked (thing h.actors.things i)
 -- An operand that counts already is kept. A marked actor then leaves its wait and is thrown that it was cancelled; an operand
 -- that is ready is taken; otherwise the actor goes on.
 pub data Keeps (s : Stand) (x : Held) (p : Process) : Pace → Process → Type 0 where
-  cancelled : (q : Process) → marked_at s.actor.0 p.heap ≡ true
+  kept_marked : (q : Process) → marked_at s.actor.0 p.heap ≡ true
       → q ≡ on_heap (left_for s (task.Throw s.actor (record { 0 = operation_cancelled }))) (on_heap (operand_kept s.actor.0 x) p)
       → Keeps s x p Off q
-  goes_on : (q : Process) → marked_at s.actor.0 p.heap ≡ false → ready_at x.cell.0 p.heap ≡ false
+  kept_unready : (q : Process) → marked_at s.actor.0 p.heap ≡ false → ready_at x.cell.0 p.heap ≡ false
       → q ≡ on_heap (operand_kept s.actor.0 x) p → Keeps s x p (On s) q
-  ready : (q : Process) (b : ℕ) → marked_at s.actor.0 p.heap ≡ false → ready_at x.cell.0 p.heap ≡ true → BranchOf s x.callback b
+  kept_ready : (q : Process) (b : ℕ) → marked_at s.actor.0 p.heap ≡ false → ready_at x.cell.0 p.heap ≡ true → BranchOf s x.callback b
       → TakesBranch s b x.cell (on_heap (operand_kept s.actor.0 x) p) q → Keeps s x p Off q
 
 -- All operands are kept. The first that is ready is taken. Otherwise the actor waits for all of them, with the line, and its
 -- locals are dropped; where a stream refuses, that is thrown.
 pub data Waits (s : Stand) (group : ℕ) (p q : Process) : Type 0 where
-  takes : (x : Held) (b : ℕ) → first_ready p.heap (callbacks_of s.actor.0 p.heap) ≡ Some x → BranchOf s x.callback b
+  waits_ready : (x : Held) (b : ℕ) → first_ready p.heap (callbacks_of s.actor.0 p.heap) ≡ Some x → BranchOf s x.callback b
       → TakesBranch s b x.cell p q → Waits s group p q
-  refused : (h : HeapTree) → first_ready p.heap (callbacks_of s.actor.0 p.heap) ≡ None
+  waits_refused : (h : HeapTree) → first_ready p.heap (callbacks_of s.actor.0 p.heap) ≡ None
       → register_all s.actor.0 (callbacks_of s.actor.0 p.heap) p.heap ≡ (false, h)
       → q ≡ on_heap (left_for s (task.Throw s.actor (record { 0 = second_waiter }))) (with_heap h p) → Waits s group p q
-  suspends : (h : HeapTree) → first_ready p.heap (callbacks_of s.actor.0 p.heap) ≡ None
+  waits_suspended : (h : HeapTree) → first_ready p.heap (callbacks_of s.actor.0 p.heap) ≡ None
       → register_all s.actor.0 (callbacks_of s.actor.0 p.heap) p.heap ≡ (true, h)
       → q ≡ telling (line.Wait s.actor group) (on_heap (λ g. suspended_at s.actor.0 group (lost_from s.actor.0 s.class.now.slots g)) (with_heap h p))
       → Waits s group p q

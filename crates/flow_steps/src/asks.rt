@@ -64,6 +64,7 @@ fn send_to(alloc: Global, actor: ActorId, args: Vec<Value>) -> Result<Call, Faul
 }
 
 impl Process {
+    #[tactic(auto, using(crate::proofs::Acts::printed_by))]
     // A value is printed.
     fn print(&mut self, actor: ActorId, args: Vec<Value>) -> Result<(), Fault>
         ensures { OnOk result (Printed actor (args_of args) self.old self.new) }
@@ -77,6 +78,7 @@ impl Process {
         Ok(())
     }
 
+    #[tactic(auto, using(crate::proofs::Acts::message_by))]
     /// A call statement of a predefined name.
     pub(crate) fn predefined_act(
         &mut self,
@@ -138,6 +140,7 @@ impl Process {
         self.fill(kind, cell, outcome)
     }
 
+    #[tactic(auto, using(crate::proofs::Acts::sends_by))]
     /// A call statement on a reference.
     pub(crate) fn method_act(
         &mut self,

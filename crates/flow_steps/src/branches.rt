@@ -41,6 +41,7 @@ pub(crate) fn group_at(block: &Block) -> Result<u32, Fault>
     }
 }
 
+#[tactic(auto, using(crate::proofs::Waits::branch_is))]
 /// The number of a branch in its group, from its number through the class.
 pub(crate) fn branch_of(stand: &Stand<'_>, callback: u32) -> Result<u32, Fault>
     ensures { IfOk result (λ b. BranchOf stand.now callback b) }
@@ -56,6 +57,7 @@ pub(crate) fn branch_of(stand: &Stand<'_>, callback: u32) -> Result<u32, Fault>
 }
 
 impl Process {
+    #[tactic(auto, using(crate::proofs::Waits::copy_taken, crate::proofs::Waits::first_taken, crate::proofs::Waits::no_result))]
     // What a branch takes from a cell that is ready: a copy of the outcome, the first element, or else the end.
     fn taken_from(&mut self, cell: CellId) -> Result<Outcome, Fault>
         ensures { IfOk result (λ o. Takes cell.0 o self.old self.new) }
@@ -133,6 +135,7 @@ impl Process {
         self.take_now(stand, branch, cell)
     }
 
+    #[tactic(auto, using(crate::proofs::Waits::branch_taken))]
     // A branch takes what its cell gives, with the line; then the actor leaves its wait.
     fn take_now(&mut self, stand: &Stand<'_>, branch: u32, cell: CellId) -> Result<(), Fault>
         ensures { OnOk result (BranchTaken stand.now branch cell self.old self.new) }
@@ -181,6 +184,7 @@ impl Process {
         Ok(self.heap.marked(actor))
     }
 
+    #[tactic(auto, using(crate::proofs::Framing::frame_changed))]
     // The frame of an actor keeps an operand more.
     fn add_operand(&mut self, actor: ActorId, held: Held) -> Result<(), Fault>
         ensures { OnOk result (self.new ≡ on_heap (operand_kept actor.0 held) self.old) }
@@ -192,6 +196,7 @@ impl Process {
         Ok(())
     }
 
+    #[tactic(auto, using(crate::proofs::Done::kept_by))]
     /// The result of an effect is kept as an operand, and the actor, whose task is next, goes on.
     pub(crate) fn keep(
         &mut self,
@@ -276,6 +281,7 @@ impl Process {
         self.heap.frames().callbacks(actor).len()
     }
 
+    #[tactic(auto, using(crate::proofs::Waits::one_registered, crate::proofs::Waits::one_refused, crate::proofs::Waits::all_registered))]
     // All operands wait at their cells in order: false where a stream refuses one.
     fn register_all(&mut self, actor: ActorId) -> Result<bool, Fault>
         ensures { IfOk result (λ all. Registers (register_all actor.0
@@ -292,6 +298,7 @@ impl Process {
         Ok(true)
     }
 
+    #[tactic(auto, using(crate::proofs::Framing::frame_changed))]
     // The frame of an actor goes into a state.
     fn suspend(&mut self, actor: ActorId, group: u32) -> Result<(), Fault>
         ensures { OnOk result (self.new ≡ on_heap (suspended_at actor.0 group) self.old) }

@@ -145,6 +145,7 @@ impl Process {
         }
     }
 
+    #[tactic(auto, using(crate::proofs::Acts::world_done, crate::proofs::Evaluating::values_break))]
     // An effect that is the world's, or a result that never comes.
     fn ask_world<'a>(
         &mut self,
@@ -166,6 +167,7 @@ impl Process {
         Ok(Pace::Off)
     }
 
+    #[tactic(auto, using(crate::proofs::Acts::new_given))]
     // That, with its arguments known.
     fn world_effect(
         &mut self,
@@ -196,6 +198,7 @@ impl Process {
         Ok(())
     }
 
+    #[tactic(auto, using(crate::proofs::Acts::arg_held, crate::proofs::Acts::args_end))]
     // Arguments count, and fill the first of so many places.
     fn fill_places(&mut self, args: Vec<Value>, places: u32) -> Result<Vec<Option<Value>>, Fault>
         ensures filled { IfOk result (λ xs. xs.items ≡ some_values args.items) }
@@ -210,6 +213,7 @@ impl Process {
         Ok(filled)
     }
 
+    #[tactic(auto, using(crate::proofs::Acts::enrols_by))]
     /// An actor of the class at a place is made, with these arguments: its result, its number and its frame.
     pub(crate) fn enrol(
         &mut self,
@@ -255,6 +259,7 @@ impl Process {
         }
     }
 
+    #[tactic(auto, using(crate::proofs::Acts::actor_done, crate::proofs::Evaluating::values_break))]
     // The call of an actor: a turn, and the new actor runs; its result is then stored or kept, and the caller goes on.
     fn start<'a>(
         &mut self,
@@ -276,6 +281,7 @@ impl Process {
         Ok(Pace::Off)
     }
 
+    #[tactic(auto, using(crate::proofs::Acts::starts_by))]
     // A turn, and an actor is made and runs; its result is then stored or kept, and the caller goes on.
     fn call_actor(
         &mut self,

@@ -1,13 +1,13 @@
 // The frames of a process: places, positions, and values that leave them.
 
-ghost use Rattle.std.specs.Prelude.{◌≡◌, OnOk, IfOk, IfSome, IsSome};
+ghost use Rattle.std.specs.Prelude.{◌≡◌, ◌++◌, OnOk, IfOk, IfSome, IsSome};
 ghost use Rattle.std.specs.declared.option.Option.TheVariants.{Some};
 ghost use Rattle.flow_value.specs.View.{value_of};
 ghost use Rattle.flow_resolved.specs.View.{places_in};
 ghost use Rattle.flow_numbered.specs.Numbered.{thing};
 ghost use Rattle.flow_cancel.specs.Dropping.{dropping};
 ghost use Rattle.flow_steps.specs.Holding.{on_heap};
-ghost use Rattle.flow_steps.specs.Standing.{GoesTo, next_stand, noted_stand, noted, block_in, StandsIn, StandsNow, gone, place_held, place_put, may_refer, exchanged, Assigns, places_taken, places_emptied, place_lost, lost_from};
+ghost use Rattle.flow_steps.specs.Standing.{GoesTo, next_stand, noted_stand, noted, block_in, StandsIn, StandsNow, gone, place_held, place_put, may_refer, referring, exchanged, Assigns, places_taken, places_emptied, place_lost, lost_from};
 ghost use Rattle.flow_steps.specs.Drops.{DropsOver};
 
 use crate::errors::Fault;
@@ -25,6 +25,16 @@ pub(crate) fn may_refer(value: &Value) -> bool
     ensures { result ≡ may_refer value.now }
 {
     matches!(value, Value::Struct(_) | Value::Ref(_, _))
+}
+
+/// A value that left a place joins others, if it may hold references.
+fn keep_referring(values: &mut Vec<Value>, old: Option<Value>) -> Result<(), Fault>
+    ensures { OnOk result (values.new.items ≡ values.old.items ++ referring old) }
+{
+    match old {
+        Some(value) if may_refer(&value) => Ok(values.push(value)?),
+        _ => Ok(()),
+    }
 }
 
 /// Where an actor stands: its class, and the block and the instruction; where it waits, the block of the wait; and whether its
@@ -101,6 +111,7 @@ fn stand_in(code: &Code, actor: ActorId, at: Standing) -> Option<Stand<'_>>
     })
 }
 
+#[tactic(auto, using(crate::proofs::Parts::exchanged_inside))]
 /// Exchanges the part of a value to which the fields with names of these numbers lead, if they do. Gives what stood there.
 fn exchange(fields: &FieldNames, root: &mut Value, path: &[usize], value: Value) -> Option<Value>
     ensures { IfSome result (λ old. exchanged (places_in fields.now) path.now (value_of value)
@@ -132,6 +143,7 @@ impl Process {
         }
     }
 
+    #[tactic(auto, using(crate::proofs::Framing::frame_changed))]
     /// Has a place of a frame hold something or nothing, and gives what it held.
     pub(crate) fn put(
         &mut self,
@@ -154,6 +166,7 @@ impl Process {
         Ok(self.heap.frames_mut().set_slot(actor, place, value)?)
     }
 
+    #[tactic(auto, using(crate::proofs::Framing::frame_changed))]
     /// Has a frame go on at a block and an instruction of it.
     pub(crate) fn go(&mut self, actor: ActorId, block: u32, instruction: u32) -> Result<(), Fault>
         ensures tasks { self.new.heap.tasks ≡ self.old.heap.tasks }
@@ -193,6 +206,7 @@ impl Process {
         self.note(stand.next()?)
     }
 
+    #[tactic(auto, using(crate::proofs::Parts::part_assigned))]
     // The part of a place at which an actor aims gets a value that counts already. Gives what stood there.
     fn put_part(
         &mut self,
@@ -215,6 +229,7 @@ impl Process {
         Ok(Some(old))
     }
 
+    #[tactic(auto, using(crate::proofs::Parts::whole_assigned))]
     /// Where an actor aims gets a value that counts already. Gives what stood there.
     pub(crate) fn assign(
         &mut self,
@@ -232,6 +247,7 @@ impl Process {
         self.put_part(code.fields(), actor, aim, value)
     }
 
+    #[tactic(auto, using(crate::proofs::Framing::one_emptied, crate::proofs::Framing::one_taken))]
     /// The values with references that leave these places, each emptied as it is read.
     pub(crate) fn taken(&mut self, actor: ActorId, places: &[u32]) -> Result<Vec<Value>, Fault>
         ensures taken { IfOk result (λ vs. vs.items
@@ -241,10 +257,8 @@ impl Process {
     {
         let mut values = Vec::new(self.alloc);
         for place in places {
-            match self.put(actor, *place, None)? {
-                Some(value) if may_refer(&value) => values.push(value)?,
-                _ => (),
-            }
+            let old = self.put(actor, *place, None)?;
+            keep_referring(&mut values, old)?;
         }
         Ok(values)
     }
@@ -261,7 +275,7 @@ impl Process {
         Ok(())
     }
 
-    #[tactic(auto, using(crate::proofs::Over::over_none, crate::proofs::Over::over_these))]
+    #[tactic(auto, using(crate::proofs::Over::over_none, crate::proofs::Over::over_these, crate::proofs::Framing::lost_none))]
     // A place is emptied, and what it held is dropped.
     fn empty(&mut self, actor: ActorId, place: u32) -> Result<(), Fault>
         ensures lost { OnOk result (self.new ≡ on_heap (place_lost actor.0 place) self.old) }

@@ -10,7 +10,7 @@ ghost use Rattle.flow_resolved.specs.View.{places_in};
 ghost use Rattle.flow_resolved.specs.Evaluation.{value_at};
 ghost use Rattle.flow_code.specs.declared.class.Act.TheVariants.{Function};
 ghost use Rattle.flow_steps.specs.declared.next.Pace.TheVariants.{Off};
-ghost use Rattle.flow_steps.specs.Sights.{Halted, with_left, Evaluates};
+ghost use Rattle.flow_steps.specs.Sights.{Halted, program_time, with_left, Evaluates};
 ghost use Rattle.flow_steps.specs.Standing.{noted, place_held, places_taken, places_emptied, referring, field_path, next_stand};
 ghost use Rattle.flow_steps.specs.Holding.{on_heap};
 ghost use Rattle.flow_steps.specs.Acting.{args_of};
@@ -74,7 +74,12 @@ fn callback_of(group: &Group, kept: usize) -> Result<u32, Fault>
 
 impl Process {
     // What stays the same while an expression is evaluated.
-    fn setting<'a>(&self, code: &'a Code, contents: &'a Contents<'a>) -> Setting<'a, Contents<'a>> {
+    fn setting<'a>(&self, code: &'a Code, contents: &'a Contents<'a>) -> Setting<'a, Contents<'a>>
+        ensures records { result.records.now ≡ code.now.program.records.items }
+        ensures functions { result.functions.now ≡ code.now.program.functions.items }
+        ensures cells { result.view.now ≡ contents.now }
+        ensures time { result.time ≡ program_time self.now.time }
+    {
         let raw = code.program().raw();
         Setting {
             alloc: self.alloc,
@@ -100,6 +105,7 @@ impl Process {
         Ok(Pace::Off)
     }
 
+    #[tactic(auto, using(crate::proofs::Sights::same_sight))]
     /// The value of an expression for an actor.
     pub(crate) fn value(
         &mut self,
@@ -127,6 +133,7 @@ impl Process {
         value
     }
 
+    #[tactic(auto, using(crate::proofs::Sights::same_sight))]
     /// The truth value of an expression for an actor.
     pub(crate) fn truth(
         &mut self,
@@ -154,6 +161,7 @@ impl Process {
         value
     }
 
+    #[tactic(auto, using(crate::proofs::Sights::same_sight))]
     /// The values of arguments for an actor.
     pub(crate) fn values(
         &mut self,
@@ -181,6 +189,7 @@ impl Process {
         values
     }
 
+    #[tactic(auto, using(crate::proofs::Done::runs_now))]
     /// An actor takes its next steps from where its frame stands.
     pub(crate) fn run(&mut self, code: &Code, actor: ActorId) -> Result<(), Fault>
         ensures { OnOk result (RunsNow code.now actor self.old self.new) }
@@ -217,6 +226,7 @@ impl Process {
         Err(Fault::Astray)
     }
 
+    #[tactic(auto, using(crate::proofs::Steps::after_one, crate::proofs::Steps::after_none, crate::proofs::Holding::value_dropped))]
     /// A value that is left over, if any, is dropped; the actor goes on at once where that leaves nothing to do.
     pub(crate) fn on_after<'a>(
         &mut self,
@@ -258,6 +268,7 @@ impl Process {
         }
     }
 
+    #[tactic(auto, using(crate::proofs::Steps::after_values, crate::proofs::Steps::after_none))]
     // Places are emptied, and what they held is dropped.
     fn empty_places<'a>(&mut self, stand: &Stand<'a>, places: &[u32]) -> Result<Pace<'a>, Fault>
         ensures { IfOk result (λ pace. OnAfter (next_stand stand.now)
@@ -275,6 +286,7 @@ impl Process {
         Ok(Pace::Off)
     }
 
+    #[tactic(auto, using(crate::proofs::Evaluating::value_given, crate::proofs::Evaluating::value_breaks))]
     // An assignment: the value is put in place, what stood there is dropped, and the next instruction follows.
     fn set_aim<'a>(
         &mut self,
@@ -293,6 +305,7 @@ impl Process {
         }
     }
 
+    #[tactic(auto, using(crate::proofs::Steps::set_by))]
     // That, with the value known.
     fn set_value<'a>(
         &mut self,
@@ -309,6 +322,7 @@ impl Process {
         self.on_after(stand.next()?, old)
     }
 
+    #[tactic(auto, using(crate::proofs::Steps::new_by))]
     // A new cell for a place of a promise's type.
     fn new_promise<'a>(
         &mut self,
@@ -324,6 +338,7 @@ impl Process {
         self.on_after(stand.next()?, old)
     }
 
+    #[tactic(auto, using(crate::proofs::Evaluating::value_given, crate::proofs::Evaluating::values_break))]
     // A call statement without a base: a predefined one, or a function of the program, whose value is forgotten.
     fn act<'a>(
         &mut self,
@@ -364,6 +379,7 @@ impl Process {
         }
     }
 
+    #[tactic(auto, using(crate::proofs::Evaluating::value_given, crate::proofs::Evaluating::value_breaks))]
     // A method of the reference at which an actor aims.
     fn method<'a>(
         &mut self,
@@ -386,6 +402,7 @@ impl Process {
         }
     }
 
+    #[tactic(auto, using(crate::proofs::Steps::method_by))]
     // That, with what is sent known.
     fn method_with<'a>(
         &mut self,
@@ -419,6 +436,7 @@ impl Process {
         }
     }
 
+    #[tactic(auto, using(crate::proofs::Evaluating::value_given, crate::proofs::Evaluating::value_breaks))]
     fn call_function<'a>(
         &mut self,
         code: &Code,
@@ -447,6 +465,7 @@ impl Process {
         }
     }
 
+    #[tactic(auto, using(crate::proofs::Steps::goes_at))]
     fn last<'a>(&mut self, code: &Code, stand: &Stand<'a>, last: &Last) -> Result<Pace<'a>, Fault>
         ensures { IfOk result (λ pace. Ends code.now stand.now last.now self.old pace self.new) }
     {
@@ -472,6 +491,7 @@ impl Process {
         Ok(Pace::Off)
     }
 
+    #[tactic(auto, using(crate::proofs::Evaluating::value_given, crate::proofs::Evaluating::value_breaks))]
     // The error that an expression gives is thrown.
     fn throw_value<'a>(
         &mut self,
@@ -494,6 +514,7 @@ impl Process {
         }
     }
 
+    #[tactic(auto, using(crate::proofs::Evaluating::value_given, crate::proofs::Evaluating::truth_breaks))]
     fn test<'a>(
         &mut self,
         code: &Code,
@@ -514,6 +535,7 @@ impl Process {
         Ok(Pace::On(stand.at(next, 0)?))
     }
 
+    #[tactic(auto, using(crate::proofs::Steps::chooses_by))]
     // The next operand of a wait is asked for; when all are kept, the actor waits.
     fn choose<'a>(
         &mut self,
@@ -555,6 +577,7 @@ impl Process {
         }
     }
 
+    #[tactic(auto, using(crate::proofs::Evaluating::value_given, crate::proofs::Evaluating::value_breaks))]
     // An operand that is the value of an expression.
     fn value_operand<'a>(
         &mut self,
@@ -577,6 +600,7 @@ impl Process {
         }
     }
 
+    #[tactic(auto, using(crate::proofs::Evaluating::value_given, crate::proofs::Evaluating::value_breaks))]
     // The actor ends with a value; everything leaves its variables.
     fn finish_with<'a>(
         &mut self,
@@ -594,6 +618,7 @@ impl Process {
         }
     }
 
+    #[tactic(auto, using(crate::proofs::Steps::returns_by))]
     // That, with the value known.
     fn end_with_value<'a>(
         &mut self,

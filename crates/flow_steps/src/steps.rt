@@ -40,6 +40,7 @@ fn end_line(actor: ActorId, outcome: &Outcome) -> Line
     }
 }
 
+#[tactic(auto, using(crate::proofs::Done::branch_found))]
 /// The branch of this number of the wait at which an actor stands.
 fn branch_at<'a>(stand: &Stand<'a>, branch: u32) -> Result<&'a Branch, Fault>
     ensures { IfOk result (λ b. BranchAt stand.now branch b.now) }
@@ -55,6 +56,7 @@ fn branch_at<'a>(stand: &Stand<'a>, branch: u32) -> Result<&'a Branch, Fault>
 }
 
 impl Process {
+    #[tactic(auto, using(crate::proofs::Done::closes_by))]
     /// Does a task that was the newest.
     pub(crate) fn do_task(&mut self, code: &Code, task: Task) -> Result<(), Fault>
         ensures { OnOk result (IsDone code.now task self.old self.new) }
@@ -104,6 +106,7 @@ impl Process {
         }
     }
 
+    #[tactic(auto, using(crate::proofs::Done::value_given))]
     // The value goes to the branch that was taken, and the actor goes on there.
     fn give_value(
         &mut self,
@@ -142,6 +145,7 @@ impl Process {
         }
     }
 
+    #[tactic(auto, using(crate::proofs::Done::stored_by))]
     // The result of an effect goes into the place of the instruction.
     fn store(&mut self, code: &Code, actor: ActorId, value: Value) -> Result<(), Fault>
         ensures { OnOk result (Stored code.now actor value self.old self.new) }
@@ -158,6 +162,7 @@ impl Process {
         Ok(())
     }
 
+    #[tactic(auto, using(crate::proofs::Holding::value_dropped))]
     // What is left over is dropped, if anything.
     fn drop_old(&mut self, old: Option<Value>) -> Result<(), Fault>
         ensures { OnOk result (self.new ≡ on_heap (dropping (values old)) self.old) }
@@ -168,6 +173,7 @@ impl Process {
         Ok(())
     }
 
+    #[tactic(auto, using(crate::proofs::Done::raised_by))]
     // The line; then the operands that are kept are dropped in order, and the values that leave the variables; then the
     // handler begins, or the actor ends.
     fn raise(&mut self, code: &Code, actor: ActorId, error: ErrorCode) -> Result<(), Fault>
@@ -182,6 +188,7 @@ impl Process {
         Ok(())
     }
 
+    #[tactic(auto, using(crate::proofs::Done::fails_by))]
     // An error goes out of an actor, which is closed.
     fn uncaught(&mut self, actor: ActorId, error: ErrorCode) -> Result<(), Fault>
         ensures { OnOk result (FailsBy actor error self.old self.new) }
@@ -262,6 +269,7 @@ impl Process {
         self.heap.streams().waiter(cell)
     }
 
+    #[tactic(auto, using(crate::proofs::Done::fires_by))]
     // The oldest waiter takes its branch, and the fire goes on after it. It ends, without a turn, where no waiter is left
     // or, on a stream, neither element nor end.
     fn fire(&mut self, code: &Code, cell: CellId) -> Result<(), Fault>
@@ -276,6 +284,7 @@ impl Process {
         }
     }
 
+    #[tactic(auto, using(crate::proofs::Done::waiter_takes))]
     // A waiter of a cell takes its branch, and the fire goes on after it.
     fn fire_to(&mut self, code: &Code, cell: CellId, waiter: Waiter) -> Result<(), Fault>
         ensures { OnOk result (WaiterTakes code.now cell waiter self.old self.new) }
