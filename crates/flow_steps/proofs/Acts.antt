@@ -1,6 +1,7 @@
 -- Effects, actors that are called, and call statements.
-use Rattle.std.proofs.Common.{◌≡◌, ℕ, ℤ, ◌+◌, ◌<◌, ◌≤◌, Bool, true, false, nat_lt, List, [], ◌∷◌, ◌++◌, length, map, take, drop, get_or, slice_get, refl, ap, sym, subst, ◌∙◌}
+use Rattle.std.proofs.Common.{◌≡◌, ℕ, ℤ, ◌+◌, ◌<◌, ◌≤◌, Bool, true, false, nat_lt, List, [], ◌∷◌, ◌++◌, length, map, take, drop, get_or, slice_get, refl, ap, sym, subst, ◌∙◌, Result, IfOk, OnOk}
 use Rattle.std.proofs.lemmas.List.{drop_more, drop_all}
+use Rattle.std.proofs.lemmas.Result.{IfOk-weaker}
 use Rattle.std.specs.declared.option.Option.{Option}
 use Rattle.std.specs.declared.option.Option.TheVariants.{None, Some}
 use Rattle.flow_base.specs.declared.ids.ActorId.{ActorId}
@@ -28,6 +29,7 @@ use Rattle.flow_cancel.specs.Dropping.{refs_in}
 use Rattle.flow_meaning.specs.Lines.{print_line}
 use Rattle.flow_meaning.specs.Evaluating.{sent}
 use Rattle.flow_picture.specs.Holds.{hold_all}
+use Rattle.flow_steps.specs.declared.errors.Fault.{Fault}
 use Rattle.flow_steps.specs.declared.call.Call.{Call}
 use Rattle.flow_steps.specs.declared.call.Goal.{Goal}
 use Rattle.flow_steps.specs.declared.frames.Stand.{Stand}
@@ -40,7 +42,7 @@ use Rattle.flow_steps.specs.Bringing.{made, sending}
 use Rattle.flow_steps.specs.Standing.{noted, values}
 use Rattle.flow_steps.specs.Sights.{with_left, Evaluates, gives}
 use Rattle.flow_steps.specs.Stepping.{values_for}
-use Rattle.flow_steps.specs.Acting.{Values, args_of, NewGiven, WorldAsked, some_values, with_args, enrolled, Enrols, StartTold, Starts, ActorCalled, EffectDone, IsEffect, Printed, IsMessage, MessageAsked, Sends}
+use Rattle.flow_steps.specs.Acting.{Values, args_of, NewGiven, WorldAsked, some_values, with_args, enrolled, Enrols, StartTold, Starts, ActorCalled, not_called, actor_starts, EffectDone, IsEffect, Printed, IsMessage, MessageAsked, Sends}
 use Rattle.flow_steps.proofs.Holding.{hold_append}
 
 -- the references of arguments from one on
@@ -122,3 +124,14 @@ sends_by i m kd k v o p q e f = record { outcome = o; sent = e; sends = f }
 pub new_given : (g : Goal) (i : ActorId) (kd : Kind) (k : CellId) (p q : Process) → k.0 ≡ next_cell p.heap
     → Gives g i (Ref kd k) (on_heap (made kd) p) q → NewGiven g i kd p q
 new_given g i kd k p q n e = record { cell = k; number = n; given = e }
+
+-- an actor that is called, or isn't for want of a turn
+pub uncalled : (code : Code) (caller : ActorId) (g : Goal) (class : ℕ) (args : List Value) (p q : Process) → false ≡ nat_lt 0 p.left → q ≡ turned p
+    → ActorCalled code caller g class args p q
+uncalled code caller g class args p q t e = not_called (sym t) e
+
+pub called_by : (code : Code) (caller : ActorId) (g : Goal) (class : ℕ) (args : List Value) (i : ActorId) (k : CellId) (r : Result (Unit {0}) Fault) (p mid one two three q : Process)
+    → true ≡ nat_lt 0 p.left → mid ≡ turned p → Enrols code class args i k mid one → Gives g caller (Ref kind.Future k) one two
+    → three ≡ doing (task.Run i) two → OnOk r (StartTold code class i three q) → OnOk r (ActorCalled code caller g class args p q)
+called_by code caller g class args i k r p mid one two three q t e enrols f d s =
+    IfOk-weaker r _ _ (λ _ is. actor_starts (sym t) (subst (λ x. Starts code caller g class args x q) e (starts_by code caller g class args i k mid one two three q enrols f d is))) s

@@ -1,5 +1,6 @@
 -- What tasks do.
-use Rattle.std.proofs.Common.{◌≡◌, ℕ, ◌<◌, Bool, true, false, nat_lt, List, [], ◌∷◌, length, slice_get, refl, ap, sym, subst, ◌∙◌}
+use Rattle.std.proofs.Common.{◌≡◌, ℕ, ◌<◌, Bool, true, false, nat_lt, List, [], ◌∷◌, length, slice_get, pos, refl, ap, sym, subst, ◌∙◌, Result, IfOk, OnOk}
+use Rattle.std.proofs.lemmas.Result.{IfOk-weaker}
 use Rattle.std.specs.Option.{IsSomeAnd}
 use Rattle.std.specs.declared.option.Option.{Option}
 use Rattle.std.specs.declared.option.Option.TheVariants.{None, Some}
@@ -8,10 +9,16 @@ use Rattle.std.specs.declared.alloc.Global.{Global}
 use Rattle.flow_base.specs.declared.ids.ActorId.{ActorId}
 use Rattle.flow_base.specs.declared.ids.CellId.{CellId}
 use Rattle.flow_base.specs.declared.ids.ErrorCode.{ErrorCode}
+use Rattle.flow_base.specs.declared.ids.ProcId.{ProcId}
 use Rattle.flow_value.specs.declared.value.Value.{Value}
 use Rattle.flow_value.specs.declared.value.Outcome.{Outcome}
 use Rattle.flow_value.specs.declared.value.Outcome.TheVariants as outcome
+use Rattle.flow_value.specs.declared.value.Value.TheVariants as value
 use Rattle.flow_value.specs.declared.value.Kind.{Kind}
+use Rattle.flow_value.specs.declared.value.Kind.TheVariants as kind
+use Rattle.flow_picture.specs.Holds.{hold}
+use Rattle.flow_steps.specs.declared.errors.Fault.{Fault}
+use Rattle.flow_steps.specs.Acting.{Enrols, StartTold}
 use Rattle.flow_code.specs.declared.class.Aim.{Aim}
 use Rattle.flow_code.specs.declared.class.Branch.{Branch}
 use Rattle.flow_code.specs.declared.class.Catcher.{Catcher}
@@ -41,7 +48,7 @@ use Rattle.flow_steps.specs.Bringing.{closed}
 use Rattle.flow_steps.specs.Standing.{StandsNow, GoesTo, next_stand, noted, gone, values, lost_from, Assigns}
 use Rattle.flow_steps.specs.Waiting.{BranchOf, TakesBranch, Keeps}
 use Rattle.flow_steps.specs.Stepping.{OnAfter, GoesOn, Runs, IsClose}
-use Rattle.flow_steps.specs.Tasks.{RunsNow, BranchAt, bound_over, bound, ValueGiven, Stored, TopTaken, IsKept, with_error, dropped_places, caught, failed, FailsBy, Raises, Raised, FiresAt, Fires, next_waiter, WaiterTakes, Closes}
+use Rattle.flow_steps.specs.Tasks.{RunsNow, BranchAt, bound_over, bound, ValueGiven, Stored, TopTaken, IsKept, with_error, dropped_places, caught, failed, FailsBy, Raises, Raised, FiresAt, Fires, next_waiter, WaiterTakes, Closes, MainStarts, MainCalled, main_waits, main_starts}
 
 pub runs_now : (code : Code) (i : ActorId) (s : Stand) (p q : Process) → StandsNow code.classes.items i p s → Runs code s p q → RunsNow code i p q
 runs_now code i s p q a r = record { stand = s; stands = a; runs = r }
@@ -63,7 +70,7 @@ value_given code i n v s t b old vs pace p one between q at is o e g a go = reco
   at = is;
   to = g;
   after = subst (λ x. OnAfter t _ x pace between) e (subst (λ l. OnAfter t l one pace between) o a);
-  then = go;
+  further = go;
 }
 
 pub stored_by : (code : Code) (i : ActorId) (v : Value) (s : Stand) (aim : Aim) (f : Effect) (args : Vec Resolved Global) (old : Option Value) (p one two q : Process)
@@ -85,7 +92,7 @@ stored_by code i v s aim f args old p one two q at is a d n = record {
 pub kept_by : (code : Code) (i : ActorId) (x : Held) (s : Stand) (pace : Pace) (p start between q : Process) → TopTaken (task.Run i) p start
     → StandsNow code.classes.items i start s → Keeps s x start pace between → GoesOn code pace between q → IsKept code i x p q
 kept_by code i x s pace p start between q t at k go =
-    record { start = start; stand = s; pace = pace; between = between; next = t; stands = at; keeps = k; then = go }
+    record { start = start; stand = s; pace = pace; between = between; next = t; stands = at; keeps = k; further = go }
 
 pub fails_by : (i : ActorId) (e : ErrorCode) (t : Task) (p one two q : Process) → IsClose i (outcome.Error e) t → one ≡ on_heap (pushed t) p
     → two ≡ on_heap (lost_from i.0 0) one → q ≡ on_heap (withdrawn i.0) two → FailsBy i e p q
@@ -117,3 +124,26 @@ closes_by i o p q is = by (thing p.heap.actors.things i.0) refl is
     by : (n : Option Note) → thing p.heap.actors.things i.0 ≡ n → IsSomeAnd n (λ n. q ≡ closed i o n.result p) → Closes i o p q
     by (Some n) at e = record { note = n; noted = at; closes = e }
     by None at e = absurd e
+
+-- `main`
+pub main_starts_by : (code : Code) (me : ProcId) (class : ℕ) (args : List Value) (i : ActorId) (k : CellId) (r : Result (Unit {0}) Fault) (p one two three four q : Process)
+    → Some class ≡ code.main → args ≡ value.Int (pos me.0) ∷ [] → Enrols code class args i k p one → two ≡ on_heap (hold kind.Future k.0) one
+    → three ≡ on_heap (λ h. record h { main = Some k }) two → four ≡ doing (task.Run i) three
+    → OnOk r (StartTold code class i four q) → OnOk r (MainStarts code me p q)
+main_starts_by code me class args i k r p one two three four q main is e held set on s =
+    IfOk-weaker r _ _ (λ _ st. record {
+      class = class;
+      actor = i;
+      cell = k;
+      between = one;
+      main = sym main;
+      enrols = subst (λ l. Enrols code class l i k p one) is e;
+      starts = subst (λ x. StartTold code class i x q) (on ∙ ap (doing (task.Run i)) (set ∙ ap (on_heap (λ h. record h { main = Some k })) held)) st;
+    }) s
+
+pub main_not_called : (code : Code) (me : ProcId) (p q : Process) → false ≡ nat_lt 0 p.left → q ≡ turned p → MainCalled code me p q
+main_not_called code me p q t e = main_waits (sym t) e
+
+pub main_called : (code : Code) (me : ProcId) (r : Result (Unit {0}) Fault) (p mid q : Process) → true ≡ nat_lt 0 p.left → mid ≡ turned p
+    → OnOk r (MainStarts code me mid q) → OnOk r (MainCalled code me p q)
+main_called code me r p mid q t e s = IfOk-weaker r _ _ (λ _ is. main_starts (sym t) (subst (λ x. MainStarts code me x q) e is)) s

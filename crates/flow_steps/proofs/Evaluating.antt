@@ -18,12 +18,12 @@ use Rattle.flow_steps.specs.declared.next.Pace.TheVariants.{Off}
 use Rattle.flow_steps.specs.declared.process.Process.{Process}
 use Rattle.flow_steps.specs.Sights.{Halted, with_left, Evaluates, gives, throws, runs_out}
 
-module _ {A B : Type 0} (s : Stand) (seen : B → A) (comes_to : Res A) (p mid q : Process) (use : B → Process → Pace → Process → Type 0) where
+module _ {A B : Type 0} (s : Stand) (seen : B → A) (comes_to : Res A) (p mid q : Process) (goes : B → Process → Pace → Process → Type 0) where
   -- evaluation gives a value, and what follows is done
   pub value_given : (b : B) (r : Result Pace Fault) → comes_to ≡ Done (seen b) mid.left → mid ≡ with_left mid.left p
-      → IfOk r (λ pace. use b mid pace q) → IfOk r (λ pace. Evaluates s seen comes_to p use pace q)
+      → IfOk r (λ pace. goes b mid pace q) → IfOk r (λ pace. Evaluates s seen comes_to p goes pace q)
   value_given b r e rest after =
-      IfOk-weaker r _ _ (λ pace is. gives b mid.left pace q e (subst (λ x. use b x pace q) rest is)) after
+      IfOk-weaker r _ _ (λ pace is. gives b mid.left pace q e (subst (λ x. goes b x pace q) rest is)) after
 
   -- it breaks off
   abbrev pub Breaks : Halt → ℕ → Type 0
@@ -32,7 +32,7 @@ module _ {A B : Type 0} (s : Stand) (seen : B → A) (comes_to : Res A) (p mid q
   Breaks halt.NoMeaning left = comes_to ≡ Meaningless
   Breaks halt.OutOfMemory left = Unit {0}
 
-  broken_off : (h : Halt) → Breaks h mid.left → mid ≡ with_left mid.left p → Halted s h mid q → Evaluates s seen comes_to p use Off q
+  broken_off : (h : Halt) → Breaks h mid.left → mid ≡ with_left mid.left p → Halted s h mid q → Evaluates s seen comes_to p goes Off q
   broken_off (halt.Thrown e) b rest is = throws e mid.left q b (subst (λ x. Halted s (halt.Thrown e) x q) rest is)
   broken_off halt.Spent b rest is =
       runs_out q b.0 (subst (λ n. Halted s halt.Spent (with_left n p) q) b.1 (subst (λ x. Halted s halt.Spent x q) rest is))
@@ -40,37 +40,37 @@ module _ {A B : Type 0} (s : Stand) (seen : B → A) (comes_to : Res A) (p mid q
   broken_off halt.OutOfMemory b rest is = absurd is
 
   pub breaks_off : (h : Halt) (r : Result Pace Fault) → Breaks h mid.left → mid ≡ with_left mid.left p
-      → IfOk r (λ pace. pace ≡ Off) → OnOk r (Halted s h mid q) → IfOk r (λ pace. Evaluates s seen comes_to p use pace q)
-  breaks_off h (Ok pace) b rest off is = subst (λ x. Evaluates s seen comes_to p use x q) (sym off) (broken_off h b rest is)
+      → IfOk r (λ pace. pace ≡ Off) → OnOk r (Halted s h mid q) → IfOk r (λ pace. Evaluates s seen comes_to p goes pace q)
+  breaks_off h (Ok pace) b rest off is = subst (λ x. Evaluates s seen comes_to p goes x q) (sym off) (broken_off h b rest is)
   breaks_off h (Err e) b rest off is = is
 
 -- the same of a value, of values and of a truth value
 module _ (s : Stand) (p mid q : Process) where
-  pub value_breaks : (comes_to : Res ValueTree) (use : Value → Process → Pace → Process → Type 0) (h : Halt) (r : Result Pace Fault) → Gives comes_to (Err h) mid.left
-      → mid ≡ with_left mid.left p → IfOk r (λ pace. pace ≡ Off) → OnOk r (Halted s h mid q) → IfOk r (λ pace. Evaluates s value_of comes_to p use pace q)
-  value_breaks c use h r g = breaks_off s value_of c p mid q use h r (by h g)
+  pub value_breaks : (comes_to : Res ValueTree) (goes : Value → Process → Pace → Process → Type 0) (h : Halt) (r : Result Pace Fault) → Gives comes_to (Err h) mid.left
+      → mid ≡ with_left mid.left p → IfOk r (λ pace. pace ≡ Off) → OnOk r (Halted s h mid q) → IfOk r (λ pace. Evaluates s value_of comes_to p goes pace q)
+  value_breaks c goes h r g = breaks_off s value_of c p mid q goes h r (by h g)
     where
-      by : (h : Halt) → Gives c (Err h) mid.left → Breaks s value_of c p mid q use h mid.left
+      by : (h : Halt) → Gives c (Err h) mid.left → Breaks s value_of c p mid q goes h mid.left
       by (halt.Thrown e) g = g
       by halt.Spent g = g
       by halt.NoMeaning g = g
       by halt.OutOfMemory g = g
 
-  pub values_break : (comes_to : Res (List ValueTree)) (use : Vec Value Global → Process → Pace → Process → Type 0) (h : Halt) (r : Result Pace Fault) → GivesAll comes_to (Err h) mid.left
-      → mid ≡ with_left mid.left p → IfOk r (λ pace. pace ≡ Off) → OnOk r (Halted s h mid q) → IfOk r (λ pace. Evaluates s (λ vs. map value_of vs.items) comes_to p use pace q)
-  values_break c use h r g = breaks_off s (λ vs. map value_of vs.items) c p mid q use h r (by h g)
+  pub values_break : (comes_to : Res (List ValueTree)) (goes : Vec Value Global → Process → Pace → Process → Type 0) (h : Halt) (r : Result Pace Fault) → GivesAll comes_to (Err h) mid.left
+      → mid ≡ with_left mid.left p → IfOk r (λ pace. pace ≡ Off) → OnOk r (Halted s h mid q) → IfOk r (λ pace. Evaluates s (λ vs. map value_of vs.items) comes_to p goes pace q)
+  values_break c goes h r g = breaks_off s (λ vs. map value_of vs.items) c p mid q goes h r (by h g)
     where
-      by : (h : Halt) → GivesAll c (Err h) mid.left → Breaks s (λ (vs : Vec Value Global). map value_of vs.items) c p mid q use h mid.left
+      by : (h : Halt) → GivesAll c (Err h) mid.left → Breaks s (λ (vs : Vec Value Global). map value_of vs.items) c p mid q goes h mid.left
       by (halt.Thrown e) g = g
       by halt.Spent g = g
       by halt.NoMeaning g = g
       by halt.OutOfMemory g = g
 
-  pub truth_breaks : (comes_to : Res ValueTree) (use : Bool → Process → Pace → Process → Type 0) (h : Halt) (r : Result Pace Fault) → GivesTruth comes_to (Err h) mid.left
-      → mid ≡ with_left mid.left p → IfOk r (λ pace. pace ≡ Off) → OnOk r (Halted s h mid q) → IfOk r (λ pace. Evaluates s BoolValue comes_to p use pace q)
-  truth_breaks c use h r g = breaks_off s BoolValue c p mid q use h r (by h g)
+  pub truth_breaks : (comes_to : Res ValueTree) (goes : Bool → Process → Pace → Process → Type 0) (h : Halt) (r : Result Pace Fault) → GivesTruth comes_to (Err h) mid.left
+      → mid ≡ with_left mid.left p → IfOk r (λ pace. pace ≡ Off) → OnOk r (Halted s h mid q) → IfOk r (λ pace. Evaluates s BoolValue comes_to p goes pace q)
+  truth_breaks c goes h r g = breaks_off s BoolValue c p mid q goes h r (by h g)
     where
-      by : (h : Halt) → GivesTruth c (Err h) mid.left → Breaks s BoolValue c p mid q use h mid.left
+      by : (h : Halt) → GivesTruth c (Err h) mid.left → Breaks s BoolValue c p mid q goes h mid.left
       by (halt.Thrown e) g = g
       by halt.Spent g = g
       by halt.NoMeaning g = g

@@ -1,17 +1,18 @@
 -- Frames that become others, and places that are emptied.
-use Rattle.std.proofs.Common.{◌≡◌, ℕ, zero, suc, ◌+◌, ◌-◌, ◌<◌, ◌≤◌, Bool, true, false, List, [], ◌∷◌, ◌++◌, length, drop, get_or, set, refl, ap, sym, ◌∙◌, if◌then◌else◌, cases, ltb}
+use Rattle.std.proofs.Common.{◌≡◌, ℕ, zero, suc, ◌+◌, ◌-◌, ◌<◌, ◌≤◌, Bool, true, false, List, [], ◌∷◌, ◌++◌, length, drop, get_or, set, refl, ap, sym, ◌∙◌, if◌then◌else◌, ltb, arith}
 use Rattle.std.proofs.lemmas.Bool.{false≢true}
-use Rattle.std.proofs.lemmas.List.{drop_more, set-get_or, set_past, get_or-set_same, get_or-set_other, length-set, set-set}
+use Rattle.std.proofs.lemmas.List.{drop_more, set-get_or, set_past, get_or-set_same, get_or-set_other, length-set, set-set, get_or_past}
 use Rattle.std.specs.Option.{IsSome, ForSome}
 use Rattle.std.specs.declared.option.Option.{Option}
 use Rattle.std.specs.declared.option.Option.TheVariants.{None, Some}
 use Rattle.flow_value.specs.declared.value.Value.{Value}
 use Rattle.flow_numbered.specs.Numbered.{Store, thing, with_thing}
 use Rattle.flow_numbered.proofs.Things.{with_same}
-use Rattle.flow_frame.specs.Frames.{FrameTree, held_in, held_at, with_place}
+use Rattle.flow_frame.specs.Frames.{FrameTree, IsFilled, held_in, held_at, with_place}
 use Rattle.flow_cancel.specs.Heap.{HeapTree}
 use Rattle.flow_cancel.proofs.Puts.{found_put, put_twice}
-use Rattle.flow_steps.specs.Standing.{reframed, with_frame, place_held, place_put, place_lost, places_lost, referring, values, places_taken, places_emptied}
+use Rattle.flow_steps.specs.Standing.{reframed, with_frame, place_held, place_put, place_lost, places_lost, referring, values, places_taken, places_emptied, losing_from, lost_from}
+use Rattle.flow_steps.proofs.Sights.{held_same}
 
 -- the frame of an actor that has one
 pub frame_changed : (g : FrameTree Value → FrameTree Value) (i : ℕ) (h : HeapTree) (new : Store (FrameTree Value)) → IsSome (thing h.frames.things i)
@@ -103,3 +104,26 @@ put_anew i n v w h = by (thing h.frames.things i) refl
         ap (λ o. reframed (λ g. with_place g n v) i o (reframed (λ g. with_place g n w) i (Some f) h)) (found_put h.frames.things i f (with_place f n w) is)
         ∙ ap (λ xs. record h { frames = record h.frames { things = xs } }) (put_twice h.frames.things i (with_place f n w) (with_place (with_place f n w) n v))
         ∙ ap (λ l. record h { frames = with_thing h.frames i (record f { places = l }) }) (set-set f.places n w v)
+
+-- the places from one on, of which those behind the last that is filled hold nothing
+pub lost_all : (i first last : ℕ) (f : FrameTree Value) (h g : HeapTree) → thing h.frames.things i ≡ Some f → last ≤ length f.places
+    → g ≡ places_lost i first (last - first) h → ((k : ℕ) → last ≤ k → place_held i k g ≡ None) → g ≡ lost_from i first h
+lost_all i first last f h g at le e behind =
+    let count : (last - first) + ((length f.places - first) - (last - first)) ≡ length f.places - first = omega arith in
+    let rest = (length f.places - first) - (last - first) in
+    e
+    ∙ sym (behind_lost i (first + (last - first)) rest (places_lost i first (last - first) h)
+        (λ k past. let past' : last ≤ k = omega arith in ap (place_held i k) (sym e) ∙ behind k past'))
+    ∙ sym (lost_further i first (last - first) rest h)
+    ∙ ap (λ m. places_lost i first m h) count
+    ∙ ap (λ o. losing_from i first o h) (sym at)
+
+pub filled_behind : (o : Option (FrameTree Value)) (xs : List (Option Value)) (k : ℕ) → IsFilled o xs → length xs ≤ k → held_in k o ≡ None
+filled_behind o xs k e le = sym (held_same o xs k e) ∙ get_or_past xs k None le
+
+-- one place more
+pub lost_one : (i place last : ℕ) (h : HeapTree) → place < last → places_lost i (place + 1) (last - (place + 1)) (place_lost i place h) ≡ places_lost i place (last - place) h
+lost_one i place last h lt =
+    let more : suc (last - (place + 1)) ≡ last - place = omega arith in
+    let next : place + 1 ≡ suc place = omega arith in
+    ap (λ n. places_lost i n (last - (place + 1)) (place_lost i place h)) next ∙ ap (λ m. places_lost i place m h) more

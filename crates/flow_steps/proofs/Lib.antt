@@ -6,5 +6,5 @@ pub mod Evaluating
 pub mod Parts
 pub mod Waits
 pub mod Acts
-pub mod Steps
+pub mod Stepped
 pub mod Done

@@ -1,5 +1,5 @@
 -- What an actor sees while it evaluates is what the heap holds.
-use Rattle.std.proofs.Common.{◌≡◌, ℕ, ℤ, ◌<◌, ◌≤◌, Bool, true, false, List, [], ◌∷◌, length, map, get_or, refl, ap, sym, ◌∙◌, if◌then◌else◌, ltb}
+use Rattle.std.proofs.Common.{◌≡◌, ℕ, ℤ, ◌<◌, ◌≤◌, Bool, true, false, List, [], ◌∷◌, length, map, get_or, refl, ap, sym, ◌∙◌, if◌then◌else◌, ltb, arith}
 use Rattle.std.proofs.Math.Path.{fun_ext}
 use Rattle.std.proofs.lemmas.List.{get_or_past}
 use Rattle.std.specs.Option.{option_map}
@@ -35,7 +35,7 @@ at_place all xs n e le = by (ltb n (length all)) refl
     by true is = let lt : n < length all = omega arith in sym (at_padded (length all) xs n lt) ∙ ap (λ l. get_or l n None) e
     by false is = let past : length xs ≤ n = omega arith in get_or_past xs n None past
 
-held_same : (f : Option (FrameTree Value)) (xs : List (Option Value)) (n : ℕ) → IsFilled f xs → get_or xs n None ≡ frames.held_in n f
+pub held_same : (f : Option (FrameTree Value)) (xs : List (Option Value)) (n : ℕ) → IsFilled f xs → get_or xs n None ≡ frames.held_in n f
 held_same None xs n e = ap (λ l. get_or l n None) e
 held_same (Some f) xs n e = at_place f.places xs n e.0 e.1
 

@@ -1,5 +1,5 @@
 -- What an actor sees while it evaluates, and how it goes on with what that comes to.
-use Rattle.std.specs.Prelude.{◌≡◌, ℕ, ℤ, pos, ◌^◌, ◌-◌, nat_lt, if◌then◌else◌}
+use Rattle.std.specs.Prelude.{◌≡◌, true, ℕ, ℤ, pos, ◌^◌, ◌-◌, nat_lt, if◌then◌else◌}
 use Rattle.std.specs.declared.option.Option.{Option}
 use Rattle.std.specs.declared.option.Option.TheVariants.{Some}
 use Rattle.flow_base.specs.declared.ids.ErrorCode.{ErrorCode}
@@ -59,10 +59,10 @@ Halted s halt.NoMeaning p q = ⊥
 Halted s halt.OutOfMemory p q = ⊥
 
 -- What an actor does with what evaluation comes to: it goes on with the value and the turns that are left, or breaks off.
-pub data Evaluates {A B : Type 0} (s : Stand) (seen : B → A) (comes_to : Res A) (p : Process) (use : B → Process → Pace → Process → Type 0) : Pace → Process → Type 0 where
-  gives : (b : B) (left : ℕ) (pace : Pace) (q : Process) → comes_to ≡ Done (seen b) left → use b (with_left left p) pace q
-      → Evaluates s seen comes_to p use pace q
+pub data Evaluates {A B : Type 0} (s : Stand) (seen : B → A) (comes_to : Res A) (p : Process) (goes : B → Process → Pace → Process → Type 0) : Pace → Process → Type 0 where
+  gives : (b : B) (left : ℕ) (pace : Pace) (q : Process) → comes_to ≡ Done (seen b) left → goes b (with_left left p) pace q
+      → Evaluates s seen comes_to p goes pace q
   throws : (e : ErrorCode) (left : ℕ) (q : Process) → comes_to ≡ Fails e.0 left → Halted s (halt.Thrown e) (with_left left p) q
-      → Evaluates s seen comes_to p use Off q
+      → Evaluates s seen comes_to p goes Off q
   runs_out : (q : Process) → comes_to ≡ Spent → Halted s halt.Spent (with_left 0 p) q
-      → Evaluates s seen comes_to p use Off q
+      → Evaluates s seen comes_to p goes Off q

@@ -5,9 +5,8 @@ use Rattle.std.specs.declared.option.Option.{Option}
 use Rattle.std.specs.declared.option.Option.TheVariants.{None, Some}
 use Rattle.flow_base.specs.declared.ids.ActorId.{ActorId}
 use Rattle.flow_value.specs.declared.value.Value.{Value}
-use Rattle.flow_value.specs.declared.value.Value.TheVariants as value
 use Rattle.flow_value.specs.declared.value.RecordId.{RecordId}
-use Rattle.flow_value.specs.Values.{ValueTree, ValueTrees, RecordValue}
+use Rattle.flow_value.specs.Values.{ValueTree, ValueTrees, RecordValue, RefValue}
 use Rattle.flow_value.specs.View.{value_of}
 use Rattle.flow_eval.specs.Records.{at_place, value_put}
 use Rattle.flow_resolved.specs.Evaluation.{numbered_field}
@@ -86,9 +85,9 @@ abbrev pub place_put : (actor place : ℕ) → Option Value → HeapTree → Hea
 place_put i n v h = with_frame (λ f. with_place f n v) i h
 
 -- whether a value may hold references
-abbrev pub may_refer : Value → Bool
-may_refer (value.Struct r) = true
-may_refer (value.Ref k c) = true
+abbrev pub may_refer : ValueTree → Bool
+may_refer (RecordValue r vs) = true
+may_refer (RefValue k c) = true
 may_refer _ = false
 
 abbrev pub if_refers : Bool → Value → List Value
@@ -98,7 +97,7 @@ if_refers false v = []
 -- what a place held, where that may hold references
 abbrev pub referring : Option Value → List Value
 referring None = []
-referring (Some v) = if_refers (may_refer v) v
+referring (Some v) = if_refers (may_refer (value_of v)) v
 
 -- Places are emptied one after another. What they held that may hold references, the first first, and the heap afterwards.
 abbrev pub places_taken : (actor : ℕ) → List ℕ → HeapTree → List Value

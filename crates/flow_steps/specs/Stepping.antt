@@ -12,7 +12,7 @@ use Rattle.flow_value.specs.declared.value.Value.TheVariants as value
 use Rattle.flow_value.specs.declared.value.Outcome.{Outcome}
 use Rattle.flow_value.specs.declared.value.Outcome.TheVariants as outcome
 use Rattle.flow_value.specs.declared.value.Kind.{Kind}
-use Rattle.flow_value.specs.Values.{ValueTree, BoolValue, RefValue}
+use Rattle.flow_value.specs.Values.{ValueTree, BoolValue, ErrorValue, RefValue}
 use Rattle.flow_value.specs.View.{value_of}
 use Rattle.flow_eval.specs.Eval.{Res, function_called}
 use Rattle.flow_eval.specs.Functions.{run_function}
@@ -35,7 +35,7 @@ use Rattle.flow_code.specs.View.{group_numbered}
 use Rattle.flow_frame.specs.declared.held.Held.{Held}
 use Rattle.flow_cancel.specs.declared.task.Task.{Task}
 use Rattle.flow_cancel.specs.declared.task.Task.TheVariants as task
-use Rattle.flow_cancel.specs.Heap.{HeapTree, next_cell, pushed}
+use Rattle.flow_cancel.specs.Heap.{HeapTree, cell_id, next_cell, pushed}
 use Rattle.flow_cancel.specs.Dropping.{dropping}
 use Rattle.flow_picture.specs.Holds.{hold, hold_all}
 use Rattle.flow_steps.specs.declared.call.Goal.{Goal}
@@ -134,14 +134,17 @@ pub data Passes (s : Stand) (b : ℕ) (p : Process) : Pace → Process → Type 
 abbrev pub truth_value : Bool → ValueTree
 truth_value b = BoolValue b
 
-abbrev pub IsTest : Stand → (yes no : ℕ) → Bool → Process → Pace → Process → Type 0
-IsTest s yes no true p pace q = GoesOnAt s yes p pace q
-IsTest s yes no false p pace q = GoesOnAt s no p pace q
+abbrev pub IsTest : Stand → (one other : ℕ) → Bool → Process → Pace → Process → Type 0
+IsTest s one other true p pace q = GoesOnAt s one p pace q
+IsTest s one other false p pace q = GoesOnAt s other p pace q
 
 -- The next operand of a wait, with its value known: it counts and is kept. No other value is one.
+abbrev pub ReferenceKept : Stand → (callback : ℕ) → ValueTree → Process → Pace → Process → Type 0
+ReferenceKept s n (RefValue kd k) p pace q = Keeps s (record { callback = n; cell = cell_id k }) (on_heap (hold kd k) p) pace q
+ReferenceKept s n _ p pace q = ⊥
+
 abbrev pub OperandKept : Stand → (callback : ℕ) → Value → Process → Pace → Process → Type 0
-OperandKept s n (value.Ref kd k) p pace q = Keeps s (record { callback = n; cell = k }) (on_heap (hold kd k.0) p) pace q
-OperandKept s n _ p pace q = ⊥
+OperandKept s n v p pace q = ReferenceKept s n (value_of v) p pace q
 
 abbrev pub OperandStep : Code → Stand → (callback : ℕ) → Operand → Process → Pace → Process → Type 0
 OperandStep code s n (operand.Value e) p pace q = Evaluates s value_of (value_for code s.actor.0 e p) p (OperandKept s n) pace q
@@ -178,15 +181,18 @@ pub record IsReturn (s : Stand) (v : Value) (p : Process) (pace : Pace) (q : Pro
   pub ends : q ≡ on_heap (ended s task) (noted s (on_heap (hold_all (value_refs v)) p))
 
 -- The error that a value is is thrown. No other value is one.
+abbrev pub ErrorThrown : Stand → ValueTree → Process → Pace → Process → Type 0
+ErrorThrown s (ErrorValue e) p pace q = (pace ≡ Off) × (q ≡ doing (task.Throw s.actor (record { 0 = e })) (noted s p))
+ErrorThrown s _ p pace q = ⊥
+
 abbrev pub IsThrow : Stand → Value → Process → Pace → Process → Type 0
-IsThrow s (value.Error e) p pace q = (pace ≡ Off) × (q ≡ doing (task.Throw s.actor e) (noted s p))
-IsThrow s _ p pace q = ⊥
+IsThrow s v p pace q = ErrorThrown s (value_of v) p pace q
 
 -- a step by the last instruction of a block
 abbrev pub Ends : Code → Stand → Last → Process → Pace → Process → Type 0
 Ends code s (last.Goto b) p pace q = GoesOnAt s b p pace q
 Ends code s (last.Pass b) p pace q = Passes s b p pace q
-Ends code s (last.Test e yes no) p pace q = Evaluates s truth_value (value_for code s.actor.0 e p) p (IsTest s yes no) pace q
+Ends code s (last.Test e one other) p pace q = Evaluates s truth_value (value_for code s.actor.0 e p) p (IsTest s one other) pace q
 Ends code s (last.Choose g) p pace q = IsChoose code s g p pace q
 Ends code s (last.Return e) p pace q = Evaluates s value_of (value_for code s.actor.0 e p) p (IsReturn s) pace q
 Ends code s (last.Throw e) p pace q = Evaluates s value_of (value_for code s.actor.0 e p) p (IsThrow s) pace q

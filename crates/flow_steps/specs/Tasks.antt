@@ -85,7 +85,7 @@ pub record ValueGiven (code : Code) (i : ActorId) (number : ℕ) (v : Value) (p 
   pub at : BranchAt stand number branch
   pub to : GoesTo stand branch.block 0 goes
   pub after : OnAfter goes (bound_over i.0 branch.into v p.heap) (on_heap (bound i.0 branch.into v) p) pace between
-  pub then : GoesOn code pace between q
+  pub further : GoesOn code pace between q
 
 abbrev pub Given : Code → ActorId → (branch : ℕ) → Outcome → Process → Process → Type 0
 Given code i b (outcome.Value v) p q = ValueGiven code i b v p q
@@ -122,7 +122,7 @@ pub record IsKept (code : Code) (i : ActorId) (x : Held) (p q : Process) : Type 
   pub next : TopTaken (task.Run i) p start
   pub stands : StandsNow code.classes.items i start stand
   pub keeps : Keeps stand x start pace between
-  pub then : GoesOn code pace between q
+  pub further : GoesOn code pace between q
 
 -- An error goes to the handler of the block, or out of the actor: the operands that are kept are dropped in order, and the
 -- values that leave the variables; then the handler begins, or the actor is closed.

@@ -77,14 +77,13 @@ abbrev pub register : (actor : ℕ) → Held → HeapTree → Registered
 register i x h = awaited x.cell.0 (waiter_of i x) (thing h.cells.things x.cell.0) (thing h.streams.things x.cell.0) h
 
 -- all do, in order, up to the first that is refused
-abbrev mutual
-  pub register_all : (actor : ℕ) → List Held → HeapTree → Registered
-  register_all i [] h = (true, h)
-  register_all i (x ∷ xs) h = register_then i xs (register i x h)
+abbrev pub registered_then : (HeapTree → Registered) → Registered → Registered
+registered_then others (true, h) = others h
+registered_then others (false, h) = (false, h)
 
-  pub register_then : (actor : ℕ) → List Held → Registered → Registered
-  register_then i xs (true, h) = register_all i xs h
-  register_then i xs (false, h) = (false, h)
+abbrev pub register_all : (actor : ℕ) → List Held → HeapTree → Registered
+register_all i [] h = (true, h)
+register_all i (x ∷ xs) h = registered_then (register_all i xs) (register i x h)
 
 -- what that comes to in a process: whether all wait, and the heap
 abbrev pub Registers : Registered → (all : Bool) → Process → Process → Type 0

@@ -120,6 +120,7 @@ impl Process {
         self.go(actor, stand.place, last)
     }
 
+    #[tactic(auto, using(crate::proofs::Waits::untaken, crate::proofs::Waits::taken_by))]
     /// A branch, numbered from 0 in its group, takes what its cell gives: a turn, the line; then the actor leaves its wait.
     pub(crate) fn take(
         &mut self,
@@ -148,6 +149,7 @@ impl Process {
         Ok(())
     }
 
+    #[tactic(auto, using(crate::proofs::Waits::kept_cancelled, crate::proofs::Waits::kept_on, crate::proofs::Waits::kept_taken))]
     /// An operand that counts already is kept. A marked actor then leaves its wait and is thrown that it was cancelled; an
     /// operand that is ready is taken; otherwise the actor goes on.
     pub(crate) fn keep_operand<'a>(
@@ -224,6 +226,7 @@ impl Process {
         }
     }
 
+    #[tactic(auto, using(crate::proofs::Waits::one_unready, crate::proofs::Waits::one_ready, crate::proofs::Waits::none_ready))]
     // The first operand that is ready.
     fn first_ready(&self, actor: ActorId) -> Option<Held>
         ensures { result ≡ first_ready self.now.heap (callbacks_of actor.0 self.now.heap) }
@@ -287,7 +290,8 @@ impl Process {
         ensures { IfOk result (λ all. Registers (register_all actor.0
             (callbacks_of actor.0 self.old.heap) self.old.heap) all self.old self.new) }
     {
-        for place in 0..self.operands(actor) {
+        let count = self.operands(actor);
+        for place in 0..count {
             let Some(held) = self.held_at(actor, place) else {
                 return Err(Fault::Astray);
             };
@@ -310,6 +314,7 @@ impl Process {
         Ok(())
     }
 
+    #[tactic(auto, using(crate::proofs::Waits::wait_takes, crate::proofs::Waits::wait_refused, crate::proofs::Waits::wait_suspended))]
     /// All operands are kept. The first that is ready is taken. Otherwise the actor waits for all of them, and its locals
     /// are dropped; where a stream refuses, that is thrown.
     pub(crate) fn wait(&mut self, stand: &Stand<'_>, group: u32) -> Result<(), Fault>

@@ -281,7 +281,7 @@ impl Process {
         Ok(Pace::Off)
     }
 
-    #[tactic(auto, using(crate::proofs::Acts::starts_by))]
+    #[tactic(auto, using(crate::proofs::Acts::uncalled, crate::proofs::Acts::called_by))]
     // A turn, and an actor is made and runs; its result is then stored or kept, and the caller goes on.
     fn call_actor(
         &mut self,

@@ -15,6 +15,7 @@ use flow_code::program::Code;
 use flow_value::value::{Kind, Outcome, Value};
 
 impl Process {
+    #[tactic(auto, using(crate::proofs::Done::main_not_called, crate::proofs::Done::main_called))]
     /// Calls `main` with the process's number, where no result of `main` is held: this one is from the moment that its cell
     /// is made.
     pub fn call_main(&mut self, code: &Code, me: ProcId) -> Result<(), Fault>
@@ -29,6 +30,7 @@ impl Process {
         self.start_main(code, me)
     }
 
+    #[tactic(auto, using(crate::proofs::Done::main_starts_by))]
     // `main` starts, and its result is held.
     fn start_main(&mut self, code: &Code, me: ProcId) -> Result<(), Fault>
         ensures { OnOk result (MainStarts code.now me self.old self.new) }

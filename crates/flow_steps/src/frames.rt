@@ -22,7 +22,7 @@ use std::mem;
 
 /// Whether a value may hold references.
 pub(crate) fn may_refer(value: &Value) -> bool
-    ensures { result ≡ may_refer value.now }
+    ensures { result ≡ may_refer (value_of value.now) }
 {
     matches!(value, Value::Struct(_) | Value::Ref(_, _))
 }
@@ -182,8 +182,8 @@ impl Process {
 
     /// Has the frame of an actor say where the actor stands, where it does not yet.
     pub(crate) fn note<'a>(&mut self, stand: Stand<'a>) -> Result<Stand<'a>, Fault>
-        ensures stand { IfOk result (λ s. s ≡ noted_stand stand) }
-        ensures noted { OnOk result (self.new ≡ noted stand self.old) }
+        ensures stand { IfOk result (λ s. s ≡ noted_stand stand.entry) }
+        ensures noted { OnOk result (self.new ≡ noted stand.entry self.old) }
     {
         if stand.noted {
             return Ok(stand);

@@ -200,7 +200,7 @@ impl Process {
 
     /// An actor takes its next steps, by its instructions, up to one after which other tasks come first.
     pub(crate) fn run_from(&mut self, code: &Code, stand: Stand<'_>) -> Result<(), Fault>
-        ensures { OnOk result (Runs code.now stand self.old self.new) }
+        ensures { OnOk result (Runs code.now stand.entry self.old self.new) }
     {
         let mut stand = stand;
         for _step in 0..u64::MAX {
@@ -226,14 +226,14 @@ impl Process {
         Err(Fault::Astray)
     }
 
-    #[tactic(auto, using(crate::proofs::Steps::after_one, crate::proofs::Steps::after_none, crate::proofs::Holding::value_dropped))]
+    #[tactic(auto, using(crate::proofs::Stepped::after_one, crate::proofs::Stepped::after_none, crate::proofs::Holding::value_dropped))]
     /// A value that is left over, if any, is dropped; the actor goes on at once where that leaves nothing to do.
     pub(crate) fn on_after<'a>(
         &mut self,
         stand: Stand<'a>,
         old: Option<Value>,
     ) -> Result<Pace<'a>, Fault>
-        ensures { IfOk result (λ pace. OnAfter stand (referring old) self.old pace self.new) }
+        ensures { IfOk result (λ pace. OnAfter stand.entry (referring old) self.old pace self.new) }
     {
         match old {
             Some(old) if may_refer(&old) => {
@@ -268,7 +268,7 @@ impl Process {
         }
     }
 
-    #[tactic(auto, using(crate::proofs::Steps::after_values, crate::proofs::Steps::after_none))]
+    #[tactic(auto, using(crate::proofs::Stepped::after_values, crate::proofs::Stepped::after_none))]
     // Places are emptied, and what they held is dropped.
     fn empty_places<'a>(&mut self, stand: &Stand<'a>, places: &[u32]) -> Result<Pace<'a>, Fault>
         ensures { IfOk result (λ pace. OnAfter (next_stand stand.now)
@@ -305,7 +305,7 @@ impl Process {
         }
     }
 
-    #[tactic(auto, using(crate::proofs::Steps::set_by))]
+    #[tactic(auto, using(crate::proofs::Stepped::set_by))]
     // That, with the value known.
     fn set_value<'a>(
         &mut self,
@@ -322,7 +322,7 @@ impl Process {
         self.on_after(stand.next()?, old)
     }
 
-    #[tactic(auto, using(crate::proofs::Steps::new_by))]
+    #[tactic(auto, using(crate::proofs::Stepped::new_by))]
     // A new cell for a place of a promise's type.
     fn new_promise<'a>(
         &mut self,
@@ -402,7 +402,7 @@ impl Process {
         }
     }
 
-    #[tactic(auto, using(crate::proofs::Steps::method_by))]
+    #[tactic(auto, using(crate::proofs::Stepped::method_by))]
     // That, with what is sent known.
     fn method_with<'a>(
         &mut self,
@@ -465,7 +465,7 @@ impl Process {
         }
     }
 
-    #[tactic(auto, using(crate::proofs::Steps::goes_at))]
+    #[tactic(auto, using(crate::proofs::Stepped::goes_at))]
     fn last<'a>(&mut self, code: &Code, stand: &Stand<'a>, last: &Last) -> Result<Pace<'a>, Fault>
         ensures { IfOk result (λ pace. Ends code.now stand.now last.now self.old pace self.new) }
     {
@@ -479,6 +479,7 @@ impl Process {
         }
     }
 
+    #[tactic(auto, using(crate::proofs::Stepped::pass_on, crate::proofs::Stepped::pass_off))]
     // A pass of a loop begins: it takes a turn.
     fn pass<'a>(&mut self, stand: &Stand<'a>, block: u32) -> Result<Pace<'a>, Fault>
         ensures { IfOk result (λ pace. Passes stand.now block self.old pace self.new) }
@@ -535,7 +536,7 @@ impl Process {
         Ok(Pace::On(stand.at(next, 0)?))
     }
 
-    #[tactic(auto, using(crate::proofs::Steps::chooses_by))]
+    #[tactic(auto, using(crate::proofs::Stepped::operand_asked, crate::proofs::Stepped::operands_kept))]
     // The next operand of a wait is asked for; when all are kept, the actor waits.
     fn choose<'a>(
         &mut self,
@@ -618,7 +619,7 @@ impl Process {
         }
     }
 
-    #[tactic(auto, using(crate::proofs::Steps::returns_by))]
+    #[tactic(auto, using(crate::proofs::Stepped::returns_by))]
     // That, with the value known.
     fn end_with_value<'a>(
         &mut self,

@@ -1,5 +1,5 @@
 -- The steps of actors.
-use Rattle.std.proofs.Common.{◌≡◌, ℕ, ◌+◌, ◌<◌, Bool, true, false, nat_lt, List, [], ◌∷◌, length, map, slice_get, refl, ap, sym, subst, ◌∙◌, Result, Ok, Err, IfOk, OnOk}
+use Rattle.std.proofs.Common.{◌≡◌, ℕ, ◌+◌, ◌<◌, Bool, true, false, nat_lt, List, [], ◌∷◌, length, map, slice_get, refl, ap, sym, subst, ◌∙◌, Result, Ok, Err, IfOk, OnOk, arith}
 use Rattle.std.proofs.lemmas.Result.{IfOk-weaker}
 use Rattle.std.specs.Option.{option_map}
 use Rattle.std.specs.declared.option.Option.{Option}
@@ -44,7 +44,7 @@ pub after_values : (s : Stand) (vs : List Value) (p told on q : Process) → 0 <
 after_values s [] p told on q lt n r d = absurd (omega arith)
 after_values s (v ∷ vs) p told on q lt n r d = (refl, d ∙ ap (on_heap (dropping (v ∷ vs))) (r ∙ ap (doing (task.Run s.actor)) n))
 
-pub after_one : (s : Stand) (v : Value) (p told on q : Process) → may_refer v ≡ true → told ≡ noted s p → on ≡ doing (task.Run s.actor) told
+pub after_one : (s : Stand) (v : Value) (p told on q : Process) → may_refer (value_of v) ≡ true → told ≡ noted s p → on ≡ doing (task.Run s.actor) told
     → q ≡ on_heap (dropping (v ∷ [])) on → OnAfter s (referring (Some v)) p Off q
 after_one s v p told on q may n r d =
     subst (λ b. OnAfter s (if_refers b v) p Off q) (sym may) (after_values s (v ∷ []) p told on q (omega arith) n r d)
@@ -112,3 +112,24 @@ returns_by s v t p one two three q e n c f l = record {
   closes = c;
   ends = l ∙ ap (on_heap (lost_from s.actor.0 0)) f ∙ ap (on_heap (ended s t)) (n ∙ ap (noted s) e);
 }
+
+-- a pass of a loop, or none for want of a turn
+pub pass_on : (s t : Stand) (b : ℕ) (p q : Process) → GoesTo s b 0 t → true ≡ nat_lt 0 p.left → q ≡ turned p → Passes s b p (On t) q
+pass_on s t b p q g n e = pass_begins t q g (sym n) e
+
+pub pass_off : (s t : Stand) (b : ℕ) (p mid q : Process) → GoesTo s b 0 t → false ≡ nat_lt 0 p.left → mid ≡ turned p → q ≡ noted t mid → Passes s b p Off q
+pass_off s t b p mid q g n e f = no_pass t q g (sym n) (f ∙ ap (noted t) e)
+
+-- the next operand, or none
+pub operand_asked : (code : Code) (s t : Stand) (number : ℕ) (g : Group) (b : Branch) (n : ℕ) (r : Result Pace Fault) (p told q : Process)
+    → Some g ≡ group_numbered number s.class.now.groups.items → t ≡ noted_stand s → told ≡ noted s p
+    → Some b ≡ slice_get g.branches.items (kept_by t told) → n ≡ g.first + kept_by t told
+    → IfOk r (λ pace. OperandStep code t n b.operand told pace q) → IfOk r (λ pace. IsChoose code s number p pace q)
+operand_asked code s t number g b n r p told q e m d at k o =
+    chooses_by code s t number g r p told q e m d
+    (IfOk-weaker r _ _ (λ pace is. asks_operand b (sym at) (subst (λ x. OperandStep code t x b.operand told pace q) k is)) o)
+
+pub operands_kept : (code : Code) (s t : Stand) (number : ℕ) (g : Group) (p told q : Process)
+    → Some g ≡ group_numbered number s.class.now.groups.items → t ≡ noted_stand s → told ≡ noted s p
+    → None ≡ slice_get g.branches.items (kept_by t told) → Waits t number told q → IsChoose code s number p Off q
+operands_kept code s t number g p told q e m d at w = chooses_by code s t number g (Ok Off) p told q e m d (all_kept (sym at) refl w)
