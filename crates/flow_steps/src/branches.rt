@@ -117,7 +117,8 @@ impl Process {
         let Ok(last) = u32::try_from(stand.block.body.len()) else {
             return Err(Fault::Astray);
         };
-        self.go(actor, stand.place, last)
+        self.go(actor, stand.place, last)?;
+        Ok(())
     }
 
     #[tactic(auto, using(crate::proofs::Waits::untaken, crate::proofs::Waits::taken_by))]

@@ -13,7 +13,7 @@ ghost use Rattle.flow_numbered.specs.Numbered.{thing};
 ghost use Rattle.flow_steps.specs.Doing.{departed};
 ghost use Rattle.flow_steps.specs.Drops.{DropsOver};
 ghost use Rattle.flow_steps.specs.Standing.{referring, values};
-ghost use Rattle.flow_steps.specs.Tasks.{BranchAt, Given, ValueGiven, bound_over, bound, Stored, Raised, FailsBy, caught, with_error, cell_waiter, stream_waiter, next_waiter, WaiterTakes, Fires, drops_one, IsDone};
+ghost use Rattle.flow_steps.specs.Tasks.{BranchAt, Given, ValueGiven, bound_over, bound, Stored, Raises, Raised, FailsBy, caught, with_error, cell_waiter, stream_waiter, next_waiter, WaiterTakes, Fires, drops_one, IsDone};
 
 use crate::branches::{branch_of, group_at};
 use crate::errors::Fault;
@@ -180,12 +180,24 @@ impl Process {
         ensures { OnOk result (Raised code.now actor error self.old self.new) }
     {
         let stand = self.stand_of(code, actor)?;
-        match &stand.block.catcher {
-            Some(catcher) => self.caught(actor, catcher, error)?,
-            None => self.uncaught(actor, error)?,
-        }
+        self.leave_by(actor, &stand.block.catcher, error)?;
         self.tell(Line::Throw(actor, error));
         Ok(())
+    }
+
+    // An error goes to the handler of a block, or out of an actor.
+    fn leave_by(
+        &mut self,
+        actor: ActorId,
+        catcher: &Option<Catcher>,
+        error: ErrorCode,
+    ) -> Result<(), Fault>
+        ensures { OnOk result (Raises actor catcher.now error self.old self.new) }
+    {
+        match catcher {
+            Some(catcher) => self.caught(actor, catcher, error),
+            None => self.uncaught(actor, error),
+        }
     }
 
     #[tactic(auto, using(crate::proofs::Done::fails_by))]
