@@ -273,8 +273,6 @@ impl Process {
         }
     }
 
-    #[tactic(auto, using(crate::proofs::Acts::actor_done, crate::proofs::Evaluating::values_break))]
-
     #[tactic(auto, using(crate::proofs::Acts::uncalled, crate::proofs::Acts::called_by))]
     // A turn, and an actor is made and runs; its result is then stored or kept, and the caller goes on.
     fn call_actor(

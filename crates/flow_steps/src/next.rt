@@ -40,7 +40,7 @@ use flow_value::value::{Kind, Outcome, Value};
 
 /// How an actor goes on after an instruction: at once where it stands now, or by its task, or not at all.
 #[derive(Clone, Copy)]
-pub(crate) enum Pace<'a> {
+pub enum Pace<'a> {
     On(Stand<'a>),
     Off,
 }
