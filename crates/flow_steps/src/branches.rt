@@ -211,10 +211,9 @@ impl Process {
     {
         self.pop_run(actor)?;
         let stand = self.stand_of(code, actor)?;
-        match self.keep_operand(&stand, held)? {
-            Pace::On(stand) => self.run_from(code, stand),
-            Pace::Off => Ok(()),
-        }
+        let pace = self.keep_operand(&stand, held)?;
+        self.go_from(code, pace)?;
+        Ok(())
     }
 
     // Takes the actor's own task off the stack.

@@ -15,7 +15,7 @@ ghost use Rattle.flow_steps.specs.Seen.{contents_seen};
 ghost use Rattle.flow_steps.specs.Standing.{noted, place_held, places_taken, places_emptied, referring, field_path, next_stand};
 ghost use Rattle.flow_steps.specs.Holding.{on_heap};
 ghost use Rattle.flow_steps.specs.Acting.{args_of};
-ghost use Rattle.flow_steps.specs.Stepping.{OnAfter, Does, Ends, StepsOn, Runs, IsSet, IsNew, IsAct, IsChoose, IsMethod, MethodStep, FunctionCalled, Passes, IsTest, OperandStep, OperandKept, IsReturn, IsThrow, value_for, values_for, truth_value};
+ghost use Rattle.flow_steps.specs.Stepping.{OnAfter, Does, Ends, StepsOn, Runs, GoesOn, IsSet, IsNew, IsAct, IsChoose, IsMethod, MethodStep, FunctionCalled, Passes, IsTest, OperandStep, OperandKept, IsReturn, IsThrow, value_for, values_for, truth_value};
 ghost use Rattle.flow_steps.specs.Tasks.{RunsNow};
 
 use crate::call::Goal;
@@ -222,6 +222,16 @@ impl Process {
             }
         }
         Err(Fault::Astray)
+    }
+
+    /// An actor goes on after a step, where that leaves nothing to do first.
+    pub(crate) fn go_from(&mut self, code: &Code, pace: Pace<'_>) -> Result<(), Fault>
+        ensures { OnOk result (GoesOn code.now pace.entry self.old self.new) }
+    {
+        match pace {
+            Pace::On(stand) => self.run_from(code, stand),
+            Pace::Off => Ok(()),
+        }
     }
 
     // An actor takes its next step, by its instruction.

@@ -18,7 +18,6 @@ ghost use Rattle.flow_steps.specs.Tasks.{BranchAt, Given, ValueGiven, bound_over
 use crate::branches::{branch_of, group_at};
 use crate::errors::Fault;
 use crate::frames::Stand;
-use crate::next::Pace;
 use crate::process::Process;
 use flow_base::ids::{ActorId, CellId, ErrorCode};
 use flow_cancel::task::Task;
@@ -120,10 +119,9 @@ impl Process {
         let stand = self.stand_of(code, actor)?;
         let branch = branch_at(&stand, branch)?;
         let old = self.bind(actor, branch, value)?;
-        match self.on_after(stand.at(branch.block, 0)?, old)? {
-            Pace::On(next) => self.run_from(code, next),
-            Pace::Off => Ok(()),
-        }
+        let pace = self.on_after(stand.at(branch.block, 0)?, old)?;
+        self.go_from(code, pace)?;
+        Ok(())
     }
 
     // The value of a branch goes into its place. Gives what is to be dropped: what the place held, or the value where there is
