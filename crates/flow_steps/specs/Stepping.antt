@@ -85,9 +85,12 @@ pub record IsNew (s : Stand) (place : ℕ) (kd : Kind) (p : Process) (pace : Pac
 abbrev pub GoesNext : {A : Type 0} → Stand → A → Process → Pace → Process → Type 0
 GoesNext s a p pace q = (pace ≡ On (next_stand s)) × (q ≡ p)
 
+abbrev pub function_result : Code → (function : ℕ) → Values → Process → Res ValueTree
+function_result code f args p =
+    function_called (setting_in code p) (run_function (setting_in code p) CALL_DEPTH) (slice_get (setting_in code p).functions f) (args_of args) p.left
+
 abbrev pub FunctionCalled : Code → Stand → (function : ℕ) → Values → Process → Pace → Process → Type 0
-FunctionCalled code s f args p pace q =
-    Evaluates s value_of (function_called (setting_in code p) (run_function (setting_in code p) CALL_DEPTH) (slice_get (setting_in code p).functions f) (args_of args) p.left) p (GoesNext s) pace q
+FunctionCalled code s f args p pace q = Evaluates s value_of (function_result code f args p) p (GoesNext s) pace q
 
 -- a call statement without a base, with its arguments known
 abbrev pub IsAct : Code → Stand → Act → Values → Process → Pace → Process → Type 0

@@ -1,7 +1,7 @@
 // Waits: operands, the branch that is taken, and suspending.
 
 ghost use Rattle.std.specs.Prelude.{◌≡◌, ◌∷◌, OnOk, IfOk, Some, length, slice_get};
-ghost use Rattle.std.specs.Option.{IsSomeAnd};
+ghost use Rattle.std.specs.Option.{IsSomeAnd, option_copied};
 ghost use Rattle.flow_value.specs.View.{outcome_of};
 ghost use Rattle.flow_numbered.specs.Numbered.{thing};
 ghost use Rattle.flow_stream.specs.Streams.{head, tail};
@@ -24,12 +24,19 @@ use flow_base::errors::{OPERATION_CANCELLED, SECOND_WAITER};
 use flow_base::ids::{ActorId, CellId};
 use flow_cancel::task::Task;
 use flow_cell::waiter::Waiter;
-use flow_code::class::{Block, Last};
+use flow_code::class::{Block, Branch, Group, Last};
 use flow_code::program::Code;
 use flow_frame::held::Held;
 use flow_stream::head::{Head, Wait};
 use flow_trace::line::Line;
 use flow_value::value::{Kind, Outcome};
+
+/// The branch of a group at a place, from 0.
+pub(crate) fn branch_in(group: &Group, place: usize) -> Option<&Branch>
+    ensures { option_copied result ≡ slice_get group.now.branches.items place }
+{
+    group.branches.get(place)
+}
 
 /// The number of the group of the wait that ends a block.
 pub(crate) fn group_at(block: &Block) -> Result<u32, Fault>

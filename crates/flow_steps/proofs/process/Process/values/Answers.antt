@@ -1,0 +1,5 @@
+use Rattle.flow_steps.proofs.Sights.{values_seen}
+use Rattle.flow_steps.proofs.process.Process.values.Goals as goal
+
+pub returns-clause-gives : goal.returns-clause-gives
+returns-clause-gives c = values_seen _ _ _ _ _ _ c.sight-sight.ensures c.evaluate_args-values.ensures.gives
