@@ -185,7 +185,7 @@ is_busy Busy = true
 
 -- a stream at which nobody waits, and one at which somebody does
 module _ (i : ℕ) (x : Held) (p : Process) (new : Store (StreamTree Value)) (none : is_some (thing p.heap.cells.things x.cell.0) ≡ false) (some : is_some (thing p.heap.streams.things x.cell.0) ≡ true) where
-  awaits : Bool → Type 0
+  abbrev awaits : Bool → Type 0
   awaits b = Registers (register i x p.heap) b p (on_heap (λ h. record h { streams = new }) p)
 
   at_stream : (b : Bool) → ((s : StreamTree Value) → thing p.heap.streams.things x.cell.0 ≡ Some s

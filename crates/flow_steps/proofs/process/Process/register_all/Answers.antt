@@ -11,8 +11,8 @@ pub returns-then-not-branch : goal.returns-then-not-branch
 returns-then-not-branch c =
     let i = c.args.actor.0 in
     next_refused i _ c.loop-place.place c.in-Some.held c.loop-place.self.heap _ _ c.args.self.now c.loop-place.self c.register.new.self c.loop-place.invariant.0
-    (c.in-Some.ensures ∙ ap (λ (s : Store (FrameTree Value)). slice_get (callbacks_in (thing s.things i)) c.loop-place.place) c.loop-place.invariant.1.0)
-    c.in_ok-register.ensures c.if-not-branch.true c.loop-place.invariant.1.1
+    (c.in-Some.ensures ∙ ap (λ (s : Store (FrameTree Value)). slice_get (callbacks_in (thing s.things i)) c.loop-place.place) c.loop-place.invariant.1)
+    c.in_ok-register.ensures c.if-not-branch.true c.loop-place.invariant.2
 
 pub loop-place-preserved : goal.loop-place-preserved
 loop-place-preserved c =
@@ -21,9 +21,9 @@ loop-place-preserved c =
     let r = register i c.in-Some.held h in (
       c.in_ok-register.ensures.1 ∙ ap (λ (x : Process). record x { heap = r.1 }) c.loop-place.invariant.0
       ∙ sym (ap (λ (x : Process). record c.args.self.now { heap = x.heap }) c.in_ok-register.ensures.1),
-      ap (λ (x : Process). x.heap.frames) c.in_ok-register.ensures.1 ∙ frames_stay i c.in-Some.held h ∙ c.loop-place.invariant.1.0,
+      ap (λ (x : Process). x.heap.frames) c.in_ok-register.ensures.1 ∙ frames_stay i c.in-Some.held h ∙ c.loop-place.invariant.1,
       next_registered i _ c.loop-place.place c.in-Some.held h h _ c.loop-place.self c.register.new.self refl
-      (c.in-Some.ensures ∙ ap (λ (s : Store (FrameTree Value)). slice_get (callbacks_in (thing s.things i)) c.loop-place.place) c.loop-place.invariant.1.0)
+      (c.in-Some.ensures ∙ ap (λ (s : Store (FrameTree Value)). slice_get (callbacks_in (thing s.things i)) c.loop-place.place) c.loop-place.invariant.1)
       c.in_ok-register.ensures c.if-not-branch.false
-      ∙ c.loop-place.invariant.1.1,
+      ∙ c.loop-place.invariant.2,
     )
