@@ -168,7 +168,7 @@ pub rested_by : (code : Code) (p : Process) (h : HeapTree) → p.spent ≡ false
 rested_by code p h s e rest =
     let none = no_tasks p.heap.tasks e in
     let same : record p { heap = h } ≡ p =
-        ap (λ x. record p { heap = x }) (rest ∙ ap (λ ts. record p.heap { tasks = drop 1 ts }) none ∙ ap (λ ts. record p.heap { tasks = ts }) (sym none)) in
+    ap (λ x. record p { heap = x }) (rest ∙ ap (λ ts. record p.heap { tasks = drop 1 ts }) none ∙ ap (λ ts. record p.heap { tasks = ts }) (sym none)) in
     subst (λ q. Tasks code p next.Rested q) (sym same) (no_task p s none)
 
 pub top_taken : (p : Process) (h : HeapTree) (t : Task) → Some t ≡ slice_get p.heap.tasks 0 → h ≡ record p.heap { tasks = drop 1 p.heap.tasks }

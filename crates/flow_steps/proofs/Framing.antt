@@ -133,7 +133,7 @@ lost_all i first last f h g at le e behind =
     let rest = (length f.places - first) - (last - first) in
     e
     ∙ sym (behind_lost i (first + (last - first)) rest (places_lost i first (last - first) h)
-        (λ k past. let past' : last ≤ k = omega arith in ap (place_held i k) (sym e) ∙ behind k past'))
+    (λ k past. let past' : last ≤ k = omega arith in ap (place_held i k) (sym e) ∙ behind k past'))
     ∙ sym (lost_further i first (last - first) rest h)
     ∙ ap (λ m. places_lost i first m h) count
     ∙ ap (λ o. losing_from i first o h) (sym at)

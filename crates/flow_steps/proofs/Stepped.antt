@@ -44,7 +44,7 @@ use Rattle.flow_steps.specs.Standing.{noted, noted_stand, GoesTo, next_stand, pl
 use Rattle.flow_steps.specs.Waiting.{Waits}
 use Rattle.flow_steps.specs.Acting.{args_of, MethodCalled}
 use Rattle.flow_steps.specs.Sights.{Evaluates}
-use Rattle.flow_steps.specs.Stepping.{value_for, values_for, truth_value, IsAct, IsMethodOf, MethodStep, Does, IsTest, Ends, StepsOn, by_instruction, OnAfter, IsSet, made_in_place, IsNew, IsMethod, GoesOnAt, Passes, no_pass, pass_begins, OperandStep, Chooses, asks_operand, all_kept, IsChoose, kept_by, IsClose, ended, IsReturn}
+use Rattle.flow_steps.specs.Stepping.{value_for, truth_for, values_for, truth_value, IsAct, IsMethodOf, MethodStep, Does, IsTest, Ends, StepsOn, by_instruction, OnAfter, IsSet, made_in_place, IsNew, IsMethod, GoesOnAt, Passes, no_pass, pass_begins, OperandStep, Chooses, asks_operand, all_kept, IsChoose, kept_by, IsClose, ended, IsReturn}
 use Rattle.flow_steps.proofs.Holding.{value_dropped}
 
 -- values are left over, or one
@@ -163,7 +163,7 @@ pub goes_by : (code : Code) (s t : Stand) (x : Last) (b : ℕ) (p : Process) →
 goes_by code s t x b p is g = subst (λ y. Ends code s y p (On t) p) (sym is) (goes_at s t b p g)
 
 pub tests_by : (code : Code) (s : Stand) (x : Last) (e : Resolved) (one other : ℕ) (r : Result Pace Fault) (p q : Process) → x ≡ last.Test e one other
-    → IfOk r (λ pace. Evaluates s truth_value (value_for code s.actor.0 e p) p (IsTest s one other) pace q) → IfOk r (λ pace. Ends code s x p pace q)
+    → IfOk r (λ pace. Evaluates s truth_value (truth_for code s.actor.0 e p) p (IsTest s one other) pace q) → IfOk r (λ pace. Ends code s x p pace q)
 tests_by code s x e one other r p q is go = subst (λ y. IfOk r (λ pace. Ends code s y p pace q)) (sym is) go
 
 -- a step

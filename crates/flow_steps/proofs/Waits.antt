@@ -168,7 +168,7 @@ pub wait_refused : (s : Stand) (g : ℕ) (r : Result (Unit {0}) Fault) (p mid q 
 wait_refused s g r p mid q e reg l =
     let all = register_all s.actor.0 (callbacks_of s.actor.0 p.heap) p.heap in
     IfOk-weaker r _ _ (λ _ is. waits_refused all.1 (sym e) (told all false reg.0)
-        (is ∙ ap (on_heap (left_for s (task.Throw s.actor (record { 0 = second_waiter })))) reg.1)) l
+    (is ∙ ap (on_heap (left_for s (task.Throw s.actor (record { 0 = second_waiter })))) reg.1)) l
 
 pub wait_suspended : (s : Stand) (g : ℕ) (p mid one two q : Process) → None ≡ first_ready p.heap (callbacks_of s.actor.0 p.heap)
     → Registers (register_all s.actor.0 (callbacks_of s.actor.0 p.heap) p.heap) true p mid
@@ -219,6 +219,7 @@ module _ (i : ℕ) (x : Held) (p : Process) (new : Store (StreamTree Value)) (no
           → with_thing p.heap.streams x.cell.0 (record s { waiter = or_waiter o (waiter_of i x) }) ≡ p.heap.streams
       stays s None a is = absurd (false≢true (sym (ap is_busy a)))
       stays s (Some old) a is = with_same p.heap.streams x.cell.0 (record s { waiter = Some old }) is
+
       taken : (s : StreamTree Value) (o : Option Waiter) → Busy ≡ (if is_some o then Busy else Added) → new ≡ p.heap.streams
           → Registers (stream_awaited x.cell.0 (waiter_of i x) s o p.heap) false p (on_heap (λ h. record h { streams = new }) p)
       taken s None a e = absurd (false≢true (sym (ap is_busy a)))
@@ -231,6 +232,7 @@ frames_stay i x h = by (thing h.cells.things x.cell.0) (thing h.streams.things x
     waits : (s : StreamTree Value) (o : Option Waiter) → (stream_awaited x.cell.0 (waiter_of i x) s o h).1.frames ≡ h.frames
     waits s None = refl
     waits s (Some old) = refl
+
     by : (c : Option (CellTree Outcome)) (o : Option (StreamTree Value)) → (awaited x.cell.0 (waiter_of i x) c o h).1.frames ≡ h.frames
     by (Some c) o = refl
     by None (Some s) = waits s s.waiter
@@ -258,5 +260,5 @@ next_refused i xs k x h all b p0 p q at e reg no_ inv =
     let lt : k < length xs = slice_get_within xs k x (sym e) in
     let here : x ≡ get_or xs k x = held_here xs k x e in
     let is : registered_after i xs k h ≡ (false, (register i x h).1) =
-        one_refused i xs k x h (register i x h).1 lt (ap (λ y. register i y h) (sym here) ∙ told (register i x h) false (sym no_ ∙ reg.0)) in
+    one_refused i xs k x h (register i x h).1 lt (ap (λ y. register i y h) (sym here) ∙ told (register i x h) false (sym no_ ∙ reg.0)) in
     registers_by all false p0 q (register i x h).1 (sym inv ∙ is) (reg.1 ∙ ap (with_heap (register i x h).1) at)

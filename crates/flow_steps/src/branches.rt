@@ -130,12 +130,7 @@ impl Process {
 
     #[tactic(auto, using(crate::proofs::Waits::untaken, crate::proofs::Waits::taken_by))]
     /// A branch, numbered from 0 in its group, takes what its cell gives: a turn, the line; then the actor leaves its wait.
-    pub(crate) fn take(
-        &mut self,
-        stand: &Stand<'_>,
-        branch: u32,
-        cell: CellId,
-    ) -> Result<(), Fault>
+    pub(crate) fn take(&mut self, stand: &Stand<'_>, branch: u32, cell: CellId) -> Result<(), Fault>
         ensures { OnOk result (TakesBranch stand.now branch cell self.old self.new) }
     {
         if !self.turn() {
@@ -208,12 +203,7 @@ impl Process {
 
     #[tactic(auto, using(crate::proofs::Done::kept_by))]
     /// The result of an effect is kept as an operand, and the actor, whose task is next, goes on.
-    pub(crate) fn keep(
-        &mut self,
-        code: &Code,
-        actor: ActorId,
-        held: Held,
-    ) -> Result<(), Fault>
+    pub(crate) fn keep(&mut self, code: &Code, actor: ActorId, held: Held) -> Result<(), Fault>
         ensures { OnOk result (IsKept code.now actor held self.old self.new) }
     {
         self.pop_run(actor)?;

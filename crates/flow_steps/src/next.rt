@@ -19,12 +19,12 @@ ghost use Rattle.flow_steps.specs.Seen.{contents_seen};
 ghost use Rattle.flow_steps.specs.Standing.{noted, place_held, places_taken, places_emptied, referring, field_path, next_stand};
 ghost use Rattle.flow_steps.specs.Holding.{on_heap};
 ghost use Rattle.flow_steps.specs.Acting.{args_of};
-ghost use Rattle.flow_steps.specs.Stepping.{OnAfter, Does, Ends, StepsOn, Runs, GoesOn, IsSet, IsNew, IsAct, IsChoose, IsMethod, MethodStep, function_result, FunctionCalled, Passes, IsTest, OperandStep, OperandKept, IsReturn, IsThrow, value_for, values_for, truth_value};
+ghost use Rattle.flow_steps.specs.Stepping.{OnAfter, Does, Ends, StepsOn, Runs, GoesOn, IsSet, IsNew, IsAct, IsChoose, IsMethod, MethodStep, function_result, FunctionCalled, Passes, IsTest, OperandStep, OperandKept, IsReturn, IsThrow, value_for, truth_for, values_for, truth_value};
 ghost use Rattle.flow_steps.specs.Tasks.{RunsNow};
 
+use crate::branches::branch_in;
 use crate::call::Goal;
 use crate::errors::Fault;
-use crate::branches::branch_in;
 use crate::frames::{Stand, instruction_at, may_refer};
 use crate::process::Process;
 use crate::seen::Contents;
@@ -33,11 +33,11 @@ use flow_base::ids::{ActorId, CellId};
 use flow_cancel::task::Task;
 use flow_code::class::{Act, Aim, Effect, Group, Instruction, Last, Operand};
 use flow_code::program::Code;
-use flow_frame::held::Held;
 use flow_eval::cells::CellView;
 use flow_eval::evaluate::{Setting, Turns, run_at};
 use flow_eval::stop::Halt;
 use flow_eval::variables::VarList;
+use flow_frame::held::Held;
 use flow_resolved::evaluate::{Sight, evaluate_args, evaluate_resolved, evaluate_truth, field};
 use flow_resolved::expr::Resolved;
 use flow_resolved::names::FieldNames;
@@ -192,7 +192,7 @@ impl Process {
         actor: ActorId,
         expr: &Resolved,
     ) -> Result<bool, Halt>
-        ensures gives { GivesTruth (value_for code.now actor.0 expr.now self.old) result
+        ensures gives { GivesTruth (truth_for code.now actor.0 expr.now self.old) result
             self.new.left }
         ensures rest { self.new ≡ with_left self.new.left self.old }
     {
@@ -598,7 +598,7 @@ impl Process {
         no: u32,
     ) -> Result<Pace<'a>, Fault>
         ensures { IfOk result (λ pace. Evaluates stand.now truth_value
-            (value_for code.now stand.now.actor.0 expr.now self.old) self.old
+            (truth_for code.now stand.now.actor.0 expr.now self.old) self.old
             (IsTest stand.now yes no) pace self.new) }
     {
         match self.truth(code, stand.actor, expr) {
@@ -610,12 +610,7 @@ impl Process {
 
     #[tactic(auto, using(crate::proofs::Stepped::operand_asked, crate::proofs::Stepped::operands_kept))]
     // The next operand of a wait is asked for; when all are kept, the actor waits.
-    fn choose<'a>(
-        &mut self,
-        code: &Code,
-        stand: &Stand<'a>,
-        number: u32,
-    ) -> Result<Pace<'a>, Fault>
+    fn choose<'a>(&mut self, code: &Code, stand: &Stand<'a>, number: u32) -> Result<Pace<'a>, Fault>
         ensures { IfOk result (λ pace. IsChoose code.now stand.now number self.old pace
             self.new) }
     {
@@ -708,11 +703,7 @@ impl Process {
 
     #[tactic(auto, using(crate::proofs::Stepped::returns_by))]
     // That, with the value known.
-    fn end_with_value<'a>(
-        &mut self,
-        stand: &Stand<'a>,
-        value: Value,
-    ) -> Result<Pace<'a>, Fault>
+    fn end_with_value<'a>(&mut self, stand: &Stand<'a>, value: Value) -> Result<Pace<'a>, Fault>
         ensures { IfOk result (λ pace. IsReturn stand.now value self.old pace self.new) }
     {
         self.hold_value(&value)?;

@@ -209,12 +209,7 @@ impl Process {
     }
 
     // An error goes to a handler.
-    fn caught(
-        &mut self,
-        actor: ActorId,
-        catcher: &Catcher,
-        error: ErrorCode,
-    ) -> Result<(), Fault>
+    fn caught(&mut self, actor: ActorId, catcher: &Catcher, error: ErrorCode) -> Result<(), Fault>
         ensures { OnOk result (self.new ≡ on_heap (caught actor catcher.now error) self.old) }
     {
         self.heap.push(Task::Catch(actor, error))?;

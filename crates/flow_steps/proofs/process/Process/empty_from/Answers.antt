@@ -28,7 +28,7 @@ loop-place-preserved c =
       over_then _ _ _ c.loop-place.invariant.0 c.in_ok-empty.ensures.drops,
       kept_but_heap c.args.self.now c.loop-place.self c.empty.new.self (place_lost i c.loop-place.place) c.loop-place.invariant.1 lost,
       ap (λ (g : HeapTree). places_lost i (c.loop-place.place + 1) (c.in-Ok.last - (c.loop-place.place + 1)) g) heap
-      ∙ lost_one i c.loop-place.place c.in-Ok.last h c.loop-place-test.true ∙ c.loop-place.invariant.2,
+          ∙ lost_one i c.loop-place.place c.in-Ok.last h c.loop-place-test.true ∙ c.loop-place.invariant.2,
       λ k le. ap (λ (g : HeapTree). place_held i k g) heap ∙ still_empty i c.loop-place.place k h (c.loop-place.invariant.3 k le),
     )
 
@@ -38,5 +38,5 @@ returns-clause-lost c =
     let count : c.in-Ok.last ≡ length xs = search rules in
     c.loop-place.invariant.1
     ∙ ap (λ (h : HeapTree). record c.args.self.now { heap = h })
-      (lost_end c.args.actor.0 c.args.first c.in-Ok.last c.loop-place.place xs c.args.self.now.heap c.loop-place.self.heap (search rules)
-        (rw c.frames-2.ensures at c.places_held-count.ensures) count c.loop-place-test.false c.loop-place.invariant.2 c.loop-place.invariant.3)
+    (lost_end c.args.actor.0 c.args.first c.in-Ok.last c.loop-place.place xs c.args.self.now.heap c.loop-place.self.heap (search rules)
+    (rw c.frames-2.ensures at c.places_held-count.ensures) count c.loop-place-test.false c.loop-place.invariant.2 c.loop-place.invariant.3)

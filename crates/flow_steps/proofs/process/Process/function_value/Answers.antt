@@ -9,4 +9,4 @@ use Rattle.flow_steps.proofs.process.Process.function_value.Goals as goal
 pub returns-clause-gives : goal.returns-clause-gives
 returns-clause-gives c =
     subst (λ (s : Setting). Gives (function_called s (run_function s CALL_DEPTH) (slice_get s.functions c.args.function) (args_of c.args.args) c.args.self.now.left)
-        c.run_function-value.result c.run_function-value.new.turns.left) c.setting-setting.ensures c.run_function-value.ensures
+    c.run_function-value.result c.run_function-value.new.turns.left) c.setting-setting.ensures c.run_function-value.ensures

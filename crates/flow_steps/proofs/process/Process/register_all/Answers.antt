@@ -20,10 +20,10 @@ loop-place-preserved c =
     let h = c.loop-place.self.heap in
     let r = register i c.in-Some.held h in (
       c.in_ok-register.ensures.1 ∙ ap (λ (x : Process). record x { heap = r.1 }) c.loop-place.invariant.0
-      ∙ sym (ap (λ (x : Process). record c.args.self.now { heap = x.heap }) c.in_ok-register.ensures.1),
+          ∙ sym (ap (λ (x : Process). record c.args.self.now { heap = x.heap }) c.in_ok-register.ensures.1),
       ap (λ (x : Process). x.heap.frames) c.in_ok-register.ensures.1 ∙ frames_stay i c.in-Some.held h ∙ c.loop-place.invariant.1,
       next_registered i _ c.loop-place.place c.in-Some.held h h _ c.loop-place.self c.register.new.self refl
-      (c.in-Some.ensures ∙ ap (λ (s : Store (FrameTree Value)). slice_get (callbacks_in (thing s.things i)) c.loop-place.place) c.loop-place.invariant.1)
-      c.in_ok-register.ensures c.if-not-branch.false
-      ∙ c.loop-place.invariant.2,
+          (c.in-Some.ensures ∙ ap (λ (s : Store (FrameTree Value)). slice_get (callbacks_in (thing s.things i)) c.loop-place.place) c.loop-place.invariant.1)
+          c.in_ok-register.ensures c.if-not-branch.false
+          ∙ c.loop-place.invariant.2,
     )

@@ -14,10 +14,10 @@ pub returns-then-is_some : goal.returns-then-is_some
 returns-then-is_some c =
     let p = c.loop-step.self in
     c.loop-step.invariant _ _ (task_asks p (record p { heap = c.next_task.new.self }) c.do_task.new.self c.in-Some.task c.if-self.false
-        (top_taken p c.next_task.new.self c.in-Some.task c.in-Some.ensures.task c.in-Some.ensures.rest) c.in_ok-do_task.ensures (sym c.if-is_some.ensures))
+    (top_taken p c.next_task.new.self c.in-Some.task c.in-Some.ensures.task c.in-Some.ensures.rest) c.in_ok-do_task.ensures (sym c.if-is_some.ensures))
 
 pub loop-step-preserved : goal.loop-step-preserved
 loop-step-preserved c = λ n q r.
     let p = c.loop-step.self in
     c.loop-step.invariant n q (task_done p (record p { heap = c.next_task.new.self }) c.do_task.new.self q c.in-Some.task n c.if-self.false
-        (top_taken p c.next_task.new.self c.in-Some.task c.in-Some.ensures.task c.in-Some.ensures.rest) c.in_ok-do_task.ensures (sym c.if-is_some.ensures) r)
+    (top_taken p c.next_task.new.self c.in-Some.task c.in-Some.ensures.task c.in-Some.ensures.rest) c.in_ok-do_task.ensures (sym c.if-is_some.ensures) r)
