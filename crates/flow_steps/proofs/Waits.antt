@@ -1,9 +1,9 @@
 -- What branches take, and how actors leave their waits.
-use Rattle.std.proofs.Common.{◌≡◌, ℕ, ◌+◌, ◌<◌, ◌≤◌, Bool, true, false, nat_lt, List, [], ◌∷◌, length, drop, get_or, slice_get, refl, ap, sym, subst, ◌∙◌, if◌then◌else◌, Result, Ok, Err, IfOk, OnOk}
+use Rattle.std.proofs.Common.{◌≡◌, ℕ, ◌+◌, ◌<◌, ◌≤◌, Bool, true, false, nat_lt, List, ◌∷◌, length, drop, get_or, slice_get, refl, ap, sym, subst, ◌∙◌, if◌then◌else◌, Result, Ok, Err, IfOk, OnOk}
 use Rattle.std.proofs.lemmas.Bool.{false≢true}
 use Rattle.std.proofs.lemmas.List.{drop_more, drop_all}
 use Rattle.std.proofs.lemmas.Result.{IfOk-weaker}
-use Rattle.std.specs.Option.{IsSome, IsSomeAnd, ForSome, option_map, is_some}
+use Rattle.std.specs.Option.{IsSomeAnd, ForSome, is_some}
 use Rattle.std.specs.declared.option.Option.{Option}
 use Rattle.std.specs.declared.option.Option.TheVariants.{None, Some}
 use Rattle.flow_base.specs.ErrorNumbers.{operation_cancelled, second_waiter}
@@ -29,7 +29,6 @@ use Rattle.flow_picture.specs.Holds.{hold_all}
 use Rattle.flow_steps.specs.declared.errors.Fault.{Fault}
 use Rattle.flow_steps.specs.declared.frames.Stand.{Stand}
 use Rattle.flow_steps.specs.declared.process.Process.{Process}
-use Rattle.flow_steps.specs.declared.next.Pace.{Pace}
 use Rattle.flow_steps.specs.declared.next.Pace.TheVariants.{On, Off}
 use Rattle.flow_steps.specs.Doing.{turned, telling}
 use Rattle.flow_steps.specs.Seen.{content_in}
