@@ -1,5 +1,6 @@
 -- What tasks do.
 use Rattle.std.proofs.Common.{◌≡◌, ℕ, true, false, nat_lt, List, [], ◌∷◌, drop, slice_get, pos, refl, ap, sym, subst, ◌∙◌, Result, OnOk}
+use Rattle.std.proofs.lemmas.Option.{same_Some}
 use Rattle.std.proofs.lemmas.Result.{IfOk-weaker}
 use Rattle.std.proofs.lemmas.Bool.{false≢true}
 use Rattle.std.specs.Option.{IsSomeAnd, is_some}
@@ -154,13 +155,9 @@ no_tasks : (ts : List Task) → None ≡ slice_get ts 0 → ts ≡ []
 no_tasks [] e = refl
 no_tasks (t ∷ ts) e = absurd (false≢true (ap is_some e))
 
-abbrev task_or : Task → Option Task → Task
-task_or t None = t
-task_or t (Some u) = u
-
 first_of : (ts : List Task) (t : Task) → Some t ≡ slice_get ts 0 → ts ≡ t ∷ drop 1 ts
 first_of [] t e = absurd (false≢true (sym (ap is_some e)))
-first_of (u ∷ ts) t e = ap (λ x. x ∷ ts) (sym (ap (task_or t) e))
+first_of (u ∷ ts) t e = ap (λ x. x ∷ ts) (sym (same_Some t u e))
 
 pub rested_by : (code : Code) (p : Process) (h : HeapTree) → p.spent ≡ false → None ≡ slice_get p.heap.tasks 0 → h ≡ record p.heap { tasks = drop 1 p.heap.tasks }
     → Tasks code p next.Rested (record p { heap = h })

@@ -1,14 +1,19 @@
 -- What a process does to its own state.
 use Rattle.std.specs.Prelude.{ℕ, ◌-◌, nat_lt, false, true, if◌then◌else◌}
-use Rattle.std.specs.declared.option.Option.TheVariants.{Some}
+use Rattle.std.specs.declared.option.Option.TheVariants.{None, Some}
+use Rattle.std.specs.declared.alloc.Global.{Global}
 use Rattle.flow_trace.specs.declared.line.Line.{Line}
 use Rattle.flow_trace.specs.declared.line.Line.TheVariants.{Cancel}
 use Rattle.flow_steps.specs.declared.call.Call.{Call}
 use Rattle.flow_steps.specs.declared.call.Call.TheVariants as call
 use Rattle.flow_cancel.specs.declared.task.Task.{Task}
-use Rattle.flow_cancel.specs.Heap.{pushed, cleared}
+use Rattle.flow_cancel.specs.Heap.{no_heap, pushed, cleared}
 use Rattle.flow_cancel.specs.Leaving.{withdrawn, cancelled}
 use Rattle.flow_steps.specs.declared.process.Process.{Process}
+
+-- a process that never ran
+abbrev pub never_ran : Global → Process
+never_ran alloc = record { alloc = alloc; heap = no_heap; time = 0; left = 0; spent = false; asked = None }
 
 -- an event begins at a time, in ticks, with its budget of turns
 abbrev pub begun : (now turns : ℕ) → Process → Process
@@ -36,6 +41,10 @@ asking c p = record p { asked = Some c }
 
 abbrev pub telling : Line → Process → Process
 telling l p = asking (call.Line l) p
+
+-- what the step asks of the world is handed over
+abbrev pub heard_out : Process → Process
+heard_out p = record p { asked = None }
 
 -- an actor is marked as cancelled, and leaves its wait if it is suspended; the line is asked for
 abbrev pub stopped : (actor : ℕ) → Process → Process

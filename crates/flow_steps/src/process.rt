@@ -1,8 +1,9 @@
 // A process while it runs.
 
 ghost use Rattle.std.specs.Prelude.{◌≡◌, is_some, IfOk};
+ghost use Rattle.std.specs.Option.{option_copied};
 ghost use Rattle.flow_steps.specs.Tasks.{Tasks};
-ghost use Rattle.flow_steps.specs.Doing.{begun, vanished, asking, telling};
+ghost use Rattle.flow_steps.specs.Doing.{never_ran, begun, vanished, asking, telling, heard_out};
 
 use crate::call::Call;
 use crate::errors::Fault;
@@ -26,7 +27,9 @@ pub struct Process {
 
 impl Process {
     /// A process that never ran.
-    pub fn new(alloc: Global) -> Result<Process, NoMemory> {
+    pub fn new(alloc: Global) -> Result<Process, NoMemory>
+        ensures { IfOk result (λ p. p ≡ never_ran alloc) }
+    {
         Ok(Process {
             alloc,
             heap: Heap::new(alloc)?,
@@ -83,12 +86,17 @@ impl Process {
     }
 
     /// What the step that was done last asks of the world, if anything.
-    pub fn asked(&self) -> Option<&Call> {
+    pub fn asked(&self) -> Option<&Call>
+        ensures { option_copied result ≡ self.now.asked }
+    {
         self.asked.as_ref()
     }
 
     /// Hands over what the step that was done last asks of the world, if anything.
-    pub fn take_asked(&mut self) -> Option<Call> {
+    pub fn take_asked(&mut self) -> Option<Call>
+        ensures asked { result ≡ self.old.asked }
+        ensures taken { self.new ≡ heard_out self.old }
+    {
         self.asked.take()
     }
 
