@@ -33,7 +33,7 @@ use Rattle.flow_steps.specs.Doing.{doing}
 use Rattle.flow_steps.specs.Bringing.{made, requested, heard, OpenGiven, PortGiven, promise_ended, without_promise, closing, closed}
 use Rattle.flow_steps.specs.Holding.{on_heap, cell_holding, stream_holding, result_filled, stream_filled, value_refs, IsGiving, Gives}
 
-hold_append : (rs ss : List cells.Ref) (h : HeapTree) → hold_all (rs ++ ss) h ≡ hold_all ss (hold_all rs h)
+pub hold_append : (rs ss : List cells.Ref) (h : HeapTree) → hold_all (rs ++ ss) h ≡ hold_all ss (hold_all rs h)
 hold_append [] ss h = refl
 hold_append (r ∷ rs) ss h = hold_append rs ss (hold r.0 r.1 h)
 

@@ -1,13 +1,13 @@
 // The frames of a process: places, positions, and values that leave them.
 
-ghost use Rattle.std.specs.Prelude.{◌≡◌, OnOk, IfOk, slice_index_or, None};
-ghost use Rattle.std.specs.Option.{IsSomeAnd};
+ghost use Rattle.std.specs.Prelude.{◌≡◌, ◌++◌, OnOk, IfOk, IfSome, IsSome};
+ghost use Rattle.std.specs.declared.option.Option.TheVariants.{Some};
+ghost use Rattle.flow_value.specs.View.{value_of};
+ghost use Rattle.flow_resolved.specs.View.{places_in};
 ghost use Rattle.flow_numbered.specs.Numbered.{thing};
-ghost use Rattle.flow_frame.specs.Frames.{with_place};
 ghost use Rattle.flow_cancel.specs.Dropping.{dropping};
-ghost use Rattle.flow_picture.specs.Acting.{frame_put};
 ghost use Rattle.flow_steps.specs.Holding.{on_heap};
-ghost use Rattle.flow_steps.specs.Bringing.{gone_to};
+ghost use Rattle.flow_steps.specs.Standing.{GoesTo, next_stand, noted_stand, noted, block_in, StandsIn, StandsNow, gone, place_held, place_put, may_refer, referring, exchanged, Assigns, places_taken, places_emptied, place_lost, lost_from};
 ghost use Rattle.flow_steps.specs.Drops.{DropsOver};
 
 use crate::errors::Fault;
@@ -21,8 +21,20 @@ use flow_value::value::Value;
 use std::mem;
 
 /// Whether a value may hold references.
-pub(crate) fn may_refer(value: &Value) -> bool {
+pub(crate) fn may_refer(value: &Value) -> bool
+    ensures { result ≡ may_refer (value_of value.now) }
+{
     matches!(value, Value::Struct(_) | Value::Ref(_, _))
+}
+
+/// A value that left a place joins others, if it may hold references.
+fn keep_referring(values: &mut Vec<Value>, old: Option<Value>) -> Result<(), Fault>
+    ensures { OnOk result (values.new.items ≡ values.old.items ++ referring old) }
+{
+    match old {
+        Some(value) if may_refer(&value) => Ok(values.push(value)?),
+        _ => Ok(()),
+    }
 }
 
 /// Where an actor stands: its class, and the block and the instruction; where it waits, the block of the wait; and whether its
@@ -39,7 +51,9 @@ pub(crate) struct Stand<'a> {
 
 impl<'a> Stand<'a> {
     /// Where the actor stands that goes on at a block and an instruction of it. Its frame doesn't say so yet.
-    pub(crate) fn at(&self, place: u32, instruction: u32) -> Result<Stand<'a>, Fault> {
+    pub(crate) fn at(&self, place: u32, instruction: u32) -> Result<Stand<'a>, Fault>
+        ensures { IfOk result (λ t. GoesTo self.now place instruction t) }
+    {
         match self.class.blocks.get(place as usize) {
             Some(block) => Ok(Stand {
                 actor: self.actor,
@@ -54,7 +68,9 @@ impl<'a> Stand<'a> {
     }
 
     /// Where the actor stands that goes on at its next instruction. Its frame doesn't say so yet.
-    pub(crate) fn next(&self) -> Result<Stand<'a>, Fault> {
+    pub(crate) fn next(&self) -> Result<Stand<'a>, Fault>
+        ensures { IfOk result (λ t. t ≡ next_stand self.now) }
+    {
         match self.instruction.checked_add(1) {
             Some(instruction) => Ok(Stand {
                 actor: self.actor,
@@ -70,7 +86,9 @@ impl<'a> Stand<'a> {
 }
 
 /// The number of the block in which a frame stands; where its actor waits, that of the wait.
-fn block_number(class: &Class, at: Standing) -> Option<u32> {
+fn block_number(class: &Class, at: Standing) -> Option<u32>
+    ensures { result ≡ block_in class.now at.state at.block }
+{
     if at.state == 0 {
         return Some(at.block);
     }
@@ -78,7 +96,9 @@ fn block_number(class: &Class, at: Standing) -> Option<u32> {
 }
 
 /// Where the frame of an actor stands in its class.
-fn stand_in(code: &Code, actor: ActorId, at: Standing) -> Option<Stand<'_>> {
+fn stand_in(code: &Code, actor: ActorId, at: Standing) -> Option<Stand<'_>>
+    ensures { IfSome result (λ s. StandsIn code.now.classes.items actor at s) }
+{
     let class = code.class(at.class)?;
     let place = block_number(class, at)?;
     Some(Stand {
@@ -91,8 +111,12 @@ fn stand_in(code: &Code, actor: ActorId, at: Standing) -> Option<Stand<'_>> {
     })
 }
 
+#[tactic(auto, using(crate::proofs::Parts::exchanged_inside))]
 /// Exchanges the part of a value to which the fields with names of these numbers lead, if they do. Gives what stood there.
-fn exchange(fields: &FieldNames, root: &mut Value, path: &[usize], value: Value) -> Option<Value> {
+fn exchange(fields: &FieldNames, root: &mut Value, path: &[usize], value: Value) -> Option<Value>
+    ensures { IfSome result (λ old. exchanged (places_in fields.now) path.now (value_of value)
+        (Some (value_of root.old)) ≡ Some (Some (value_of old), Some (value_of root.new))) }
+{
     let Some((name, rest)) = path.split_first() else {
         return Some(mem::replace(root, value));
     };
@@ -107,7 +131,9 @@ fn exchange(fields: &FieldNames, root: &mut Value, path: &[usize], value: Value)
 
 impl Process {
     /// Where an actor that has a frame stands.
-    pub(crate) fn stand_of<'a>(&self, code: &'a Code, actor: ActorId) -> Result<Stand<'a>, Fault> {
+    pub(crate) fn stand_of<'a>(&self, code: &'a Code, actor: ActorId) -> Result<Stand<'a>, Fault>
+        ensures { IfOk result (λ s. StandsNow code.now.classes.items actor self.now s) }
+    {
         let Some(at) = self.heap.frames().standing(actor) else {
             return Err(Fault::Astray);
         };
@@ -117,6 +143,7 @@ impl Process {
         }
     }
 
+    #[tactic(auto, using(crate::proofs::Framing::frame_changed))]
     /// Has a place of a frame hold something or nothing, and gives what it held.
     pub(crate) fn put(
         &mut self,
@@ -125,10 +152,10 @@ impl Process {
         value: Option<Value>,
     ) -> Result<Option<Value>, Fault>
         ensures tasks { self.new.heap.tasks ≡ self.old.heap.tasks }
-        ensures changed { OnOk result (IsSomeAnd (thing self.old.heap.frames.things actor.0)
-            (λ f. self.new ≡ on_heap (frame_put actor.0 (with_place f place value)) self.old)) }
-        ensures held { IfOk result (λ o. IsSomeAnd (thing self.old.heap.frames.things actor.0)
-            (λ f. o ≡ slice_index_or f.places place None)) }
+        ensures there { OnOk result (IsSome (thing self.old.heap.frames.things actor.0)) }
+        ensures changed { OnOk result (self.new
+            ≡ on_heap (place_put actor.0 place value) self.old) }
+        ensures held { IfOk result (λ o. o ≡ place_held actor.0 place self.old.heap) }
     {
         let Some(places) = self.heap.frames().places_of(actor) else {
             return Err(Fault::Astray);
@@ -139,11 +166,12 @@ impl Process {
         Ok(self.heap.frames_mut().set_slot(actor, place, value)?)
     }
 
+    #[tactic(auto, using(crate::proofs::Framing::frame_changed))]
     /// Has a frame go on at a block and an instruction of it.
     pub(crate) fn go(&mut self, actor: ActorId, block: u32, instruction: u32) -> Result<(), Fault>
         ensures tasks { self.new.heap.tasks ≡ self.old.heap.tasks }
-        ensures gone { OnOk result (IsSomeAnd (thing self.old.heap.frames.things actor.0)
-            (λ f. self.new ≡ on_heap (frame_put actor.0 (gone_to block instruction f)) self.old)) }
+        ensures there { OnOk result (IsSome (thing self.old.heap.frames.things actor.0)) }
+        ensures gone { OnOk result (self.new ≡ on_heap (gone actor.0 block instruction) self.old) }
     {
         if !self.heap.frames().contains(actor) {
             return Err(Fault::Astray);
@@ -153,7 +181,10 @@ impl Process {
     }
 
     /// Has the frame of an actor say where the actor stands, where it does not yet.
-    pub(crate) fn note<'a>(&mut self, stand: Stand<'a>) -> Result<Stand<'a>, Fault> {
+    pub(crate) fn note<'a>(&mut self, stand: Stand<'a>) -> Result<Stand<'a>, Fault>
+        ensures stand { IfOk result (λ s. s ≡ noted_stand stand.entry) }
+        ensures noted { OnOk result (self.new ≡ noted stand.entry self.old) }
+    {
         if stand.noted {
             return Ok(stand);
         }
@@ -169,10 +200,13 @@ impl Process {
     }
 
     /// Has the frame of an actor go on at its next instruction.
-    pub(crate) fn go_on<'a>(&mut self, stand: &Stand<'a>) -> Result<Stand<'a>, Fault> {
+    pub(crate) fn go_on<'a>(&mut self, stand: &Stand<'a>) -> Result<Stand<'a>, Fault>
+        ensures { OnOk result (self.new ≡ noted (next_stand stand.now) self.old) }
+    {
         self.note(stand.next()?)
     }
 
+    #[tactic(auto, using(crate::proofs::Parts::part_assigned))]
     // The part of a place at which an actor aims gets a value that counts already. Gives what stood there.
     fn put_part(
         &mut self,
@@ -180,7 +214,10 @@ impl Process {
         actor: ActorId,
         aim: &Aim,
         value: Value,
-    ) -> Result<Option<Value>, Fault> {
+    ) -> Result<Option<Value>, Fault>
+        ensures { IfOk result (λ old. Assigns fields.now actor aim.now value self.old old
+            self.new) }
+    {
         let Some(root) = self.put(actor, aim.place, None)? else {
             return Err(Fault::Astray);
         };
@@ -192,6 +229,7 @@ impl Process {
         Ok(Some(old))
     }
 
+    #[tactic(auto, using(crate::proofs::Parts::whole_assigned))]
     /// Where an actor aims gets a value that counts already. Gives what stood there.
     pub(crate) fn assign(
         &mut self,
@@ -199,21 +237,28 @@ impl Process {
         actor: ActorId,
         aim: &Aim,
         value: Value,
-    ) -> Result<Option<Value>, Fault> {
+    ) -> Result<Option<Value>, Fault>
+        ensures { IfOk result (λ old. Assigns code.now.fields actor aim.now value self.old old
+            self.new) }
+    {
         if aim.path.is_empty() {
             return self.put(actor, aim.place, Some(value));
         }
         self.put_part(code.fields(), actor, aim, value)
     }
 
+    #[tactic(auto, using(crate::proofs::Framing::one_emptied, crate::proofs::Framing::one_taken))]
     /// The values with references that leave these places, each emptied as it is read.
-    pub(crate) fn taken(&mut self, actor: ActorId, places: &[u32]) -> Result<Vec<Value>, Fault> {
+    pub(crate) fn taken(&mut self, actor: ActorId, places: &[u32]) -> Result<Vec<Value>, Fault>
+        ensures taken { IfOk result (λ vs. vs.items
+            ≡ places_taken actor.0 places.now self.old.heap) }
+        ensures emptied { OnOk result (self.new
+            ≡ on_heap (places_emptied actor.0 places.now) self.old) }
+    {
         let mut values = Vec::new(self.alloc);
         for place in places {
-            match self.put(actor, *place, None)? {
-                Some(value) if may_refer(&value) => values.push(value)?,
-                _ => (),
-            }
+            let old = self.put(actor, *place, None)?;
+            keep_referring(&mut values, old)?;
         }
         Ok(values)
     }
@@ -230,10 +275,11 @@ impl Process {
         Ok(())
     }
 
-    #[tactic(auto, using(crate::proofs::Over::over_none, crate::proofs::Over::over_these))]
+    #[tactic(auto, using(crate::proofs::Over::over_none, crate::proofs::Over::over_these, crate::proofs::Framing::lost_none))]
     // A place is emptied, and what it held is dropped.
     fn empty(&mut self, actor: ActorId, place: u32) -> Result<(), Fault>
-        ensures { OnOk result (DropsOver self.old.heap.tasks self.new.heap.tasks) }
+        ensures lost { OnOk result (self.new ≡ on_heap (place_lost actor.0 place) self.old) }
+        ensures drops { OnOk result (DropsOver self.old.heap.tasks self.new.heap.tasks) }
     {
         if self.heap.frames().held(actor, place).is_none() {
             return Ok(());
@@ -246,13 +292,15 @@ impl Process {
 
     // The places from one on are emptied, and what they held is dropped, that of the last place first.
     fn empty_from(&mut self, actor: ActorId, first: u32) -> Result<(), Fault>
-        ensures { OnOk result (DropsOver self.old.heap.tasks self.new.heap.tasks) }
+        ensures lost { OnOk result (self.new ≡ on_heap (lost_from actor.0 first) self.old) }
+        ensures drops { OnOk result (DropsOver self.old.heap.tasks self.new.heap.tasks) }
     {
         if !self.heap.frames().contains(actor) {
             return Err(Fault::Astray);
         }
+        let places = self.heap.frames().places(actor);
         let count = self.heap.frames().places_held(actor).len();
-        let last = u32::try_from(count).unwrap_or(u32::MAX);
+        let last = u32::try_from(count).unwrap_or(places);
         for place in first..last {
             self.empty(actor, place)?;
         }
@@ -261,13 +309,17 @@ impl Process {
 
     /// All locals are emptied, and what they held is dropped by falling number.
     pub(crate) fn lose_locals(&mut self, class: &Class, actor: ActorId) -> Result<(), Fault>
-        ensures { OnOk result (DropsOver self.old.heap.tasks self.new.heap.tasks) }
+        ensures lost { OnOk result (self.new
+            ≡ on_heap (lost_from actor.0 class.now.slots) self.old) }
+        ensures drops { OnOk result (DropsOver self.old.heap.tasks self.new.heap.tasks) }
     {
         self.empty_from(actor, class.slots)
     }
 
     /// All places are emptied, and what they held is dropped, by falling number, the locals before the slots.
-    pub(crate) fn lose_all(&mut self, actor: ActorId) -> Result<(), Fault> {
+    pub(crate) fn lose_all(&mut self, actor: ActorId) -> Result<(), Fault>
+        ensures { OnOk result (self.new ≡ on_heap (lost_from actor.0 0) self.old) }
+    {
         self.empty_from(actor, 0)
     }
 }

@@ -1,5 +1,22 @@
 // The step of an actor by its instruction.
 
+ghost use Rattle.std.specs.Prelude.{◌≡◌, ◌+◌, IfOk, OnOk, IfSome, Some, slice_get};
+ghost use Rattle.std.specs.Option.{option_copied, option_map};
+ghost use Rattle.flow_value.specs.View.{value_of};
+ghost use Rattle.flow_value.specs.Values.{RefValue};
+ghost use Rattle.flow_eval.specs.View.{Gives, GivesAll};
+ghost use Rattle.flow_resolved.specs.Truth.{GivesTruth};
+ghost use Rattle.flow_resolved.specs.View.{places_in};
+ghost use Rattle.flow_resolved.specs.Evaluation.{value_at};
+ghost use Rattle.flow_code.specs.declared.class.Act.TheVariants.{Function};
+ghost use Rattle.flow_steps.specs.declared.next.Pace.TheVariants.{Off};
+ghost use Rattle.flow_steps.specs.Sights.{Halted, program_time, with_left, Evaluates};
+ghost use Rattle.flow_steps.specs.Standing.{noted, place_held, places_taken, places_emptied, referring, field_path, next_stand};
+ghost use Rattle.flow_steps.specs.Holding.{on_heap};
+ghost use Rattle.flow_steps.specs.Acting.{args_of};
+ghost use Rattle.flow_steps.specs.Stepping.{OnAfter, Does, Ends, StepsOn, Runs, IsSet, IsNew, IsAct, IsChoose, IsMethod, MethodStep, FunctionCalled, Passes, IsTest, OperandStep, OperandKept, IsReturn, IsThrow, value_for, values_for, truth_value};
+ghost use Rattle.flow_steps.specs.Tasks.{RunsNow};
+
 use crate::call::Goal;
 use crate::errors::Fault;
 use crate::frames::{Stand, may_refer};
@@ -8,8 +25,9 @@ use crate::seen::Contents;
 use flow_ast::predefined::Method;
 use flow_base::ids::{ActorId, CellId};
 use flow_cancel::task::Task;
-use flow_code::class::{Act, Aim, Branch, Effect, Instruction, Last, Operand};
+use flow_code::class::{Act, Aim, Effect, Group, Instruction, Last, Operand};
 use flow_code::program::Code;
+use flow_frame::held::Held;
 use flow_eval::evaluate::{Setting, Turns, run_at};
 use flow_eval::stop::Halt;
 use flow_eval::variables::VarList;
@@ -27,7 +45,10 @@ pub(crate) enum Pace<'a> {
 }
 
 /// The part of a value to which fields with names of these numbers lead.
-fn part<'a>(fields: &FieldNames, value: &'a Value, path: &[usize]) -> Option<&'a Value> {
+fn part<'a>(fields: &FieldNames, value: &'a Value, path: &[usize]) -> Option<&'a Value>
+    ensures { IfSome result (λ v. field_path (places_in fields.now) path.now
+        (Some (value_of value.now)) ≡ Some (value_of v.now)) }
+{
     let mut part = value;
     for name in path {
         let Some(inner) = field(fields, part, *name) else {
@@ -38,9 +59,27 @@ fn part<'a>(fields: &FieldNames, value: &'a Value, path: &[usize]) -> Option<&'a
     Some(part)
 }
 
+/// The number through its class of the branch of a group that waits for the operand after so many.
+fn callback_of(group: &Group, kept: usize) -> Result<u32, Fault>
+    ensures { IfOk result (λ n. n ≡ group.now.first + kept) }
+{
+    match u32::try_from(kept) {
+        Ok(kept) => match group.first.checked_add(kept) {
+            Some(callback) => Ok(callback),
+            None => Err(Fault::Astray),
+        },
+        Err(_) => Err(Fault::Astray),
+    }
+}
+
 impl Process {
     // What stays the same while an expression is evaluated.
-    fn setting<'a>(&self, code: &'a Code, contents: &'a Contents<'a>) -> Setting<'a, Contents<'a>> {
+    fn setting<'a>(&self, code: &'a Code, contents: &'a Contents<'a>) -> Setting<'a, Contents<'a>>
+        ensures records { result.records.now ≡ code.now.program.records.items }
+        ensures functions { result.functions.now ≡ code.now.program.functions.items }
+        ensures cells { result.view.now ≡ contents.now }
+        ensures time { result.time ≡ program_time self.now.time }
+    {
         let raw = code.program().raw();
         Setting {
             alloc: self.alloc,
@@ -52,7 +91,10 @@ impl Process {
     }
 
     /// Evaluation gave no value: an error is thrown where the actor stands, or no turn was left.
-    pub(crate) fn halted<'a>(&mut self, stand: &Stand<'a>, halt: Halt) -> Result<Pace<'a>, Fault> {
+    pub(crate) fn halted<'a>(&mut self, stand: &Stand<'a>, halt: Halt) -> Result<Pace<'a>, Fault>
+        ensures off { IfOk result (λ pace. pace ≡ Off) }
+        ensures halted { OnOk result (Halted stand.now halt self.old self.new) }
+    {
         self.note(*stand)?;
         match halt {
             Halt::Thrown(error) => self.throw(stand.actor, error)?,
@@ -63,13 +105,18 @@ impl Process {
         Ok(Pace::Off)
     }
 
+    #[tactic(auto, using(crate::proofs::Sights::same_sight))]
     /// The value of an expression for an actor.
     pub(crate) fn value(
         &mut self,
         code: &Code,
         actor: ActorId,
         expr: &Resolved,
-    ) -> Result<Value, Halt> {
+    ) -> Result<Value, Halt>
+        ensures gives { Gives (value_for code.now actor.0 expr.now self.old) result
+            self.new.left }
+        ensures rest { self.new ≡ with_left self.new.left self.old }
+    {
         let mut turns = Turns { left: self.left };
         let value = {
             let contents = Contents {
@@ -86,13 +133,18 @@ impl Process {
         value
     }
 
+    #[tactic(auto, using(crate::proofs::Sights::same_sight))]
     /// The truth value of an expression for an actor.
     pub(crate) fn truth(
         &mut self,
         code: &Code,
         actor: ActorId,
         expr: &Resolved,
-    ) -> Result<bool, Halt> {
+    ) -> Result<bool, Halt>
+        ensures gives { GivesTruth (value_for code.now actor.0 expr.now self.old) result
+            self.new.left }
+        ensures rest { self.new ≡ with_left self.new.left self.old }
+    {
         let mut turns = Turns { left: self.left };
         let value = {
             let contents = Contents {
@@ -109,13 +161,18 @@ impl Process {
         value
     }
 
+    #[tactic(auto, using(crate::proofs::Sights::same_sight))]
     /// The values of arguments for an actor.
     pub(crate) fn values(
         &mut self,
         code: &Code,
         actor: ActorId,
         args: &[Resolved],
-    ) -> Result<Vec<Value>, Halt> {
+    ) -> Result<Vec<Value>, Halt>
+        ensures gives { GivesAll (values_for code.now actor.0 args.now self.old) result
+            self.new.left }
+        ensures rest { self.new ≡ with_left self.new.left self.old }
+    {
         let mut turns = Turns { left: self.left };
         let values = {
             let contents = Contents {
@@ -132,14 +189,19 @@ impl Process {
         values
     }
 
+    #[tactic(auto, using(crate::proofs::Done::runs_now))]
     /// An actor takes its next steps from where its frame stands.
-    pub(crate) fn run(&mut self, code: &Code, actor: ActorId) -> Result<(), Fault> {
+    pub(crate) fn run(&mut self, code: &Code, actor: ActorId) -> Result<(), Fault>
+        ensures { OnOk result (RunsNow code.now actor self.old self.new) }
+    {
         let stand = self.stand_of(code, actor)?;
         self.run_from(code, stand)
     }
 
     /// An actor takes its next steps, by its instructions, up to one after which other tasks come first.
-    pub(crate) fn run_from(&mut self, code: &Code, stand: Stand<'_>) -> Result<(), Fault> {
+    pub(crate) fn run_from(&mut self, code: &Code, stand: Stand<'_>) -> Result<(), Fault>
+        ensures { OnOk result (Runs code.now stand.entry self.old self.new) }
+    {
         let mut stand = stand;
         for _step in 0..u64::MAX {
             match self.take_step(code, &stand)? {
@@ -151,7 +213,9 @@ impl Process {
     }
 
     // An actor takes its next step, by its instruction.
-    fn take_step<'a>(&mut self, code: &Code, stand: &Stand<'a>) -> Result<Pace<'a>, Fault> {
+    fn take_step<'a>(&mut self, code: &Code, stand: &Stand<'a>) -> Result<Pace<'a>, Fault>
+        ensures { IfOk result (λ pace. StepsOn code.now stand.now self.old pace self.new) }
+    {
         let block = stand.block;
         if let Some(instruction) = block.body.get(stand.instruction as usize) {
             return self.instruction(code, stand, instruction);
@@ -162,12 +226,15 @@ impl Process {
         Err(Fault::Astray)
     }
 
+    #[tactic(auto, using(crate::proofs::Stepped::after_one, crate::proofs::Stepped::after_none, crate::proofs::Holding::value_dropped))]
     /// A value that is left over, if any, is dropped; the actor goes on at once where that leaves nothing to do.
     pub(crate) fn on_after<'a>(
         &mut self,
         stand: Stand<'a>,
         old: Option<Value>,
-    ) -> Result<Pace<'a>, Fault> {
+    ) -> Result<Pace<'a>, Fault>
+        ensures { IfOk result (λ pace. OnAfter stand.entry (referring old) self.old pace self.new) }
+    {
         match old {
             Some(old) if may_refer(&old) => {
                 self.note(stand)?;
@@ -184,7 +251,10 @@ impl Process {
         code: &Code,
         stand: &Stand<'a>,
         instruction: &Instruction,
-    ) -> Result<Pace<'a>, Fault> {
+    ) -> Result<Pace<'a>, Fault>
+        ensures { IfOk result (λ pace. Does code.now stand.now instruction.now self.old pace
+            self.new) }
+    {
         match instruction {
             Instruction::Set(aim, expr) => self.set_aim(code, stand, aim, expr),
             Instruction::Effect(_, effect, args) => {
@@ -198,8 +268,13 @@ impl Process {
         }
     }
 
+    #[tactic(auto, using(crate::proofs::Stepped::after_values, crate::proofs::Stepped::after_none))]
     // Places are emptied, and what they held is dropped.
-    fn empty_places<'a>(&mut self, stand: &Stand<'a>, places: &[u32]) -> Result<Pace<'a>, Fault> {
+    fn empty_places<'a>(&mut self, stand: &Stand<'a>, places: &[u32]) -> Result<Pace<'a>, Fault>
+        ensures { IfOk result (λ pace. OnAfter (next_stand stand.now)
+            (places_taken stand.now.actor.0 places.now self.old.heap)
+            (on_heap (places_emptied stand.now.actor.0 places.now) self.old) pace self.new) }
+    {
         let next = stand.next()?;
         let values = self.taken(stand.actor, places)?;
         if values.is_empty() {
@@ -211,6 +286,7 @@ impl Process {
         Ok(Pace::Off)
     }
 
+    #[tactic(auto, using(crate::proofs::Evaluating::value_given, crate::proofs::Evaluating::value_breaks))]
     // An assignment: the value is put in place, what stood there is dropped, and the next instruction follows.
     fn set_aim<'a>(
         &mut self,
@@ -218,29 +294,51 @@ impl Process {
         stand: &Stand<'a>,
         aim: &Aim,
         expr: &Resolved,
-    ) -> Result<Pace<'a>, Fault> {
-        let value = match self.value(code, stand.actor, expr) {
-            Ok(value) => value,
-            Err(halt) => return self.halted(stand, halt),
-        };
+    ) -> Result<Pace<'a>, Fault>
+        ensures { IfOk result (λ pace. Evaluates stand.now value_of
+            (value_for code.now stand.now.actor.0 expr.now self.old) self.old
+            (IsSet code.now stand.now aim.now) pace self.new) }
+    {
+        match self.value(code, stand.actor, expr) {
+            Ok(value) => self.set_value(code, stand, aim, value),
+            Err(halt) => self.halted(stand, halt),
+        }
+    }
+
+    #[tactic(auto, using(crate::proofs::Stepped::set_by))]
+    // That, with the value known.
+    fn set_value<'a>(
+        &mut self,
+        code: &Code,
+        stand: &Stand<'a>,
+        aim: &Aim,
+        value: Value,
+    ) -> Result<Pace<'a>, Fault>
+        ensures { IfOk result (λ pace. IsSet code.now stand.now aim.now value self.old pace
+            self.new) }
+    {
         self.hold_value(&value)?;
         let old = self.assign(code, stand.actor, aim, value)?;
         self.on_after(stand.next()?, old)
     }
 
+    #[tactic(auto, using(crate::proofs::Stepped::new_by))]
     // A new cell for a place of a promise's type.
     fn new_promise<'a>(
         &mut self,
         stand: &Stand<'a>,
         place: u32,
         kind: Kind,
-    ) -> Result<Pace<'a>, Fault> {
+    ) -> Result<Pace<'a>, Fault>
+        ensures { IfOk result (λ pace. IsNew stand.now place kind self.old pace self.new) }
+    {
         let cell = self.new_cell(kind)?;
         self.hold(kind, cell)?;
         let old = self.put(stand.actor, place, Some(Value::Ref(kind, cell)))?;
         self.on_after(stand.next()?, old)
     }
 
+    #[tactic(auto, using(crate::proofs::Evaluating::value_given, crate::proofs::Evaluating::values_break))]
     // A call statement without a base: a predefined one, or a function of the program, whose value is forgotten.
     fn act<'a>(
         &mut self,
@@ -248,11 +346,29 @@ impl Process {
         stand: &Stand<'a>,
         act: Act,
         args: &[Resolved],
-    ) -> Result<Pace<'a>, Fault> {
+    ) -> Result<Pace<'a>, Fault>
+        ensures { IfOk result (λ pace. Evaluates stand.now args_of
+            (values_for code.now stand.now.actor.0 args.now self.old) self.old
+            (IsAct code.now stand.now act) pace self.new) }
+    {
         let args = match self.values(code, stand.actor, args) {
             Ok(args) => args,
             Err(halt) => return self.halted(stand, halt),
         };
+        self.act_with(code, stand, act, args)
+    }
+
+    // That, with its arguments known.
+    fn act_with<'a>(
+        &mut self,
+        code: &Code,
+        stand: &Stand<'a>,
+        act: Act,
+        args: Vec<Value>,
+    ) -> Result<Pace<'a>, Fault>
+        ensures { IfOk result (λ pace. IsAct code.now stand.now act args self.old pace
+            self.new) }
+    {
         match act {
             Act::World(call) => {
                 self.go_on(stand)?;
@@ -263,6 +379,7 @@ impl Process {
         }
     }
 
+    #[tactic(auto, using(crate::proofs::Evaluating::value_given, crate::proofs::Evaluating::value_breaks))]
     // A method of the reference at which an actor aims.
     fn method<'a>(
         &mut self,
@@ -271,15 +388,33 @@ impl Process {
         aim: &Aim,
         method: Method,
         args: &[Resolved],
-    ) -> Result<Pace<'a>, Fault> {
-        let sent = match args {
-            [] => None,
+    ) -> Result<Pace<'a>, Fault>
+        ensures { IfOk result (λ pace. MethodStep code.now stand.now aim.now method args.now
+            self.old pace self.new) }
+    {
+        match args {
+            [] => self.method_with(code, stand, aim, method, None),
             [arg] => match self.value(code, stand.actor, arg) {
-                Ok(value) => Some(value),
-                Err(halt) => return self.halted(stand, halt),
+                Ok(value) => self.method_with(code, stand, aim, method, Some(value)),
+                Err(halt) => self.halted(stand, halt),
             },
-            _ => return Err(Fault::Astray),
-        };
+            _ => Err(Fault::Astray),
+        }
+    }
+
+    #[tactic(auto, using(crate::proofs::Stepped::method_by))]
+    // That, with what is sent known.
+    fn method_with<'a>(
+        &mut self,
+        code: &Code,
+        stand: &Stand<'a>,
+        aim: &Aim,
+        method: Method,
+        sent: Option<Value>,
+    ) -> Result<Pace<'a>, Fault>
+        ensures { IfOk result (λ pace. IsMethod code.now stand.now aim.now method sent self.old
+            pace self.new) }
+    {
         let Some((kind, cell)) = self.reference_at(code, stand.actor, aim) else {
             return Err(Fault::Astray);
         };
@@ -289,7 +424,11 @@ impl Process {
     }
 
     // The reference at which an actor aims.
-    fn reference_at(&self, code: &Code, actor: ActorId, aim: &Aim) -> Option<(Kind, CellId)> {
+    fn reference_at(&self, code: &Code, actor: ActorId, aim: &Aim) -> Option<(Kind, CellId)>
+        ensures { IfSome result (λ r. field_path (places_in code.now.fields) aim.now.path.items
+            (option_map value_of (place_held actor.0 aim.now.place self.now.heap))
+            ≡ Some (RefValue r.0 r.1.0)) }
+    {
         let root = self.heap.frames().held(actor, aim.place)?;
         match part(code.fields(), root, &aim.path)? {
             Value::Ref(kind, cell) => Some((*kind, *cell)),
@@ -297,13 +436,17 @@ impl Process {
         }
     }
 
+    #[tactic(auto, using(crate::proofs::Evaluating::value_given, crate::proofs::Evaluating::value_breaks))]
     fn call_function<'a>(
         &mut self,
         code: &Code,
         stand: &Stand<'a>,
         function: usize,
         args: Vec<Value>,
-    ) -> Result<Pace<'a>, Fault> {
+    ) -> Result<Pace<'a>, Fault>
+        ensures { IfOk result (λ pace. FunctionCalled code.now stand.now function args self.old
+            pace self.new) }
+    {
         let mut turns = Turns { left: self.left };
         let came_to = {
             let contents = Contents {
@@ -322,10 +465,13 @@ impl Process {
         }
     }
 
-    fn last<'a>(&mut self, code: &Code, stand: &Stand<'a>, last: &Last) -> Result<Pace<'a>, Fault> {
+    #[tactic(auto, using(crate::proofs::Stepped::goes_at))]
+    fn last<'a>(&mut self, code: &Code, stand: &Stand<'a>, last: &Last) -> Result<Pace<'a>, Fault>
+        ensures { IfOk result (λ pace. Ends code.now stand.now last.now self.old pace self.new) }
+    {
         match last {
             Last::Goto(block) => Ok(Pace::On(stand.at(*block, 0)?)),
-            Last::Pass(block) => self.pass(stand.at(*block, 0)?),
+            Last::Pass(block) => self.pass(stand, *block),
             Last::Test(expr, yes, no) => self.test(code, stand, expr, *yes, *no),
             Last::Choose(group) => self.choose(code, stand, *group),
             Last::Return(expr) => self.finish_with(code, stand, expr),
@@ -333,22 +479,31 @@ impl Process {
         }
     }
 
+    #[tactic(auto, using(crate::proofs::Stepped::pass_on, crate::proofs::Stepped::pass_off))]
     // A pass of a loop begins: it takes a turn.
-    fn pass<'a>(&mut self, stand: Stand<'a>) -> Result<Pace<'a>, Fault> {
+    fn pass<'a>(&mut self, stand: &Stand<'a>, block: u32) -> Result<Pace<'a>, Fault>
+        ensures { IfOk result (λ pace. Passes stand.now block self.old pace self.new) }
+    {
+        let begin = stand.at(block, 0)?;
         if self.turn() {
-            return Ok(Pace::On(stand));
+            return Ok(Pace::On(begin));
         }
-        self.note(stand)?;
+        self.note(begin)?;
         Ok(Pace::Off)
     }
 
+    #[tactic(auto, using(crate::proofs::Evaluating::value_given, crate::proofs::Evaluating::value_breaks))]
     // The error that an expression gives is thrown.
     fn throw_value<'a>(
         &mut self,
         code: &Code,
         stand: &Stand<'a>,
         expr: &Resolved,
-    ) -> Result<Pace<'a>, Fault> {
+    ) -> Result<Pace<'a>, Fault>
+        ensures { IfOk result (λ pace. Evaluates stand.now value_of
+            (value_for code.now stand.now.actor.0 expr.now self.old) self.old
+            (IsThrow stand.now) pace self.new) }
+    {
         match self.value(code, stand.actor, expr) {
             Ok(Value::Error(error)) => {
                 self.note(*stand)?;
@@ -360,6 +515,7 @@ impl Process {
         }
     }
 
+    #[tactic(auto, using(crate::proofs::Evaluating::value_given, crate::proofs::Evaluating::truth_breaks))]
     fn test<'a>(
         &mut self,
         code: &Code,
@@ -367,7 +523,11 @@ impl Process {
         expr: &Resolved,
         yes: u32,
         no: u32,
-    ) -> Result<Pace<'a>, Fault> {
+    ) -> Result<Pace<'a>, Fault>
+        ensures { IfOk result (λ pace. Evaluates stand.now truth_value
+            (value_for code.now stand.now.actor.0 expr.now self.old) self.old
+            (IsTest stand.now yes no) pace self.new) }
+    {
         let next = match self.truth(code, stand.actor, expr) {
             Ok(true) => yes,
             Ok(false) => no,
@@ -376,13 +536,17 @@ impl Process {
         Ok(Pace::On(stand.at(next, 0)?))
     }
 
+    #[tactic(auto, using(crate::proofs::Stepped::operand_asked, crate::proofs::Stepped::operands_kept))]
     // The next operand of a wait is asked for; when all are kept, the actor waits.
     fn choose<'a>(
         &mut self,
         code: &Code,
         stand: &Stand<'a>,
         number: u32,
-    ) -> Result<Pace<'a>, Fault> {
+    ) -> Result<Pace<'a>, Fault>
+        ensures { IfOk result (λ pace. IsChoose code.now stand.now number self.old pace
+            self.new) }
+    {
         let Some(group) = stand.class.group(number) else {
             return Err(Fault::Astray);
         };
@@ -392,46 +556,78 @@ impl Process {
             self.wait(&stand, number)?;
             return Ok(Pace::Off);
         };
-        let number = group
-            .first
-            .saturating_add(u32::try_from(kept).unwrap_or(u32::MAX));
-        self.operand(code, &stand, number, branch)
+        let callback = callback_of(group, kept)?;
+        self.operand(code, &stand, callback, &branch.operand)
     }
 
     fn operand<'a>(
         &mut self,
         code: &Code,
         stand: &Stand<'a>,
-        number: u32,
-        branch: &Branch,
-    ) -> Result<Pace<'a>, Fault> {
-        let expr = match &branch.operand {
-            Operand::Value(expr) => expr,
+        callback: u32,
+        operand: &Operand,
+    ) -> Result<Pace<'a>, Fault>
+        ensures { IfOk result (λ pace. OperandStep code.now stand.now callback operand.now self.old
+            pace self.new) }
+    {
+        match operand {
+            Operand::Value(expr) => self.value_operand(code, stand, callback, expr),
             Operand::Effect(effect, args) => {
-                return self.effect(code, stand, Goal::Kept(number), *effect, args);
+                self.effect(code, stand, Goal::Kept(callback), *effect, args)
             }
-        };
+        }
+    }
+
+    #[tactic(auto, using(crate::proofs::Evaluating::value_given, crate::proofs::Evaluating::value_breaks))]
+    // An operand that is the value of an expression.
+    fn value_operand<'a>(
+        &mut self,
+        code: &Code,
+        stand: &Stand<'a>,
+        callback: u32,
+        expr: &Resolved,
+    ) -> Result<Pace<'a>, Fault>
+        ensures { IfOk result (λ pace. Evaluates stand.now value_of
+            (value_for code.now stand.now.actor.0 expr.now self.old) self.old
+            (OperandKept stand.now callback) pace self.new) }
+    {
         match self.value(code, stand.actor, expr) {
             Ok(Value::Ref(kind, cell)) => {
                 self.hold(kind, cell)?;
-                self.keep_operand(stand, number, cell)
+                self.keep_operand(stand, Held { callback, cell })
             }
             Ok(_) => Err(Fault::Astray),
             Err(halt) => self.halted(stand, halt),
         }
     }
 
+    #[tactic(auto, using(crate::proofs::Evaluating::value_given, crate::proofs::Evaluating::value_breaks))]
     // The actor ends with a value; everything leaves its variables.
     fn finish_with<'a>(
         &mut self,
         code: &Code,
         stand: &Stand<'a>,
         expr: &Resolved,
-    ) -> Result<Pace<'a>, Fault> {
-        let value = match self.value(code, stand.actor, expr) {
-            Ok(value) => value,
-            Err(halt) => return self.halted(stand, halt),
-        };
+    ) -> Result<Pace<'a>, Fault>
+        ensures { IfOk result (λ pace. Evaluates stand.now value_of
+            (value_for code.now stand.now.actor.0 expr.now self.old) self.old
+            (IsReturn stand.now) pace self.new) }
+    {
+        match self.value(code, stand.actor, expr) {
+            Ok(value) => self.end_with_value(stand, value),
+            Err(halt) => self.halted(stand, halt),
+        }
+    }
+
+    #[tactic(auto, using(crate::proofs::Stepped::returns_by))]
+    // That, with the value known.
+    fn end_with_value<'a>(
+        &mut self,
+        stand: &Stand<'a>,
+        value: Value,
+    ) -> Result<Pace<'a>, Fault>
+        ensures { IfOk result (λ pace. IsReturn stand.now value self.old pace self.new) }
+    {
         self.hold_value(&value)?;
         self.note(*stand)?;
         let outcome = Box::new(self.alloc, Outcome::Value(value))?;
