@@ -5,3 +5,6 @@ pub mod Losing
 pub mod Brought
 pub mod Making
 pub mod Ended
+pub mod Places
+pub mod Lost
+pub mod Emptied

@@ -2,3 +2,4 @@ pub mod Shown
 pub mod Working
 pub mod Bringing
 pub mod Closing
+pub mod Placing

@@ -4,4 +4,5 @@
 #![tactic(auto)]
 
 pub mod bringing;
+pub mod placing;
 pub mod work;
