@@ -8,3 +8,5 @@ pub mod Ended
 pub mod Places
 pub mod Lost
 pub mod Emptied
+pub mod Parting
+pub mod Takings

@@ -17,7 +17,7 @@ use Rattle.flow_cancel.specs.declared.task.Task as stack
 use Rattle.flow_cancel.specs.Heap.{HeapTree}
 use Rattle.flow_cancel.specs.Heap as heap
 use Rattle.flow_cancel.specs.Dropping.{drops}
-use Rattle.flow_meaning.specs.Numbered.{thing}
+use Rattle.flow_meaning.specs.Numbered.{Numbered, thing}
 use Rattle.flow_meaning.specs.Asks as asks
 use Rattle.flow_meaning.specs.Cells.{Side, Ref, side_of, Cell, is_complete}
 use Rattle.flow_meaning.specs.Process.{Task, Spent, Entry, Core, Proc}
@@ -26,7 +26,7 @@ use Rattle.flow_meaning.specs.Lines.{broken_line}
 use Rattle.flow_meaning.specs.Work as work
 use Rattle.flow_meaning.specs.Work.{turn, turn_of, writes, pushed, dropping, fill, fill_cell}
 use Rattle.flow_meaning.specs.Dropping.{lose_ref, break_cell}
-use Rattle.flow_meaning.specs.Step.{on_core}
+use Rattle.flow_meaning.specs.Step.{proc, on_core}
 use Rattle.flow_meaning.specs.Frame.{Frame}
 use Rattle.flow_picture.specs.Shows.{Shows}
 use Rattle.flow_picture.specs.Counted.{references}
@@ -80,26 +80,34 @@ module _ (r : RawTree) (ls : List Line) (x : Scan) (m : Process) (p : Proc Frame
         goes = s.goes;
       })
 
-  without_turn : (act : Core → Core) → m.left ≡ 0 → Shown r ls x m p → AreSpent ls (turned m) (on_core (λ c. turn c act) p)
-  without_turn act e s =
-      subst (λ k. AreSpent ls k (on_core (λ c. turn c act) p)) (sym (turned_none m e))
-      (subst (λ n. AreSpent ls (record m { spent = true }) (on_core (λ c. turn_of n c act) p)) (sym (s.left ∙ e)) (record {
+  without_turn : (act : Core → Core) (xs : Numbered Frame) → m.left ≡ 0 → Shown r ls x m p → AreSpent ls (turned m) (proc (turn p.core act) xs)
+  without_turn act xs e s =
+      subst (λ k. AreSpent ls k (proc (turn p.core act) xs)) (sym (turned_none m e))
+      (subst (λ n. AreSpent ls (record m { spent = true }) (proc (turn_of n p.core act) xs)) (sym (s.left ∙ e)) (record {
         spent = refl;
         halted = refl;
         lines = s.lines;
       }))
 
-  pub turn_taken : law.TurnTaken r ls x m p
-  turn_taken y f act s go = by_left m.left refl
+  -- a turn is left, or none; whatever actors there are then
+  pub by_turn : (y : Scan) (n : Process) (act : Core → Core) (xs : Numbered Frame) → Shown r ls x m p
+      → (m.left ≡ 0 → n ≡ turned m)
+      → ((k : ℕ) → m.left ≡ suc k → Shown r ls x (turned m) (on_core (λ c. record c { left = k }) p)
+      → Follows r ls y n (proc (act (record p.core { left = k })) xs))
+      → Follows r ls y n (proc (turn p.core act) xs)
+  by_turn y n act xs s none go = by_left m.left refl
     where
-      by_left : (n : ℕ) → m.left ≡ n → Follows r ls y (if nat_lt 0 m.left then f (turned m) else turned m) (on_core (λ c. turn c act) p)
-      by_left zero e =
-          let t : nat_lt 0 m.left ≡ false = grind (arith, nat_tests, e) in
-          subst (λ b. Follows r ls y (if b then f (turned m) else turned m) (on_core (λ c. turn c act) p)) (sym t) (ends (without_turn act e s))
-      by_left (suc n) e =
-          let t : nat_lt 0 m.left ≡ true = grind (arith, nat_tests, e) in
-          subst (λ b. Follows r ls y (if b then f (turned m) else turned m) (on_core (λ c. turn c act) p)) (sym t)
-          (subst (λ k. Follows r ls y (f (turned m)) (on_core (λ c. turn_of k c act) p)) (sym (s.left ∙ e)) (go n e (with_turn n e s)))
+      by_left : (k : ℕ) → m.left ≡ k → Follows r ls y n (proc (turn p.core act) xs)
+      by_left zero e = subst (λ t. Follows r ls y t (proc (turn p.core act) xs)) (sym (none e)) (ends (without_turn act xs e s))
+      by_left (suc k) e = subst (λ t. Follows r ls y n (proc (turn_of t p.core act) xs)) (sym (s.left ∙ e)) (go k e (with_turn k e s))
+
+  pub turn_taken : law.TurnTaken r ls x m p
+  turn_taken y f act s go =
+      by_turn y (if nat_lt 0 m.left then f (turned m) else turned m) act p.actors s
+      (λ e. let t : nat_lt 0 m.left ≡ false = grind (arith, nat_tests, e) in ap (λ b. if b then f (turned m) else turned m) t)
+      (λ k e now.
+      let t : nat_lt 0 m.left ≡ true = grind (arith, nat_tests, e) in
+      subst (λ b. Follows r ls y (if b then f (turned m) else turned m) (on_core act (on_core (λ c. record c { left = k }) p))) (sym t) (go k e now))
 
   -- tasks
   pub task_done : law.TaskDone r ls x m p

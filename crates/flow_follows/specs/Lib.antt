@@ -3,3 +3,4 @@ pub mod Working
 pub mod Bringing
 pub mod Closing
 pub mod Placing
+pub mod Taking

@@ -5,4 +5,5 @@
 
 pub mod bringing;
 pub mod placing;
+pub mod taking;
 pub mod work;
