@@ -10,3 +10,4 @@ pub mod Lost
 pub mod Emptied
 pub mod Parting
 pub mod Takings
+pub mod Kept

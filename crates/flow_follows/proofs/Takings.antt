@@ -243,12 +243,18 @@ give_same p s i b o (task.Keep j n k) a is = absurd is
 give_same p s i b o (task.Close j v) a is = absurd is
 
 module _ (r : RawTree) (ls : List Line) (m : Process) (p : Proc Frame) (i : ℕ) (e : Entry) (f : Frame) where
-  branch_gives : (x : Scan) (s : Stand) (group b k : ℕ) (c : Cell) (left : ℕ) (n : Process) → Shown r ls x (turned m) (on_core (λ d. record d { left = left }) p) → Acts r m.heap p i e f → m.asked ≡ None
+  -- what is given, with the line of a group, where these are the entries before
+  abbrev gives_there : Numbered Entry → (left group b k : ℕ) → Cell → Option OutcomeTree → Proc Frame
+  gives_there es left group b k c o =
+      proc
+      (give i b e (lose f).0 o (record (writes (take_line i group b) (record p.core { left = left; entries = es })) { cells = put p.core.cells k (after_taking c) }))
+      (put p.actors i (lose f).1)
+
+  branch_gives : (x : Scan) (s : Stand) (group b k : ℕ) (c : Cell) (left : ℕ) (n : Process) (es : Numbered Entry) → put es i (running e) ≡ put p.core.entries i (running e)
+      → Shown r ls x (turned m) (on_core (λ d. record d { left = left }) p) → Acts r m.heap p i e f → m.asked ≡ None
       → Standing s i f → AtWait s f group → e.spot.group ≡ group → MayGo i e p.core → Takeable p k c → BranchTaken s b (record { 0 = k }) (turned m) n
-      → Stood r ls x n
-      (proc (give i b e (lose f).0 (taken c) (record (writes (take_line i e.spot.group b) (record p.core { left = left })) { cells = put p.core.cells k (after_taking c) })) (put p.actors i (lose f).1))
-      i (running e) (lose f).1
-  branch_gives x s group b k c left n now acts none standing wait spot go t bt =
+      → Stood r ls x n (gives_there es left e.spot.group b k c (taken c)) i (running e) (lose f).1
+  branch_gives x s group b k c left n es over now acts none standing wait spot go t bt =
       let p1 : Proc Frame = on_core (λ d. record d { left = left }) p in
       let q1 : Proc Frame = on_core (put_cell k (after_taking c)) p1 in
       let told = take_line i group b in
@@ -262,20 +268,24 @@ module _ (r : RawTree) (ls : List Line) (m : Process) (p : Proc Frame) (i : ℕ)
       let done = left_for_task r ls (telling told bt.between) q2 i e f x s bt.task u (record { shown = shown; acts = acts2 }) standing wait.end
       (give_same q2 s i b bt.outcome bt.task standing.actor bt.gives) (may_go_on i e p k c left told t.at go) tt in
       let number : bt.group ≡ group = let a = bt.waits in let d = wait.last in cc (a, d) in
-      subst (λ z. Stood r ls x z (proc (give i b e (lose f).0 (taken c) (record (writes (take_line i e.spot.group b) (record p.core { left = left })) { cells = put p.core.cells k (after_taking c) })) (put p.actors i (lose f).1)) i (running e) (lose f).1) (sym bt.leaves)
-      (subst (λ g. Stood r ls x (telling (line.Take s.actor bt.group b) (on_heap (left_for s bt.task) bt.between)) (proc (give i b e (lose f).0 (taken c) (record (writes (take_line i g b) (record p.core { left = left })) { cells = put p.core.cells k (after_taking c) })) (put p.actors i (lose f).1)) i (running e) (lose f).1) (sym spot)
-      (subst (λ o. Stood r ls x (telling (line.Take s.actor bt.group b) (on_heap (left_for s bt.task) bt.between)) (proc (give i b e (lose f).0 o (record (writes told (record p.core { left = left })) { cells = put p.core.cells k (after_taking c) })) (put p.actors i (lose f).1)) i (running e) (lose f).1) (sym ct.0)
-      (subst (λ g. Stood r ls x (telling (line.Take s.actor g b) (on_heap (left_for s bt.task) bt.between)) (proc (leave_for i e (lose f).0 u q2.core) (put p.actors i (lose f).1)) i (running e) (lose f).1) (sym number)
-      (subst (λ a. Stood r ls x (telling (line.Take a group b) (on_heap (left_for s bt.task) bt.between)) (proc (leave_for i e (lose f).0 u q2.core) (put p.actors i (lose f).1)) i (running e) (lose f).1) (sym standing.actor) done))))
+      let after : Process = on_heap (left_for s bt.task) bt.between in
+      subst (λ z. Stood r ls x z (gives_there es left e.spot.group b k c (taken c)) i (running e) (lose f).1) (sym bt.leaves)
+      (subst (λ g. Stood r ls x (telling (line.Take s.actor bt.group b) after) (gives_there es left g b k c (taken c)) i (running e) (lose f).1) (sym spot)
+      (subst (λ o. Stood r ls x (telling (line.Take s.actor bt.group b) after) (gives_there es left group b k c o) i (running e) (lose f).1) (sym ct.0)
+      (subst (λ xs. Stood r ls x (telling (line.Take s.actor bt.group b) after) (proc (record (leave_for i e (lose f).0 u q2.core) { entries = xs }) (put p.actors i (lose f).1)) i (running e) (lose f).1) (sym over)
+      (subst (λ g. Stood r ls x (telling (line.Take s.actor g b) after) (proc (leave_for i e (lose f).0 u q2.core) (put p.actors i (lose f).1)) i (running e) (lose f).1) (sym number)
+      (subst (λ a. Stood r ls x (telling (line.Take a group b) after) (proc (leave_for i e (lose f).0 u q2.core) (put p.actors i (lose f).1)) i (running e) (lose f).1) (sym standing.actor) done)))))
 
   pub branch_follows : law.BranchFollows r ls m p i e f
-  branch_follows x s group b k c n st none standing wait spot go t takes = by_case takes
+  branch_follows x s group b k c n es st over none standing wait spot go t takes = by_case takes
     where
-      by_case : TakesBranch s b (record { 0 = k }) m n → Follows r ls x n (proc (take_branch i b k e (lose f).0 (Some c) p.core) (put p.actors i (lose f).1))
+      by_case : TakesBranch s b (record { 0 = k }) m n → Follows r ls x n (proc (take_branch i b k e (lose f).0 (Some c) (record p.core { entries = es })) (put p.actors i (lose f).1))
       by_case (no_turn lt is) =
-          by_turn r ls x m p x n (λ d. give i b e (lose f).0 (taken c) (record (writes (take_line i e.spot.group b) d) { cells = put d.cells k (after_taking c) })) (put p.actors i (lose f).1) st.shown (λ z. is)
+          by_turn r ls x m p x n (λ d. give i b e (lose f).0 (taken c) (record (writes (take_line i e.spot.group b) d) { cells = put d.cells k (after_taking c) }))
+          (record p.core { entries = es }) (put p.actors i (lose f).1) st.shown refl refl (λ z. is)
           (λ left y now. absurd (grind (arith, nat_tests, lt, y)))
       by_case (takes_branch lt bt) =
-          by_turn r ls x m p x n (λ d. give i b e (lose f).0 (taken c) (record (writes (take_line i e.spot.group b) d) { cells = put d.cells k (after_taking c) })) (put p.actors i (lose f).1) st.shown
+          by_turn r ls x m p x n (λ d. give i b e (lose f).0 (taken c) (record (writes (take_line i e.spot.group b) d) { cells = put d.cells k (after_taking c) }))
+          (record p.core { entries = es }) (put p.actors i (lose f).1) st.shown refl refl
           (λ z. absurd (grind (arith, nat_tests, lt, z)))
-          (λ left y now. shows (branch_gives x s group b k c left n now st.acts none standing wait spot go t bt).shown)
+          (λ left y now. shows (branch_gives x s group b k c left n es over now st.acts none standing wait spot go t bt).shown)

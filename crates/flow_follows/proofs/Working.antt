@@ -80,30 +80,30 @@ module _ (r : RawTree) (ls : List Line) (x : Scan) (m : Process) (p : Proc Frame
         goes = s.goes;
       })
 
-  without_turn : (act : Core → Core) (xs : Numbered Frame) → m.left ≡ 0 → Shown r ls x m p → AreSpent ls (turned m) (proc (turn p.core act) xs)
-  without_turn act xs e s =
-      subst (λ k. AreSpent ls k (proc (turn p.core act) xs)) (sym (turned_none m e))
-      (subst (λ n. AreSpent ls (record m { spent = true }) (proc (turn_of n p.core act) xs)) (sym (s.left ∙ e)) (record {
+  without_turn : (act : Core → Core) (c : Core) (xs : Numbered Frame) → m.left ≡ 0 → c.left ≡ p.core.left → c.lines ≡ p.core.lines → Shown r ls x m p → AreSpent ls (turned m) (proc (turn c act) xs)
+  without_turn act c xs e same lines s =
+      subst (λ k. AreSpent ls k (proc (turn c act) xs)) (sym (turned_none m e))
+      (subst (λ n. AreSpent ls (record m { spent = true }) (proc (turn_of n c act) xs)) (sym (same ∙ s.left ∙ e)) (record {
         spent = refl;
         halted = refl;
-        lines = s.lines;
+        lines = lines ∙ s.lines;
       }))
 
-  -- a turn is left, or none; whatever actors there are then
-  pub by_turn : (y : Scan) (n : Process) (act : Core → Core) (xs : Numbered Frame) → Shown r ls x m p
+  -- a turn is left, or none; whatever else there is then
+  pub by_turn : (y : Scan) (n : Process) (act : Core → Core) (c : Core) (xs : Numbered Frame) → Shown r ls x m p → c.left ≡ p.core.left → c.lines ≡ p.core.lines
       → (m.left ≡ 0 → n ≡ turned m)
-      → ((k : ℕ) → m.left ≡ suc k → Shown r ls x (turned m) (on_core (λ c. record c { left = k }) p)
-      → Follows r ls y n (proc (act (record p.core { left = k })) xs))
-      → Follows r ls y n (proc (turn p.core act) xs)
-  by_turn y n act xs s none go = by_left m.left refl
+      → ((k : ℕ) → m.left ≡ suc k → Shown r ls x (turned m) (on_core (λ d. record d { left = k }) p)
+      → Follows r ls y n (proc (act (record c { left = k })) xs))
+      → Follows r ls y n (proc (turn c act) xs)
+  by_turn y n act c xs s same lines none go = by_left m.left refl
     where
-      by_left : (k : ℕ) → m.left ≡ k → Follows r ls y n (proc (turn p.core act) xs)
-      by_left zero e = subst (λ t. Follows r ls y t (proc (turn p.core act) xs)) (sym (none e)) (ends (without_turn act xs e s))
-      by_left (suc k) e = subst (λ t. Follows r ls y n (proc (turn_of t p.core act) xs)) (sym (s.left ∙ e)) (go k e (with_turn k e s))
+      by_left : (k : ℕ) → m.left ≡ k → Follows r ls y n (proc (turn c act) xs)
+      by_left zero e = subst (λ t. Follows r ls y t (proc (turn c act) xs)) (sym (none e)) (ends (without_turn act c xs e same lines s))
+      by_left (suc k) e = subst (λ t. Follows r ls y n (proc (turn_of t c act) xs)) (sym (same ∙ s.left ∙ e)) (go k e (with_turn k e s))
 
   pub turn_taken : law.TurnTaken r ls x m p
   turn_taken y f act s go =
-      by_turn y (if nat_lt 0 m.left then f (turned m) else turned m) act p.actors s
+      by_turn y (if nat_lt 0 m.left then f (turned m) else turned m) act p.core p.actors s refl refl
       (λ e. let t : nat_lt 0 m.left ≡ false = grind (arith, nat_tests, e) in ap (λ b. if b then f (turned m) else turned m) t)
       (λ k e now.
       let t : nat_lt 0 m.left ≡ true = grind (arith, nat_tests, e) in

@@ -4,3 +4,4 @@ pub mod Bringing
 pub mod Closing
 pub mod Placing
 pub mod Taking
+pub mod Keeping

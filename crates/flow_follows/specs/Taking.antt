@@ -7,12 +7,14 @@ use Rattle.flow_value.specs.Values.{OutcomeTree}
 use Rattle.flow_value.specs.View.{outcome_of}
 use Rattle.flow_class.specs.Classes.{ChooseLast, RawTree}
 use Rattle.flow_class.specs.Code.{Last, fetch}
+use Rattle.flow_code.specs.declared.class.Group.{Group}
+use Rattle.flow_code.specs.View.{group_numbered}
 use Rattle.flow_code.specs.declared.class.Last.TheVariants as last
 use Rattle.flow_trace.specs.declared.line.Line.{Line}
 use Rattle.flow_cancel.specs.declared.task.Task as stack
 use Rattle.flow_cancel.specs.Heap.{HeapTree, actor_id}
 use Rattle.flow_cancel.specs.Leaving.{withdrawn}
-use Rattle.flow_meaning.specs.Numbered.{thing, put}
+use Rattle.flow_meaning.specs.Numbered.{Numbered, thing, put}
 use Rattle.flow_meaning.specs.Cells.{Ref, Cell, taken, after_taking}
 use Rattle.flow_meaning.specs.Process.{Task, Entry, Core, Proc}
 use Rattle.flow_meaning.specs.Occ.{Scan, refs_in, value_in}
@@ -20,6 +22,7 @@ use Rattle.flow_meaning.specs.Orderly.{Rising}
 use Rattle.flow_meaning.specs.Work.{running, leave_for, take_branch}
 use Rattle.flow_meaning.specs.Step.{proc, on_core}
 use Rattle.flow_meaning.specs.Frame.{Frame, lose}
+use Rattle.flow_picture.specs.Shows.{wait_spot}
 use Rattle.flow_picture.specs.Counted.{Agree}
 use Rattle.flow_picture.specs.Changes.{SameTask, put_cell}
 use Rattle.flow_picture.specs.Acting.{NoKeep}
@@ -39,11 +42,12 @@ pub record Standing (s : Stand) (i : ℕ) (f : Frame) : Type 0 where
   pub slots : s.class.now.slots ≡ length f.code.slots
   pub place : s.place ≡ f.block
 
--- And there it is at the wait of a group, which ends the block.
+-- And there it is at the wait of a group, which ends the block, and whose branches have the same numbers.
 pub record AtWait (s : Stand) (f : Frame) (group : ℕ) : Type 0 where
   pub last : s.block.now.last ≡ last.Choose group
   pub fetched : fetch f.code f.block f.instr ≡ Last (ChooseLast group)
   pub end : length s.block.now.body.items ≡ f.instr
+  pub first : (g : Group) → group_numbered group s.class.now.groups.items ≡ Some g → g.first ≡ (wait_spot f).first
 
 -- What holds of an actor that leaves its wait, or runs with operands: waiters and operands agree, and no operand is to be
 -- kept.
@@ -79,13 +83,15 @@ module _ (r : RawTree) (ls : List Line) (m : Process) (p : Proc Frame) (i : ℕ)
       → Stood r ls x (on_heap (left_for s t) m)
       (proc (leave_for i e (lose f).0 u p.core) (put p.actors i (lose f).1)) i (running e) (lose f).1
 
-  -- a branch takes what its cell gives, where a turn is left, and the actor leaves its wait, with the line
+  -- A branch takes what its cell gives, where a turn is left, and the actor leaves its wait, with the line. Its entry among
+  -- these need not say yet what its operands are.
   abbrev pub BranchFollows : Type 0
   BranchFollows =
-      (x : Scan) (s : Stand) (group b k : ℕ) (c : Cell) (n : Process) → Stood r ls x m p i e f → m.asked ≡ None
-      → Standing s i f → AtWait s f group → e.spot.group ≡ group → MayGo i e p.core → Takeable p k c
+      (x : Scan) (s : Stand) (group b k : ℕ) (c : Cell) (n : Process) (es : Numbered Entry) → Stood r ls x m p i e f
+      → put es i (running e) ≡ put p.core.entries i (running e) → m.asked ≡ None → Standing s i f → AtWait s f group
+      → e.spot.group ≡ group → MayGo i e p.core → Takeable p k c
       → TakesBranch s b (record { 0 = k }) m n
-      → Follows r ls x n (proc (take_branch i b k e (lose f).0 (Some c) p.core) (put p.actors i (lose f).1))
+      → Follows r ls x n (proc (take_branch i b k e (lose f).0 (Some c) (record p.core { entries = es })) (put p.actors i (lose f).1))
 
 module _ (r : RawTree) (ls : List Line) (x : Scan) (m : Process) (p : Proc Frame) where
   -- what a branch takes comes to hand
