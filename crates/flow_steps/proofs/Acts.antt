@@ -1,12 +1,10 @@
 -- Effects, actors that are called, and call statements.
 use Rattle.std.proofs.Common.{◌≡◌, ℕ, ℤ, ◌+◌, ◌<◌, ◌≤◌, Bool, true, false, nat_lt, List, [], ◌∷◌, ◌++◌, length, map, take, drop, get_or, slice_get, refl, ap, sym, subst, ◌∙◌, Result, IfOk, OnOk}
-use Rattle.std.proofs.lemmas.List.{drop_more, drop_all}
 use Rattle.std.proofs.lemmas.Result.{IfOk-weaker}
 use Rattle.std.specs.declared.option.Option.{Option}
 use Rattle.std.specs.declared.option.Option.TheVariants.{None, Some}
 use Rattle.flow_base.specs.declared.ids.ActorId.{ActorId}
 use Rattle.flow_base.specs.declared.ids.CellId.{CellId}
-use Rattle.flow_ast.specs.declared.predefined.Predefined.{Predefined}
 use Rattle.flow_ast.specs.declared.predefined.Method.{Method}
 use Rattle.flow_value.specs.declared.value.Value.{Value}
 use Rattle.flow_value.specs.declared.value.Value.TheVariants.{Ref}
@@ -15,11 +13,9 @@ use Rattle.flow_value.specs.declared.value.Kind.{Kind}
 use Rattle.flow_value.specs.declared.value.Kind.TheVariants as kind
 use Rattle.flow_value.specs.Values.{ValueTree}
 use Rattle.flow_value.specs.View.{value_of, outcome_of}
-use Rattle.flow_eval.specs.Eval.{Res, Done}
 use Rattle.flow_eval.specs.Answers.{arg}
-use Rattle.flow_resolved.specs.declared.expr.Resolved.{Resolved}
 use Rattle.flow_code.specs.declared.class.Class.{Class}
-use Rattle.flow_code.specs.declared.class.Effect.TheVariants as effect
+use Rattle.flow_code.specs.declared.class.Effect.{Effect}
 use Rattle.flow_code.specs.declared.program.Code.{Code}
 use Rattle.flow_trace.specs.declared.line.Line.{Line}
 use Rattle.flow_trace.specs.declared.line.Line.TheVariants as line
@@ -40,23 +36,20 @@ use Rattle.flow_steps.specs.Doing.{turned, doing, asking, telling}
 use Rattle.flow_steps.specs.Holding.{on_heap, value_refs, Gives}
 use Rattle.flow_steps.specs.Bringing.{made, sending}
 use Rattle.flow_steps.specs.Standing.{noted, values}
-use Rattle.flow_steps.specs.Sights.{with_left, Evaluates, gives}
-use Rattle.flow_steps.specs.Stepping.{values_for}
-use Rattle.flow_steps.specs.Acting.{Values, args_of, NewGiven, WorldAsked, some_values, with_args, enrolled, Enrols, StartTold, Starts, ActorCalled, not_called, actor_starts, EffectDone, IsEffect, Printed, IsMessage, MessageAsked, Sends}
-use Rattle.flow_steps.proofs.Holding.{hold_append}
+use Rattle.flow_steps.specs.Acting.{Values, args_of, NewGiven, WorldAsked, some_values, with_args, enrolled, Enrols, StartTold, Starts, ActorCalled, not_called, actor_starts, EffectMade, EffectDone, Printed, IsMessage, MessageAsked, Sends}
+use Rattle.flow_steps.proofs.Holding.{hold_append, value_alone}
 
--- the references of arguments from one on
-abbrev pub args_held : List Value → (done : ℕ) → HeapTree → HeapTree
-args_held vs k h = hold_all (refs_in (drop k vs)) h
+-- the references of arguments up to one
+pub args_held : (vs : List Value) (v : Value) (h : HeapTree) → hold_all (refs_in (vs ++ v ∷ [])) h ≡ hold_all (value_refs v) (hold_all (refs_in vs) h)
+args_held [] v h = sym (value_alone v h)
+args_held (u ∷ us) v h =
+    hold_append (value_refs u) (refs_in (us ++ v ∷ [])) h
+    ∙ args_held us v (hold_all (value_refs u) h)
+    ∙ ap (hold_all (value_refs v)) (sym (hold_append (value_refs u) (refs_in us) h))
 
-pub arg_held : (vs : List Value) (k : ℕ) (d : Value) (h : HeapTree) → k < length vs
-    → args_held vs (k + 1) (hold_all (value_refs (get_or vs k d)) h) ≡ args_held vs k h
-arg_held vs k d h lt =
-    sym (hold_append (value_refs (get_or vs k d)) (refs_in (drop (k + 1) vs)) h)
-    ∙ ap (λ l. hold_all (refs_in l) h) (sym (drop_more vs k d lt))
-
-pub args_end : (vs : List Value) (k : ℕ) (h : HeapTree) → length vs ≤ k → args_held vs k h ≡ h
-args_end vs k h le = ap (λ l. hold_all (refs_in l) h) (drop_all k vs le)
+pub args_filled : (vs : List Value) (v : Value) → some_values (vs ++ v ∷ []) ≡ some_values vs ++ Some v ∷ []
+args_filled [] v = refl
+args_filled (u ∷ us) v = ap (λ l. Some u ∷ l) (args_filled us v)
 
 -- an actor is made
 pub enrols_by : (code : Code) (class : ℕ) (args : List Value) (xs : List (Option Value)) (i : ActorId) (k : CellId) (of : Class) (p one two q : Process)
@@ -95,19 +88,14 @@ starts_by code caller g class args i k p one two three q e f t s = record {
 }
 
 -- an effect whose arguments are known
-pub world_done : (code : Code) (s : Stand) (g : Goal) (called : Predefined) (es : List Resolved) (args : Values) (p mid told q : Process)
-    → values_for code s.actor.0 es p ≡ Done (args_of args) mid.left → mid ≡ with_left mid.left p → told ≡ noted s mid
-    → WorldAsked s.actor g called args told q → IsEffect code s g (effect.World called) es p Off q
-world_done code s g called es args p mid told q e rest n w =
-    gives args mid.left Off q e
-    (subst (λ x. EffectDone code s g (effect.World called) args x Off q) rest (refl, subst (λ x. WorldAsked s.actor g called args x q) n w))
+pub effect_done : (code : Code) (s : Stand) (g : Goal) (e : Effect) (args : Values) (p told q : Process) → told ≡ noted s p
+    → EffectMade code s.actor g e args told q → EffectDone code s g e args p Off q
+effect_done code s g e args p told q n w = (refl, subst (λ x. EffectMade code s.actor g e args x q) n w)
 
-pub actor_done : (code : Code) (s : Stand) (g : Goal) (class : ℕ) (es : List Resolved) (args : Values) (p mid told q : Process)
-    → values_for code s.actor.0 es p ≡ Done (args_of args) mid.left → mid ≡ with_left mid.left p → told ≡ noted s mid
-    → ActorCalled code s.actor g class args.items told q → IsEffect code s g (effect.Actor class) es p Off q
-actor_done code s g class es args p mid told q e rest n w =
-    gives args mid.left Off q e
-    (subst (λ x. EffectDone code s g (effect.Actor class) args x Off q) rest (refl, subst (λ x. ActorCalled code s.actor g class args.items x q) n w))
+-- the line of a start
+pub told_by : (code : Code) (class : ℕ) (of : Class) (i : ActorId) (name : List ℕ) (p q : Process) → Some of ≡ slice_get code.classes.items class → name ≡ of.name
+    → q ≡ telling (line.Start i name) p → StartTold code class i p q
+told_by code class of i name p q at n e = record { of = of; at = sym at; told = e ∙ ap (λ x. telling (line.Start i x) p) n }
 
 -- what is printed, asked and sent
 pub printed_by : (i : ActorId) (args : List ValueTree) (l : Line) (p one q : Process) → print_line i.0 (arg args 0) ≡ Some l

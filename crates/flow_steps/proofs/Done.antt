@@ -42,7 +42,7 @@ use Rattle.flow_cancel.specs.Leaving.{withdrawn}
 use Rattle.flow_steps.specs.declared.frames.Stand.{Stand}
 use Rattle.flow_steps.specs.declared.next.Pace.{Pace}
 use Rattle.flow_steps.specs.declared.process.Process.{Process}
-use Rattle.flow_steps.specs.Doing.{doing, telling, departed}
+use Rattle.flow_steps.specs.Doing.{turned, doing, telling}
 use Rattle.flow_steps.specs.Holding.{on_heap, kind_in}
 use Rattle.flow_steps.specs.Bringing.{closed}
 use Rattle.flow_steps.specs.Standing.{StandsNow, GoesTo, next_stand, noted, gone, values, lost_from, Assigns}
@@ -69,7 +69,7 @@ value_given code i n v s t b old vs pace p one between q at is o e g a go = reco
   stands = at;
   at = is;
   to = g;
-  after = subst (λ x. OnAfter t _ x pace between) e (subst (λ l. OnAfter t l one pace between) o a);
+  after = subst (λ x. OnAfter t (bound_over i.0 b.into v p.heap) x pace between) e (subst (λ l. OnAfter t l one pace between) o a);
   further = go;
 }
 

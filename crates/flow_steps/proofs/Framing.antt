@@ -1,7 +1,8 @@
 -- Frames that become others, and places that are emptied.
 use Rattle.std.proofs.Common.{◌≡◌, ℕ, zero, suc, ◌+◌, ◌-◌, ◌<◌, ◌≤◌, Bool, true, false, List, [], ◌∷◌, ◌++◌, length, drop, get_or, set, refl, ap, sym, ◌∙◌, if◌then◌else◌, ltb, arith}
 use Rattle.std.proofs.lemmas.Bool.{false≢true}
-use Rattle.std.proofs.lemmas.List.{drop_more, set-get_or, set_past, get_or-set_same, get_or-set_other, length-set, set-set, get_or_past}
+use Rattle.std.proofs.lemmas.Bool.Decides.{nat_tests}
+use Rattle.std.proofs.lemmas.List.{drop_more, set-get_or, set-set, get_or_past}
 use Rattle.std.specs.Option.{IsSome, ForSome}
 use Rattle.std.specs.declared.option.Option.{Option}
 use Rattle.std.specs.declared.option.Option.TheVariants.{None, Some}
@@ -45,11 +46,21 @@ one_taken i ns k d vs h lt =
     append_again vs (referring (place_held i (get_or ns k d) h)) (places_taken i (drop (k + 1) ns) (place_put i (get_or ns k d) None h))
     ∙ ap (λ l. vs ++ places_taken i l h) (sym (drop_more ns k d lt))
 
+-- what a place holds that holds nothing
+empty_at : (xs : List (Option Value)) (n : ℕ) → (if ltb n (length xs) then get_or xs n None else None) ≡ None → get_or xs n None ≡ None
+empty_at xs n e = by (ltb n (length xs)) refl e
+  where
+    by : (b : Bool) → ltb n (length xs) ≡ b → (if b then get_or xs n None else None) ≡ None → get_or xs n None ≡ None
+    by true is e = e
+    by false is e = let past : length xs ≤ n = grind (arith, nat_tests, is) in get_or_past xs n None past
+
+nothing_if : (b : Bool) (o : Option Value) → o ≡ None → (if b then o else None) ≡ None
+nothing_if true o e = e
+nothing_if false o e = refl
+
 -- an empty place that is emptied stays as it is
 empty_again : (xs : List (Option Value)) (n : ℕ) → (if ltb n (length xs) then get_or xs n None else None) ≡ None → set xs n None ≡ xs
-empty_again [] n e = refl
-empty_again (x ∷ xs) zero e = ap (λ y. y ∷ xs) (sym e)
-empty_again (x ∷ xs) (suc n) e = ap (λ l. x ∷ l) (empty_again xs n e)
+empty_again xs n e = ap (set xs n) (sym (empty_at xs n e)) ∙ set-get_or xs n None
 
 pub put_none : (i n : ℕ) (h : HeapTree) → place_held i n h ≡ None → place_put i n None h ≡ h
 put_none i n h e = by (thing h.frames.things i) refl e
@@ -64,13 +75,16 @@ pub lost_none : (i n : ℕ) (h : HeapTree) → place_held i n h ≡ None → pla
 lost_none i n h e = rw e (put_none i n h e)
 
 -- a place that is emptied leaves the empty ones empty
+still_none : (xs : List (Option Value)) (n k : ℕ) → get_or xs k None ≡ None → get_or (set xs n None) k None ≡ None
+still_none [] n k e = e
+still_none (x ∷ xs) zero zero e = refl
+still_none (x ∷ xs) zero (suc k) e = e
+still_none (x ∷ xs) (suc n) zero e = e
+still_none (x ∷ xs) (suc n) (suc k) e = still_none xs n k e
+
 still : (xs : List (Option Value)) (n k : ℕ) → (if ltb k (length xs) then get_or xs k None else None) ≡ None
     → (if ltb k (length (set xs n None)) then get_or (set xs n None) k None else None) ≡ None
-still [] n k e = e
-still (x ∷ xs) zero zero e = refl
-still (x ∷ xs) zero (suc k) e = e
-still (x ∷ xs) (suc n) zero e = e
-still (x ∷ xs) (suc n) (suc k) e = still xs n k e
+still xs n k e = nothing_if (ltb k (length (set xs n None))) (get_or (set xs n None) k None) (still_none xs n k (empty_at xs k e))
 
 pub still_empty : (i n k : ℕ) (h : HeapTree) → place_held i k h ≡ None → place_held i k (place_lost i n h) ≡ None
 still_empty i n k h e = by (thing h.frames.things i) refl e
@@ -88,10 +102,16 @@ behind_lost i n (suc m) h e =
     ap (places_lost i (suc n) m) (lost_none i n h (e n here)) ∙ behind_lost i (suc n) m h (λ k le. let le' : n ≤ k = omega arith in e k le')
 
 pub lost_further : (i n m r : ℕ) (h : HeapTree) → places_lost i n (m + r) h ≡ places_lost i (n + m) r (places_lost i n m h)
-lost_further i n zero r h = let z : n ≡ n + 0 = omega arith in ap (λ a. places_lost i a r h) z
+lost_further i n zero r h =
+    let none : 0 + r ≡ r = omega arith in
+    let same : n ≡ n + 0 = omega arith in
+    ap (λ t. places_lost i n t h) none ∙ ap (λ a. places_lost i a r h) same
 lost_further i n (suc m) r h =
-    let z : suc n + m ≡ n + suc m = omega arith in
-    lost_further i (suc n) m r (place_lost i n h) ∙ ap (λ a. places_lost i a r (places_lost i (suc n) m (place_lost i n h))) z
+    let one : suc m + r ≡ suc (m + r) = omega arith in
+    let same : suc n + m ≡ n + suc m = omega arith in
+    ap (λ t. places_lost i n t h) one
+    ∙ lost_further i (suc n) m r (place_lost i n h)
+    ∙ ap (λ a. places_lost i a r (places_lost i (suc n) m (place_lost i n h))) same
 
 -- a place that gets something after something else
 pub put_anew : (i n : ℕ) (v w : Option Value) (h : HeapTree) → place_put i n v (place_put i n w h) ≡ place_put i n v h

@@ -35,7 +35,7 @@ use Rattle.flow_steps.specs.Bringing.{made}
 use Rattle.flow_steps.specs.Standing.{noted, noted_stand, GoesTo, next_stand, place_held, place_put, referring, may_refer, if_refers, lost_from, field_path, Assigns}
 use Rattle.flow_steps.specs.Waiting.{Waits}
 use Rattle.flow_steps.specs.Acting.{MethodCalled}
-use Rattle.flow_steps.specs.Stepping.{OnAfter, IsSet, IsNew, IsMethod, GoesOnAt, Passes, no_pass, pass_begins, OperandStep, Chooses, asks_operand, all_kept, IsChoose, kept_by, IsClose, ended, IsReturn}
+use Rattle.flow_steps.specs.Stepping.{OnAfter, IsSet, made_in_place, IsNew, IsMethod, GoesOnAt, Passes, no_pass, pass_begins, OperandStep, Chooses, asks_operand, all_kept, IsChoose, kept_by, IsClose, ended, IsReturn}
 use Rattle.flow_steps.proofs.Holding.{value_dropped}
 
 -- values are left over, or one
@@ -75,7 +75,7 @@ new_by s t place kd k old r p one two three q n e f g held m after =
     IfOk-weaker r _ _ (λ pace is. record {
       cell = k;
       number = n;
-      after = subst (λ o. OnAfter (next_stand s) (referring o) _ pace q) old_is
+      after = subst (λ o. OnAfter (next_stand s) (referring o) (on_heap (made_in_place s.actor.0 place kd k) p) pace q) old_is
           (subst (λ x. OnAfter (next_stand s) (referring old) x pace q) put_is
           (subst (λ x. OnAfter x (referring old) three pace q) m is));
     }) after

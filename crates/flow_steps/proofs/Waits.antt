@@ -49,12 +49,14 @@ pub copy_taken : (k : ℕ) (r : Result Outcome Fault) (p q : Process) → IfOk r
 copy_taken k (Ok o) p q c e = copied c e
 copy_taken k (Err x) p q c e = e
 
-no_result : (c : Option (CellTree Outcome)) (s : Option (StreamTree Value)) → Some kind.FutureStream ≡ kind_in c s → c ≡ None
-no_result None s e = refl
-no_result (Some c) s e = absurd (no e)
-  where
-    no : Some kind.FutureStream ≡ Some kind.Future → ⊥
-    no ()
+abbrev is_stream : Option Kind → Bool
+is_stream (Some kind.PromiseStream) = true
+is_stream (Some kind.FutureStream) = true
+is_stream _ = false
+
+pub no_result : (c : Option (CellTree Outcome)) (s : Option (StreamTree Value)) (kd : Kind) → is_stream (Some kd) ≡ true → Some kd ≡ kind_in c s → c ≡ None
+no_result None s kd is e = refl
+no_result (Some c) s kd is e = absurd (false≢true (sym (ap is_stream e) ∙ is))
 
 pub first_taken : (k : ℕ) (r : Result Outcome Fault) (p q : Process) → thing p.heap.cells.things k ≡ None
     → IfOk r (λ o. IsSomeAnd (thing p.heap.streams.things k) (λ s. head s.queue s.end ≡ head_of o))

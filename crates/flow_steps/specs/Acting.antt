@@ -128,9 +128,12 @@ pub data ActorCalled (code : Code) (caller : ActorId) (g : Goal) (class : ℕ) (
   actor_starts : nat_lt 0 p.left ≡ true → Starts code caller g class args (turned p) q → ActorCalled code caller g class args p q
 
 -- An effect with its arguments known; the frame of the actor says where it stands.
+abbrev pub EffectMade : Code → ActorId → Goal → Effect → Values → Process → Process → Type 0
+EffectMade code i g (effect.World called) args p q = WorldAsked i g called args p q
+EffectMade code i g (effect.Actor class) args p q = ActorCalled code i g class args.items p q
+
 abbrev pub EffectDone : Code → Stand → Goal → Effect → Values → Process → Pace → Process → Type 0
-EffectDone code s g (effect.World called) args p pace q = (pace ≡ Off) × WorldAsked s.actor g called args (noted s p) q
-EffectDone code s g (effect.Actor class) args p pace q = (pace ≡ Off) × ActorCalled code s.actor g class args.items (noted s p) q
+EffectDone code s g e args p pace q = (pace ≡ Off) × EffectMade code s.actor g e args (noted s p) q
 
 abbrev pub IsEffect : Code → Stand → Goal → Effect → List Resolved → Process → Pace → Process → Type 0
 IsEffect code s g e args p pace q =

@@ -117,7 +117,8 @@ impl Process {
         let Ok(last) = u32::try_from(stand.block.body.len()) else {
             return Err(Fault::Astray);
         };
-        self.go(actor, stand.place, last)
+        self.go(actor, stand.place, last)?;
+        Ok(())
     }
 
     #[tactic(auto, using(crate::proofs::Waits::untaken, crate::proofs::Waits::taken_by))]
@@ -210,10 +211,9 @@ impl Process {
     {
         self.pop_run(actor)?;
         let stand = self.stand_of(code, actor)?;
-        match self.keep_operand(&stand, held)? {
-            Pace::On(stand) => self.run_from(code, stand),
-            Pace::Off => Ok(()),
-        }
+        let pace = self.keep_operand(&stand, held)?;
+        self.go_from(code, pace)?;
+        Ok(())
     }
 
     // Takes the actor's own task off the stack.

@@ -5,12 +5,11 @@ ghost use Rattle.std.specs.Prelude.{◌≡◌, IfOk, OnOk, Some, map, slice_set}
 ghost use Rattle.flow_value.specs.View.{value_of};
 ghost use Rattle.flow_value.specs.declared.value.Value.TheVariants.{Void};
 ghost use Rattle.flow_eval.specs.Answers.{int_of, text_of, arg};
-ghost use Rattle.flow_code.specs.declared.class.Effect.TheVariants.{World, Actor};
 ghost use Rattle.flow_cancel.specs.Dropping.{refs_in};
 ghost use Rattle.flow_meaning.specs.Asks.{Disk};
 ghost use Rattle.flow_meaning.specs.Evaluating.{world_effect};
 ghost use Rattle.flow_picture.specs.Holds.{hold_all};
-ghost use Rattle.flow_steps.specs.Acting.{disk_of, some_values, Enrols, StartTold, ActorCalled, WorldAsked, IsEffect};
+ghost use Rattle.flow_steps.specs.Acting.{disk_of, some_values, Enrols, StartTold, ActorCalled, WorldAsked, EffectMade, EffectDone, IsEffect};
 ghost use Rattle.flow_value.specs.declared.value.Value.TheVariants.{Ref};
 ghost use Rattle.flow_cancel.specs.Heap.{next_cell};
 ghost use Rattle.flow_steps.specs.Holding.{on_heap, Gives};
@@ -127,6 +126,7 @@ impl Process {
         Ok(cell)
     }
 
+    #[tactic(auto, using(crate::proofs::Evaluating::value_given, crate::proofs::Evaluating::values_break))]
     /// An effect of an actor.
     pub(crate) fn effect<'a>(
         &mut self,
@@ -139,36 +139,49 @@ impl Process {
         ensures { IfOk result (λ pace. IsEffect code.now stand.now goal effect args.now self.old
             pace self.new) }
     {
-        match effect {
-            Effect::World(call) => self.ask_world(code, stand, goal, call, args),
-            Effect::Actor(class) => self.start(code, stand, goal, class, args),
+        match self.values(code, stand.actor, args) {
+            Ok(args) => self.effect_with(code, stand, goal, effect, args),
+            Err(halt) => self.halted(stand, halt),
         }
     }
 
-    #[tactic(auto, using(crate::proofs::Acts::world_done, crate::proofs::Evaluating::values_break))]
-    // An effect that is the world's, or a result that never comes.
-    fn ask_world<'a>(
+    #[tactic(auto, using(crate::proofs::Acts::effect_done))]
+    // That, with its arguments known.
+    fn effect_with<'a>(
         &mut self,
         code: &Code,
         stand: &Stand<'a>,
         goal: Goal,
-        call: Predefined,
-        args: &[Resolved],
+        effect: Effect,
+        args: Vec<Value>,
     ) -> Result<Pace<'a>, Fault>
-        ensures { IfOk result (λ pace. IsEffect code.now stand.now goal (World call) args.now
-            self.old pace self.new) }
+        ensures { IfOk result (λ pace. EffectDone code.now stand.now goal effect args self.old pace
+            self.new) }
     {
-        let args = match self.values(code, stand.actor, args) {
-            Ok(args) => args,
-            Err(halt) => return self.halted(stand, halt),
-        };
         self.note(*stand)?;
-        self.world_effect(stand.actor, goal, call, args)?;
+        self.make_effect(code, stand.actor, goal, effect, args)?;
         Ok(Pace::Off)
     }
 
+    // An actor is called, or something is asked of the world.
+    fn make_effect(
+        &mut self,
+        code: &Code,
+        actor: ActorId,
+        goal: Goal,
+        effect: Effect,
+        args: Vec<Value>,
+    ) -> Result<(), Fault>
+        ensures { OnOk result (EffectMade code.now actor goal effect args self.old self.new) }
+    {
+        match effect {
+            Effect::World(call) => self.world_effect(actor, goal, call, args),
+            Effect::Actor(class) => self.call_actor(code, actor, goal, class, args),
+        }
+    }
+
     #[tactic(auto, using(crate::proofs::Acts::new_given))]
-    // That, with its arguments known.
+    // An effect that is the world's, or a result that never comes.
     fn world_effect(
         &mut self,
         actor: ActorId,
@@ -198,7 +211,7 @@ impl Process {
         Ok(())
     }
 
-    #[tactic(auto, using(crate::proofs::Acts::arg_held, crate::proofs::Acts::args_end))]
+    #[tactic(auto, using(crate::proofs::Acts::args_held, crate::proofs::Acts::args_filled))]
     // Arguments count, and fill the first of so many places.
     fn fill_places(&mut self, args: Vec<Value>, places: u32) -> Result<Vec<Option<Value>>, Fault>
         ensures filled { IfOk result (λ xs. xs.items ≡ some_values args.items) }
@@ -240,6 +253,7 @@ impl Process {
         Ok((actor, cell))
     }
 
+    #[tactic(auto, using(crate::proofs::Acts::told_by))]
     /// The line of an actor's start.
     pub(crate) fn tell_start(
         &mut self,
@@ -257,28 +271,6 @@ impl Process {
             }
             None => Err(Fault::Astray),
         }
-    }
-
-    #[tactic(auto, using(crate::proofs::Acts::actor_done, crate::proofs::Evaluating::values_break))]
-    // The call of an actor: a turn, and the new actor runs; its result is then stored or kept, and the caller goes on.
-    fn start<'a>(
-        &mut self,
-        code: &Code,
-        stand: &Stand<'a>,
-        goal: Goal,
-        number: u32,
-        args: &[Resolved],
-    ) -> Result<Pace<'a>, Fault>
-        ensures { IfOk result (λ pace. IsEffect code.now stand.now goal (Actor number) args.now
-            self.old pace self.new) }
-    {
-        let args = match self.values(code, stand.actor, args) {
-            Ok(args) => args,
-            Err(halt) => return self.halted(stand, halt),
-        };
-        self.note(*stand)?;
-        self.call_actor(code, stand.actor, goal, number, args)?;
-        Ok(Pace::Off)
     }
 
     #[tactic(auto, using(crate::proofs::Acts::uncalled, crate::proofs::Acts::called_by))]

@@ -40,7 +40,7 @@ fn keep_referring(values: &mut Vec<Value>, old: Option<Value>) -> Result<(), Fau
 /// Where an actor stands: its class, and the block and the instruction; where it waits, the block of the wait; and whether its
 /// frame says so already.
 #[derive(Clone, Copy)]
-pub(crate) struct Stand<'a> {
+pub struct Stand<'a> {
     pub(crate) actor: ActorId,
     pub(crate) class: &'a Class,
     pub(crate) place: u32,

@@ -4,17 +4,18 @@ ghost use Rattle.std.specs.Prelude.{◌≡◌, ◌+◌, IfOk, OnOk, IfSome, Some
 ghost use Rattle.std.specs.Option.{option_copied, option_map};
 ghost use Rattle.flow_value.specs.View.{value_of};
 ghost use Rattle.flow_value.specs.Values.{RefValue};
-ghost use Rattle.flow_eval.specs.View.{Gives, GivesAll};
+ghost use Rattle.flow_eval.specs.View.{Gives, GivesAll, setting_of};
 ghost use Rattle.flow_resolved.specs.Truth.{GivesTruth};
-ghost use Rattle.flow_resolved.specs.View.{places_in};
+ghost use Rattle.flow_resolved.specs.View.{places_in, sight_of};
 ghost use Rattle.flow_resolved.specs.Evaluation.{value_at};
 ghost use Rattle.flow_code.specs.declared.class.Act.TheVariants.{Function};
 ghost use Rattle.flow_steps.specs.declared.next.Pace.TheVariants.{Off};
-ghost use Rattle.flow_steps.specs.Sights.{Halted, program_time, with_left, Evaluates};
+ghost use Rattle.flow_steps.specs.Sights.{Halted, program_time, setting_in, sight_in, with_left, Evaluates};
+ghost use Rattle.flow_steps.specs.Seen.{contents_seen};
 ghost use Rattle.flow_steps.specs.Standing.{noted, place_held, places_taken, places_emptied, referring, field_path, next_stand};
 ghost use Rattle.flow_steps.specs.Holding.{on_heap};
 ghost use Rattle.flow_steps.specs.Acting.{args_of};
-ghost use Rattle.flow_steps.specs.Stepping.{OnAfter, Does, Ends, StepsOn, Runs, IsSet, IsNew, IsAct, IsChoose, IsMethod, MethodStep, FunctionCalled, Passes, IsTest, OperandStep, OperandKept, IsReturn, IsThrow, value_for, values_for, truth_value};
+ghost use Rattle.flow_steps.specs.Stepping.{OnAfter, Does, Ends, StepsOn, Runs, GoesOn, IsSet, IsNew, IsAct, IsChoose, IsMethod, MethodStep, FunctionCalled, Passes, IsTest, OperandStep, OperandKept, IsReturn, IsThrow, value_for, values_for, truth_value};
 ghost use Rattle.flow_steps.specs.Tasks.{RunsNow};
 
 use crate::call::Goal;
@@ -39,7 +40,7 @@ use flow_value::value::{Kind, Outcome, Value};
 
 /// How an actor goes on after an instruction: at once where it stands now, or by its task, or not at all.
 #[derive(Clone, Copy)]
-pub(crate) enum Pace<'a> {
+pub enum Pace<'a> {
     On(Stand<'a>),
     Off,
 }
@@ -59,6 +60,13 @@ fn part<'a>(fields: &FieldNames, value: &'a Value, path: &[usize]) -> Option<&'a
     Some(part)
 }
 
+/// The time of an event as a number of programs, the greatest of them where it is later.
+fn program_time(ticks: u64) -> i64
+    ensures { result ≡ program_time ticks }
+{
+    i64::try_from(ticks).unwrap_or(i64::MAX)
+}
+
 /// The number through its class of the branch of a group that waits for the operand after so many.
 fn callback_of(group: &Group, kept: usize) -> Result<u32, Fault>
     ensures { IfOk result (λ n. n ≡ group.now.first + kept) }
@@ -75,10 +83,8 @@ fn callback_of(group: &Group, kept: usize) -> Result<u32, Fault>
 impl Process {
     // What stays the same while an expression is evaluated.
     fn setting<'a>(&self, code: &'a Code, contents: &'a Contents<'a>) -> Setting<'a, Contents<'a>>
-        ensures records { result.records.now ≡ code.now.program.records.items }
-        ensures functions { result.functions.now ≡ code.now.program.functions.items }
-        ensures cells { result.view.now ≡ contents.now }
-        ensures time { result.time ≡ program_time self.now.time }
+        requires { contents.now.cells.now ≡ self.now.heap.cells }
+        ensures { setting_of contents_seen result ≡ setting_in code.now self.now }
     {
         let raw = code.program().raw();
         Setting {
@@ -86,7 +92,25 @@ impl Process {
             records: &raw.records,
             functions: &raw.functions,
             view: contents,
-            time: i64::try_from(self.time).unwrap_or(i64::MAX),
+            time: program_time(self.time),
+        }
+    }
+
+    #[tactic(auto, using(crate::proofs::Sights::same_sight))]
+    // What an actor sees while it evaluates.
+    fn sight<'a>(
+        &'a self,
+        code: &'a Code,
+        actor: ActorId,
+        contents: &'a Contents<'a>,
+    ) -> Sight<'a, Contents<'a>>
+        requires { contents.now.cells.now ≡ self.now.heap.cells }
+        ensures { sight_of contents_seen result ≡ sight_in code.now actor.0 self.now }
+    {
+        Sight {
+            setting: self.setting(code, contents),
+            fields: code.fields(),
+            places: self.heap.frames().places_held(actor),
         }
     }
 
@@ -105,7 +129,7 @@ impl Process {
         Ok(Pace::Off)
     }
 
-    #[tactic(auto, using(crate::proofs::Sights::same_sight))]
+    #[tactic(auto, using(crate::proofs::Sights::value_seen))]
     /// The value of an expression for an actor.
     pub(crate) fn value(
         &mut self,
@@ -122,18 +146,14 @@ impl Process {
             let contents = Contents {
                 cells: self.heap.cells(),
             };
-            let sight = Sight {
-                setting: self.setting(code, &contents),
-                fields: code.fields(),
-                places: self.heap.frames().places_held(actor),
-            };
+            let sight = self.sight(code, actor, &contents);
             evaluate_resolved(&sight, expr, &mut turns)
         };
         self.left = turns.left;
         value
     }
 
-    #[tactic(auto, using(crate::proofs::Sights::same_sight))]
+    #[tactic(auto, using(crate::proofs::Sights::truth_seen))]
     /// The truth value of an expression for an actor.
     pub(crate) fn truth(
         &mut self,
@@ -150,18 +170,14 @@ impl Process {
             let contents = Contents {
                 cells: self.heap.cells(),
             };
-            let sight = Sight {
-                setting: self.setting(code, &contents),
-                fields: code.fields(),
-                places: self.heap.frames().places_held(actor),
-            };
+            let sight = self.sight(code, actor, &contents);
             evaluate_truth(&sight, expr, &mut turns)
         };
         self.left = turns.left;
         value
     }
 
-    #[tactic(auto, using(crate::proofs::Sights::same_sight))]
+    #[tactic(auto, using(crate::proofs::Sights::values_seen))]
     /// The values of arguments for an actor.
     pub(crate) fn values(
         &mut self,
@@ -178,11 +194,7 @@ impl Process {
             let contents = Contents {
                 cells: self.heap.cells(),
             };
-            let sight = Sight {
-                setting: self.setting(code, &contents),
-                fields: code.fields(),
-                places: self.heap.frames().places_held(actor),
-            };
+            let sight = self.sight(code, actor, &contents);
             evaluate_args(&sight, args, &mut turns)
         };
         self.left = turns.left;
@@ -210,6 +222,16 @@ impl Process {
             }
         }
         Err(Fault::Astray)
+    }
+
+    /// An actor goes on after a step, where that leaves nothing to do first.
+    pub(crate) fn go_from(&mut self, code: &Code, pace: Pace<'_>) -> Result<(), Fault>
+        ensures { OnOk result (GoesOn code.now pace.entry self.old self.new) }
+    {
+        match pace {
+            Pace::On(stand) => self.run_from(code, stand),
+            Pace::Off => Ok(()),
+        }
     }
 
     // An actor takes its next step, by its instruction.
@@ -351,11 +373,10 @@ impl Process {
             (values_for code.now stand.now.actor.0 args.now self.old) self.old
             (IsAct code.now stand.now act) pace self.new) }
     {
-        let args = match self.values(code, stand.actor, args) {
-            Ok(args) => args,
-            Err(halt) => return self.halted(stand, halt),
-        };
-        self.act_with(code, stand, act, args)
+        match self.values(code, stand.actor, args) {
+            Ok(args) => self.act_with(code, stand, act, args),
+            Err(halt) => self.halted(stand, halt),
+        }
     }
 
     // That, with its arguments known.
@@ -505,13 +526,22 @@ impl Process {
             (IsThrow stand.now) pace self.new) }
     {
         match self.value(code, stand.actor, expr) {
-            Ok(Value::Error(error)) => {
+            Ok(value) => self.throw_with(stand, value),
+            Err(halt) => self.halted(stand, halt),
+        }
+    }
+
+    // That, with the value known.
+    fn throw_with<'a>(&mut self, stand: &Stand<'a>, value: Value) -> Result<Pace<'a>, Fault>
+        ensures { IfOk result (λ pace. IsThrow stand.now value self.old pace self.new) }
+    {
+        match value {
+            Value::Error(error) => {
                 self.note(*stand)?;
                 self.throw(stand.actor, error)?;
                 Ok(Pace::Off)
             }
-            Ok(_) => Err(Fault::Astray),
-            Err(halt) => self.halted(stand, halt),
+            _ => Err(Fault::Astray),
         }
     }
 
@@ -528,12 +558,11 @@ impl Process {
             (value_for code.now stand.now.actor.0 expr.now self.old) self.old
             (IsTest stand.now yes no) pace self.new) }
     {
-        let next = match self.truth(code, stand.actor, expr) {
-            Ok(true) => yes,
-            Ok(false) => no,
-            Err(halt) => return self.halted(stand, halt),
-        };
-        Ok(Pace::On(stand.at(next, 0)?))
+        match self.truth(code, stand.actor, expr) {
+            Ok(true) => Ok(Pace::On(stand.at(yes, 0)?)),
+            Ok(false) => Ok(Pace::On(stand.at(no, 0)?)),
+            Err(halt) => self.halted(stand, halt),
+        }
     }
 
     #[tactic(auto, using(crate::proofs::Stepped::operand_asked, crate::proofs::Stepped::operands_kept))]
@@ -592,12 +621,27 @@ impl Process {
             (OperandKept stand.now callback) pace self.new) }
     {
         match self.value(code, stand.actor, expr) {
-            Ok(Value::Ref(kind, cell)) => {
+            Ok(value) => self.operand_with(stand, callback, value),
+            Err(halt) => self.halted(stand, halt),
+        }
+    }
+
+    // That, with the value known.
+    fn operand_with<'a>(
+        &mut self,
+        stand: &Stand<'a>,
+        callback: u32,
+        value: Value,
+    ) -> Result<Pace<'a>, Fault>
+        ensures { IfOk result (λ pace. OperandKept stand.now callback value self.old pace
+            self.new) }
+    {
+        match value {
+            Value::Ref(kind, cell) => {
                 self.hold(kind, cell)?;
                 self.keep_operand(stand, Held { callback, cell })
             }
-            Ok(_) => Err(Fault::Astray),
-            Err(halt) => self.halted(stand, halt),
+            _ => Err(Fault::Astray),
         }
     }
 

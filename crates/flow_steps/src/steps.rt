@@ -13,12 +13,11 @@ ghost use Rattle.flow_numbered.specs.Numbered.{thing};
 ghost use Rattle.flow_steps.specs.Doing.{departed};
 ghost use Rattle.flow_steps.specs.Drops.{DropsOver};
 ghost use Rattle.flow_steps.specs.Standing.{referring, values};
-ghost use Rattle.flow_steps.specs.Tasks.{BranchAt, Given, ValueGiven, bound_over, bound, Stored, Raised, FailsBy, caught, with_error, cell_waiter, stream_waiter, next_waiter, WaiterTakes, Fires, drops_one, IsDone};
+ghost use Rattle.flow_steps.specs.Tasks.{BranchAt, Given, ValueGiven, bound_over, bound, Stored, Raises, Raised, FailsBy, caught, with_error, cell_waiter, stream_waiter, next_waiter, WaiterTakes, Fires, drops_one, IsDone};
 
 use crate::branches::{branch_of, group_at};
 use crate::errors::Fault;
 use crate::frames::Stand;
-use crate::next::Pace;
 use crate::process::Process;
 use flow_base::ids::{ActorId, CellId, ErrorCode};
 use flow_cancel::task::Task;
@@ -120,10 +119,9 @@ impl Process {
         let stand = self.stand_of(code, actor)?;
         let branch = branch_at(&stand, branch)?;
         let old = self.bind(actor, branch, value)?;
-        match self.on_after(stand.at(branch.block, 0)?, old)? {
-            Pace::On(next) => self.run_from(code, next),
-            Pace::Off => Ok(()),
-        }
+        let pace = self.on_after(stand.at(branch.block, 0)?, old)?;
+        self.go_from(code, pace)?;
+        Ok(())
     }
 
     // The value of a branch goes into its place. Gives what is to be dropped: what the place held, or the value where there is
@@ -180,12 +178,24 @@ impl Process {
         ensures { OnOk result (Raised code.now actor error self.old self.new) }
     {
         let stand = self.stand_of(code, actor)?;
-        match &stand.block.catcher {
-            Some(catcher) => self.caught(actor, catcher, error)?,
-            None => self.uncaught(actor, error)?,
-        }
+        self.leave_by(actor, &stand.block.catcher, error)?;
         self.tell(Line::Throw(actor, error));
         Ok(())
+    }
+
+    // An error goes to the handler of a block, or out of an actor.
+    fn leave_by(
+        &mut self,
+        actor: ActorId,
+        catcher: &Option<Catcher>,
+        error: ErrorCode,
+    ) -> Result<(), Fault>
+        ensures { OnOk result (Raises actor catcher.now error self.old self.new) }
+    {
+        match catcher {
+            Some(catcher) => self.caught(actor, catcher, error),
+            None => self.uncaught(actor, error),
+        }
     }
 
     #[tactic(auto, using(crate::proofs::Done::fails_by))]
