@@ -11,3 +11,4 @@ pub mod Emptied
 pub mod Parting
 pub mod Takings
 pub mod Kept
+pub mod Firing

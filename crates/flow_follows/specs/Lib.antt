@@ -5,3 +5,4 @@ pub mod Closing
 pub mod Placing
 pub mod Taking
 pub mod Keeping
+pub mod Tasking

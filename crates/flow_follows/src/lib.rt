@@ -7,4 +7,5 @@ pub mod bringing;
 pub mod keeping;
 pub mod placing;
 pub mod taking;
+pub mod tasking;
 pub mod work;

@@ -1,0 +1,19 @@
+// Tasks that need no step of an actor.
+
+ghost use Rattle.std.specs.Prelude.{List};
+ghost use Rattle.flow_class.specs.Classes.{RawTree};
+ghost use Rattle.flow_trace.specs.declared.line.Line.{Line};
+ghost use Rattle.flow_meaning.specs.Process.{Proc};
+ghost use Rattle.flow_meaning.specs.Frame.{Frame};
+ghost use Rattle.flow_steps.specs.declared.process.Process.{Process};
+ghost use Rattle.flow_follows.specs.Tasking as law;
+
+/// A reference is dropped in memory, a handler begins and a cell fires as the definitions have it.
+pub fn tasks_follow()
+    ensures drop { (r : RawTree) (ls : List Line) (m : Process) (p : Proc Frame)
+        → law.DropDone r ls m p }
+    ensures catch { (r : RawTree) (ls : List Line) (m : Process) (p : Proc Frame)
+        → law.CatchDone r ls m p }
+    ensures fire { (r : RawTree) (ls : List Line) (m : Process) (p : Proc Frame)
+        → law.FireDone r ls m p }
+{}
