@@ -12,3 +12,5 @@ pub mod Parting
 pub mod Takings
 pub mod Kept
 pub mod Firing
+pub mod Moving
+pub mod Thrown

@@ -123,7 +123,7 @@ runs r m e f s = record {
   where
     position : Position m f → Position (record m { callbacks = [] }) f
     position (here a b c) = here a b c
-    position (at_wait a) = at_wait a
+    position (at_wait g a b) = at_wait g a b
 
 module _ (r : RawTree) (ls : List Line) (m : Process) (p : Proc Frame) (i : ℕ) (e : Entry) (f : Frame) where
   pub acts_withdrawn : Acts r m.heap p i e f → Acts r (withdrawn i m.heap) (on_core (left_wait i e) p) i (running e) f
@@ -177,11 +177,11 @@ module _ (r : RawTree) (ls : List Line) (m : Process) (p : Proc Frame) (i : ℕ)
       same_frames a = same_put p.actors i f a
 
 -- drops keep nothing
-no_keep_under : (i : ℕ) (rs : List Ref) (ts : List Task) → NoKeep i ts → NoKeep i (work.drops rs ts)
+pub no_keep_under : (i : ℕ) (rs : List Ref) (ts : List Task) → NoKeep i ts → NoKeep i (work.drops rs ts)
 no_keep_under i [] ts n = n
 no_keep_under i (r ∷ rs) ts n = no_keep_under i rs ts n
 
-no_keep_over : (i : ℕ) (u : Task) (ts : List Task) → NoKeep i (u ∷ []) → NoKeep i ts → NoKeep i (u ∷ ts)
+pub no_keep_over : (i : ℕ) (u : Task) (ts : List Task) → NoKeep i (u ∷ []) → NoKeep i ts → NoKeep i (u ∷ ts)
 no_keep_over i (process.Run j) ts a b = b
 no_keep_over i (process.Give j k o) ts a b = b
 no_keep_over i (process.Throw j k) ts a b = b

@@ -6,3 +6,4 @@ pub mod Placing
 pub mod Taking
 pub mod Keeping
 pub mod Tasking
+pub mod Throwing

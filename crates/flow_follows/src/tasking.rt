@@ -7,8 +7,9 @@ ghost use Rattle.flow_meaning.specs.Process.{Proc};
 ghost use Rattle.flow_meaning.specs.Frame.{Frame};
 ghost use Rattle.flow_steps.specs.declared.process.Process.{Process};
 ghost use Rattle.flow_follows.specs.Tasking as law;
+ghost use Rattle.flow_follows.specs.Throwing.{ThrowDone};
 
-/// A reference is dropped in memory, a handler begins and a cell fires as the definitions have it.
+/// A reference is dropped in memory, a handler begins, a cell fires and an error is thrown as the definitions have it.
 pub fn tasks_follow()
     ensures drop { (r : RawTree) (ls : List Line) (m : Process) (p : Proc Frame)
         → law.DropDone r ls m p }
@@ -16,4 +17,6 @@ pub fn tasks_follow()
         → law.CatchDone r ls m p }
     ensures fire { (r : RawTree) (ls : List Line) (m : Process) (p : Proc Frame)
         → law.FireDone r ls m p }
+    ensures throw { (r : RawTree) (ls : List Line) (m : Process) (p : Proc Frame)
+        → ThrowDone r ls m p }
 {}
