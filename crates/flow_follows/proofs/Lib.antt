@@ -14,3 +14,4 @@ pub mod Kept
 pub mod Firing
 pub mod Moving
 pub mod Thrown
+pub mod Stands

@@ -7,3 +7,4 @@ pub mod Taking
 pub mod Keeping
 pub mod Tasking
 pub mod Throwing
+pub mod Coded

@@ -6,6 +6,7 @@
 pub mod bringing;
 pub mod keeping;
 pub mod placing;
+pub mod standing;
 pub mod taking;
 pub mod tasking;
 pub mod work;
