@@ -15,3 +15,4 @@ pub mod Firing
 pub mod Moving
 pub mod Thrown
 pub mod Stands
+pub mod Registering

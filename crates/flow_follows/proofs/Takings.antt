@@ -168,7 +168,7 @@ same_kind (Single o ws) = refl
 same_kind (Stream [] d w) = refl
 same_kind (Stream (v ∷ vs) d w) = refl
 
-kinds_by : (cs ds : Numbered Cell) (rs : List Ref) → ((k : ℕ) → wait_kind (thing ds k) ≡ wait_kind (thing cs k)) → RightKinds cs rs → RightKinds ds rs
+pub kinds_by : (cs ds : Numbered Cell) (rs : List Ref) → ((k : ℕ) → wait_kind (thing ds k) ≡ wait_kind (thing cs k)) → RightKinds cs rs → RightKinds ds rs
 kinds_by cs ds [] e h = tt
 kinds_by cs ds (r ∷ rs) e h = (h.0 ∙ sym (e r.1), kinds_by cs ds rs e h.1)
 
