@@ -100,7 +100,7 @@ counted_more : (s : Side) (j : ℕ) (rs : List Ref) (q : Ref) → count s j (rs 
 counted_more s j [] q = omega arith
 counted_more s j (r ∷ rs) q = let a = counted_more s j rs q in omega (arith, a)
 
-kept_awake : (s : Side) (j : ℕ) (b : Bool) (rs : List Ref) → b ≡ false → count_kept s j b rs ≡ count s j rs
+pub kept_awake : (s : Side) (j : ℕ) (b : Bool) (rs : List Ref) → b ≡ false → count_kept s j b rs ≡ count s j rs
 kept_awake s j true rs e = absurd (cc)
 kept_awake s j false rs e = refl
 

@@ -16,3 +16,5 @@ pub mod Moving
 pub mod Thrown
 pub mod Stands
 pub mod Registering
+pub mod Commuting
+pub mod Waited

@@ -36,16 +36,12 @@ use Rattle.flow_picture.proofs.Keeping.{cell_keeps, stream_keeps}
 use Rattle.flow_picture.proofs.Referring.{of_waiter}
 use Rattle.flow_picture.proofs.Shown.{cell_awaited, stream_awaited}
 use Rattle.flow_steps.specs.Waiting as waiting
+use Rattle.flow_follows.specs.Waiting.{Waitable}
 use Rattle.flow_follows.proofs.Brought.{found_single, found_stream}
 use Rattle.flow_follows.proofs.Takings.{kinds_by}
 
 abbrev pub with_cells : Numbered Cell → Proc Frame → Proc Frame
 with_cells ds p = on_core (λ c. record c { cells = ds }) p
-
--- each operand is there, and of the kind by which one waits at its cell
-abbrev pub Waitable : Numbered Cell → List Ref → Type 0
-Waitable cs [] = Unit {0}
-Waitable cs (q ∷ qs) = ((c : Cell) × (thing cs q.1 ≡ Some c) × (q.0 ≡ wait_kind (Some c))) × Waitable cs qs
 
 -- the heap and the cells after some operands came to wait
 pub record Waited (r : RawTree) (h : HeapTree) (p : Proc Frame) (g : HeapTree) (ds : Numbered Cell) (done : List Ref) : Type 0 where
@@ -167,3 +163,79 @@ module _ (r : RawTree) (h : HeapTree) (p : Proc Frame) (i : ℕ) where
     all_wait : (k : HeapTree) (es : Numbered Cell) → waiting.register_all i (held_from (first + b) rs) g ≡ (true, k) → register i b rs (Registered ds) ≡ Registered es → Waited r h p k es (done ++ rs)
         → AllWait g ds done rs b
     one_refused : (k : HeapTree) → waiting.register_all i (held_from (first + b) rs) g ≡ (false, k) → register i b rs (Registered ds) ≡ Refused → AllWait g ds done rs b
+
+  -- an operand that was there is there
+  still_there : (ds : Numbered Cell) (k : ℕ) (c : Cell) (w : Waiter) → thing ds k ≡ Some c → (n : ℕ) (d : Cell) → thing ds n ≡ Some d
+      → (y : Cell) × (thing (put ds k (with_waiter c w)) n ≡ Some y) × (wait_kind (Some d) ≡ wait_kind (Some y))
+  still_there ds k c w at =
+      each_number k (λ n. (d : Cell) → thing ds n ≡ Some d → (y : Cell) × (thing (put ds k (with_waiter c w)) n ≡ Some y) × (wait_kind (Some d) ≡ wait_kind (Some y)))
+      (λ d e. (with_waiter c w, thing_put ds k c (with_waiter c w) at, sym (ap wait_kind e) ∙ ap wait_kind at ∙ sym (more_kind c w)))
+      (λ n differ d e. (d, thing_put_other ds k n (with_waiter c w) differ ∙ e, refl))
+
+  still_waitable : (ds : Numbered Cell) (k : ℕ) (c : Cell) (w : Waiter) → thing ds k ≡ Some c → (rs : List Ref) → Waitable ds rs → Waitable (put ds k (with_waiter c w)) rs
+  still_waitable ds k c w at [] h = tt
+  still_waitable ds k c w at (q ∷ rs) h =
+      let a = still_there ds k c w at q.1 h.0.0 h.0.1 in
+      let b : (y : Cell) × (thing (put ds k (with_waiter c w)) q.1 ≡ Some y) × (q.0 ≡ wait_kind (Some y)) = (a.0, a.1, h.0.2 ∙ a.2) in
+      (b, still_waitable ds k c w at rs h.1)
+
+  no_more_refs : (rs : List Ref) → rs ++ [] ≡ rs
+  no_more_refs [] = refl
+  no_more_refs (q ∷ rs) = ap (λ l. q ∷ l) (no_more_refs rs)
+
+  refs_assoc : (xs : List Ref) (q : Ref) (rs : List Ref) → (xs ++ q ∷ []) ++ rs ≡ xs ++ q ∷ rs
+  refs_assoc [] q rs = refl
+  refs_assoc (x ∷ xs) q rs = ap (λ l. x ∷ l) (refs_assoc xs q rs)
+
+  refused_stays : (rs : List Ref) (b : ℕ) → register i b rs Refused ≡ Refused
+  refused_stays [] b = refl
+  refused_stays (q ∷ rs) b = refused_stays rs (suc b)
+
+  pub all_waits : (rs : List Ref) (b : ℕ) (g : HeapTree) (ds : Numbered Cell) (done : List Ref) → Waited r h p g ds done → Waitable ds rs → AllWait g ds done rs b
+  all_waits [] b g ds done w has = all_wait g ds refl refl (subst (Waited r h p g ds) (sym (no_more_refs done)) w)
+  all_waits (q ∷ rs) b g ds done w has =
+      by_one (λ k v. all_waits rs (suc b) k (put ds q.1 (with_waiter c (waiter b))) (done ++ q ∷ []) v (still_waitable ds q.1 c (waiter b) at rs has.1)) (one_waits g ds done q b c w at right)
+    where
+      c : Cell
+      c = has.0.0
+
+      at : thing ds q.1 ≡ Some c
+      at = has.0.1
+
+      right : q.0 ≡ wait_kind (Some c)
+      right = has.0.2
+
+      x : Held
+      x = record { callback = first + b; cell = cell_id q.1 }
+
+      registers : (t : Bool) → is_busy c ≡ t → register i b (q ∷ rs) (Registered ds) ≡ register i (suc b) rs (if t then Refused else Registered (put ds q.1 (with_waiter c (waiter b))))
+      registers t e = ap (λ o. register i (suc b) rs (register_at (waiter b) q.1 ds o)) at ∙ ap (λ u. register i (suc b) rs (if u then Refused else Registered (put ds q.1 (with_waiter c (waiter b))))) e
+
+      by_rest : (k : HeapTree) → is_busy c ≡ false → waiting.register i x g ≡ (true, k) → AllWait k (put ds q.1 (with_waiter c (waiter b))) (done ++ q ∷ []) rs (suc b) → AllWait g ds done (q ∷ rs) b
+      by_rest k free reg (all_wait l es m n v) =
+          let number : suc (first + b) ≡ first + suc b = omega arith in
+          all_wait l es
+          (ap (waiting.registered_then (waiting.register_all i (held_from (suc (first + b)) rs))) reg ∙ ap (λ u. waiting.register_all i (held_from u rs) k) number ∙ m)
+          (registers false free ∙ n) (subst (Waited r h p l es) (refs_assoc done q rs) v)
+      by_rest k free reg (one_refused l m n) =
+          let number : suc (first + b) ≡ first + suc b = omega arith in
+          one_refused l
+          (ap (waiting.registered_then (waiting.register_all i (held_from (suc (first + b)) rs))) reg ∙ ap (λ u. waiting.register_all i (held_from u rs) k) number ∙ m)
+          (registers false free ∙ n)
+
+      by_one : ((k : HeapTree) → Waited r h p k (put ds q.1 (with_waiter c (waiter b))) (done ++ q ∷ []) → AllWait k (put ds q.1 (with_waiter c (waiter b))) (done ++ q ∷ []) rs (suc b))
+          → OneWaits g ds done q b c ⊎ OneRefused g q b c → AllWait g ds done (q ∷ rs) b
+      by_one rest (inl a) = by_rest a.1.0 a.0 a.1.1 (rest a.1.0 a.1.2)
+      by_one rest (inr a) =
+          one_refused g (ap (waiting.registered_then (waiting.register_all i (held_from (suc (first + b)) rs))) a.1) (registers true a.0 ∙ refused_stays rs (suc b))
+
+  pub none_waited : Shows r h p → Rising 0 p.core.made p.core.cells → Waited r h p h p.core.cells []
+  none_waited s rising = record {
+    shows = s;
+    counts = λ s j. refl;
+    kinds = λ k. refl;
+    rising = rising;
+    refs = λ s j. omega arith;
+    frames = refl;
+    actors = refl;
+  }

@@ -8,3 +8,4 @@ pub mod Keeping
 pub mod Tasking
 pub mod Throwing
 pub mod Coded
+pub mod Waiting
