@@ -1,19 +1,20 @@
 -- Effects, actors that are called, and call statements.
-use Rattle.std.proofs.Common.{◌≡◌, ℕ, ℤ, ◌+◌, ◌<◌, ◌≤◌, Bool, true, false, nat_lt, List, [], ◌∷◌, ◌++◌, length, map, take, drop, get_or, slice_get, refl, ap, sym, subst, ◌∙◌, Result, IfOk, OnOk}
+use Rattle.std.proofs.Common.{◌≡◌, ℕ, ℤ, ◌+◌, ◌<◌, ◌≤◌, Bool, true, false, nat_lt, List, [], ◌∷◌, ◌++◌, length, map, set, take, drop, get_or, slice_get, refl, ap, sym, subst, ◌∙◌, Result, IfOk, OnOk}
 use Rattle.std.proofs.lemmas.Result.{IfOk-weaker}
 use Rattle.std.specs.declared.option.Option.{Option}
 use Rattle.std.specs.declared.option.Option.TheVariants.{None, Some}
 use Rattle.flow_base.specs.declared.ids.ActorId.{ActorId}
 use Rattle.flow_base.specs.declared.ids.CellId.{CellId}
+use Rattle.flow_ast.specs.declared.predefined.Predefined.TheVariants as predefined
 use Rattle.flow_ast.specs.declared.predefined.Method.{Method}
 use Rattle.flow_value.specs.declared.value.Value.{Value}
-use Rattle.flow_value.specs.declared.value.Value.TheVariants.{Ref}
+use Rattle.flow_value.specs.declared.value.Value.TheVariants.{Ref, Void}
 use Rattle.flow_value.specs.declared.value.Outcome.{Outcome}
 use Rattle.flow_value.specs.declared.value.Kind.{Kind}
 use Rattle.flow_value.specs.declared.value.Kind.TheVariants as kind
 use Rattle.flow_value.specs.Values.{ValueTree}
 use Rattle.flow_value.specs.View.{value_of, outcome_of}
-use Rattle.flow_eval.specs.Answers.{arg}
+use Rattle.flow_eval.specs.Answers.{int_of, text_of, arg}
 use Rattle.flow_code.specs.declared.class.Class.{Class}
 use Rattle.flow_code.specs.declared.class.Effect.{Effect}
 use Rattle.flow_code.specs.declared.program.Code.{Code}
@@ -23,7 +24,8 @@ use Rattle.flow_cancel.specs.declared.task.Task.TheVariants as task
 use Rattle.flow_cancel.specs.Heap.{HeapTree, next_cell, next_actor, with_result, started_holding}
 use Rattle.flow_cancel.specs.Dropping.{refs_in}
 use Rattle.flow_meaning.specs.Lines.{print_line}
-use Rattle.flow_meaning.specs.Evaluating.{sent}
+use Rattle.flow_meaning.specs.Asks as asks
+use Rattle.flow_meaning.specs.Evaluating.{bind, sent, world_effect}
 use Rattle.flow_picture.specs.Holds.{hold_all}
 use Rattle.flow_steps.specs.declared.errors.Fault.{Fault}
 use Rattle.flow_steps.specs.declared.call.Call.{Call}
@@ -123,3 +125,23 @@ pub called_by : (code : Code) (caller : ActorId) (g : Goal) (class : ℕ) (args 
     → three ≡ doing (task.Run i) two → OnOk r (StartTold code class i three q) → OnOk r (ActorCalled code caller g class args p q)
 called_by code caller g class args i k r p mid one two three q t e enrols f d s =
     IfOk-weaker r _ _ (λ _ is. actor_starts (sym t) (subst (λ x. Starts code caller g class args x q) e (starts_by code caller g class args i k mid one two three q enrols f d is))) s
+
+-- requests to a disk
+pub read_asked : (vs : List ValueTree) (file : List ℕ) (offset count : ℤ) → text_of (arg vs 0) ≡ Some file → int_of (arg vs 1) ≡ Some offset → int_of (arg vs 2) ≡ Some count
+    → world_effect predefined.ReadFile vs ≡ Some (asks.Disk (asks.ReadCall file offset count))
+read_asked vs file offset count f o n =
+    ap (λ x. bind x (λ file. bind (int_of (arg vs 1)) (λ offset. bind (int_of (arg vs 2)) (λ count. Some (asks.Disk (asks.ReadCall file offset count)))))) f
+    ∙ ap (λ x. bind x (λ offset. bind (int_of (arg vs 2)) (λ count. Some (asks.Disk (asks.ReadCall file offset count))))) o
+    ∙ ap (λ x. bind x (λ count. Some (asks.Disk (asks.ReadCall file offset count)))) n
+
+first_kept : (vs : List Value) → arg (map value_of (set vs 2 Void)) 0 ≡ arg (map value_of vs) 0
+first_kept [] = refl
+first_kept (v ∷ vs) = refl
+
+pub write_asked : (vs : List Value) (file text : List ℕ) (offset : ℤ) → int_of (arg (map value_of vs) 1) ≡ Some offset → text_of (arg (map value_of vs) 2) ≡ Some text
+    → text_of (arg (map value_of (set vs 2 Void)) 0) ≡ Some file
+    → world_effect predefined.WriteFile (map value_of vs) ≡ Some (asks.Disk (asks.WriteCall file offset text))
+write_asked vs file text offset o t f =
+    ap (λ x. bind x (λ file. bind (int_of (arg (map value_of vs) 1)) (λ offset. bind (text_of (arg (map value_of vs) 2)) (λ text. Some (asks.Disk (asks.WriteCall file offset text)))))) (ap text_of (sym (first_kept vs)) ∙ f)
+    ∙ ap (λ x. bind x (λ offset. bind (text_of (arg (map value_of vs) 2)) (λ text. Some (asks.Disk (asks.WriteCall file offset text))))) o
+    ∙ ap (λ x. bind x (λ text. Some (asks.Disk (asks.WriteCall file offset text)))) t

@@ -1,7 +1,8 @@
 -- What tasks do.
-use Rattle.std.proofs.Common.{◌≡◌, ℕ, ◌<◌, Bool, true, false, nat_lt, List, [], ◌∷◌, length, slice_get, pos, refl, ap, sym, subst, ◌∙◌, Result, IfOk, OnOk}
+use Rattle.std.proofs.Common.{◌≡◌, ℕ, ◌<◌, Bool, true, false, nat_lt, List, [], ◌∷◌, length, drop, slice_get, pos, refl, ap, sym, subst, ◌∙◌, Result, IfOk, OnOk}
 use Rattle.std.proofs.lemmas.Result.{IfOk-weaker}
-use Rattle.std.specs.Option.{IsSomeAnd}
+use Rattle.std.proofs.lemmas.Bool.{false≢true}
+use Rattle.std.specs.Option.{IsSomeAnd, is_some}
 use Rattle.std.specs.declared.option.Option.{Option}
 use Rattle.std.specs.declared.option.Option.TheVariants.{None, Some}
 use Rattle.std.specs.declared.vec.Vec.{Vec}
@@ -36,19 +37,20 @@ use Rattle.flow_trace.specs.declared.line.Line.TheVariants as line
 use Rattle.flow_cancel.specs.declared.actors.Note.{Note}
 use Rattle.flow_cancel.specs.declared.task.Task.{Task}
 use Rattle.flow_cancel.specs.declared.task.Task.TheVariants as task
-use Rattle.flow_cancel.specs.Heap.{pushed}
+use Rattle.flow_cancel.specs.Heap.{HeapTree, pushed}
 use Rattle.flow_cancel.specs.Dropping.{dropping}
 use Rattle.flow_cancel.specs.Leaving.{withdrawn}
 use Rattle.flow_steps.specs.declared.frames.Stand.{Stand}
 use Rattle.flow_steps.specs.declared.next.Pace.{Pace}
 use Rattle.flow_steps.specs.declared.process.Process.{Process}
+use Rattle.flow_steps.specs.declared.process.Next.TheVariants as next
 use Rattle.flow_steps.specs.Doing.{turned, doing, telling}
 use Rattle.flow_steps.specs.Holding.{on_heap, kind_in}
 use Rattle.flow_steps.specs.Bringing.{closed}
 use Rattle.flow_steps.specs.Standing.{StandsNow, GoesTo, next_stand, noted, gone, values, lost_from, Assigns}
 use Rattle.flow_steps.specs.Waiting.{BranchOf, TakesBranch, Keeps}
 use Rattle.flow_steps.specs.Stepping.{OnAfter, GoesOn, Runs, IsClose}
-use Rattle.flow_steps.specs.Tasks.{RunsNow, BranchAt, bound_over, bound, ValueGiven, Stored, TopTaken, IsKept, with_error, dropped_places, caught, failed, FailsBy, Raises, Raised, FiresAt, Fires, next_waiter, WaiterTakes, Closes, MainStarts, MainCalled, main_waits, main_starts}
+use Rattle.flow_steps.specs.Tasks.{RunsNow, BranchAt, bound_over, bound, ValueGiven, Stored, TopTaken, IsKept, with_error, dropped_places, caught, failed, FailsBy, Raises, Raised, FiresAt, Fires, next_waiter, WaiterTakes, Closes, MainStarts, MainCalled, main_waits, main_starts, Tasks, no_task}
 
 pub runs_now : (code : Code) (i : ActorId) (s : Stand) (p q : Process) → StandsNow code.classes.items i p s → Runs code s p q → RunsNow code i p q
 runs_now code i s p q a r = record { stand = s; stands = a; runs = r }
@@ -147,3 +149,28 @@ main_not_called code me p q t e = main_waits (sym t) e
 pub main_called : (code : Code) (me : ProcId) (r : Result (Unit {0}) Fault) (p mid q : Process) → true ≡ nat_lt 0 p.left → mid ≡ turned p
     → OnOk r (MainStarts code me mid q) → OnOk r (MainCalled code me p q)
 main_called code me r p mid q t e s = IfOk-weaker r _ _ (λ _ is. main_starts (sym t) (subst (λ x. MainStarts code me x q) e is)) s
+
+-- the newest task, and none
+no_tasks : (ts : List Task) → None ≡ slice_get ts 0 → ts ≡ []
+no_tasks [] e = refl
+no_tasks (t ∷ ts) e = absurd (false≢true (ap is_some e))
+
+abbrev task_or : Task → Option Task → Task
+task_or t None = t
+task_or t (Some u) = u
+
+first_of : (ts : List Task) (t : Task) → Some t ≡ slice_get ts 0 → ts ≡ t ∷ drop 1 ts
+first_of [] t e = absurd (false≢true (sym (ap is_some e)))
+first_of (u ∷ ts) t e = ap (λ x. x ∷ ts) (sym (ap (task_or t) e))
+
+pub rested_by : (code : Code) (p : Process) (h : HeapTree) → p.spent ≡ false → None ≡ slice_get p.heap.tasks 0 → h ≡ record p.heap { tasks = drop 1 p.heap.tasks }
+    → Tasks code p next.Rested (record p { heap = h })
+rested_by code p h s e rest =
+    let none = no_tasks p.heap.tasks e in
+    let same : record p { heap = h } ≡ p =
+    ap (λ x. record p { heap = x }) (rest ∙ ap (λ ts. record p.heap { tasks = drop 1 ts }) none ∙ ap (λ ts. record p.heap { tasks = ts }) (sym none)) in
+    subst (λ q. Tasks code p next.Rested q) (sym same) (no_task p s none)
+
+pub top_taken : (p : Process) (h : HeapTree) (t : Task) → Some t ≡ slice_get p.heap.tasks 0 → h ≡ record p.heap { tasks = drop 1 p.heap.tasks }
+    → TopTaken t p (record p { heap = h })
+top_taken p h t e rest = record { tasks = drop 1 p.heap.tasks; top = first_of p.heap.tasks t e; rest = ap (λ x. record p { heap = x }) rest }

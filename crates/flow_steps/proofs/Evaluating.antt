@@ -14,8 +14,10 @@ use Rattle.flow_resolved.specs.Truth.{GivesTruth}
 use Rattle.flow_steps.specs.declared.errors.Fault.{Fault}
 use Rattle.flow_steps.specs.declared.frames.Stand.{Stand}
 use Rattle.flow_steps.specs.declared.next.Pace.{Pace}
-use Rattle.flow_steps.specs.declared.next.Pace.TheVariants.{Off}
+use Rattle.flow_steps.specs.declared.next.Pace.TheVariants.{On, Off}
 use Rattle.flow_steps.specs.declared.process.Process.{Process}
+use Rattle.flow_steps.specs.Standing.{next_stand}
+use Rattle.flow_steps.specs.Stepping.{GoesNext, IsTest}
 use Rattle.flow_steps.specs.Sights.{Halted, with_left, Evaluates, gives, throws, runs_out}
 
 module _ {A B : Type 0} (s : Stand) (seen : B → A) (comes_to : Res A) (p mid q : Process) (goes : B → Process → Pace → Process → Type 0) where
@@ -75,3 +77,14 @@ module _ (s : Stand) (p mid q : Process) where
       by halt.Spent g = g
       by halt.NoMeaning g = g
       by halt.OutOfMemory g = g
+
+  -- a value that is forgotten
+  pub function_done : (comes_to : Res ValueTree) (v : Value) (r : Result Pace Fault) → comes_to ≡ Done (value_of v) mid.left → mid ≡ with_left mid.left p
+      → IfOk r (λ pace. pace ≡ On (next_stand s)) → IfOk r (λ pace. Evaluates s value_of comes_to p (GoesNext s) pace mid)
+  function_done c v r e rest on =
+      value_given s value_of c p mid mid (GoesNext s) v r e rest (IfOk-weaker r _ _ (λ pace is. (is, refl)) on)
+
+  -- a truth value that leads to one of two blocks
+  pub test_done : (comes_to : Res ValueTree) (b : Bool) (one other : ℕ) (t : Stand) → comes_to ≡ Done (BoolValue b) mid.left → mid ≡ with_left mid.left p
+      → IsTest s one other b mid (On t) mid → Evaluates s BoolValue comes_to p (IsTest s one other) (On t) mid
+  test_done c b one other t e rest is = gives b mid.left (On t) mid e (subst (λ x. IsTest s one other b x (On t) mid) rest is)

@@ -133,7 +133,7 @@ lost_all i first last f h g at le e behind =
     let rest = (length f.places - first) - (last - first) in
     e
     ∙ sym (behind_lost i (first + (last - first)) rest (places_lost i first (last - first) h)
-        (λ k past. let past' : last ≤ k = omega arith in ap (place_held i k) (sym e) ∙ behind k past'))
+    (λ k past. let past' : last ≤ k = omega arith in ap (place_held i k) (sym e) ∙ behind k past'))
     ∙ sym (lost_further i first (last - first) rest h)
     ∙ ap (λ m. places_lost i first m h) count
     ∙ ap (λ o. losing_from i first o h) (sym at)
@@ -147,3 +147,14 @@ lost_one i place last h lt =
     let more : suc (last - (place + 1)) ≡ last - place = omega arith in
     let next : place + 1 ≡ suc place = omega arith in
     ap (λ n. places_lost i n (last - (place + 1)) (place_lost i place h)) next ∙ ap (λ m. places_lost i place m h) more
+
+pub lost_end : (i first last place : ℕ) (xs : List (Option Value)) (h g : HeapTree) → IsSome (thing h.frames.things i) → IsFilled (thing h.frames.things i) xs → last ≡ length xs → last ≤ place
+    → places_lost i place (last - place) g ≡ places_lost i first (last - first) h → ((k : ℕ) → last ≤ k → place_held i k g ≡ None) → g ≡ lost_from i first h
+lost_end i first last place xs h g there filled count le inv behind =
+    let none : last - place ≡ 0 = omega (arith, le) in
+    let is : g ≡ places_lost i first (last - first) h = sym (ap (λ m. places_lost i place m g) none) ∙ inv in
+    by (thing h.frames.things i) refl there filled is
+  where
+    by : (o : Option (FrameTree Value)) → thing h.frames.things i ≡ o → IsSome o → IsFilled o xs → g ≡ places_lost i first (last - first) h → g ≡ lost_from i first h
+    by (Some f) at s e is = let within : last ≤ length f.places = omega (arith, count, e.1) in lost_all i first last f h g at within is behind
+    by None at s e is = absurd (false≢true s)

@@ -1,5 +1,5 @@
 -- Parts of values that are exchanged, and aims that get a value.
-use Rattle.std.proofs.Common.{◌≡◌, ℕ, ◌<◌, List, [], ◌∷◌, length, get_or, set, refl, ap, sym, ◌∙◌}
+use Rattle.std.proofs.Common.{◌≡◌, ℕ, List, [], ◌∷◌, ap, sym, ◌∙◌}
 use Rattle.std.specs.Option.{option_map}
 use Rattle.std.specs.declared.option.Option.{Option}
 use Rattle.std.specs.declared.option.Option.TheVariants.{None, Some}
@@ -7,9 +7,8 @@ use Rattle.flow_base.specs.declared.ids.ActorId.{ActorId}
 use Rattle.flow_value.specs.declared.value.Value.{Value}
 use Rattle.flow_value.specs.declared.value.RecordId.{RecordId}
 use Rattle.flow_value.specs.Values.{ValueTree, ValueTrees, RecordValue}
-use Rattle.flow_value.specs.View.{value_of, values_of}
-use Rattle.flow_eval.specs.Records.{at_place, value_put}
-use Rattle.flow_eval.proofs.Lookups.{value_there, values_set}
+use Rattle.flow_value.specs.View.{value_of}
+use Rattle.flow_eval.specs.Records.{at_place, value_at, value_put}
 use Rattle.flow_resolved.specs.View.{places_in}
 use Rattle.flow_resolved.specs.declared.names.FieldNames.{FieldNames}
 use Rattle.flow_code.specs.declared.class.Aim.{Aim}
@@ -19,15 +18,17 @@ use Rattle.flow_steps.specs.Standing.{Numbering, within, exchanged, place_held, 
 use Rattle.flow_steps.proofs.Framing.{put_anew}
 
 -- a part of a field of a record
-pub exchanged_inside : (at : Numbering) (r : RecordId) (f : ℕ) (fs : List ℕ) (new : ValueTree) (vs : List Value) (k : ℕ) (d part : Value) (old : ValueTree)
-    → at r f ≡ Some k → k < length vs
-    → exchanged at fs new (Some (value_of (get_or vs k d))) ≡ Some (Some old, Some (value_of part))
-    → exchanged at (f ∷ fs) new (Some (RecordValue r (values_of vs))) ≡ Some (Some old, Some (RecordValue r (values_of (set vs k part))))
-exchanged_inside at r f fs new vs k d part old is lt e =
-    ap (λ (p : Option ℕ). within r (values_of vs) p (exchanged at fs new (at_place (values_of vs) p))) is
-    ∙ ap (λ o. within r (values_of vs) (Some k) (exchanged at fs new o)) (value_there vs k d lt)
-    ∙ ap (within r (values_of vs) (Some k)) e
-    ∙ ap (λ l. Some (Some old, Some (RecordValue r l))) (sym (values_set vs k part))
+pub exchanged_field : (at : Numbering) (r : RecordId) (f : ℕ) (fs : List ℕ) (new : ValueTree) (before taken after : ValueTrees) (k : ℕ) (field old part : ValueTree)
+    → at r f ≡ Some k → value_at before k ≡ Some field
+    → ((w : ValueTree) → value_put taken k w ≡ value_put before k w)
+    → exchanged at fs new (Some field) ≡ Some (Some old, Some part)
+    → after ≡ value_put taken k part
+    → exchanged at (f ∷ fs) new (Some (RecordValue r before)) ≡ Some (Some old, Some (RecordValue r after))
+exchanged_field at r f fs new before taken after k field old part is here rest e back =
+    ap (λ (p : Option ℕ). within r before p (exchanged at fs new (at_place before p))) is
+    ∙ ap (λ o. within r before (Some k) (exchanged at fs new o)) here
+    ∙ ap (within r before (Some k)) e
+    ∙ ap (λ l. Some (Some old, Some (RecordValue r l))) (sym (back ∙ rest part))
 
 -- an aim with a path
 pub part_assigned : (fields : FieldNames) (i : ActorId) (aim : Aim) (new root_old root_new old : Value) (p taken q : Process)

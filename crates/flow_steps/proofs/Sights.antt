@@ -12,7 +12,7 @@ use Rattle.flow_tree.specs.declared.limits.TheConstants.{CALL_DEPTH}
 use Rattle.flow_value.specs.declared.value.Value.{Value}
 use Rattle.flow_value.specs.Values.{ValueTree, OutcomeTree}
 use Rattle.flow_value.specs.View.{value_of}
-use Rattle.flow_eval.specs.Eval.{Setting}
+use Rattle.flow_eval.specs.Eval.{Setting, truth_of}
 use Rattle.flow_eval.specs.Functions.{run_function}
 use Rattle.flow_eval.specs.View.{Gives, GivesAll, setting_of}
 use Rattle.flow_eval.specs.declared.stop.Halt.{Halt}
@@ -50,14 +50,14 @@ same_sight content sight program i p e names filled =
     ap (λ (s : Setting). record { setting = s; run = run_function s CALL_DEPTH; places = places_in sight.fields.now; held = held_in sight.places.now }) e
     ∙ ap (λ n. record (sight_in program i p) { places = places_in n; held = held_in sight.places.now }) names
     ∙ ap (λ (held : ℕ → Option ValueTree). record (sight_in program i p) { held = held })
-      (fun_ext (λ n. ap (option_map value_of) (held_same (thing p.heap.frames.things i) sight.places.now n filled)))
+    (fun_ext (λ n. ap (option_map value_of) (held_same (thing p.heap.frames.things i) sight.places.now n filled)))
 
 -- what one sees so comes to the same
 pub value_seen : (s t : Sight) (e : Node) (left more : ℕ) (r : Result Value Halt) → s ≡ t → Gives (value_at s e left) r more → Gives (value_at t e left) r more
 value_seen s t e left more r is g = subst (λ x. Gives (value_at x e left) r more) is g
 
-pub truth_seen : (s t : Sight) (e : Node) (left more : ℕ) (r : Result Bool Halt) → s ≡ t → GivesTruth (value_at s e left) r more → GivesTruth (value_at t e left) r more
-truth_seen s t e left more r is g = subst (λ x. GivesTruth (value_at x e left) r more) is g
+pub truth_seen : (s t : Sight) (e : Node) (left more : ℕ) (r : Result Bool Halt) → s ≡ t → GivesTruth (truth_of (value_at s e left)) r more → GivesTruth (truth_of (value_at t e left)) r more
+truth_seen s t e left more r is g = subst (λ x. GivesTruth (truth_of (value_at x e left)) r more) is g
 
 pub values_seen : (s t : Sight) (es : Nodes) (left more : ℕ) (r : Result (Vec Value Global) Halt) → s ≡ t → GivesAll (values_at s es left) r more → GivesAll (values_at t es left) r more
 values_seen s t es left more r is g = subst (λ x. GivesAll (values_at x es left) r more) is g

@@ -1,5 +1,5 @@
 -- The steps of actors.
-use Rattle.std.proofs.Common.{◌≡◌, ℕ, ◌+◌, ◌<◌, Bool, true, false, nat_lt, List, [], ◌∷◌, length, map, slice_get, refl, ap, sym, subst, ◌∙◌, Result, Ok, Err, IfOk, OnOk, arith}
+use Rattle.std.proofs.Common.{◌≡◌, ℕ, ◌+◌, ◌<◌, Bool, true, false, nat_lt, List, [], ◌∷◌, length, map, get_or, slice_get, refl, ap, sym, subst, ◌∙◌, Result, Ok, Err, IfOk, OnOk, arith}
 use Rattle.std.proofs.lemmas.Result.{IfOk-weaker}
 use Rattle.std.specs.Option.{option_map}
 use Rattle.std.specs.declared.option.Option.{Option}
@@ -15,6 +15,14 @@ use Rattle.flow_value.specs.Values.{ValueTree, RefValue, refs_of}
 use Rattle.flow_value.specs.View.{value_of}
 use Rattle.flow_resolved.specs.View.{places_in}
 use Rattle.flow_code.specs.declared.class.Aim.{Aim}
+use Rattle.std.specs.declared.vec.Vec.{Vec}
+use Rattle.std.specs.declared.alloc.Global.{Global}
+use Rattle.flow_resolved.specs.declared.expr.Resolved.{Resolved}
+use Rattle.flow_code.specs.declared.class.Act.{Act}
+use Rattle.flow_code.specs.declared.class.Instruction.{Instruction}
+use Rattle.flow_code.specs.declared.class.Instruction.TheVariants as instruction
+use Rattle.flow_code.specs.declared.class.Last.{Last}
+use Rattle.flow_code.specs.declared.class.Last.TheVariants as last
 use Rattle.flow_code.specs.declared.class.Branch.{Branch}
 use Rattle.flow_code.specs.declared.class.Group.{Group}
 use Rattle.flow_code.specs.declared.program.Code.{Code}
@@ -34,8 +42,9 @@ use Rattle.flow_steps.specs.Holding.{on_heap, value_refs}
 use Rattle.flow_steps.specs.Bringing.{made}
 use Rattle.flow_steps.specs.Standing.{noted, noted_stand, GoesTo, next_stand, place_held, place_put, referring, may_refer, if_refers, lost_from, field_path, Assigns}
 use Rattle.flow_steps.specs.Waiting.{Waits}
-use Rattle.flow_steps.specs.Acting.{MethodCalled}
-use Rattle.flow_steps.specs.Stepping.{OnAfter, IsSet, made_in_place, IsNew, IsMethod, GoesOnAt, Passes, no_pass, pass_begins, OperandStep, Chooses, asks_operand, all_kept, IsChoose, kept_by, IsClose, ended, IsReturn}
+use Rattle.flow_steps.specs.Acting.{args_of, MethodCalled}
+use Rattle.flow_steps.specs.Sights.{Evaluates}
+use Rattle.flow_steps.specs.Stepping.{value_for, truth_for, values_for, truth_value, IsAct, IsMethodOf, MethodStep, Does, IsTest, Ends, StepsOn, by_instruction, OnAfter, IsSet, made_in_place, IsNew, IsMethod, GoesOnAt, Passes, no_pass, pass_begins, OperandStep, Chooses, asks_operand, all_kept, IsChoose, kept_by, IsClose, ended, IsReturn}
 use Rattle.flow_steps.proofs.Holding.{value_dropped}
 
 -- values are left over, or one
@@ -133,3 +142,31 @@ pub operands_kept : (code : Code) (s t : Stand) (number : ℕ) (g : Group) (p to
     → Some g ≡ group_numbered number s.class.now.groups.items → t ≡ noted_stand s → told ≡ noted s p
     → None ≡ slice_get g.branches.items (kept_by t told) → Waits t number told q → IsChoose code s number p Off q
 operands_kept code s t number g p told q e m d at w = chooses_by code s t number g (Ok Off) p told q e m d (all_kept (sym at) refl w)
+
+-- a method with one argument
+pub one_argument : (code : Code) (s : Stand) (aim : Aim) (m : Method) (es : List Resolved) (e : Resolved) (r : Result Pace Fault) (p q : Process) → length es ≡ 1 → e ≡ get_or es 0 e
+    → IfOk r (λ pace. Evaluates s value_of (value_for code s.actor.0 e p) p (IsMethodOf code s aim m) pace q) → IfOk r (λ pace. MethodStep code s aim m es p pace q)
+one_argument code s aim m [] e r p q n is go = absurd (omega (arith, n))
+one_argument code s aim m (x ∷ []) e r p q n is go =
+    subst (λ y. IfOk r (λ pace. Evaluates s value_of (value_for code s.actor.0 y p) p (IsMethodOf code s aim m) pace q)) is go
+one_argument code s aim m (x ∷ y ∷ zs) e r p q n is go = absurd (omega (arith, n))
+
+-- instructions by their kinds
+pub acts_by : (code : Code) (s : Stand) (x : Instruction) (a : Act) (args : Vec Resolved Global) (es : List Resolved) (r : Result Pace Fault) (p q : Process)
+    → x ≡ instruction.Act a args → es ≡ args.items
+    → IfOk r (λ pace. Evaluates s args_of (values_for code s.actor.0 es p) p (IsAct code s a) pace q) → IfOk r (λ pace. Does code s x p pace q)
+acts_by code s x a args es r p q is e go =
+    subst (λ y. IfOk r (λ pace. Does code s y p pace q)) (sym is)
+    (subst (λ l. IfOk r (λ pace. Evaluates s args_of (values_for code s.actor.0 l p) p (IsAct code s a) pace q)) e go)
+
+pub goes_by : (code : Code) (s t : Stand) (x : Last) (b : ℕ) (p : Process) → x ≡ last.Goto b → GoesTo s b 0 t → Ends code s x p (On t) p
+goes_by code s t x b p is g = subst (λ y. Ends code s y p (On t) p) (sym is) (goes_at s t b p g)
+
+pub tests_by : (code : Code) (s : Stand) (x : Last) (e : Resolved) (one other : ℕ) (r : Result Pace Fault) (p q : Process) → x ≡ last.Test e one other
+    → IfOk r (λ pace. Evaluates s truth_value (truth_for code s.actor.0 e p) p (IsTest s one other) pace q) → IfOk r (λ pace. Ends code s x p pace q)
+tests_by code s x e one other r p q is go = subst (λ y. IfOk r (λ pace. Ends code s y p pace q)) (sym is) go
+
+-- a step
+pub steps_by : (code : Code) (s : Stand) (x : Instruction) (r : Result Pace Fault) (p q : Process) → Some x ≡ slice_get s.block.now.body.items s.instruction
+    → IfOk r (λ pace. Does code s x p pace q) → IfOk r (λ pace. StepsOn code s p pace q)
+steps_by code s x r p q at go = IfOk-weaker r _ _ (λ pace is. by_instruction x (sym at) is) go

@@ -1,9 +1,9 @@
 -- What branches take, and how actors leave their waits.
-use Rattle.std.proofs.Common.{◌≡◌, ℕ, ◌+◌, ◌<◌, ◌≤◌, Bool, true, false, nat_lt, List, [], ◌∷◌, length, drop, get_or, slice_get, refl, ap, sym, subst, ◌∙◌, Result, Ok, Err, IfOk, OnOk}
+use Rattle.std.proofs.Common.{◌≡◌, ℕ, ◌+◌, ◌<◌, ◌≤◌, Bool, true, false, nat_lt, List, [], ◌∷◌, length, drop, get_or, slice_get, refl, ap, sym, subst, ◌∙◌, if◌then◌else◌, Result, Ok, Err, IfOk, OnOk}
 use Rattle.std.proofs.lemmas.Bool.{false≢true}
 use Rattle.std.proofs.lemmas.List.{drop_more, drop_all}
 use Rattle.std.proofs.lemmas.Result.{IfOk-weaker}
-use Rattle.std.specs.Option.{IsSome, IsSomeAnd, ForSome, option_map}
+use Rattle.std.specs.Option.{IsSome, IsSomeAnd, ForSome, option_map, is_some}
 use Rattle.std.specs.declared.option.Option.{Option}
 use Rattle.std.specs.declared.option.Option.TheVariants.{None, Some}
 use Rattle.flow_base.specs.ErrorNumbers.{operation_cancelled, second_waiter}
@@ -36,7 +36,14 @@ use Rattle.flow_steps.specs.Seen.{content_in}
 use Rattle.flow_steps.specs.Holding.{on_heap, with_heap, outcome_refs, kind_in}
 use Rattle.flow_steps.specs.Bringing.{head_of}
 use Rattle.flow_steps.specs.Standing.{lost_from}
-use Rattle.flow_steps.specs.Waiting.{BranchOf, Takes, copied, popped, IsGive, BranchTaken, TakesBranch, no_turn, takes_branch, left_for, callbacks_of, Registered, register, register_all, registered_then, Registers, first_ready, ready_at, marked_at, operand_kept, Keeps, kept_marked, kept_unready, kept_ready, suspended_at, Waits, waits_ready, waits_refused, waits_suspended}
+use Rattle.flow_stream.specs.Streams.{or_waiter}
+use Rattle.flow_stream.specs.declared.head.Wait.{Wait}
+use Rattle.flow_stream.specs.declared.head.Wait.TheVariants.{Added, Busy}
+use Rattle.flow_cell.specs.declared.waiter.Waiter.{Waiter}
+use Rattle.flow_cancel.specs.Leaving.{waiter_of}
+use Rattle.flow_numbered.proofs.Things.{with_same}
+use Rattle.std.proofs.lemmas.Option.{slice_get-get_or, slice_get_within}
+use Rattle.flow_steps.specs.Waiting.{stream_awaited, awaited, BranchOf, Takes, copied, popped, IsGive, BranchTaken, TakesBranch, no_turn, takes_branch, left_for, callbacks_of, Registered, register, register_all, registered_then, Registers, first_ready, ready_at, marked_at, operand_kept, Keeps, kept_marked, kept_unready, kept_ready, suspended_at, Waits, waits_ready, waits_refused, waits_suspended}
 
 -- the branch of a number
 pub branch_is : (s : Stand) (callback branch number : ℕ) (g : Group) → s.block.now.last ≡ last.Choose number
@@ -161,7 +168,7 @@ pub wait_refused : (s : Stand) (g : ℕ) (r : Result (Unit {0}) Fault) (p mid q 
 wait_refused s g r p mid q e reg l =
     let all = register_all s.actor.0 (callbacks_of s.actor.0 p.heap) p.heap in
     IfOk-weaker r _ _ (λ _ is. waits_refused all.1 (sym e) (told all false reg.0)
-        (is ∙ ap (on_heap (left_for s (task.Throw s.actor (record { 0 = second_waiter })))) reg.1)) l
+    (is ∙ ap (on_heap (left_for s (task.Throw s.actor (record { 0 = second_waiter })))) reg.1)) l
 
 pub wait_suspended : (s : Stand) (g : ℕ) (p mid one two q : Process) → None ≡ first_ready p.heap (callbacks_of s.actor.0 p.heap)
     → Registers (register_all s.actor.0 (callbacks_of s.actor.0 p.heap) p.heap) true p mid
@@ -171,3 +178,87 @@ wait_suspended s g p mid one two q e reg l f t =
     let all = register_all s.actor.0 (callbacks_of s.actor.0 p.heap) p.heap in
     waits_suspended all.1 (sym e) (told all true reg.0)
     (t ∙ ap (telling (line.Wait s.actor g)) (f ∙ ap (on_heap (suspended_at s.actor.0 g)) (l ∙ ap (on_heap (lost_from s.actor.0 s.class.now.slots)) reg.1)))
+
+abbrev is_busy : Wait → Bool
+is_busy Added = false
+is_busy Busy = true
+
+-- a stream at which nobody waits, and one at which somebody does
+module _ (i : ℕ) (x : Held) (p : Process) (new : Store (StreamTree Value)) (none : is_some (thing p.heap.cells.things x.cell.0) ≡ false) (some : is_some (thing p.heap.streams.things x.cell.0) ≡ true) where
+  abbrev awaits : Bool → Type 0
+  awaits b = Registers (register i x p.heap) b p (on_heap (λ h. record h { streams = new }) p)
+
+  at_stream : (b : Bool) → ((s : StreamTree Value) → thing p.heap.streams.things x.cell.0 ≡ Some s
+      → Registers (stream_awaited x.cell.0 (waiter_of i x) s s.waiter p.heap) b p (on_heap (λ h. record h { streams = new }) p)) → awaits b
+  at_stream b go = by (thing p.heap.cells.things x.cell.0) (thing p.heap.streams.things x.cell.0) none some go
+    where
+      by : (c : Option (CellTree Outcome)) (o : Option (StreamTree Value)) → is_some c ≡ false → is_some o ≡ true
+          → ((s : StreamTree Value) → o ≡ Some s → Registers (stream_awaited x.cell.0 (waiter_of i x) s s.waiter p.heap) b p (on_heap (λ h. record h { streams = new }) p))
+          → Registers (awaited x.cell.0 (waiter_of i x) c o p.heap) b p (on_heap (λ h. record h { streams = new }) p)
+      by None (Some s) n m go = go s refl
+      by None None n m go = absurd (false≢true m)
+      by (Some c) o n m go = absurd (false≢true (sym n))
+
+  pub stream_added : ForSome (thing p.heap.streams.things x.cell.0) (λ s. Added ≡ (if is_some s.waiter then Busy else Added))
+      → ForSome (thing p.heap.streams.things x.cell.0) (λ s. new ≡ with_thing p.heap.streams x.cell.0 (record s { waiter = or_waiter s.waiter (waiter_of i x) }))
+      → Registers (register i x p.heap) true p (on_heap (λ h. record h { streams = new }) p)
+  stream_added a w = at_stream true (λ s is. free s s.waiter (a s is) (w s is))
+    where
+      free : (s : StreamTree Value) (o : Option Waiter) → Added ≡ (if is_some o then Busy else Added)
+          → new ≡ with_thing p.heap.streams x.cell.0 (record s { waiter = or_waiter o (waiter_of i x) })
+          → Registers (stream_awaited x.cell.0 (waiter_of i x) s o p.heap) true p (on_heap (λ h. record h { streams = new }) p)
+      free s None a w = (refl, ap (λ n. record p { heap = record p.heap { streams = n } }) w)
+      free s (Some old) a w = absurd (false≢true (ap is_busy a))
+
+  pub stream_busy : ForSome (thing p.heap.streams.things x.cell.0) (λ s. Busy ≡ (if is_some s.waiter then Busy else Added))
+      → ForSome (thing p.heap.streams.things x.cell.0) (λ s. new ≡ with_thing p.heap.streams x.cell.0 (record s { waiter = or_waiter s.waiter (waiter_of i x) }))
+      → Registers (register i x p.heap) false p (on_heap (λ h. record h { streams = new }) p)
+  stream_busy a w = at_stream false (λ s is. taken s s.waiter (a s is) (w s is ∙ stays s s.waiter (a s is) is))
+    where
+      stays : (s : StreamTree Value) (o : Option Waiter) → Busy ≡ (if is_some o then Busy else Added) → thing p.heap.streams.things x.cell.0 ≡ Some (record s { waiter = o })
+          → with_thing p.heap.streams x.cell.0 (record s { waiter = or_waiter o (waiter_of i x) }) ≡ p.heap.streams
+      stays s None a is = absurd (false≢true (sym (ap is_busy a)))
+      stays s (Some old) a is = with_same p.heap.streams x.cell.0 (record s { waiter = Some old }) is
+
+      taken : (s : StreamTree Value) (o : Option Waiter) → Busy ≡ (if is_some o then Busy else Added) → new ≡ p.heap.streams
+          → Registers (stream_awaited x.cell.0 (waiter_of i x) s o p.heap) false p (on_heap (λ h. record h { streams = new }) p)
+      taken s None a e = absurd (false≢true (sym (ap is_busy a)))
+      taken s (Some old) a e = (refl, ap (λ n. record p { heap = record p.heap { streams = n } }) e)
+
+-- frames stay as they are
+pub frames_stay : (i : ℕ) (x : Held) (h : HeapTree) → (register i x h).1.frames ≡ h.frames
+frames_stay i x h = by (thing h.cells.things x.cell.0) (thing h.streams.things x.cell.0)
+  where
+    waits : (s : StreamTree Value) (o : Option Waiter) → (stream_awaited x.cell.0 (waiter_of i x) s o h).1.frames ≡ h.frames
+    waits s None = refl
+    waits s (Some old) = refl
+
+    by : (c : Option (CellTree Outcome)) (o : Option (StreamTree Value)) → (awaited x.cell.0 (waiter_of i x) c o h).1.frames ≡ h.frames
+    by (Some c) o = refl
+    by None (Some s) = waits s s.waiter
+    by None None = refl
+
+-- an operand more is registered, or refused, after those before
+abbrev value_or : Held → Option Held → Held
+value_or d None = d
+value_or d (Some x) = x
+
+held_here : (xs : List Held) (k : ℕ) (x : Held) → Some x ≡ slice_get xs k → x ≡ get_or xs k x
+held_here xs k x e = ap (value_or x) (e ∙ slice_get-get_or xs k x (slice_get_within xs k x (sym e)))
+
+pub next_registered : (i : ℕ) (xs : List Held) (k : ℕ) (x : Held) (h g : HeapTree) (b : Bool) (p q : Process) → p.heap ≡ h → Some x ≡ slice_get xs k → Registers (register i x h) b p q → b ≡ true
+    → registered_after i xs (k + 1) q.heap ≡ registered_after i xs k h
+next_registered i xs k x h g b p q at e reg yes_ =
+    let lt : k < length xs = slice_get_within xs k x (sym e) in
+    let here : x ≡ get_or xs k x = held_here xs k x e in
+    one_registered i xs k x h q.heap lt
+    (ap (λ y. register i y h) (sym here) ∙ told (register i x h) true (sym yes_ ∙ reg.0) ∙ ap (λ (y : Process). (true, y.heap)) (sym reg.1))
+
+pub next_refused : (i : ℕ) (xs : List Held) (k : ℕ) (x : Held) (h : HeapTree) (all : Registered) (b : Bool) (p0 p q : Process) → p ≡ record p0 { heap = h } → Some x ≡ slice_get xs k
+    → Registers (register i x h) b p q → b ≡ false → registered_after i xs k h ≡ all → Registers all false p0 q
+next_refused i xs k x h all b p0 p q at e reg no_ inv =
+    let lt : k < length xs = slice_get_within xs k x (sym e) in
+    let here : x ≡ get_or xs k x = held_here xs k x e in
+    let is : registered_after i xs k h ≡ (false, (register i x h).1) =
+    one_refused i xs k x h (register i x h).1 lt (ap (λ y. register i y h) (sym here) ∙ told (register i x h) false (sym no_ ∙ reg.0)) in
+    registers_by all false p0 q (register i x h).1 (sym inv ∙ is) (reg.1 ∙ ap (with_heap (register i x h).1) at)

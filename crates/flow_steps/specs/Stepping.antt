@@ -14,7 +14,7 @@ use Rattle.flow_value.specs.declared.value.Outcome.TheVariants as outcome
 use Rattle.flow_value.specs.declared.value.Kind.{Kind}
 use Rattle.flow_value.specs.Values.{ValueTree, BoolValue, ErrorValue, RefValue}
 use Rattle.flow_value.specs.View.{value_of}
-use Rattle.flow_eval.specs.Eval.{Res, function_called}
+use Rattle.flow_eval.specs.Eval.{Res, truth_of, function_called}
 use Rattle.flow_eval.specs.Functions.{run_function}
 use Rattle.flow_resolved.specs.declared.expr.Resolved.{Resolved}
 use Rattle.flow_resolved.specs.View.{node_of, nodes_of, places_in}
@@ -52,9 +52,12 @@ use Rattle.flow_steps.specs.Waiting.{Keeps, Waits, callbacks_of}
 use Rattle.flow_steps.specs.Sights.{setting_in, sight_in, Evaluates}
 use Rattle.flow_steps.specs.Acting.{Values, args_of, IsEffect, PredefinedCalled, MethodCalled}
 
--- an expression of an actor, and arguments in order
+-- an expression of an actor, one that is a truth value, and arguments in order
 abbrev pub value_for : Code → (actor : ℕ) → Resolved → Process → Res ValueTree
 value_for code i e p = value_at (sight_in code i p) (node_of e) p.left
+
+abbrev pub truth_for : Code → (actor : ℕ) → Resolved → Process → Res ValueTree
+truth_for code i e p = truth_of (value_for code i e p)
 
 abbrev pub values_for : Code → (actor : ℕ) → List Resolved → Process → Res (List ValueTree)
 values_for code i es p = values_at (sight_in code i p) (nodes_of es) p.left
@@ -85,9 +88,12 @@ pub record IsNew (s : Stand) (place : ℕ) (kd : Kind) (p : Process) (pace : Pac
 abbrev pub GoesNext : {A : Type 0} → Stand → A → Process → Pace → Process → Type 0
 GoesNext s a p pace q = (pace ≡ On (next_stand s)) × (q ≡ p)
 
+abbrev pub function_result : Code → (function : ℕ) → Values → Process → Res ValueTree
+function_result code f args p =
+    function_called (setting_in code p) (run_function (setting_in code p) CALL_DEPTH) (slice_get (setting_in code p).functions f) (args_of args) p.left
+
 abbrev pub FunctionCalled : Code → Stand → (function : ℕ) → Values → Process → Pace → Process → Type 0
-FunctionCalled code s f args p pace q =
-    Evaluates s value_of (function_called (setting_in code p) (run_function (setting_in code p) CALL_DEPTH) (slice_get (setting_in code p).functions f) (args_of args) p.left) p (GoesNext s) pace q
+FunctionCalled code s f args p pace q = Evaluates s value_of (function_result code f args p) p (GoesNext s) pace q
 
 -- a call statement without a base, with its arguments known
 abbrev pub IsAct : Code → Stand → Act → Values → Process → Pace → Process → Type 0
@@ -192,7 +198,7 @@ IsThrow s v p pace q = ErrorThrown s (value_of v) p pace q
 abbrev pub Ends : Code → Stand → Last → Process → Pace → Process → Type 0
 Ends code s (last.Goto b) p pace q = GoesOnAt s b p pace q
 Ends code s (last.Pass b) p pace q = Passes s b p pace q
-Ends code s (last.Test e one other) p pace q = Evaluates s truth_value (value_for code s.actor.0 e p) p (IsTest s one other) pace q
+Ends code s (last.Test e one other) p pace q = Evaluates s truth_value (truth_for code s.actor.0 e p) p (IsTest s one other) pace q
 Ends code s (last.Choose g) p pace q = IsChoose code s g p pace q
 Ends code s (last.Return e) p pace q = Evaluates s value_of (value_for code s.actor.0 e p) p (IsReturn s) pace q
 Ends code s (last.Throw e) p pace q = Evaluates s value_of (value_for code s.actor.0 e p) p (IsThrow s) pace q

@@ -1,7 +1,7 @@
 // Waits: operands, the branch that is taken, and suspending.
 
 ghost use Rattle.std.specs.Prelude.{◌≡◌, ◌∷◌, OnOk, IfOk, Some, length, slice_get};
-ghost use Rattle.std.specs.Option.{IsSomeAnd};
+ghost use Rattle.std.specs.Option.{IsSomeAnd, option_copied};
 ghost use Rattle.flow_value.specs.View.{outcome_of};
 ghost use Rattle.flow_numbered.specs.Numbered.{thing};
 ghost use Rattle.flow_stream.specs.Streams.{head, tail};
@@ -24,12 +24,19 @@ use flow_base::errors::{OPERATION_CANCELLED, SECOND_WAITER};
 use flow_base::ids::{ActorId, CellId};
 use flow_cancel::task::Task;
 use flow_cell::waiter::Waiter;
-use flow_code::class::{Block, Last};
+use flow_code::class::{Block, Branch, Group, Last};
 use flow_code::program::Code;
 use flow_frame::held::Held;
 use flow_stream::head::{Head, Wait};
 use flow_trace::line::Line;
 use flow_value::value::{Kind, Outcome};
+
+/// The branch of a group at a place, from 0.
+pub(crate) fn branch_in(group: &Group, place: usize) -> Option<&Branch>
+    ensures { option_copied result ≡ slice_get group.now.branches.items place }
+{
+    group.branches.get(place)
+}
 
 /// The number of the group of the wait that ends a block.
 pub(crate) fn group_at(block: &Block) -> Result<u32, Fault>
@@ -123,12 +130,7 @@ impl Process {
 
     #[tactic(auto, using(crate::proofs::Waits::untaken, crate::proofs::Waits::taken_by))]
     /// A branch, numbered from 0 in its group, takes what its cell gives: a turn, the line; then the actor leaves its wait.
-    pub(crate) fn take(
-        &mut self,
-        stand: &Stand<'_>,
-        branch: u32,
-        cell: CellId,
-    ) -> Result<(), Fault>
+    pub(crate) fn take(&mut self, stand: &Stand<'_>, branch: u32, cell: CellId) -> Result<(), Fault>
         ensures { OnOk result (TakesBranch stand.now branch cell self.old self.new) }
     {
         if !self.turn() {
@@ -201,12 +203,7 @@ impl Process {
 
     #[tactic(auto, using(crate::proofs::Done::kept_by))]
     /// The result of an effect is kept as an operand, and the actor, whose task is next, goes on.
-    pub(crate) fn keep(
-        &mut self,
-        code: &Code,
-        actor: ActorId,
-        held: Held,
-    ) -> Result<(), Fault>
+    pub(crate) fn keep(&mut self, code: &Code, actor: ActorId, held: Held) -> Result<(), Fault>
         ensures { OnOk result (IsKept code.now actor held self.old self.new) }
     {
         self.pop_run(actor)?;

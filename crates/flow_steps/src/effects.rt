@@ -2,6 +2,7 @@
 // actor stands.
 
 ghost use Rattle.std.specs.Prelude.{◌≡◌, IfOk, OnOk, Some, map, slice_set};
+ghost use Rattle.flow_ast.specs.declared.predefined.Predefined.TheVariants.{ReadFile, WriteFile};
 ghost use Rattle.flow_value.specs.View.{value_of};
 ghost use Rattle.flow_value.specs.declared.value.Value.TheVariants.{Void};
 ghost use Rattle.flow_eval.specs.Answers.{int_of, text_of, arg};
@@ -46,12 +47,12 @@ pub(crate) fn take_text(alloc: Global, args: &mut [Value], place: usize) -> Resu
     ensures text { IfOk result (λ t. text_of (arg (map value_of args.old) place) ≡ Some t) }
     ensures rest { OnOk result (args.new ≡ slice_set args.old place Void) }
 {
-    match args.get_mut(place) {
-        Some(arg) => match std::mem::replace(arg, Value::Void) {
-            Value::Text(text) => Ok(own_text(alloc, text)?),
-            _ => Err(Fault::Astray),
-        },
-        None => Err(Fault::Astray),
+    if place >= args.len() {
+        return Err(Fault::Astray);
+    }
+    match std::mem::replace(&mut args[place], Value::Void) {
+        Value::Text(text) => Ok(own_text(alloc, text)?),
+        _ => Err(Fault::Astray),
     }
 }
 
@@ -60,20 +61,37 @@ fn disk_call(alloc: Global, call: Predefined, args: &mut [Value]) -> Result<Disk
     ensures { IfOk result (λ d. world_effect call (map value_of args.old)
         ≡ Some (Disk (disk_of d))) }
 {
-    let file = take_text(alloc, args, 0)?;
     match call {
-        Predefined::ReadFile => {
-            let offset = int_at(args, 1)?;
-            Ok(DiskCall::Read(file, offset, int_at(args, 2)?))
-        }
-        Predefined::WriteFile => {
-            let offset = int_at(args, 1)?;
-            Ok(DiskCall::Write(file, offset, take_text(alloc, args, 2)?))
-        }
-        Predefined::SyncFile => Ok(DiskCall::Sync(file)),
-        Predefined::FileSize => Ok(DiskCall::Size(file)),
+        Predefined::ReadFile => read_call(alloc, args),
+        Predefined::WriteFile => write_call(alloc, args),
+        Predefined::SyncFile => Ok(DiskCall::Sync(take_text(alloc, args, 0)?)),
+        Predefined::FileSize => Ok(DiskCall::Size(take_text(alloc, args, 0)?)),
         _ => Err(Fault::Astray),
     }
+}
+
+#[tactic(auto, using(crate::proofs::Acts::read_asked))]
+// A read.
+fn read_call(alloc: Global, args: &mut [Value]) -> Result<DiskCall, Fault>
+    ensures { IfOk result (λ d. world_effect ReadFile (map value_of args.old)
+        ≡ Some (Disk (disk_of d))) }
+{
+    let offset = int_at(args, 1)?;
+    let count = int_at(args, 2)?;
+    let file = take_text(alloc, args, 0)?;
+    Ok(DiskCall::Read(file, offset, count))
+}
+
+#[tactic(auto, using(crate::proofs::Acts::write_asked))]
+// A write.
+fn write_call(alloc: Global, args: &mut [Value]) -> Result<DiskCall, Fault>
+    ensures { IfOk result (λ d. world_effect WriteFile (map value_of args.old)
+        ≡ Some (Disk (disk_of d))) }
+{
+    let offset = int_at(args, 1)?;
+    let text = take_text(alloc, args, 2)?;
+    let file = take_text(alloc, args, 0)?;
+    Ok(DiskCall::Write(file, offset, text))
 }
 
 impl Process {

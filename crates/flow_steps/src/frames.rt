@@ -1,8 +1,11 @@
 // The frames of a process: places, positions, and values that leave them.
 
-ghost use Rattle.std.specs.Prelude.{◌≡◌, ◌++◌, OnOk, IfOk, IfSome, IsSome};
+ghost use Rattle.std.specs.Prelude.{◌≡◌, ◌∷◌, ◌++◌, ◌<◌, OnOk, IfOk, IfSome, IsSome, length, slice_get};
+ghost use Rattle.std.specs.Option.{option_copied};
 ghost use Rattle.std.specs.declared.option.Option.TheVariants.{Some};
-ghost use Rattle.flow_value.specs.View.{value_of};
+ghost use Rattle.flow_value.specs.View.{value_of, values_of};
+ghost use Rattle.flow_value.specs.Values.{ValueTree, RecordValue};
+ghost use Rattle.flow_eval.specs.Records.{value_at, value_put};
 ghost use Rattle.flow_resolved.specs.View.{places_in};
 ghost use Rattle.flow_numbered.specs.Numbered.{thing};
 ghost use Rattle.flow_cancel.specs.Dropping.{dropping};
@@ -13,11 +16,11 @@ ghost use Rattle.flow_steps.specs.Drops.{DropsOver};
 use crate::errors::Fault;
 use crate::process::Process;
 use flow_base::ids::ActorId;
-use flow_code::class::{Aim, Block, Class};
+use flow_code::class::{Aim, Block, Class, Instruction};
 use flow_code::program::Code;
 use flow_frame::standing::Standing;
 use flow_resolved::names::FieldNames;
-use flow_value::value::Value;
+use flow_value::value::{Record, Value};
 use std::mem;
 
 /// Whether a value may hold references.
@@ -85,6 +88,13 @@ impl<'a> Stand<'a> {
     }
 }
 
+/// The instruction of a block at a place, from 0, the last one left out.
+pub(crate) fn instruction_at(block: &Block, place: u32) -> Option<&Instruction>
+    ensures { option_copied result ≡ slice_get block.now.body.items place }
+{
+    block.body.get(place as usize)
+}
+
 /// The number of the block in which a frame stands; where its actor waits, that of the wait.
 fn block_number(class: &Class, at: Standing) -> Option<u32>
     ensures { result ≡ block_in class.now at.state at.block }
@@ -111,22 +121,87 @@ fn stand_in(code: &Code, actor: ActorId, at: Standing) -> Option<Stand<'_>>
     })
 }
 
-#[tactic(auto, using(crate::proofs::Parts::exchanged_inside))]
-/// Exchanges the part of a value to which the fields with names of these numbers lead, if they do. Gives what stood there.
-fn exchange(fields: &FieldNames, root: &mut Value, path: &[usize], value: Value) -> Option<Value>
-    ensures { IfSome result (λ old. exchanged (places_in fields.now) path.now (value_of value)
-        (Some (value_of root.old)) ≡ Some (Some (value_of old), Some (value_of root.new))) }
+#[tactic(auto, using(flow_eval::proofs::Lookups::values_set, flow_eval::proofs::Lookups::put_again, flow_eval::proofs::Lookups::value_there))]
+// Takes a field out, and leaves a place that is yet to be filled.
+fn take_field(fields: &mut Vec<Value>, place: usize) -> Value
+    requires { place < length fields.old.items }
+    ensures part { value_at (values_of fields.old.items) place ≡ Some (value_of result) }
+    ensures rest { (w : ValueTree) → value_put (values_of fields.new.items) place w
+        ≡ value_put (values_of fields.old.items) place w }
+    ensures count { length fields.new.items ≡ length fields.old.items }
+{
+    mem::replace(&mut fields[place], Value::Void)
+}
+
+#[tactic(auto, using(flow_eval::proofs::Lookups::values_set))]
+// Fills it.
+fn fill_field(fields: &mut Vec<Value>, place: usize, value: Value)
+    requires { place < length fields.old.items }
+    ensures { values_of fields.new.items
+        ≡ value_put (values_of fields.old.items) place (value_of value) }
+{
+    fields[place] = value;
+}
+
+// A record as a value.
+fn record_value(of: Box<Record<Value>>) -> Value
+    ensures { value_of result ≡ RecordValue of.value.id (values_of of.value.fields.items) }
+{
+    Value::Struct(of)
+}
+
+/// Exchanges the part of a value to which the fields with names of these numbers lead, if they do. Gives what stood there, and
+/// the value then.
+#[cycle(exchange)]
+fn exchange(
+    fields: &FieldNames,
+    root: Value,
+    path: &[usize],
+    value: Value,
+) -> Option<(Value, Value)>
+    ensures { IfSome result (λ r. exchanged (places_in fields.now) path.now (value_of value)
+        (Some (value_of root)) ≡ Some (Some (value_of r.0), Some (value_of r.1))) }
 {
     let Some((name, rest)) = path.split_first() else {
-        return Some(mem::replace(root, value));
+        return Some((root, value));
     };
     match root {
-        Value::Struct(record) => {
-            let place = fields.place(record.id, *name)?;
-            exchange(fields, record.fields.get_mut(place)?, rest, value)
-        }
-        _ => None,
+        Value::Struct(record) => exchange_field(fields, record, *name, rest, value),
+        Value::Int(_)
+        | Value::Bool(_)
+        | Value::Text(_)
+        | Value::Void
+        | Value::Error(_)
+        | Value::Ref(_, _) => None,
     }
+}
+
+#[cycle(exchange)]
+#[tactic(auto, using(crate::proofs::Parts::exchanged_field))]
+// The same of a field of a record.
+fn exchange_field(
+    fields: &FieldNames,
+    mut of: Box<Record<Value>>,
+    name: usize,
+    rest: &[usize],
+    value: Value,
+) -> Option<(Value, Value)>
+    ensures { IfSome result (λ r. exchanged (places_in fields.now) (name ∷ rest.now)
+        (value_of value) (Some (RecordValue of.value.id (values_of of.value.fields.items)))
+        ≡ Some (Some (value_of r.0), Some (value_of r.1))) }
+{
+    let Some(place) = fields.place(of.id, name) else {
+        return None;
+    };
+    if place >= of.fields.len() {
+        return None;
+    }
+    let part = take_field(&mut of.fields, place);
+    let Some((old, part)) = exchange(fields, part, rest, value) else {
+        return None;
+    };
+    fill_field(&mut of.fields, place, part);
+    Some((old, record_value(of)))
 }
 
 impl Process {
@@ -221,8 +296,7 @@ impl Process {
         let Some(root) = self.put(actor, aim.place, None)? else {
             return Err(Fault::Astray);
         };
-        let mut root = root;
-        let Some(old) = exchange(fields, &mut root, &aim.path, value) else {
+        let Some((old, root)) = exchange(fields, root, &aim.path, value) else {
             return Err(Fault::Astray);
         };
         self.put(actor, aim.place, Some(root))?;
@@ -298,9 +372,10 @@ impl Process {
         if !self.heap.frames().contains(actor) {
             return Err(Fault::Astray);
         }
-        let places = self.heap.frames().places(actor);
         let count = self.heap.frames().places_held(actor).len();
-        let last = u32::try_from(count).unwrap_or(places);
+        let Ok(last) = u32::try_from(count) else {
+            return Err(Fault::Astray);
+        };
         for place in first..last {
             self.empty(actor, place)?;
         }

@@ -1,6 +1,10 @@
 // The step of an actor by its instruction.
 
-ghost use Rattle.std.specs.Prelude.{◌≡◌, ◌+◌, IfOk, OnOk, IfSome, Some, slice_get};
+ghost use Rattle.std.specs.Prelude.{◌≡◌, ◌+◌, IfOk, OnOk, IfSome, Some, map, slice_get};
+ghost use Rattle.flow_tree.specs.DeclView.{function_of};
+ghost use Rattle.flow_tree.specs.declared.limits.TheConstants.{CALL_DEPTH};
+ghost use Rattle.flow_eval.specs.Eval.{function_called};
+ghost use Rattle.flow_eval.specs.Functions.{run_function};
 ghost use Rattle.std.specs.Option.{option_copied, option_map};
 ghost use Rattle.flow_value.specs.View.{value_of};
 ghost use Rattle.flow_value.specs.Values.{RefValue};
@@ -9,18 +13,19 @@ ghost use Rattle.flow_resolved.specs.Truth.{GivesTruth};
 ghost use Rattle.flow_resolved.specs.View.{places_in, sight_of};
 ghost use Rattle.flow_resolved.specs.Evaluation.{value_at};
 ghost use Rattle.flow_code.specs.declared.class.Act.TheVariants.{Function};
-ghost use Rattle.flow_steps.specs.declared.next.Pace.TheVariants.{Off};
+ghost use Rattle.flow_steps.specs.declared.next.Pace.TheVariants.{On, Off};
 ghost use Rattle.flow_steps.specs.Sights.{Halted, program_time, setting_in, sight_in, with_left, Evaluates};
 ghost use Rattle.flow_steps.specs.Seen.{contents_seen};
 ghost use Rattle.flow_steps.specs.Standing.{noted, place_held, places_taken, places_emptied, referring, field_path, next_stand};
 ghost use Rattle.flow_steps.specs.Holding.{on_heap};
 ghost use Rattle.flow_steps.specs.Acting.{args_of};
-ghost use Rattle.flow_steps.specs.Stepping.{OnAfter, Does, Ends, StepsOn, Runs, GoesOn, IsSet, IsNew, IsAct, IsChoose, IsMethod, MethodStep, FunctionCalled, Passes, IsTest, OperandStep, OperandKept, IsReturn, IsThrow, value_for, values_for, truth_value};
+ghost use Rattle.flow_steps.specs.Stepping.{OnAfter, Does, Ends, StepsOn, Runs, GoesOn, IsSet, IsNew, IsAct, IsChoose, IsMethod, MethodStep, function_result, FunctionCalled, Passes, IsTest, OperandStep, OperandKept, IsReturn, IsThrow, value_for, truth_for, values_for, truth_value};
 ghost use Rattle.flow_steps.specs.Tasks.{RunsNow};
 
+use crate::branches::branch_in;
 use crate::call::Goal;
 use crate::errors::Fault;
-use crate::frames::{Stand, may_refer};
+use crate::frames::{Stand, instruction_at, may_refer};
 use crate::process::Process;
 use crate::seen::Contents;
 use flow_ast::predefined::Method;
@@ -28,10 +33,11 @@ use flow_base::ids::{ActorId, CellId};
 use flow_cancel::task::Task;
 use flow_code::class::{Act, Aim, Effect, Group, Instruction, Last, Operand};
 use flow_code::program::Code;
-use flow_frame::held::Held;
+use flow_eval::cells::CellView;
 use flow_eval::evaluate::{Setting, Turns, run_at};
 use flow_eval::stop::Halt;
 use flow_eval::variables::VarList;
+use flow_frame::held::Held;
 use flow_resolved::evaluate::{Sight, evaluate_args, evaluate_resolved, evaluate_truth, field};
 use flow_resolved::expr::Resolved;
 use flow_resolved::names::FieldNames;
@@ -78,6 +84,31 @@ fn callback_of(group: &Group, kept: usize) -> Result<u32, Fault>
         },
         Err(_) => Err(Fault::Astray),
     }
+}
+
+/// A plain function of a program is run, where it has one at this place.
+fn run_function<C: CellView>(
+    setting: &Setting<C>,
+    function: usize,
+    args: Vec<Value>,
+    turns: &mut Turns,
+) -> Result<Value, Halt>
+    ensures { Gives (function_called (setting_of C.content setting.now)
+        (run_function (setting_of C.content setting.now) CALL_DEPTH)
+        (slice_get (map function_of setting.now.functions.now) function) (map value_of args.items)
+        turns.old.left) result turns.new.left }
+{
+    if function >= setting.functions.len() {
+        return Err(Halt::NoMeaning);
+    }
+    run_at::<VarList, C>(setting, CALL_DEPTH, function, args, turns)
+}
+
+/// A value is forgotten, and the actor goes on at its next instruction.
+fn next_after<'a>(stand: &Stand<'a>, _value: Value) -> Result<Pace<'a>, Fault>
+    ensures { IfOk result (λ pace. pace ≡ On (next_stand stand.now)) }
+{
+    Ok(Pace::On(stand.next()?))
 }
 
 impl Process {
@@ -161,7 +192,7 @@ impl Process {
         actor: ActorId,
         expr: &Resolved,
     ) -> Result<bool, Halt>
-        ensures gives { GivesTruth (value_for code.now actor.0 expr.now self.old) result
+        ensures gives { GivesTruth (truth_for code.now actor.0 expr.now self.old) result
             self.new.left }
         ensures rest { self.new ≡ with_left self.new.left self.old }
     {
@@ -234,12 +265,13 @@ impl Process {
         }
     }
 
+    #[tactic(auto, using(crate::proofs::Stepped::steps_by))]
     // An actor takes its next step, by its instruction.
     fn take_step<'a>(&mut self, code: &Code, stand: &Stand<'a>) -> Result<Pace<'a>, Fault>
         ensures { IfOk result (λ pace. StepsOn code.now stand.now self.old pace self.new) }
     {
         let block = stand.block;
-        if let Some(instruction) = block.body.get(stand.instruction as usize) {
+        if let Some(instruction) = instruction_at(block, stand.instruction) {
             return self.instruction(code, stand, instruction);
         }
         if stand.instruction as usize == block.body.len() {
@@ -457,7 +489,7 @@ impl Process {
         }
     }
 
-    #[tactic(auto, using(crate::proofs::Evaluating::value_given, crate::proofs::Evaluating::value_breaks))]
+    #[tactic(auto, using(crate::proofs::Evaluating::function_done, crate::proofs::Evaluating::value_breaks))]
     fn call_function<'a>(
         &mut self,
         code: &Code,
@@ -468,22 +500,33 @@ impl Process {
         ensures { IfOk result (λ pace. FunctionCalled code.now stand.now function args self.old
             pace self.new) }
     {
+        match self.function_value(code, function, args) {
+            Ok(value) => next_after(stand, value),
+            Err(halt) => self.halted(stand, halt),
+        }
+    }
+
+    // The value of a plain function.
+    fn function_value(
+        &mut self,
+        code: &Code,
+        function: usize,
+        args: Vec<Value>,
+    ) -> Result<Value, Halt>
+        ensures gives { Gives (function_result code.now function args self.old) result
+            self.new.left }
+        ensures rest { self.new ≡ with_left self.new.left self.old }
+    {
         let mut turns = Turns { left: self.left };
-        let came_to = {
+        let value = {
             let contents = Contents {
                 cells: self.heap.cells(),
             };
             let setting = self.setting(code, &contents);
-            if function >= setting.functions.len() {
-                return Err(Fault::Astray);
-            }
-            run_at::<VarList, Contents>(&setting, CALL_DEPTH, function, args, &mut turns)
+            run_function(&setting, function, args, &mut turns)
         };
         self.left = turns.left;
-        match came_to {
-            Ok(_) => Ok(Pace::On(stand.next()?)),
-            Err(halt) => self.halted(stand, halt),
-        }
+        value
     }
 
     #[tactic(auto, using(crate::proofs::Stepped::goes_at))]
@@ -545,7 +588,7 @@ impl Process {
         }
     }
 
-    #[tactic(auto, using(crate::proofs::Evaluating::value_given, crate::proofs::Evaluating::truth_breaks))]
+    #[tactic(auto, using(crate::proofs::Evaluating::test_done, crate::proofs::Stepped::goes_at, crate::proofs::Evaluating::truth_breaks))]
     fn test<'a>(
         &mut self,
         code: &Code,
@@ -555,7 +598,7 @@ impl Process {
         no: u32,
     ) -> Result<Pace<'a>, Fault>
         ensures { IfOk result (λ pace. Evaluates stand.now truth_value
-            (value_for code.now stand.now.actor.0 expr.now self.old) self.old
+            (truth_for code.now stand.now.actor.0 expr.now self.old) self.old
             (IsTest stand.now yes no) pace self.new) }
     {
         match self.truth(code, stand.actor, expr) {
@@ -567,12 +610,7 @@ impl Process {
 
     #[tactic(auto, using(crate::proofs::Stepped::operand_asked, crate::proofs::Stepped::operands_kept))]
     // The next operand of a wait is asked for; when all are kept, the actor waits.
-    fn choose<'a>(
-        &mut self,
-        code: &Code,
-        stand: &Stand<'a>,
-        number: u32,
-    ) -> Result<Pace<'a>, Fault>
+    fn choose<'a>(&mut self, code: &Code, stand: &Stand<'a>, number: u32) -> Result<Pace<'a>, Fault>
         ensures { IfOk result (λ pace. IsChoose code.now stand.now number self.old pace
             self.new) }
     {
@@ -581,7 +619,7 @@ impl Process {
         };
         let stand = self.note(*stand)?;
         let kept = self.operands(stand.actor);
-        let Some(branch) = group.branches.get(kept) else {
+        let Some(branch) = branch_in(group, kept) else {
             self.wait(&stand, number)?;
             return Ok(Pace::Off);
         };
@@ -665,11 +703,7 @@ impl Process {
 
     #[tactic(auto, using(crate::proofs::Stepped::returns_by))]
     // That, with the value known.
-    fn end_with_value<'a>(
-        &mut self,
-        stand: &Stand<'a>,
-        value: Value,
-    ) -> Result<Pace<'a>, Fault>
+    fn end_with_value<'a>(&mut self, stand: &Stand<'a>, value: Value) -> Result<Pace<'a>, Fault>
         ensures { IfOk result (λ pace. IsReturn stand.now value self.old pace self.new) }
     {
         self.hold_value(&value)?;

@@ -15,9 +15,9 @@ ghost use Rattle.flow_steps.specs.Drops.{DropsOver};
 ghost use Rattle.flow_steps.specs.Standing.{referring, values};
 ghost use Rattle.flow_steps.specs.Tasks.{BranchAt, Given, ValueGiven, bound_over, bound, Stored, Raises, Raised, FailsBy, caught, with_error, cell_waiter, stream_waiter, next_waiter, WaiterTakes, Fires, drops_one, IsDone};
 
-use crate::branches::{branch_of, group_at};
+use crate::branches::{branch_in, branch_of, group_at};
 use crate::errors::Fault;
-use crate::frames::Stand;
+use crate::frames::{Stand, instruction_at};
 use crate::process::Process;
 use flow_base::ids::{ActorId, CellId, ErrorCode};
 use flow_cancel::task::Task;
@@ -48,7 +48,7 @@ fn branch_at<'a>(stand: &Stand<'a>, branch: u32) -> Result<&'a Branch, Fault>
     let Some(group) = stand.class.group(number) else {
         return Err(Fault::Astray);
     };
-    match group.branches.get(branch as usize) {
+    match branch_in(group, branch as usize) {
         Some(branch) => Ok(branch),
         None => Err(Fault::Astray),
     }
@@ -149,8 +149,7 @@ impl Process {
         ensures { OnOk result (Stored code.now actor value self.old self.new) }
     {
         let stand = self.stand_of(code, actor)?;
-        let Some(Instruction::Effect(aim, _, _)) =
-            stand.block.body.get(stand.instruction as usize)
+        let Some(Instruction::Effect(aim, _, _)) = instruction_at(stand.block, stand.instruction)
         else {
             return Err(Fault::Astray);
         };
@@ -210,12 +209,7 @@ impl Process {
     }
 
     // An error goes to a handler.
-    fn caught(
-        &mut self,
-        actor: ActorId,
-        catcher: &Catcher,
-        error: ErrorCode,
-    ) -> Result<(), Fault>
+    fn caught(&mut self, actor: ActorId, catcher: &Catcher, error: ErrorCode) -> Result<(), Fault>
         ensures { OnOk result (self.new ≡ on_heap (caught actor catcher.now error) self.old) }
     {
         self.heap.push(Task::Catch(actor, error))?;
