@@ -18,3 +18,4 @@ pub mod Stands
 pub mod Registering
 pub mod Commuting
 pub mod Waited
+pub mod Gone

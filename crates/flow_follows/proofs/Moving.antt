@@ -19,7 +19,7 @@ use Rattle.flow_meaning.specs.Work.{left_cells}
 use Rattle.flow_meaning.specs.Step.{proc, on_core}
 use Rattle.flow_meaning.specs.Frame.{Memory, Frame, blanks, over, occ_memory}
 use Rattle.flow_meaning.proofs.Posture.{thing_put}
-use Rattle.flow_picture.specs.Shows.{Shows, Stands, OneActor, stands}
+use Rattle.flow_picture.specs.Shows.{Shows, Stands, OneActor, stands, here}
 use Rattle.flow_picture.specs.Counted.{branches_of, waiters_at}
 use Rattle.flow_picture.specs.Acting.{Free, frame_put, put_frame}
 use Rattle.flow_picture.specs.Leaving.{left_wait}
@@ -70,25 +70,33 @@ free_left i e c go = record {
 }
 
 module _ (r : RawTree) (ls : List Line) (x : Scan) (m : Process) (p : Proc Frame) (i : ℕ) (e : Entry) (f : Frame) where
-  -- a free actor goes on at a block and an instruction of it
-  pub goes_to : (b n : ℕ) → Stood r ls x m p i e f → e.operands ≡ [] → Free i p.core
-      → Stood r ls x (on_heap (gone i b n) m) (put_frame i (record f { block = b; instr = n; state = 0 }) p) i e (record f { block = b; instr = n; state = 0 })
-  goes_to b n s none free =
+  -- a free actor goes on at a block and an instruction of it, whatever the state of its frame says
+  abbrev gone_frame : (block instruction state : ℕ) → Frame
+  gone_frame b n k = record f { block = b; instr = n; state = k }
+
+  stands_gone : (b n k : ℕ) (mem : FrameTree Value) → Stands r mem e f → e.operands ≡ [] → Stands r (gone_to b n mem) e (gone_frame b n k)
+  stands_gone b n k mem s none =
+      let a = goes_on r mem e f b n s none in
+      record { code = a.code; places = a.places; slots = a.slots; position = here refl refl refl; callbacks = a.callbacks; suspended = a.suspended; spot = a.spot }
+
+  pub goes_in : (b n k : ℕ) → Stood r ls x m p i e f → e.operands ≡ [] → Free i p.core
+      → Stood r ls x (on_heap (gone i b n) m) (put_frame i (record f { block = b; instr = n; state = k }) p) i e (record f { block = b; instr = n; state = k })
+  goes_in b n k s none free =
       let a = s.acts in
-      let k = gone_to b n a.memory in
-      let g : Frame = record f { block = b; instr = n; state = 0 } in
-      let now : Stands r k e g = goes_on r a.memory e f b n a.stands none in
-      let same : OneActor r a.note k e g = record { class = a.class; result = a.result; marked = a.marked; frame = stands now } in
+      let told = gone_to b n a.memory in
+      let g : Frame = gone_frame b n k in
+      let now : Stands r told e g = stands_gone b n k a.memory a.stands none in
+      let same : OneActor r a.note told e g = record { class = a.class; result = a.result; marked = a.marked; frame = stands now } in
       subst (λ o. Stood r ls x (on_heap (reframed (gone_to b n) i o) m) (put_frame i g p) i e g) (sym a.framed) (record {
-        shown = changed r ls x x m p (put_frame i g p) (frame_put i k m.heap) s.shown (record {
-          shows = frame_moved r m.heap p i k g s.shown.holds.shows (at_of r m.heap p i e f a) same free;
+        shown = changed r ls x x m p (put_frame i g p) (frame_put i told m.heap) s.shown (record {
+          shows = frame_moved r m.heap p i told g s.shown.holds.shows (at_of r m.heap p i e f a) same free;
           counted = λ z j. let c = of_frame p z j i f g a.acting in let d = s.shown.holds.counted z j in omega (arith, c, d);
         }) refl refl refl;
         acts = record {
           note = a.note;
-          memory = k;
+          memory = told;
           noted = a.noted;
-          framed = stored_put m.heap.frames.things i a.memory k a.framed;
+          framed = stored_put m.heap.frames.things i a.memory told a.framed;
           entered = a.entered;
           acting = thing_put p.actors i f g a.acting;
           class = a.class;
@@ -97,6 +105,10 @@ module _ (r : RawTree) (ls : List Line) (x : Scan) (m : Process) (p : Proc Frame
           stands = now;
         };
       })
+
+  pub goes_to : (b n : ℕ) → Stood r ls x m p i e f → e.operands ≡ [] → Free i p.core
+      → Stood r ls x (on_heap (gone i b n) m) (put_frame i (record f { block = b; instr = n; state = 0 }) p) i e (record f { block = b; instr = n; state = 0 })
+  goes_to b n s none free = goes_in b n 0 s none free
 
 -- a frame whose places are all empty holds nothing
 blank_held : {A : Type 0} (s : Side) (j : ℕ) (xs : List A) → all_held s j (blanks xs) ≡ 0

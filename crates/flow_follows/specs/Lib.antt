@@ -9,3 +9,4 @@ pub mod Tasking
 pub mod Throwing
 pub mod Coded
 pub mod Waiting
+pub mod Going

@@ -1,0 +1,83 @@
+-- An actor that goes on in memory, at once or by its task, goes on in the process.
+use Rattle.std.specs.Prelude.{◌≡◌, ℕ, suc, ◌+◌, List, [], ◌∷◌, map, length}
+use Rattle.flow_value.specs.declared.value.Value.{Value}
+use Rattle.flow_value.specs.View.{value_of}
+use Rattle.flow_class.specs.Classes.{RawTree}
+use Rattle.flow_trace.specs.declared.line.Line.{Line}
+use Rattle.flow_meaning.specs.Numbered.{put}
+use Rattle.flow_meaning.specs.Cells.{Ref}
+use Rattle.flow_meaning.specs.Process.{Run, Entry, Proc}
+use Rattle.flow_meaning.specs.Occ.{Scan, refs_in}
+use Rattle.flow_meaning.specs.Work.{turn, pushed, dropping, dropping_values}
+use Rattle.flow_meaning.specs.Step.{proc, on_core}
+use Rattle.flow_meaning.specs.Frame.{Frame, held_in, emptied, go, next_instr}
+use Rattle.flow_picture.specs.Acting.{Free, put_frame}
+use Rattle.flow_picture.specs.Holds.{with_refs}
+use Rattle.flow_steps.specs.declared.frames.Stand.{Stand}
+use Rattle.flow_steps.specs.declared.next.Pace.{Pace}
+use Rattle.flow_steps.specs.declared.next.Pace.TheVariants.{On, Off}
+use Rattle.flow_steps.specs.declared.process.Process.{Process}
+use Rattle.flow_steps.specs.Holding.{on_heap}
+use Rattle.flow_steps.specs.Standing.{noted, GoesTo, next_stand, places_taken, places_emptied}
+use Rattle.flow_steps.specs.Stepping.{OnAfter, GoesOnAt, Passes}
+use Rattle.flow_follows.specs.Shown.{Shown, AreSpent}
+use Rattle.flow_follows.specs.Placing.{Stood, HasLocals}
+use Rattle.flow_follows.specs.Taking.{Standing}
+
+-- an actor that is free to go on: it runs, waits nowhere and has kept no operand
+pub record MayMove (s : Stand) (p : Proc Frame) (i : ℕ) (e : Entry) (f : Frame) : Type 0 where
+  pub standing : Standing s i f
+  pub instruction : s.instruction ≡ f.instr
+  pub free : Free i p.core
+  pub operands : e.operands ≡ []
+
+-- The actor is where this stand is, once its frame says so; its own task is off.
+abbrev pub Goes : RawTree → List Line → Scan → Stand → Process → Proc Frame → ℕ → Entry → Frame → Type 0
+Goes r ls x t m p i e g = Stood r ls x (noted t m) (put_frame i g p) i e g × Standing t i g × (t.instruction ≡ g.instr)
+
+module _ (r : RawTree) (ls : List Line) (m : Process) (p : Proc Frame) (i : ℕ) (e : Entry) (f : Frame) where
+  -- it goes on at another instruction, or at the begin of another block
+  abbrev pub GoneOn : Type 0
+  GoneOn =
+      (x : Scan) (s t : Stand) (b n k : ℕ) → Stood r ls x m p i e f → MayMove s p i e f → GoesTo s b n t
+      → Goes r ls x t m p i e (record f { block = b; instr = n; state = k })
+
+  -- values in hand are left over: where there are none it goes on at once, and else they are dropped before its task
+  abbrev pub AfterValues : Scan → Stand → List Ref → Frame → Pace → Process → Type 0
+  AfterValues x t rs g (On u) n = (u ≡ t) × (rs ≡ []) × Goes r ls x t n p i e g
+  AfterValues x t rs g Off n = Shown r ls x n (proc (dropping rs (pushed (Run i) p.core)) (put p.actors i g))
+
+  abbrev pub ValuesLeft : Type 0
+  ValuesLeft =
+      (x : Scan) (s t : Stand) (b j k : ℕ) (vs : List Value) (pace : Pace) (n : Process)
+      → Stood r ls (with_refs (refs_in (map value_of vs)) x) m p i e f → MayMove s p i e f → GoesTo s b j t
+      → OnAfter t vs m pace n
+      → AfterValues x t (refs_in (map value_of vs)) (record f { block = b; instr = j; state = k }) pace n
+
+  -- locals are emptied by an instruction, and dropped
+  abbrev pub LocalsDropped : Type 0
+  LocalsDropped =
+      (x : Scan) (s : Stand) (ns : List ℕ) (pace : Pace) (n : Process) → Stood r ls x m p i e f → MayMove s p i e f
+      → HasLocals f ns
+      → OnAfter (next_stand s) (places_taken i (map (λ k. length f.code.slots + k) ns) m.heap)
+      (on_heap (places_emptied i (map (λ k. length f.code.slots + k) ns)) m) pace n
+      → AfterValues x (next_stand s) (refs_in (held_in f.mem ns)) (next_instr (emptied ns f.mem) f) pace n
+
+  -- It goes on at a block at once; where a pass of a loop begins, if a turn is left.
+  abbrev pub GoesAt : Scan → Frame → Pace → Process → Type 0
+  GoesAt x g (On t) n = Goes r ls x t n p i e g
+  GoesAt x g Off n = ⊥
+
+  abbrev pub AfterPass : Scan → Frame → Pace → Process → Type 0
+  AfterPass x g (On t) n = (k : ℕ) × (m.left ≡ suc k) × Goes r ls x t n (on_core (λ c. record c { left = k }) p) i e g
+  AfterPass x g Off n = AreSpent ls n (proc (turn p.core (λ d. pushed (Run i) d)) (put p.actors i g))
+
+  abbrev pub WentTo : Type 0
+  WentTo =
+      (x : Scan) (s : Stand) (b : ℕ) (pace : Pace) (n : Process) → Stood r ls x m p i e f → MayMove s p i e f
+      → GoesOnAt s b m pace n → GoesAt x (go b f.mem f) pace n
+
+  abbrev pub PassBegan : Type 0
+  PassBegan =
+      (x : Scan) (s : Stand) (b : ℕ) (pace : Pace) (n : Process) → Stood r ls x m p i e f → MayMove s p i e f
+      → Passes s b m pace n → AfterPass x (go b f.mem f) pace n
