@@ -1,5 +1,5 @@
 -- An actor that goes on in memory, at once or by its task, goes on in the process.
-use Rattle.std.proofs.Common.{◌≡◌, ℕ, zero, suc, ◌+◌, nat_lt, Bool, true, false, List, [], ◌∷◌, length, map, if◌then◌else◌, refl, sym, ap, ◌∙◌, subst, arith}
+use Rattle.std.proofs.Common.{◌≡◌, ℕ, zero, suc, ◌+◌, ◌-◌, nat_lt, Bool, true, false, List, [], ◌∷◌, length, map, if◌then◌else◌, refl, sym, ap, ◌∙◌, subst, arith}
 use Rattle.std.proofs.lemmas.Bool.Decides.{nat_tests}
 use Rattle.flow_base.specs.declared.ids.ActorId.{ActorId}
 use Rattle.flow_value.specs.declared.value.Value.{Value}
@@ -11,6 +11,7 @@ use Rattle.flow_cancel.specs.Heap.{HeapTree, actor_id}
 use Rattle.flow_cancel.specs.Heap as heap
 use Rattle.flow_cancel.specs.Dropping as dropping
 use Rattle.flow_meaning.specs.Numbered.{put}
+use Rattle.flow_meaning.specs.Cells.{Ref}
 use Rattle.flow_meaning.specs.Process.{Run, Entry, Core, Proc}
 use Rattle.flow_meaning.specs.Occ.{Scan, refs_in}
 use Rattle.flow_meaning.specs.Work as work
@@ -33,11 +34,12 @@ use Rattle.flow_follows.specs.Placing.{Acts, Stood, with_memory, HasLocals}
 use Rattle.flow_follows.specs.Taking.{Standing}
 use Rattle.flow_follows.specs.Going.{MayMove, Goes}
 use Rattle.flow_follows.specs.Going as law
-use Rattle.flow_follows.proofs.Working.{as_many_shown, task_done, refs_dropped_shown, with_turn}
+use Rattle.flow_follows.proofs.Working.{as_many_shown, task_done, refs_dropped_shown, with_turn, without_turn}
 use Rattle.flow_follows.proofs.Places.{as_many_stood}
 use Rattle.flow_follows.proofs.Lost.{put_over}
 use Rattle.flow_follows.proofs.Emptied.{locals_taken}
 use Rattle.flow_follows.proofs.Parting.{acts_by}
+use Rattle.flow_follows.proofs.Takings.{turned_heap}
 use Rattle.flow_follows.proofs.Moving.{goes_in}
 
 -- the stand that an actor goes to
@@ -111,3 +113,62 @@ module _ (r : RawTree) (ls : List Line) (m : Process) (p : Proc Frame) (i : ℕ)
   went_to x s b pace n st may to =
       subst (λ q. law.GoesAt r ls m p i e f x (go b f.mem f) q n) (sym to.2)
       (subst (λ q. Goes r ls x to.0 q p i e (go b f.mem f)) (sym to.3) (gone_on x s to.0 b 0 0 st may to.1))
+
+-- the same actor, put twice
+over_after : (r : RawTree) (ls : List Line) (m n1 : Process) (p : Proc Frame) (i : ℕ) (e : Entry) (f h g : Frame) (x : Scan) (t : Stand) (rs qs : List Ref) (pace : Pace) (n : Process) → rs ≡ qs
+    → law.AfterValues r ls n1 (put_frame i h p) i e h x t rs g pace n → law.AfterValues r ls m p i e f x t qs g pace n
+over_after r ls m n1 p i e f h g x t rs qs (On u) n same a = (
+  a.0,
+  sym same ∙ a.1,
+  (subst (λ xs. Stood r ls x (noted t n) (proc p.core xs) i e g) (put_over p.actors i h g) a.2.0, a.2.1, a.2.2),
+)
+over_after r ls m n1 p i e f h g x t rs qs Off n same a =
+    subst (λ us. Shown r ls x n (proc (work.dropping us (pushed (Run i) p.core)) (put p.actors i g))) same
+    (subst (λ xs. Shown r ls x n (proc (work.dropping rs (pushed (Run i) p.core)) xs)) (put_over p.actors i h g) a)
+
+module _ (r : RawTree) (ls : List Line) (m : Process) (p : Proc Frame) (i : ℕ) (e : Entry) (f : Frame) where
+  pub locals_dropped : law.LocalsDropped r ls m p i e f
+  locals_dropped x s ns pace n st may has after =
+      let places = map (λ k. length f.code.slots + k) ns in
+      let taken = places_taken i places m.heap in
+      let f2 : Frame = with_memory (emptied ns f.mem) f in
+      let m1 : Process = on_heap (places_emptied i places) m in
+      let p1 : Proc Frame = put_frame i f2 p in
+      let lt = locals_taken r ls m p i e f x ns st has in
+      let may1 : MayMove s p1 i e f2 = record {
+        standing = record { actor = may.standing.actor; slots = may.standing.slots; place = may.standing.place };
+        instruction = may.instruction;
+        free = record { waits = may.free.waits; keeps = may.free.keeps };
+        operands = may.operands;
+      } in
+      let to : Stands s f.block (suc f.instr) (next_stand s) = record { actor = refl; class = refl; place = may.standing.place; instruction = ap suc may.instruction; noted = refl } in
+      let st1 = subst (λ rs. Stood r ls (with_refs rs x) m1 p1 i e f2) (sym lt.0) lt.1 in
+      over_after r ls m m1 p i e f f2 (next_instr (emptied ns f.mem) f) x (next_stand s) (refs_in (map value_of taken)) (refs_in (held_in f.mem ns)) pace n lt.0
+      (left_over r ls m1 p1 i e f2 x s (next_stand s) f.block (suc f.instr) f.state taken pace n st1 may1 to after)
+
+  pub pass_began : law.PassBegan r ls m p i e f
+  pass_began x s b pace n st may passes = by_case pace passes
+    where
+      by_case : (pace : Pace) → Passes s b m pace n → law.AfterPass r ls m p i e f x (go b f.mem f) pace n
+      by_case pace (no_pass t q to none is) =
+          let zero_left : m.left ≡ 0 = grind (arith, nat_tests, none) in
+          let a = without_turn r ls x m p (λ d. pushed (Run i) d) p.core (put p.actors i (go b f.mem f)) zero_left refl refl st.shown in
+          subst (λ z. AreSpent ls z (proc (turn p.core (λ d. pushed (Run i) d)) (put p.actors i (go b f.mem f)))) (sym is) (record { spent = a.spent; halted = a.halted; lines = a.lines })
+      by_case pace (pass_begins t q to some is) =
+          let k = m.left - 1 in
+          let left : m.left ≡ suc k = grind (arith, nat_tests, some) in
+          let p1 : Proc Frame = on_core (λ c. record c { left = k }) p in
+          let st1 : Stood r ls x (turned m) p1 i e f = record {
+            shown = with_turn r ls x m p k left st.shown;
+            acts = acts_by r m.heap (turned m).heap p p1 i e f (ap (λ (h : HeapTree). h.frames) (turned_heap m)) (ap (λ (h : HeapTree). h.actors) (turned_heap m)) refl refl st.acts;
+          } in
+          let may1 : MayMove s p1 i e f = record {
+            standing = may.standing;
+            instruction = may.instruction;
+            free = record { waits = may.free.waits; keeps = may.free.keeps };
+            operands = may.operands;
+          } in (
+            k,
+            left,
+            subst (λ z. Goes r ls x t z p1 i e (go b f.mem f)) (sym is) (gone_on r ls (turned m) p1 i e f x s t b 0 0 st1 may1 to),
+          )

@@ -80,7 +80,7 @@ module _ (r : RawTree) (ls : List Line) (x : Scan) (m : Process) (p : Proc Frame
         goes = s.goes;
       })
 
-  without_turn : (act : Core → Core) (c : Core) (xs : Numbered Frame) → m.left ≡ 0 → c.left ≡ p.core.left → c.lines ≡ p.core.lines → Shown r ls x m p → AreSpent ls (turned m) (proc (turn c act) xs)
+  pub without_turn : (act : Core → Core) (c : Core) (xs : Numbered Frame) → m.left ≡ 0 → c.left ≡ p.core.left → c.lines ≡ p.core.lines → Shown r ls x m p → AreSpent ls (turned m) (proc (turn c act) xs)
   without_turn act c xs e same lines s =
       subst (λ k. AreSpent ls k (proc (turn c act) xs)) (sym (turned_none m e))
       (subst (λ n. AreSpent ls (record m { spent = true }) (proc (turn_of n c act) xs)) (sym (same ∙ s.left ∙ e)) (record {

@@ -4,6 +4,7 @@
 #![tactic(auto)]
 
 pub mod bringing;
+pub mod going;
 pub mod keeping;
 pub mod placing;
 pub mod standing;
