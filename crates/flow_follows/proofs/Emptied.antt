@@ -39,7 +39,7 @@ both_long : {A : Type 0} (xs ys : List A) → length (xs ++ ys) ≡ length xs + 
 both_long [] ys = omega arith
 both_long (x ∷ xs) ys = let a = both_long xs ys in omega (arith, a)
 
-all_places : (r : RawTree) (m : FrameTree Value) (e : Entry) (f : Frame) → Stands r m e f → length m.places ≡ length f.mem.slots + length f.mem.locals
+pub all_places : (r : RawTree) (m : FrameTree Value) (e : Entry) (f : Frame) → Stands r m e f → length m.places ≡ length f.mem.slots + length f.mem.locals
 all_places r m e f s = sym (mapped_length (option_map value_of) m.places) ∙ ap length s.places ∙ both_long f.mem.slots f.mem.locals
 
 -- so many places after so many

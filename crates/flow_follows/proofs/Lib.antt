@@ -19,3 +19,4 @@ pub mod Registering
 pub mod Commuting
 pub mod Waited
 pub mod Gone
+pub mod Seen

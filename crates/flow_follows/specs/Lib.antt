@@ -10,3 +10,4 @@ pub mod Throwing
 pub mod Coded
 pub mod Waiting
 pub mod Going
+pub mod Seeing

@@ -7,6 +7,7 @@ pub mod bringing;
 pub mod going;
 pub mod keeping;
 pub mod placing;
+pub mod seeing;
 pub mod standing;
 pub mod taking;
 pub mod tasking;
