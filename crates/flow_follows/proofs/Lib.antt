@@ -20,3 +20,4 @@ pub mod Commuting
 pub mod Waited
 pub mod Gone
 pub mod Seen
+pub mod Doing

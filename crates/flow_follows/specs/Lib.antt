@@ -11,3 +11,4 @@ pub mod Coded
 pub mod Waiting
 pub mod Going
 pub mod Seeing
+pub mod Stepped

@@ -8,6 +8,7 @@ ghost use Rattle.flow_meaning.specs.Frame.{Frame};
 ghost use Rattle.flow_steps.specs.declared.process.Process.{Process};
 ghost use Rattle.flow_follows.specs.Tasking as law;
 ghost use Rattle.flow_follows.specs.Throwing.{ThrowDone};
+ghost use Rattle.flow_follows.specs.Stepped.{TopFollows, TaskFollows};
 
 /// A reference is dropped in memory, a handler begins, a cell fires and an error is thrown as the definitions have it.
 pub fn tasks_follow()
@@ -19,4 +20,13 @@ pub fn tasks_follow()
         → law.FireDone r ls m p }
     ensures throw { (r : RawTree) (ls : List Line) (m : Process) (p : Proc Frame)
         → ThrowDone r ls m p }
+{}
+
+/// The newest task is taken off in memory as in the process; and a drop, a fire, the begin of a handler, a thrown error and the
+/// end of an actor, done in memory, are each a step of the class machine.
+pub fn steps_follow()
+    ensures top { (r : RawTree) (ls : List Line) (m : Process) (p : Proc Frame)
+        → TopFollows r ls m p }
+    ensures task { (r : RawTree) (ls : List Line) (m : Process) (p : Proc Frame)
+        → TaskFollows r ls m p }
 {}
