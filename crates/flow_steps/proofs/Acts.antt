@@ -1,8 +1,8 @@
 -- Effects, actors that are called, and call statements.
-use Rattle.std.proofs.Common.{◌≡◌, ℕ, ℤ, ◌+◌, ◌<◌, ◌≤◌, Bool, true, false, nat_lt, List, [], ◌∷◌, ◌++◌, length, map, set, take, drop, get_or, slice_get, refl, ap, sym, subst, ◌∙◌, Result, IfOk, OnOk}
+use Rattle.std.proofs.Common.{◌≡◌, ℕ, ℤ, true, false, nat_lt, List, [], ◌∷◌, ◌++◌, length, map, set, slice_get, refl, ap, sym, subst, ◌∙◌, Result, OnOk}
 use Rattle.std.proofs.lemmas.Result.{IfOk-weaker}
 use Rattle.std.specs.declared.option.Option.{Option}
-use Rattle.std.specs.declared.option.Option.TheVariants.{None, Some}
+use Rattle.std.specs.declared.option.Option.TheVariants.{Some}
 use Rattle.flow_base.specs.declared.ids.ActorId.{ActorId}
 use Rattle.flow_base.specs.declared.ids.CellId.{CellId}
 use Rattle.flow_ast.specs.declared.predefined.Predefined.TheVariants as predefined
@@ -31,14 +31,13 @@ use Rattle.flow_steps.specs.declared.errors.Fault.{Fault}
 use Rattle.flow_steps.specs.declared.call.Call.{Call}
 use Rattle.flow_steps.specs.declared.call.Goal.{Goal}
 use Rattle.flow_steps.specs.declared.frames.Stand.{Stand}
-use Rattle.flow_steps.specs.declared.next.Pace.{Pace}
 use Rattle.flow_steps.specs.declared.next.Pace.TheVariants.{Off}
 use Rattle.flow_steps.specs.declared.process.Process.{Process}
 use Rattle.flow_steps.specs.Doing.{turned, doing, asking, telling}
 use Rattle.flow_steps.specs.Holding.{on_heap, value_refs, Gives}
 use Rattle.flow_steps.specs.Bringing.{made, sending}
 use Rattle.flow_steps.specs.Standing.{noted, values}
-use Rattle.flow_steps.specs.Acting.{Values, args_of, NewGiven, WorldAsked, some_values, with_args, enrolled, Enrols, StartTold, Starts, ActorCalled, not_called, actor_starts, EffectMade, EffectDone, Printed, IsMessage, MessageAsked, Sends}
+use Rattle.flow_steps.specs.Acting.{Values, NewGiven, some_values, with_args, Enrols, StartTold, Starts, ActorCalled, not_called, actor_starts, EffectMade, EffectDone, Printed, IsMessage, MessageAsked, Sends}
 use Rattle.flow_steps.proofs.Holding.{hold_append, value_alone}
 
 -- the references of arguments up to one

@@ -1,5 +1,6 @@
 -- What tasks do.
-use Rattle.std.proofs.Common.{◌≡◌, ℕ, ◌<◌, Bool, true, false, nat_lt, List, [], ◌∷◌, length, drop, slice_get, pos, refl, ap, sym, subst, ◌∙◌, Result, IfOk, OnOk}
+use Rattle.std.proofs.Common.{◌≡◌, ℕ, true, false, nat_lt, List, [], ◌∷◌, drop, slice_get, pos, refl, ap, sym, subst, ◌∙◌, Result, OnOk}
+use Rattle.std.proofs.lemmas.Option.{same_Some}
 use Rattle.std.proofs.lemmas.Result.{IfOk-weaker}
 use Rattle.std.proofs.lemmas.Bool.{false≢true}
 use Rattle.std.specs.Option.{IsSomeAnd, is_some}
@@ -22,7 +23,6 @@ use Rattle.flow_steps.specs.declared.errors.Fault.{Fault}
 use Rattle.flow_steps.specs.Acting.{Enrols, StartTold}
 use Rattle.flow_code.specs.declared.class.Aim.{Aim}
 use Rattle.flow_code.specs.declared.class.Branch.{Branch}
-use Rattle.flow_code.specs.declared.class.Catcher.{Catcher}
 use Rattle.flow_code.specs.declared.class.Effect.{Effect}
 use Rattle.flow_code.specs.declared.class.Group.{Group}
 use Rattle.flow_code.specs.declared.class.Instruction.TheVariants as instruction
@@ -47,10 +47,10 @@ use Rattle.flow_steps.specs.declared.process.Next.TheVariants as next
 use Rattle.flow_steps.specs.Doing.{turned, doing, telling}
 use Rattle.flow_steps.specs.Holding.{on_heap, kind_in}
 use Rattle.flow_steps.specs.Bringing.{closed}
-use Rattle.flow_steps.specs.Standing.{StandsNow, GoesTo, next_stand, noted, gone, values, lost_from, Assigns}
+use Rattle.flow_steps.specs.Standing.{StandsNow, GoesTo, next_stand, noted, values, lost_from, Assigns}
 use Rattle.flow_steps.specs.Waiting.{BranchOf, TakesBranch, Keeps}
 use Rattle.flow_steps.specs.Stepping.{OnAfter, GoesOn, Runs, IsClose}
-use Rattle.flow_steps.specs.Tasks.{RunsNow, BranchAt, bound_over, bound, ValueGiven, Stored, TopTaken, IsKept, with_error, dropped_places, caught, failed, FailsBy, Raises, Raised, FiresAt, Fires, next_waiter, WaiterTakes, Closes, MainStarts, MainCalled, main_waits, main_starts, Tasks, no_task}
+use Rattle.flow_steps.specs.Tasks.{RunsNow, BranchAt, bound_over, bound, ValueGiven, Stored, TopTaken, IsKept, FailsBy, Raises, Raised, FiresAt, Fires, next_waiter, WaiterTakes, Closes, MainStarts, MainCalled, main_waits, main_starts, Tasks, no_task}
 
 pub runs_now : (code : Code) (i : ActorId) (s : Stand) (p q : Process) → StandsNow code.classes.items i p s → Runs code s p q → RunsNow code i p q
 runs_now code i s p q a r = record { stand = s; stands = a; runs = r }
@@ -155,13 +155,9 @@ no_tasks : (ts : List Task) → None ≡ slice_get ts 0 → ts ≡ []
 no_tasks [] e = refl
 no_tasks (t ∷ ts) e = absurd (false≢true (ap is_some e))
 
-abbrev task_or : Task → Option Task → Task
-task_or t None = t
-task_or t (Some u) = u
-
 first_of : (ts : List Task) (t : Task) → Some t ≡ slice_get ts 0 → ts ≡ t ∷ drop 1 ts
 first_of [] t e = absurd (false≢true (sym (ap is_some e)))
-first_of (u ∷ ts) t e = ap (λ x. x ∷ ts) (sym (ap (task_or t) e))
+first_of (u ∷ ts) t e = ap (λ x. x ∷ ts) (sym (same_Some t u e))
 
 pub rested_by : (code : Code) (p : Process) (h : HeapTree) → p.spent ≡ false → None ≡ slice_get p.heap.tasks 0 → h ≡ record p.heap { tasks = drop 1 p.heap.tasks }
     → Tasks code p next.Rested (record p { heap = h })

@@ -2,17 +2,17 @@
 use Rattle.std.proofs.Common.{◌≡◌, ℕ, zero, suc, ◌+◌, ◌-◌, ◌<◌, ◌≤◌, Bool, true, false, List, [], ◌∷◌, ◌++◌, length, drop, get_or, set, refl, ap, sym, ◌∙◌, if◌then◌else◌, ltb, arith}
 use Rattle.std.proofs.lemmas.Bool.{false≢true}
 use Rattle.std.proofs.lemmas.Bool.Decides.{nat_tests}
-use Rattle.std.proofs.lemmas.List.{drop_more, set-get_or, set-set, get_or_past}
+use Rattle.std.proofs.lemmas.List.{append_assoc, drop_more, set-get_or, set-set, get_or_past}
 use Rattle.std.specs.Option.{IsSome, ForSome}
 use Rattle.std.specs.declared.option.Option.{Option}
 use Rattle.std.specs.declared.option.Option.TheVariants.{None, Some}
 use Rattle.flow_value.specs.declared.value.Value.{Value}
 use Rattle.flow_numbered.specs.Numbered.{Store, thing, with_thing}
 use Rattle.flow_numbered.proofs.Things.{with_same}
-use Rattle.flow_frame.specs.Frames.{FrameTree, IsFilled, held_in, held_at, with_place}
+use Rattle.flow_frame.specs.Frames.{FrameTree, IsFilled, held_in, with_place}
 use Rattle.flow_cancel.specs.Heap.{HeapTree}
 use Rattle.flow_cancel.proofs.Puts.{found_put, put_twice}
-use Rattle.flow_steps.specs.Standing.{reframed, with_frame, place_held, place_put, place_lost, places_lost, referring, values, places_taken, places_emptied, losing_from, lost_from}
+use Rattle.flow_steps.specs.Standing.{reframed, with_frame, place_held, place_put, place_lost, places_lost, referring, places_taken, places_emptied, losing_from, lost_from}
 use Rattle.flow_steps.proofs.Sights.{held_same}
 
 -- the frame of an actor that has one
@@ -36,14 +36,10 @@ pub one_emptied : (i : ℕ) (ns : List ℕ) (k d : ℕ) (h : HeapTree) → k < l
     → emptied_after i ns (k + 1) (place_put i (get_or ns k d) None h) ≡ emptied_after i ns k h
 one_emptied i ns k d h lt = ap (λ l. places_emptied i l h) (sym (drop_more ns k d lt))
 
-append_again : (xs ys zs : List Value) → (xs ++ ys) ++ zs ≡ xs ++ (ys ++ zs)
-append_again [] ys zs = refl
-append_again (x ∷ xs) ys zs = ap (λ l. x ∷ l) (append_again xs ys zs)
-
 pub one_taken : (i : ℕ) (ns : List ℕ) (k d : ℕ) (vs : List Value) (h : HeapTree) → k < length ns
     → taken_after i ns (k + 1) (vs ++ referring (place_held i (get_or ns k d) h)) (place_put i (get_or ns k d) None h) ≡ taken_after i ns k vs h
 one_taken i ns k d vs h lt =
-    append_again vs (referring (place_held i (get_or ns k d) h)) (places_taken i (drop (k + 1) ns) (place_put i (get_or ns k d) None h))
+    append_assoc vs (referring (place_held i (get_or ns k d) h)) (places_taken i (drop (k + 1) ns) (place_put i (get_or ns k d) None h))
     ∙ ap (λ l. vs ++ places_taken i l h) (sym (drop_more ns k d lt))
 
 -- what a place holds that holds nothing

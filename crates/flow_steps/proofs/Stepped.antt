@@ -1,17 +1,16 @@
 -- The steps of actors.
-use Rattle.std.proofs.Common.{◌≡◌, ℕ, ◌+◌, ◌<◌, Bool, true, false, nat_lt, List, [], ◌∷◌, length, map, get_or, slice_get, refl, ap, sym, subst, ◌∙◌, Result, Ok, Err, IfOk, OnOk, arith}
+use Rattle.std.proofs.Common.{◌≡◌, ℕ, ◌+◌, ◌<◌, true, false, nat_lt, List, [], ◌∷◌, length, get_or, slice_get, refl, ap, sym, subst, ◌∙◌, Result, Ok, IfOk, arith}
 use Rattle.std.proofs.lemmas.Result.{IfOk-weaker}
 use Rattle.std.specs.Option.{option_map}
 use Rattle.std.specs.declared.option.Option.{Option}
 use Rattle.std.specs.declared.option.Option.TheVariants.{None, Some}
-use Rattle.flow_base.specs.declared.ids.ActorId.{ActorId}
 use Rattle.flow_base.specs.declared.ids.CellId.{CellId}
 use Rattle.flow_ast.specs.declared.predefined.Method.{Method}
 use Rattle.flow_value.specs.declared.value.Value.{Value}
 use Rattle.flow_value.specs.declared.value.Value.TheVariants as value
 use Rattle.flow_value.specs.declared.value.Outcome.TheVariants as outcome
 use Rattle.flow_value.specs.declared.value.Kind.{Kind}
-use Rattle.flow_value.specs.Values.{ValueTree, RefValue, refs_of}
+use Rattle.flow_value.specs.Values.{RefValue}
 use Rattle.flow_value.specs.View.{value_of}
 use Rattle.flow_resolved.specs.View.{places_in}
 use Rattle.flow_code.specs.declared.class.Aim.{Aim}
@@ -30,7 +29,7 @@ use Rattle.flow_code.specs.View.{group_numbered}
 use Rattle.flow_cancel.specs.declared.task.Task.{Task}
 use Rattle.flow_cancel.specs.declared.task.Task.TheVariants as task
 use Rattle.flow_cancel.specs.Heap.{next_cell, pushed}
-use Rattle.flow_cancel.specs.Dropping.{drops, dropping}
+use Rattle.flow_cancel.specs.Dropping.{dropping}
 use Rattle.flow_picture.specs.Holds.{hold, hold_all}
 use Rattle.flow_steps.specs.declared.errors.Fault.{Fault}
 use Rattle.flow_steps.specs.declared.frames.Stand.{Stand}
@@ -45,7 +44,6 @@ use Rattle.flow_steps.specs.Waiting.{Waits}
 use Rattle.flow_steps.specs.Acting.{args_of, MethodCalled}
 use Rattle.flow_steps.specs.Sights.{Evaluates}
 use Rattle.flow_steps.specs.Stepping.{value_for, truth_for, values_for, truth_value, IsAct, IsMethodOf, MethodStep, Does, IsTest, Ends, StepsOn, by_instruction, OnAfter, IsSet, made_in_place, IsNew, IsMethod, GoesOnAt, Passes, no_pass, pass_begins, OperandStep, Chooses, asks_operand, all_kept, IsChoose, kept_by, IsClose, ended, IsReturn}
-use Rattle.flow_steps.proofs.Holding.{value_dropped}
 
 -- values are left over, or one
 pub after_values : (s : Stand) (vs : List Value) (p told on q : Process) → 0 < length vs → told ≡ noted s p → on ≡ doing (task.Run s.actor) told

@@ -1,9 +1,9 @@
 -- What branches take, and how actors leave their waits.
-use Rattle.std.proofs.Common.{◌≡◌, ℕ, ◌+◌, ◌<◌, ◌≤◌, Bool, true, false, nat_lt, List, [], ◌∷◌, length, drop, get_or, slice_get, refl, ap, sym, subst, ◌∙◌, if◌then◌else◌, Result, Ok, Err, IfOk, OnOk}
+use Rattle.std.proofs.Common.{◌≡◌, ℕ, ◌+◌, ◌<◌, ◌≤◌, Bool, true, false, nat_lt, List, ◌∷◌, length, drop, get_or, slice_get, refl, ap, sym, subst, ◌∙◌, if◌then◌else◌, Result, Ok, Err, IfOk, OnOk}
 use Rattle.std.proofs.lemmas.Bool.{false≢true}
 use Rattle.std.proofs.lemmas.List.{drop_more, drop_all}
 use Rattle.std.proofs.lemmas.Result.{IfOk-weaker}
-use Rattle.std.specs.Option.{IsSome, IsSomeAnd, ForSome, option_map, is_some}
+use Rattle.std.specs.Option.{IsSomeAnd, ForSome, is_some}
 use Rattle.std.specs.declared.option.Option.{Option}
 use Rattle.std.specs.declared.option.Option.TheVariants.{None, Some}
 use Rattle.flow_base.specs.ErrorNumbers.{operation_cancelled, second_waiter}
@@ -29,7 +29,6 @@ use Rattle.flow_picture.specs.Holds.{hold_all}
 use Rattle.flow_steps.specs.declared.errors.Fault.{Fault}
 use Rattle.flow_steps.specs.declared.frames.Stand.{Stand}
 use Rattle.flow_steps.specs.declared.process.Process.{Process}
-use Rattle.flow_steps.specs.declared.next.Pace.{Pace}
 use Rattle.flow_steps.specs.declared.next.Pace.TheVariants.{On, Off}
 use Rattle.flow_steps.specs.Doing.{turned, telling}
 use Rattle.flow_steps.specs.Seen.{content_in}
@@ -42,7 +41,7 @@ use Rattle.flow_stream.specs.declared.head.Wait.TheVariants.{Added, Busy}
 use Rattle.flow_cell.specs.declared.waiter.Waiter.{Waiter}
 use Rattle.flow_cancel.specs.Leaving.{waiter_of}
 use Rattle.flow_numbered.proofs.Things.{with_same}
-use Rattle.std.proofs.lemmas.Option.{slice_get-get_or, slice_get_within}
+use Rattle.std.proofs.lemmas.Option.{same_Some, slice_get-get_or, slice_get_within}
 use Rattle.flow_steps.specs.Waiting.{stream_awaited, awaited, BranchOf, Takes, copied, popped, IsGive, BranchTaken, TakesBranch, no_turn, takes_branch, left_for, callbacks_of, Registered, register, register_all, registered_then, Registers, first_ready, ready_at, marked_at, operand_kept, Keeps, kept_marked, kept_unready, kept_ready, suspended_at, Waits, waits_ready, waits_refused, waits_suspended}
 
 -- the branch of a number
@@ -239,12 +238,8 @@ frames_stay i x h = by (thing h.cells.things x.cell.0) (thing h.streams.things x
     by None None = refl
 
 -- an operand more is registered, or refused, after those before
-abbrev value_or : Held → Option Held → Held
-value_or d None = d
-value_or d (Some x) = x
-
 held_here : (xs : List Held) (k : ℕ) (x : Held) → Some x ≡ slice_get xs k → x ≡ get_or xs k x
-held_here xs k x e = ap (value_or x) (e ∙ slice_get-get_or xs k x (slice_get_within xs k x (sym e)))
+held_here xs k x e = same_Some x (get_or xs k x) (e ∙ slice_get-get_or xs k x (slice_get_within xs k x (sym e)))
 
 pub next_registered : (i : ℕ) (xs : List Held) (k : ℕ) (x : Held) (h g : HeapTree) (b : Bool) (p q : Process) → p.heap ≡ h → Some x ≡ slice_get xs k → Registers (register i x h) b p q → b ≡ true
     → registered_after i xs (k + 1) q.heap ≡ registered_after i xs k h

@@ -1,8 +1,7 @@
 -- Effects and call statements of actors.
-use Rattle.std.specs.Prelude.{◌≡◌, ℕ, ℤ, true, false, nat_lt, List, [], ◌∷◌, map, length, slice_get}
-use Rattle.std.specs.Option.{option_map}
+use Rattle.std.specs.Prelude.{◌≡◌, ℕ, ℤ, true, false, nat_lt, List, map, length, slice_get}
 use Rattle.std.specs.declared.option.Option.{Option}
-use Rattle.std.specs.declared.option.Option.TheVariants.{None, Some}
+use Rattle.std.specs.declared.option.Option.TheVariants.{Some}
 use Rattle.std.specs.declared.vec.Vec.{Vec}
 use Rattle.std.specs.declared.alloc.Global.{Global}
 use Rattle.flow_base.specs.declared.ids.ActorId.{ActorId}

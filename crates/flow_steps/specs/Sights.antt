@@ -1,11 +1,8 @@
 -- What an actor sees while it evaluates, and how it goes on with what that comes to.
 use Rattle.std.specs.Prelude.{◌≡◌, true, ℕ, ℤ, pos, ◌^◌, ◌-◌, nat_lt, if◌then◌else◌}
-use Rattle.std.specs.declared.option.Option.{Option}
 use Rattle.std.specs.declared.option.Option.TheVariants.{Some}
 use Rattle.flow_base.specs.declared.ids.ErrorCode.{ErrorCode}
 use Rattle.flow_tree.specs.declared.limits.TheConstants.{CALL_DEPTH}
-use Rattle.flow_value.specs.declared.value.Value.{Value}
-use Rattle.flow_value.specs.View.{value_of}
 use Rattle.flow_class.specs.View.{raw_of}
 use Rattle.flow_eval.specs.Eval.{Setting, Res, Done, Fails, Spent}
 use Rattle.flow_eval.specs.Functions.{run_function}

@@ -1,5 +1,5 @@
 -- Waits: operands, the branch that is taken, and suspending.
-use Rattle.std.specs.Prelude.{◌≡◌, ◌+◌, ℕ, zero, Bool, true, false, nat_lt, List, [], ◌∷◌, ◌++◌, length, is_some, if◌then◌else◌}
+use Rattle.std.specs.Prelude.{◌≡◌, ◌+◌, ℕ, Bool, true, false, nat_lt, List, [], ◌∷◌, ◌++◌, length, is_some, if◌then◌else◌}
 use Rattle.std.specs.declared.option.Option.{Option}
 use Rattle.std.specs.declared.option.Option.TheVariants.{None, Some}
 use Rattle.flow_base.specs.ErrorNumbers.{operation_cancelled, second_waiter}
@@ -14,7 +14,7 @@ use Rattle.flow_code.specs.View.{group_numbered}
 use Rattle.flow_numbered.specs.Numbered.{thing}
 use Rattle.flow_cell.specs.declared.waiter.Waiter.{Waiter}
 use Rattle.flow_cell.specs.Cells.{CellTree}
-use Rattle.flow_stream.specs.Streams.{StreamTree, ready, head, tail, or_waiter}
+use Rattle.flow_stream.specs.Streams.{StreamTree, ready, head, tail}
 use Rattle.flow_frame.specs.declared.held.Held.{Held}
 use Rattle.flow_frame.specs.Frames.{FrameTree, with_callback, in_state}
 use Rattle.flow_trace.specs.declared.line.Line.TheVariants as line

@@ -1,4 +1,4 @@
-use Rattle.std.proofs.Common.{rules, sym, subst}
+use Rattle.std.proofs.Common.{rules}
 use Rattle.flow_steps.proofs.Waits.{stream_added, stream_busy}
 use Rattle.flow_steps.proofs.process.Process.register.Goals as goal
 
