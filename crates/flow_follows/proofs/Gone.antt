@@ -1,7 +1,10 @@
 -- An actor that goes on in memory, at once or by its task, goes on in the process.
-use Rattle.std.proofs.Common.{◌≡◌, ℕ, zero, suc, ◌+◌, ◌-◌, nat_lt, Bool, true, false, List, [], ◌∷◌, length, map, if◌then◌else◌, refl, sym, ap, ◌∙◌, subst, arith}
+use Rattle.std.proofs.Common.{◌≡◌, ℕ, zero, suc, ◌+◌, ◌-◌, nat_lt, Bool, true, false, List, [], ◌∷◌, ◌++◌, length, map, if◌then◌else◌, refl, sym, ap, ◌∙◌, subst, arith}
 use Rattle.std.proofs.lemmas.Bool.Decides.{nat_tests}
+use Rattle.std.specs.declared.option.Option.{Option}
+use Rattle.std.specs.declared.option.Option.TheVariants.{None, Some}
 use Rattle.flow_base.specs.declared.ids.ActorId.{ActorId}
+use Rattle.flow_class.specs.declared.class.Slotted.{Slotted}
 use Rattle.flow_value.specs.declared.value.Value.{Value}
 use Rattle.flow_value.specs.View.{value_of}
 use Rattle.flow_class.specs.Classes.{RawTree}
@@ -11,14 +14,16 @@ use Rattle.flow_cancel.specs.Heap.{HeapTree, actor_id}
 use Rattle.flow_cancel.specs.Heap as heap
 use Rattle.flow_cancel.specs.Dropping as dropping
 use Rattle.flow_meaning.specs.Numbered.{put}
-use Rattle.flow_meaning.specs.Cells.{Ref}
+use Rattle.flow_meaning.specs.Cells.{Side, Ref}
 use Rattle.flow_meaning.specs.Process.{Run, Entry, Core, Proc}
-use Rattle.flow_meaning.specs.Occ.{Scan, refs_in}
+use Rattle.flow_meaning.specs.Occ.{Scan, count, refs_in}
 use Rattle.flow_meaning.specs.Work as work
 use Rattle.flow_meaning.specs.Work.{turn, turn_of, pushed}
 use Rattle.flow_meaning.specs.Step.{proc, on_core}
-use Rattle.flow_meaning.specs.Frame.{Frame, held_in, emptied, go, next_instr}
+use Rattle.flow_meaning.specs.Variables.{filled}
+use Rattle.flow_meaning.specs.Frame.{Frame, read, write, held_in, emptied, go, next_instr}
 use Rattle.flow_picture.specs.Acting.{Free, put_frame}
+use Rattle.flow_picture.specs.Standing.{number_in}
 use Rattle.flow_picture.specs.Holds.{with_refs}
 use Rattle.flow_picture.proofs.Tasks.{refs_same}
 use Rattle.flow_steps.specs.declared.frames.Stand.{Stand}
@@ -26,8 +31,9 @@ use Rattle.flow_steps.specs.declared.next.Pace.{Pace}
 use Rattle.flow_steps.specs.declared.next.Pace.TheVariants.{On, Off}
 use Rattle.flow_steps.specs.declared.process.Process.{Process}
 use Rattle.flow_steps.specs.Doing.{turned, doing}
-use Rattle.flow_steps.specs.Holding.{on_heap, refs_dropped}
-use Rattle.flow_steps.specs.Standing.{gone, noting, noted, GoesTo, next_stand, places_taken, places_emptied}
+use Rattle.flow_steps.specs.Holding.{on_heap, value_refs, refs_dropped}
+use Rattle.flow_steps.specs.Standing.{gone, noting, noted, GoesTo, next_stand, place_held, place_put, referring, places_taken, places_emptied}
+use Rattle.flow_steps.specs.Tasks.{bound_over, bound}
 use Rattle.flow_steps.specs.Stepping.{OnAfter, GoesOnAt, Passes, no_pass, pass_begins}
 use Rattle.flow_follows.specs.Shown.{Shown, AreSpent, with_task}
 use Rattle.flow_follows.specs.Placing.{Acts, Stood, with_memory, HasLocals}
@@ -35,9 +41,9 @@ use Rattle.flow_follows.specs.Taking.{Standing}
 use Rattle.flow_follows.specs.Going.{MayMove, Goes}
 use Rattle.flow_follows.specs.Going as law
 use Rattle.flow_follows.proofs.Working.{as_many_shown, task_done, refs_dropped_shown, with_turn, without_turn}
-use Rattle.flow_follows.proofs.Places.{as_many_stood}
+use Rattle.flow_follows.proofs.Places.{as_many_stood, place_seen, place_changed}
 use Rattle.flow_follows.proofs.Lost.{put_over}
-use Rattle.flow_follows.proofs.Emptied.{locals_taken}
+use Rattle.flow_follows.proofs.Emptied.{referring_refs, locals_taken}
 use Rattle.flow_follows.proofs.Parting.{acts_by}
 use Rattle.flow_follows.proofs.Takings.{turned_heap}
 use Rattle.flow_follows.proofs.Moving.{goes_in}
@@ -126,9 +132,19 @@ over_after r ls m n1 p i e f h g x t rs qs Off n same a =
     subst (λ us. Shown r ls x n (proc (work.dropping us (pushed (Run i) p.core)) (put p.actors i g))) same
     (subst (λ xs. Shown r ls x n (proc (work.dropping rs (pushed (Run i) p.core)) xs)) (put_over p.actors i h g) a)
 
+same_refs : (r : RawTree) (ls : List Line) (m : Process) (p : Proc Frame) (i : ℕ) (e : Entry) (f g : Frame) (x : Scan) (t : Stand) (rs qs : List Ref) (pace : Pace) (n : Process) → rs ≡ qs
+    → law.AfterValues r ls m p i e f x t rs g pace n → law.AfterValues r ls m p i e f x t qs g pace n
+same_refs r ls m p i e f g x t rs qs (On u) n same a = (a.0, sym same ∙ a.1, a.2)
+same_refs r ls m p i e f g x t rs qs Off n same a = subst (λ us. Shown r ls x n (proc (work.dropping us (pushed (Run i) p.core)) (put p.actors i g))) same a
+
+-- nothing is appended
+appended : (s : Side) (j : ℕ) (rs : List Ref) → count s j rs ≡ count s j (rs ++ [])
+appended s j [] = refl
+appended s j (q ∷ rs) = let a = appended s j rs in omega (arith, a)
+
 module _ (r : RawTree) (ls : List Line) (m : Process) (p : Proc Frame) (i : ℕ) (e : Entry) (f : Frame) where
   pub locals_dropped : law.LocalsDropped r ls m p i e f
-  locals_dropped x s ns pace n st may has after =
+  locals_dropped x s ns pace n st may at has after =
       let places = map (λ k. length f.code.slots + k) ns in
       let taken = places_taken i places m.heap in
       let f2 : Frame = with_memory (emptied ns f.mem) f in
@@ -137,11 +153,10 @@ module _ (r : RawTree) (ls : List Line) (m : Process) (p : Proc Frame) (i : ℕ)
       let lt = locals_taken r ls m p i e f x ns st has in
       let may1 : MayMove s p1 i e f2 = record {
         standing = record { actor = may.standing.actor; slots = may.standing.slots; place = may.standing.place };
-        instruction = may.instruction;
         free = record { waits = may.free.waits; keeps = may.free.keeps };
         operands = may.operands;
       } in
-      let to : Stands s f.block (suc f.instr) (next_stand s) = record { actor = refl; class = refl; place = may.standing.place; instruction = ap suc may.instruction; noted = refl } in
+      let to : Stands s f.block (suc f.instr) (next_stand s) = record { actor = refl; class = refl; place = may.standing.place; instruction = ap suc at; noted = refl } in
       let st1 = subst (λ rs. Stood r ls (with_refs rs x) m1 p1 i e f2) (sym lt.0) lt.1 in
       over_after r ls m m1 p i e f f2 (next_instr (emptied ns f.mem) f) x (next_stand s) (refs_in (map value_of taken)) (refs_in (held_in f.mem ns)) pace n lt.0
       (left_over r ls m1 p1 i e f2 x s (next_stand s) f.block (suc f.instr) f.state taken pace n st1 may1 to after)
@@ -164,7 +179,6 @@ module _ (r : RawTree) (ls : List Line) (m : Process) (p : Proc Frame) (i : ℕ)
           } in
           let may1 : MayMove s p1 i e f = record {
             standing = may.standing;
-            instruction = may.instruction;
             free = record { waits = may.free.waits; keeps = may.free.keeps };
             operands = may.operands;
           } in (
@@ -172,3 +186,40 @@ module _ (r : RawTree) (ls : List Line) (m : Process) (p : Proc Frame) (i : ℕ)
             left,
             subst (λ z. Goes r ls x t z p1 i e (go b f.mem f)) (sym is) (gone_on r ls (turned m) p1 i e f x s t b 0 0 st1 may1 to),
           )
+
+  -- a value goes to the place of a branch
+  pub value_bound : law.ValueBound r ls m p i e f
+  value_bound x s t b into place v pace n st may same to after = by_place into place same after
+    where
+      goes : Stands s b 0 t
+      goes = goes_stands s b 0 t to
+
+      by_place : (into : Option ℕ) (place : Option Slotted) → law.SameInto r ls m p i e f into place → OnAfter t (bound_over i into v m.heap) (on_heap (bound i into v) m) pace n
+          → law.AfterValues r ls m p i e f x t (refs_in (law.over_at r ls m p i e f place (value_of v))) (go b (law.memory_at r ls m p i e f place (value_of v)) f) pace n
+      by_place None None same after =
+          let rs = referring_refs (Some v) in
+          let hand : (z : Side) (j : ℕ) → with_refs (value_refs v) x z j ≡ with_refs (refs_in (value_of v ∷ [])) x z j = λ z j. ap (λ k. k + x z j) (appended z j (value_refs v)) in
+          let st1 = subst (λ us. Stood r ls (with_refs us x) m p i e f) (sym rs) (as_many_stood r ls (with_refs (value_refs v) x) (with_refs (refs_in (value_of v ∷ [])) x) m p i e f hand st) in
+          same_refs r ls m p i e f (go b f.mem f) x t (refs_in (map value_of (referring (Some v)))) (refs_in (value_of v ∷ [])) pace n rs
+          (left_over r ls m p i e f x s t b 0 0 (referring (Some v)) pace n st1 may goes after)
+      by_place (Some k) (Some q) same after =
+          let f2 : Frame = with_memory (write f.mem q (Some (value_of v))) f in
+          let number = number_in (length f.code.slots) q in
+          let m1 : Process = on_heap (place_put i number (Some v)) m in
+          let p1 : Proc Frame = put_frame i f2 p in
+          let one = refs_in (filled (read f.mem q ∷ [])) in
+          let st1 = place_changed r ls m p i e f (with_refs (value_refs v) x) (with_refs one x) q (Some v) st same.1
+          (λ z j. let a = appended z j (value_refs v) in omega (arith, a)) in
+          let rs : refs_in (map value_of (referring (place_held i number m.heap))) ≡ one =
+          referring_refs (place_held i number m.heap) ∙ ap (λ o. refs_in (filled (o ∷ []))) (place_seen r ls m p i e f (with_refs (value_refs v) x) q st same.1) in
+          let st2 = subst (λ us. Stood r ls (with_refs us x) m1 p1 i e f2) (sym rs) st1 in
+          let may1 : MayMove s p1 i e f2 = record {
+            standing = record { actor = may.standing.actor; slots = may.standing.slots; place = may.standing.place };
+            free = record { waits = may.free.waits; keeps = may.free.keeps };
+            operands = may.operands;
+          } in
+          let after1 = subst (λ j. OnAfter t (referring (place_held i j m.heap)) (on_heap (place_put i j (Some v)) m) pace n) same.0 after in
+          over_after r ls m m1 p i e f f2 (go b (write f.mem q (Some (value_of v))) f) x t (refs_in (map value_of (referring (place_held i number m.heap)))) one pace n rs
+          (left_over r ls m1 p1 i e f2 x s t b 0 0 (referring (place_held i number m.heap)) pace n st2 may1 goes after1)
+      by_place None (Some q) same after = absurd same
+      by_place (Some k) None same after = absurd same

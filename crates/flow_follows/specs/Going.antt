@@ -1,8 +1,12 @@
 -- An actor that goes on in memory, at once or by its task, goes on in the process.
 use Rattle.std.specs.Prelude.{◌≡◌, ℕ, suc, ◌+◌, List, [], ◌∷◌, map, length}
 use Rattle.flow_value.specs.declared.value.Value.{Value}
+use Rattle.flow_value.specs.Values.{ValueTree}
 use Rattle.flow_value.specs.View.{value_of}
+use Rattle.flow_class.specs.declared.class.Slotted.{Slotted}
 use Rattle.flow_class.specs.Classes.{RawTree}
+use Rattle.std.specs.declared.option.Option.{Option}
+use Rattle.std.specs.declared.option.Option.TheVariants.{None, Some}
 use Rattle.flow_trace.specs.declared.line.Line.{Line}
 use Rattle.flow_meaning.specs.Numbered.{put}
 use Rattle.flow_meaning.specs.Cells.{Ref}
@@ -10,16 +14,19 @@ use Rattle.flow_meaning.specs.Process.{Run, Entry, Proc}
 use Rattle.flow_meaning.specs.Occ.{Scan, refs_in}
 use Rattle.flow_meaning.specs.Work.{turn, pushed, dropping, dropping_values}
 use Rattle.flow_meaning.specs.Step.{proc, on_core}
-use Rattle.flow_meaning.specs.Frame.{Frame, held_in, emptied, go, next_instr}
+use Rattle.flow_meaning.specs.Variables.{filled}
+use Rattle.flow_meaning.specs.Frame.{Memory, Frame, read, write, held_in, emptied, go, next_instr}
 use Rattle.flow_picture.specs.Acting.{Free, put_frame}
+use Rattle.flow_picture.specs.Standing.{HasPlace, number_in}
 use Rattle.flow_picture.specs.Holds.{with_refs}
 use Rattle.flow_steps.specs.declared.frames.Stand.{Stand}
 use Rattle.flow_steps.specs.declared.next.Pace.{Pace}
 use Rattle.flow_steps.specs.declared.next.Pace.TheVariants.{On, Off}
 use Rattle.flow_steps.specs.declared.process.Process.{Process}
-use Rattle.flow_steps.specs.Holding.{on_heap}
+use Rattle.flow_steps.specs.Holding.{on_heap, value_refs}
 use Rattle.flow_steps.specs.Standing.{noted, GoesTo, next_stand, places_taken, places_emptied}
 use Rattle.flow_steps.specs.Stepping.{OnAfter, GoesOnAt, Passes}
+use Rattle.flow_steps.specs.Tasks.{bound_over, bound}
 use Rattle.flow_follows.specs.Shown.{Shown, AreSpent}
 use Rattle.flow_follows.specs.Placing.{Stood, HasLocals}
 use Rattle.flow_follows.specs.Taking.{Standing}
@@ -27,7 +34,6 @@ use Rattle.flow_follows.specs.Taking.{Standing}
 -- an actor that is free to go on: it runs, waits nowhere and has kept no operand
 pub record MayMove (s : Stand) (p : Proc Frame) (i : ℕ) (e : Entry) (f : Frame) : Type 0 where
   pub standing : Standing s i f
-  pub instruction : s.instruction ≡ f.instr
   pub free : Free i p.core
   pub operands : e.operands ≡ []
 
@@ -58,7 +64,7 @@ module _ (r : RawTree) (ls : List Line) (m : Process) (p : Proc Frame) (i : ℕ)
   abbrev pub LocalsDropped : Type 0
   LocalsDropped =
       (x : Scan) (s : Stand) (ns : List ℕ) (pace : Pace) (n : Process) → Stood r ls x m p i e f → MayMove s p i e f
-      → HasLocals f ns
+      → s.instruction ≡ f.instr → HasLocals f ns
       → OnAfter (next_stand s) (places_taken i (map (λ k. length f.code.slots + k) ns) m.heap)
       (on_heap (places_emptied i (map (λ k. length f.code.slots + k) ns)) m) pace n
       → AfterValues x (next_stand s) (refs_in (held_in f.mem ns)) (next_instr (emptied ns f.mem) f) pace n
@@ -81,3 +87,27 @@ module _ (r : RawTree) (ls : List Line) (m : Process) (p : Proc Frame) (i : ℕ)
   PassBegan =
       (x : Scan) (s : Stand) (b : ℕ) (pace : Pace) (n : Process) → Stood r ls x m p i e f → MayMove s p i e f
       → Passes s b m pace n → AfterPass x (go b f.mem f) pace n
+
+  -- What a branch that was taken is coded from: the block, and the place of its value, which the frame has.
+  abbrev pub SameInto : Option ℕ → Option Slotted → Type 0
+  SameInto None None = Unit {0}
+  SameInto (Some n) (Some q) = (n ≡ number_in (length f.code.slots) q) × HasPlace f q
+  SameInto None (Some q) = ⊥
+  SameInto (Some n) None = ⊥
+
+  -- the values that are left over where a value goes into a place, or nowhere, and the memory afterwards
+  abbrev pub over_at : Option Slotted → ValueTree → List ValueTree
+  over_at None v = v ∷ []
+  over_at (Some q) v = filled (read f.mem q ∷ [])
+
+  abbrev pub memory_at : Option Slotted → ValueTree → Memory
+  memory_at None v = f.mem
+  memory_at (Some q) v = write f.mem q (Some v)
+
+  -- a value in hand goes to the place of a branch, and the actor goes on at the block of the branch
+  abbrev pub ValueBound : Type 0
+  ValueBound =
+      (x : Scan) (s t : Stand) (b : ℕ) (into : Option ℕ) (place : Option Slotted) (v : Value) (pace : Pace) (n : Process)
+      → Stood r ls (with_refs (value_refs v) x) m p i e f → MayMove s p i e f → SameInto into place → GoesTo s b 0 t
+      → OnAfter t (bound_over i into v m.heap) (on_heap (bound i into v) m) pace n
+      → AfterValues x t (refs_in (over_at place (value_of v))) (go b (memory_at place (value_of v)) f) pace n

@@ -1,4 +1,4 @@
-use Rattle.flow_follows.proofs.Gone.{gone_on, values_left, locals_dropped, went_to, pass_began}
+use Rattle.flow_follows.proofs.Gone.{gone_on, values_left, locals_dropped, went_to, pass_began, value_bound}
 use Rattle.flow_follows.proofs.going.moves_follow.Goals as goal
 
 pub returns-clause-gone : goal.returns-clause-gone
@@ -15,3 +15,6 @@ returns-clause-block c = went_to
 
 pub returns-clause-pass : goal.returns-clause-pass
 returns-clause-pass c = pass_began
+
+pub returns-clause-bound : goal.returns-clause-bound
+returns-clause-bound c = value_bound
