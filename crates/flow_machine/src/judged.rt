@@ -1,7 +1,12 @@
 // Arguments of effects and messages that are in their ranges.
 
-ghost use Rattle.std.specs.Prelude.{◌≡◌, ◌≤◌, ◌<◌, ◌+◌, ◌^◌, pos, ◌+ℤ◌, ◌≤ℤ◌, IfSome, IsTrue, ◌↔◌};
-ghost use Rattle.flow_machine.specs.Requests.{IsAllowed, IsFile, IsRange};
+ghost use Rattle.std.specs.Prelude.{◌≡◌, ◌<◌, ◌+◌, ◌^◌, pos, ◌-ℤ◌, IfSome, int_le, nat_le, nat_lt, ◌&&◌, if◌then◌else◌};
+ghost use Rattle.std.specs.declared.option.Option.TheVariants.{None, Some};
+ghost use Rattle.std.specs.Option.{option_map};
+ghost use Rattle.flow_eval.specs.Predefined.{natural};
+ghost use Rattle.flow_simdisk.specs.Asks.{ReadCall, WriteCall, SyncCall, SizeCall};
+ghost use Rattle.flow_meaning.specs.Effects.{between, is_file, judged};
+ghost use Rattle.flow_machine.specs.Requests.{IsAllowed, IsRange, call_of, asked_of};
 
 use flow_base::ids::ProcId;
 use flow_base::text::Text;
@@ -25,7 +30,8 @@ const WIDEST: i64 = 1 << 32;
 
 /// How many numbers a range has, its last one left out, where there are 1 to 2^32.
 pub(crate) fn width(lo: i64, hi: i64) -> Option<u64>
-    ensures { IfSome result (λ n. IsRange lo n) }
+    ensures range { IfSome result (λ n. IsRange lo n) }
+    ensures exact { result ≡ (if between (hi -ℤ lo) 1 (2 ^ 32) then Some (natural (hi -ℤ lo)) else None) }
 {
     let width = hi.checked_sub(lo)?;
     if width < 1 || width > WIDEST {
@@ -36,7 +42,8 @@ pub(crate) fn width(lo: i64, hi: i64) -> Option<u64>
 
 /// The time after so many ticks, a negative count being none, where it isn't after 2^62.
 pub(crate) fn time_after(now: u64, ticks: i64) -> Option<u64>
-    ensures { IfSome result (λ t. t ≤ 2 ^ 62) }
+    ensures { let time = now + natural ticks in
+        result ≡ (if nat_le time (2 ^ 62) then Some time else None) }
 {
     let time = now.saturating_add(u64::try_from(ticks).unwrap_or(0));
     if time > LATEST {
@@ -47,7 +54,9 @@ pub(crate) fn time_after(now: u64, ticks: i64) -> Option<u64>
 
 /// The process of a number, of so many.
 pub(crate) fn process(processes: u8, number: i64) -> Option<ProcId>
-    ensures { IfSome result (λ p. p.0 < processes) }
+    ensures below { IfSome result (λ p. p.0 < processes) }
+    ensures exact { option_map (λ p. p.0) result
+        ≡ (if int_le (pos 0) number && nat_lt (natural number) processes then Some (natural number) else None) }
 {
     let number = u8::try_from(number).ok()?;
     if number >= processes {
@@ -58,7 +67,7 @@ pub(crate) fn process(processes: u8, number: i64) -> Option<ProcId>
 
 // Whether a file may have a name.
 fn is_file(name: &Text) -> bool
-    ensures { IsTrue result ↔ IsFile name.now }
+    ensures { result ≡ is_file name.now }
 {
     let length = name.bytes().len();
     1 <= length && length <= NAME_LIMIT
@@ -66,7 +75,7 @@ fn is_file(name: &Text) -> bool
 
 // A number from 0 to a last one.
 fn within(number: i64, last: u32) -> Option<u32>
-    ensures { IfSome result (λ n. n ≤ last) }
+    ensures { result ≡ (if between number 0 last then Some (natural number) else None) }
 {
     let number = u32::try_from(number).ok()?;
     if number > last {
@@ -77,7 +86,8 @@ fn within(number: i64, last: u32) -> Option<u32>
 
 // A read whose arguments are in their ranges.
 fn read(file: Text, offset: i64, count: i64) -> Option<DiskAsk>
-    ensures { IfSome result (λ a. IsAllowed a) }
+    ensures allowed { IfSome result (λ a. IsAllowed a) }
+    ensures exact { option_map call_of result ≡ judged (ReadCall file offset count) }
 {
     if !is_file(&file) {
         return None;
@@ -89,7 +99,8 @@ fn read(file: Text, offset: i64, count: i64) -> Option<DiskAsk>
 
 // A write whose arguments are in their ranges.
 fn write(file: Text, offset: i64, text: Text) -> Option<DiskAsk>
-    ensures { IfSome result (λ a. IsAllowed a) }
+    ensures allowed { IfSome result (λ a. IsAllowed a) }
+    ensures exact { option_map call_of result ≡ judged (WriteCall file offset text) }
 {
     if !is_file(&file) {
         return None;
@@ -103,7 +114,8 @@ fn write(file: Text, offset: i64, text: Text) -> Option<DiskAsk>
 
 /// A request to a disk whose arguments are in their ranges.
 pub(crate) fn judged(call: DiskCall) -> Option<DiskAsk>
-    ensures { IfSome result (λ a. IsAllowed a) }
+    ensures allowed { IfSome result (λ a. IsAllowed a) }
+    ensures exact { option_map call_of result ≡ judged (asked_of call) }
 {
     match call {
         DiskCall::Read(file, offset, count) => read(file, offset, count),

@@ -67,13 +67,13 @@ stream_at r c xs types p port k at =
     is_stream (Stream q e w) h = tt
 
 -- of all cells
-abbrev Referred : Proc Frame → Type 0
+abbrev pub Referred : Proc Frame → Type 0
 Referred p = (k : ℕ) → Refers k p.core p.actors
 
-abbrev AllReferred : List (Place Frame) → Type 0
+abbrev pub AllReferred : List (Place Frame) → Type 0
 AllReferred ps = AllByRecursion (λ (a : Place Frame). Referred a.proc) ps
 
-abbrev Now : Proc Frame → Type 0
+abbrev pub Now : Proc Frame → Type 0
 Now p = UnlessStopped p.core.halted (Referred p)
 
 all_now : (p : Proc Frame) → ((k : ℕ) → Unless (λ d. Refers k d p.actors) p.core) → Now p
@@ -89,7 +89,7 @@ idle_referred k = ((λ z. absurd z), (λ w. absurd (no_thing w.2)))
 vanished_referred : (p : Proc Frame) → Referred (vanish p)
 vanished_referred p k = ((λ z. absurd z), (λ w. absurd (no_thing w.2)))
 
-referred_at : (ps : List (Place Frame)) (k : ℕ) → AllReferred ps → Referred (slice_index_or ps k (record { up = false; proc = idle })).proc
+pub referred_at : (ps : List (Place Frame)) (k : ℕ) → AllReferred ps → Referred (slice_index_or ps k (record { up = false; proc = idle })).proc
 referred_at [] k h = idle_referred
 referred_at (p ∷ ps) zero h = h.0
 referred_at (p ∷ ps) (suc k) h = referred_at ps k h.1
@@ -99,7 +99,7 @@ referred_set [] k a h x = tt
 referred_set (p ∷ ps) zero a h x = (x, h.1)
 referred_set (p ∷ ps) (suc k) a h x = (h.0, referred_set ps k a h.1 x)
 
-start_referred : (n : ℕ) → AllReferred (replicate n (record { up = false; proc = idle }))
+pub start_referred : (n : ℕ) → AllReferred (replicate n (record { up = false; proc = idle }))
 start_referred zero = tt
 start_referred (suc n) = (idle_referred, start_referred n)
 
@@ -153,7 +153,7 @@ module _ (r : RawTree) (valid : IsValid r) (actors : List RoutineTree) (rules : 
     by_what t number (Arrives m from to port text) left v e f = arrived_refers to f m from port text v (listener (ready w to) port) refl
     by_what t number (Answers p k call) left v e f = answer_refers p f k _ (record { time = t; number = number; what = Answers p k call }) left e (own_sets p k)
 
-    begun_refers : (b : Begun Frame) → begun_by (classes r) w (next_of w.out) ≡ Some b → Now b.place.proc
+    pub begun_refers : (b : Begun Frame) → begun_by (classes r) w (next_of w.out) ≡ Some b → Now b.place.proc
     begun_refers b g = by_next (next_of w.out) g (next_in w.out.file.processes w.out fits.script)
       where
         by_next : (x : Next) → begun_by (classes r) w x ≡ Some b → NextIn w.out.file.processes w.out.events.pending x → Now b.place.proc
@@ -174,7 +174,7 @@ module _ (r : RawTree) (valid : IsValid r) (actors : List RoutineTree) (rules : 
   served_refers (Some q) t v h = h
 
   module _ (places : List (Place Frame)) (count n : ℕ) where
-    next_refers : (s l : Live Outside Frame) → Good r valid actors rules leads steps_fit places count n s → own.Now s.proc.core → Now s.proc → advance (classes r) host s ≡ Some l → Now l.proc
+    pub next_refers : (s l : Live Outside Frame) → Good r valid actors rules leads steps_fit places count n s → own.Now s.proc.core → Now s.proc → advance (classes r) host s ≡ Some l → Now l.proc
     next_refers s l g u h a = by_halt s.proc.core.halted refl g.own u h
       where
         by_step : (x : Option (Stepped Frame)) → step (classes r) (host.supply s.out) s.proc ≡ x → FitsAmong r n s.out.events.pending s.proc → Unset s.proc.core → Referred s.proc → advanced host s.out x ≡ Some l → Now l.proc
@@ -194,7 +194,7 @@ module _ (r : RawTree) (valid : IsValid r) (actors : List RoutineTree) (rules : 
     burst_refers s t (steps next e k) g u h =
         burst_refers next t k (next_good r valid actors rules leads steps_fit places count n s next g e) (own.next_unset r valid actors rules leads steps_fit places count n s next g u e) (next_refers s next g u h e)
 
-  event_refers : (w : World Frame) (b : Begun Frame) (l : Live Outside Frame) → WorldFits r w → own.AllUnset w.places → AllReferred w.places → begun_by (classes r) w (next_of w.out) ≡ Some b → Burst (classes r) host (before b) l → l.proc.core.halted ≡ None
+  pub event_refers : (w : World Frame) (b : Begun Frame) (l : Live Outside Frame) → WorldFits r w → own.AllUnset w.places → AllReferred w.places → begun_by (classes r) w (next_of w.out) ≡ Some b → Burst (classes r) host (before b) l → l.proc.core.halted ≡ None
       → AllReferred (after w b l).places
   event_refers w b l fits u h g q go =
       let start = event_begins r valid actors rules leads steps_fit w b fits g in

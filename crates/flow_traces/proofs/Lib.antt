@@ -1,2 +1,5 @@
+pub mod BranchesDerived
+pub mod Grouped
 pub mod Paths
+pub mod Whole
 pub mod Written

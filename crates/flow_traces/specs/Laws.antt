@@ -8,6 +8,7 @@ use Rattle.flow_lower.specs.Compiled.{compiled}
 use Rattle.flow_front.specs.Verdict.{IsSound}
 use Rattle.flow_meaning.specs.Runs.{SourceTrace, ClassTrace}
 use Rattle.flow_runs.specs.Laws.{AreValid, OneTrace}
+use Rattle.flow_awake.specs.Awake.{AreWhole, StatesRest, StepsKeep}
 
 -- the classes of a text that the front accepts
 abbrev pub classes_of : Program → RawTree
@@ -27,3 +28,14 @@ abbrev pub SourcesRun : Type 0
 SourcesRun =
     (text : List ℕ) (program : Program) (w : file.World) → IsSound text program → file.IsInRange w
     → OneTrace (SourceTrace (program_of program) w)
+
+-- Each group of them has a callback, so they keep within an event what they have to, and no unfinished actor is
+-- marked at its end.
+abbrev pub CompilesWhole : Type 0
+CompilesWhole = (text : List ℕ) (program : Program) → IsSound text program → AreWhole (classes_of program)
+
+abbrev pub ProgramsKeep : Type 0
+ProgramsKeep = (text : List ℕ) (program : Program) → IsSound text program → StepsKeep (classes_of program)
+
+abbrev pub ProgramsRest : Type 0
+ProgramsRest = (text : List ℕ) (program : Program) → IsSound text program → StatesRest (classes_of program)

@@ -1,7 +1,8 @@
 // Laws of the runs of sound programs.
 
-ghost use Rattle.flow_traces.specs.Laws.{CompilesWritten, ClassesRun, SourcesRun};
+ghost use Rattle.flow_traces.specs.Laws.{CompilesWritten, ClassesRun, SourcesRun, CompilesWhole, ProgramsKeep, ProgramsRest};
 
+use flow_awake::laws::awake_kept;
 use flow_preserved::laws::compiled_alike;
 use flow_runs::laws::runs_exist;
 
@@ -21,4 +22,16 @@ pub fn one_trace()
     compiled_written();
     runs_exist();
     compiled_alike();
+}
+
+/// Each `choose` of such a program has a branch, so each group of its classes has a callback. So between two steps
+/// of an event its processes keep what they have to, and at each boundary of a run no unfinished actor is marked
+/// as cancelled, and a future refers to the result of each.
+pub fn compiled_awake()
+    ensures whole { CompilesWhole }
+    ensures steps { ProgramsKeep }
+    ensures states { ProgramsRest }
+{
+    compiled_written();
+    awake_kept();
 }

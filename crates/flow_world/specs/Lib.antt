@@ -1,2 +1,5 @@
+pub mod Changes
 pub mod Ending
+pub mod Laws
+pub mod Shows
 pub mod Standing

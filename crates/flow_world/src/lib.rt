@@ -3,7 +3,9 @@
 
 mod around;
 mod asked;
+mod changes;
 mod event;
+pub mod laws;
 mod outside;
 mod ports;
 pub mod put;

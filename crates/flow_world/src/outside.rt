@@ -1,16 +1,12 @@
 // What is outside of the processes.
 
-ghost use Rattle.std.specs.Prelude.{◌≡◌, ◌+◌, ◌<◌, ◌≤◌, ◌^◌, pos, ◌+ℤ◌, ◌≤ℤ◌, ◌<ℤ◌, IfOk, IsErrOf};
-ghost use Rattle.flow_machine.specs.declared.host.RunFault.TheVariants.{Failed};
+ghost use Rattle.std.specs.Prelude.{◌<◌, ◌≤◌};
 
 use crate::asked::Asked;
 use flow_base::ids::{CellId, ProcId};
-use flow_base::memory::NoMemory;
-use flow_base::text::Text;
 use flow_draw::Draws;
-use flow_machine::host::RunFault;
-use flow_simdisk::{Disk, DiskAsk, DiskReply, Kept};
-use flow_simnet::{Fate, Net};
+use flow_simdisk::Disk;
+use flow_simnet::Net;
 use flow_timers::Timers;
 use std::alloc::Global;
 
@@ -27,9 +23,6 @@ pub enum What {
 /// The last time at which an event may come, in ticks.
 pub const LAST_TIME: u64 = (1 << 63) - 1;
 
-/// The last number that is given.
-const LAST_NUMBER: u64 = (1 << 63) - 1;
-
 /// The world beside its processes: the time in ticks, the pending events, the links, the disk of each process, the drawn
 /// words, and the range of a disk's delays.
 #[derive(Drop)]
@@ -44,139 +37,4 @@ pub struct Outside {
     ghost early: { time < 9223372036854775808 },
     ghost delays: { disk_delay.0 < disk_delay.1 },
     ghost soon: { disk_delay.1 ≤ 1000000000 },
-}
-
-impl Outside {
-    /// One more pending event. Want of memory too where its number would be past the last.
-    pub fn add(&mut self, time: u64, what: What) -> Result<(), NoMemory>
-        ensures { self.new.net ≡ self.old.net }
-    {
-        if self.timers.made() >= LAST_NUMBER {
-            return Err(NoMemory);
-        }
-        self.timers.add(time, what)?;
-        Ok(())
-    }
-
-    /// One of the `width` numbers from `lo` on, by the next drawn word. Want of memory where no more words are given.
-    pub fn draw(&mut self, lo: i64, width: u64) -> Result<i64, NoMemory>
-        requires some { 1 ≤ width }
-        requires few { width ≤ 2 ^ 32 }
-        requires fits { (lo +ℤ pos width) ≤ℤ pos (2 ^ 63) }
-        ensures net { self.new.net ≡ self.old.net }
-        ensures from { IfOk result (λ n. lo ≤ℤ n) }
-        ensures below { IfOk result (λ n. n <ℤ (lo +ℤ pos width)) }
-    {
-        if self.draws.used() >= LAST_NUMBER - 1 {
-            return Err(NoMemory);
-        }
-        Ok(self.draws.in_range(lo, width))
-    }
-}
-
-impl Outside {
-    /// A delay of a disk in ticks, by the next drawn word. Want of memory where no more words are given.
-    pub fn draw_delay(&mut self) -> Result<u64, NoMemory>
-        ensures net { self.new.net ≡ self.old.net }
-        ensures short { IfOk result (λ n. n < 1000000000) }
-    {
-        if self.draws.used() >= LAST_NUMBER - 1 {
-            return Err(NoMemory);
-        }
-        let (from, end) = self.disk_delay;
-        let word = u64::from(self.draws.next());
-        Ok(from + word % (end - from))
-    }
-}
-
-impl Outside {
-    /// The number of the packet that is sent next. Want of memory where no more numbers are given.
-    pub fn next_packet(&self) -> Result<u64, NoMemory>
-        ensures { IfOk result (λ n. n ≡ self.now.net.sent + 1) }
-    {
-        if self.net.sent() >= LAST_NUMBER {
-            return Err(NoMemory);
-        }
-        Ok(self.net.sent() + 1)
-    }
-
-    /// Sends a packet, and says what becomes of it. Want of memory too where no more words or numbers are given.
-    pub fn send(
-        &mut self,
-        from: ProcId,
-        to: ProcId,
-        port: u16,
-        text: Text,
-    ) -> Result<Fate, NoMemory>
-        requires from { from.0 < self.old.net.processes }
-        requires to { to.0 < self.old.net.processes }
-        ensures { self.new.net.processes ≡ self.old.net.processes }
-    {
-        if self.draws.used() >= LAST_NUMBER - 2 || self.net.sent() >= LAST_NUMBER {
-            return Err(NoMemory);
-        }
-        let sent = self
-            .net
-            .send(self.time, from, to, port, text, &mut self.draws)?;
-        Ok(sent.fate)
-    }
-}
-
-impl Outside {
-    /// The disk of a process serves a request.
-    pub fn serve(&mut self, p: ProcId, asked: &Asked) -> Result<DiskReply, RunFault>
-        ensures { ¬ IsErrOf result Failed }
-    {
-        let Some(disk) = self.disks.get_mut(usize::from(p.0)) else {
-            return Err(RunFault::Astray);
-        };
-        match asked.ask() {
-            DiskAsk::Read(name, offset, count) => Ok(disk.read(name, *offset, *count)?),
-            DiskAsk::Write(name, offset, text) => {
-                let name = name.copy(self.alloc)?;
-                let text = text.copy(self.alloc)?;
-                Ok(disk.write(name, *offset, text)?)
-            }
-            DiskAsk::Sync(name) => Ok(disk.sync(name)?),
-            DiskAsk::Size(name) => Ok(disk.size(name)),
-        }
-    }
-
-    /// The disk of a process loses what it may at a loss of power. Want of memory too where no more words are given.
-    pub fn lose_disk(&mut self, p: ProcId) -> Result<Vec<Kept>, RunFault>
-        ensures { ¬ IsErrOf result Failed }
-    {
-        let Some(disk) = self.disks.get_mut(usize::from(p.0)) else {
-            return Err(RunFault::Astray);
-        };
-        let words = disk.most_words();
-        if words >= LAST_NUMBER || self.draws.used() >= LAST_NUMBER - words {
-            return Err(RunFault::OutOfMemory);
-        }
-        Ok(disk.kill(&mut self.draws)?)
-    }
-
-    /// The timers and disk requests of a process are gone.
-    pub fn forget(&mut self, p: ProcId) -> Result<(), NoMemory> {
-        let mut gone = Vec::new(self.alloc);
-        for (time, number, what) in self.timers.entries()? {
-            if what.is_request_of(p) {
-                gone.push((time, number))?;
-            }
-        }
-        for (time, number) in gone {
-            self.timers.remove(time, number);
-        }
-        Ok(())
-    }
-}
-
-impl What {
-    /// Whether it is a timer or a disk request of this process.
-    fn is_request_of(&self, p: ProcId) -> bool {
-        match self {
-            What::Boots(_) | What::Arrives(..) => false,
-            What::Rings(q, _) | What::Answers(q, _, _) => *q == p,
-        }
-    }
 }

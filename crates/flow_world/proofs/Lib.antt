@@ -1,0 +1,6 @@
+pub mod Letters
+pub mod Coming
+pub mod Links
+pub mod Requests
+pub mod Events
+pub mod Numbers

@@ -1,0 +1,16 @@
+pub mod Writable
+pub mod Spelled
+pub mod Written
+pub mod Texts
+pub mod Renamed
+pub mod Names
+pub mod Paths
+pub mod Lexed
+pub mod Bodies
+pub mod Changes
+pub mod Said
+pub mod Chunks
+pub mod Nesting
+pub mod Kept
+pub mod Actors
+pub mod Compiled
