@@ -21,3 +21,4 @@ pub mod Waited
 pub mod Gone
 pub mod Seen
 pub mod Doing
+pub mod Carrying

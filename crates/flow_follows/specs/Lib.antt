@@ -12,3 +12,4 @@ pub mod Waiting
 pub mod Going
 pub mod Seeing
 pub mod Stepped
+pub mod Carried

@@ -2,6 +2,7 @@
 
 ghost use Rattle.flow_follows.specs.Placing.{ForActors};
 ghost use Rattle.flow_follows.specs.Going as law;
+ghost use Rattle.flow_follows.specs.Carried as steps;
 
 /// An actor in memory that goes on, at once or by its task, goes on in the process: elsewhere, at a block, where a pass of a loop
 /// begins, after values that it leaves over, after locals that it drops, and at a branch with its value.
@@ -12,4 +13,12 @@ pub fn moves_follow()
     ensures block { ForActors law.WentTo }
     ensures pass { ForActors law.PassBegan }
     ensures bound { ForActors law.ValueBound }
+{}
+
+/// A step in memory by a drop of locals, a jump or a pass of a loop is a step of the class machine, after which the actor goes on at
+/// once, with its own task the newest, or other tasks come first.
+pub fn instructions_follow()
+    ensures drop { ForActors steps.DropStep }
+    ensures goto { ForActors steps.GotoStep }
+    ensures pass { ForActors steps.PassStep }
 {}

@@ -1,0 +1,59 @@
+-- A step of an actor in memory by an instruction that evaluates nothing is a step of the class machine.
+use Rattle.std.specs.Prelude.{◌≡◌, ℕ, ◌+◌, List, map, length}
+use Rattle.std.specs.declared.option.Option.TheVariants.{Some}
+use Rattle.flow_class.specs.Classes.{DropInstr, GotoLast, PassLast, RawTree}
+use Rattle.flow_class.specs.Code.{Body, Last, fetch}
+use Rattle.flow_trace.specs.declared.line.Line.{Line}
+use Rattle.flow_meaning.specs.Asks.{Supply}
+use Rattle.flow_meaning.specs.Process.{Run, Entry, Proc}
+use Rattle.flow_meaning.specs.Occ.{Scan}
+use Rattle.flow_meaning.specs.Work.{pushed}
+use Rattle.flow_meaning.specs.Step.{silent, step, on_core}
+use Rattle.flow_meaning.specs.Class.{classes}
+use Rattle.flow_meaning.specs.Frame.{Frame}
+use Rattle.flow_picture.specs.Acting.{put_frame}
+use Rattle.flow_steps.specs.declared.frames.Stand.{Stand}
+use Rattle.flow_steps.specs.declared.next.Pace.{Pace}
+use Rattle.flow_steps.specs.declared.next.Pace.TheVariants.{On, Off}
+use Rattle.flow_steps.specs.declared.process.Process.{Process}
+use Rattle.flow_steps.specs.Holding.{on_heap}
+use Rattle.flow_steps.specs.Standing.{next_stand, places_taken, places_emptied}
+use Rattle.flow_steps.specs.Stepping.{OnAfter, GoesOnAt, Passes}
+use Rattle.flow_follows.specs.Shown.{Follows}
+use Rattle.flow_follows.specs.Placing.{Stood, HasLocals}
+use Rattle.flow_follows.specs.Going.{MayMove, Goes}
+
+-- After a step the actor goes on at once, where its own task is the newest of the process; or other tasks come first.
+abbrev pub Carries : RawTree → List Line → Scan → (actor : ℕ) → Entry → Pace → Process → Proc Frame → Type 0
+Carries r ls x i e (On t) n q =
+    (p : Proc Frame) × ((g : Frame) × ((q ≡ on_core (pushed (Run i)) (put_frame i g p)) × Goes r ls x t n p i e g))
+Carries r ls x i e Off n q = Follows r ls x n q
+
+-- the process with the actor's own task takes a step, after which memory shows it
+pub record StepsAs (r : RawTree) (ls : List Line) (x : Scan) (s : Supply) (p : Proc Frame) (i : ℕ) (e : Entry) (pace : Pace) (n : Process)
+    : Type 0 where
+  pub after : Proc Frame
+  pub steps : step (classes r) s (on_core (pushed (Run i)) p) ≡ Some (silent after)
+  pub carries : Carries r ls x i e pace n after
+
+module _ (r : RawTree) (ls : List Line) (m : Process) (p : Proc Frame) (i : ℕ) (e : Entry) (f : Frame) where
+  abbrev pub DropStep : Type 0
+  DropStep =
+      (x : Scan) (s : Stand) (w : Supply) (ns : List ℕ) (pace : Pace) (n : Process) → Stood r ls x m p i e f
+      → MayMove s p i e f → s.instruction ≡ f.instr → HasLocals f ns
+      → fetch f.code f.block f.instr ≡ Body (DropInstr ns)
+      → OnAfter (next_stand s) (places_taken i (map (λ k. length f.code.slots + k) ns) m.heap)
+      (on_heap (places_emptied i (map (λ k. length f.code.slots + k) ns)) m) pace n
+      → StepsAs r ls x w p i e pace n
+
+  abbrev pub GotoStep : Type 0
+  GotoStep =
+      (x : Scan) (s : Stand) (w : Supply) (b : ℕ) (pace : Pace) (n : Process) → Stood r ls x m p i e f
+      → MayMove s p i e f → fetch f.code f.block f.instr ≡ Last (GotoLast b) → GoesOnAt s b m pace n
+      → StepsAs r ls x w p i e pace n
+
+  abbrev pub PassStep : Type 0
+  PassStep =
+      (x : Scan) (s : Stand) (w : Supply) (b : ℕ) (pace : Pace) (n : Process) → Stood r ls x m p i e f
+      → MayMove s p i e f → fetch f.code f.block f.instr ≡ Last (PassLast b) → Passes s b m pace n
+      → StepsAs r ls x w p i e pace n
