@@ -70,14 +70,14 @@ module _ (r : RawTree) (ls : List Line) (m : Process) (p : Proc Frame) (i : ℕ)
   moved x s t b n k st may to =
       let g : Frame = record f { block = b; instr = n; state = k } in
       let told = goes_in r ls x m p i e f b n k st may.operands may.free in
-      let actor : t.actor ≡ actor_id i = to.actor ∙ may.standing.actor in (
+      let actor : t.actor ≡ actor_id i = to.actor ∙ may.actor in (
         subst (λ y. Stood r ls x (on_heap (noting y t.actor.0 t.place t.instruction) m) (put_frame i g p) i e g) (sym to.noted)
             (subst (λ (a : ActorId). Stood r ls x (on_heap (gone a.0 t.place t.instruction) m) (put_frame i g p) i e g) (sym actor)
             (subst (λ y. Stood r ls x (on_heap (gone i y t.instruction) m) (put_frame i g p) i e g) (sym to.place)
             (subst (λ y. Stood r ls x (on_heap (gone i b y) m) (put_frame i g p) i e g) (sym to.instruction) told))),
         record {
           actor = actor;
-          slots = ap (λ c. c.now.slots) to.class ∙ may.standing.slots;
+          slots = ap (λ c. c.now.slots) to.class ∙ may.slots;
           place = to.place;
         },
         to.instruction,
@@ -103,7 +103,7 @@ module _ (r : RawTree) (ls : List Line) (m : Process) (p : Proc Frame) (i : ℕ)
       let went = moved (with_refs rs x) s t b j k st may to in
       let m1 : Process = noted t m in
       let q1 : Proc Frame = put_frame i g p in
-      let actor : t.actor ≡ actor_id i = to.actor ∙ may.standing.actor in
+      let actor : t.actor ≡ actor_id i = to.actor ∙ may.actor in
       let ran = task_done r ls (with_refs rs x) m1 q1 (task.Run (actor_id i)) (Run i) (as_many_shown r ls (with_refs rs x) (with_task (Run i) (with_refs rs x)) m1 q1 (λ z y. omega arith) went.0.shown) refl in
       let dropped = refs_dropped_shown r ls x (doing (task.Run (actor_id i)) m1) (on_core (pushed (Run i)) q1) rs ran in
       subst (λ q. law.AfterValues r ls m p i e f x t rs g q n) (sym after.0)
@@ -144,7 +144,7 @@ appended s j (q ∷ rs) = let a = appended s j rs in omega (arith, a)
 
 module _ (r : RawTree) (ls : List Line) (m : Process) (p : Proc Frame) (i : ℕ) (e : Entry) (f : Frame) where
   pub locals_dropped : law.LocalsDropped r ls m p i e f
-  locals_dropped x s ns pace n st may at has after =
+  locals_dropped x s ns k pace n st may has after =
       let places = map (λ k. length f.code.slots + k) ns in
       let taken = places_taken i places m.heap in
       let f2 : Frame = with_memory (emptied ns f.mem) f in
@@ -152,14 +152,15 @@ module _ (r : RawTree) (ls : List Line) (m : Process) (p : Proc Frame) (i : ℕ)
       let p1 : Proc Frame = put_frame i f2 p in
       let lt = locals_taken r ls m p i e f x ns st has in
       let may1 : MayMove s p1 i e f2 = record {
-        standing = record { actor = may.standing.actor; slots = may.standing.slots; place = may.standing.place };
+        actor = may.actor;
+        slots = may.slots;
         free = record { waits = may.free.waits; keeps = may.free.keeps };
         operands = may.operands;
       } in
-      let to : Stands s f.block (suc f.instr) (next_stand s) = record { actor = refl; class = refl; place = may.standing.place; instruction = ap suc at; noted = refl } in
+      let to : Stands s s.place (suc s.instruction) (next_stand s) = record { actor = refl; class = refl; place = refl; instruction = refl; noted = refl } in
       let st1 = subst (λ rs. Stood r ls (with_refs rs x) m1 p1 i e f2) (sym lt.0) lt.1 in
-      over_after r ls m m1 p i e f f2 (next_instr (emptied ns f.mem) f) x (next_stand s) (refs_in (map value_of taken)) (refs_in (held_in f.mem ns)) pace n lt.0
-      (left_over r ls m1 p1 i e f2 x s (next_stand s) f.block (suc f.instr) f.state taken pace n st1 may1 to after)
+      over_after r ls m m1 p i e f f2 (record f2 { block = s.place; instr = suc s.instruction; state = k }) x (next_stand s) (refs_in (map value_of taken)) (refs_in (held_in f.mem ns)) pace n lt.0
+      (left_over r ls m1 p1 i e f2 x s (next_stand s) s.place (suc s.instruction) k taken pace n st1 may1 to after)
 
   pub pass_began : law.PassBegan r ls m p i e f
   pass_began x s b pace n st may passes = by_case pace passes
@@ -178,7 +179,8 @@ module _ (r : RawTree) (ls : List Line) (m : Process) (p : Proc Frame) (i : ℕ)
             acts = acts_by r m.heap (turned m).heap p p1 i e f (ap (λ (h : HeapTree). h.frames) (turned_heap m)) (ap (λ (h : HeapTree). h.actors) (turned_heap m)) refl refl st.acts;
           } in
           let may1 : MayMove s p1 i e f = record {
-            standing = may.standing;
+            actor = may.actor;
+            slots = may.slots;
             free = record { waits = may.free.waits; keeps = may.free.keeps };
             operands = may.operands;
           } in (
@@ -214,7 +216,8 @@ module _ (r : RawTree) (ls : List Line) (m : Process) (p : Proc Frame) (i : ℕ)
           referring_refs (place_held i number m.heap) ∙ ap (λ o. refs_in (filled (o ∷ []))) (place_seen r ls m p i e f (with_refs (value_refs v) x) q st same.1) in
           let st2 = subst (λ us. Stood r ls (with_refs us x) m1 p1 i e f2) (sym rs) st1 in
           let may1 : MayMove s p1 i e f2 = record {
-            standing = record { actor = may.standing.actor; slots = may.standing.slots; place = may.standing.place };
+            actor = may.actor;
+            slots = may.slots;
             free = record { waits = may.free.waits; keeps = may.free.keeps };
             operands = may.operands;
           } in

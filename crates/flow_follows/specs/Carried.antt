@@ -1,9 +1,10 @@
 -- A step of an actor in memory by an instruction that evaluates nothing is a step of the class machine.
-use Rattle.std.specs.Prelude.{◌≡◌, ℕ, ◌+◌, List, map, length}
+use Rattle.std.specs.Prelude.{◌≡◌, ℕ, ◌+◌, List, [], map, length}
 use Rattle.std.specs.declared.option.Option.TheVariants.{Some}
 use Rattle.flow_class.specs.Classes.{DropInstr, GotoLast, PassLast, RawTree}
 use Rattle.flow_class.specs.Code.{Body, Last, fetch}
 use Rattle.flow_trace.specs.declared.line.Line.{Line}
+use Rattle.flow_meaning.specs.Numbered.{thing}
 use Rattle.flow_meaning.specs.Asks.{Supply}
 use Rattle.flow_meaning.specs.Process.{Run, Entry, Proc}
 use Rattle.flow_meaning.specs.Occ.{Scan}
@@ -11,7 +12,7 @@ use Rattle.flow_meaning.specs.Work.{pushed}
 use Rattle.flow_meaning.specs.Step.{silent, step, on_core}
 use Rattle.flow_meaning.specs.Class.{classes}
 use Rattle.flow_meaning.specs.Frame.{Frame}
-use Rattle.flow_picture.specs.Acting.{put_frame}
+use Rattle.flow_picture.specs.Acting.{Free, put_frame}
 use Rattle.flow_steps.specs.declared.frames.Stand.{Stand}
 use Rattle.flow_steps.specs.declared.next.Pace.{Pace}
 use Rattle.flow_steps.specs.declared.next.Pace.TheVariants.{On, Off}
@@ -21,13 +22,18 @@ use Rattle.flow_steps.specs.Standing.{next_stand, places_taken, places_emptied}
 use Rattle.flow_steps.specs.Stepping.{OnAfter, GoesOnAt, Passes}
 use Rattle.flow_follows.specs.Shown.{Follows}
 use Rattle.flow_follows.specs.Placing.{Stood, HasLocals}
-use Rattle.flow_follows.specs.Going.{MayMove, Goes}
+use Rattle.flow_follows.specs.Taking.{Standing}
+use Rattle.flow_follows.specs.Going.{Goes}
 
 -- After a step the actor goes on at once, where its own task is the newest of the process; or other tasks come first.
 abbrev pub Carries : RawTree → List Line → Scan → (actor : ℕ) → Entry → Pace → Process → Proc Frame → Type 0
 Carries r ls x i e (On t) n q =
     (p : Proc Frame) × ((g : Frame) × ((q ≡ on_core (pushed (Run i)) (put_frame i g p)) × Goes r ls x t n p i e g))
 Carries r ls x i e Off n q = Follows r ls x n q
+
+-- a frame that says that it stands elsewhere
+abbrev pub stale : (block instr state : ℕ) → Frame → Frame
+stale b n k f = record f { block = b; instr = n; state = k }
 
 -- the process with the actor's own task takes a step, after which memory shows it
 pub record StepsAs (r : RawTree) (ls : List Line) (x : Scan) (s : Supply) (p : Proc Frame) (i : ℕ) (e : Entry) (pace : Pace) (n : Process)
@@ -36,24 +42,36 @@ pub record StepsAs (r : RawTree) (ls : List Line) (x : Scan) (s : Supply) (p : P
   pub steps : step (classes r) s (on_core (pushed (Run i)) p) ≡ Some (silent after)
   pub carries : Carries r ls x i e pace n after
 
+-- Memory shows the process but for where an actor stands, which its frame there need not say yet.
+pub record MayBeStale (r : RawTree) (ls : List Line) (x : Scan) (s : Stand) (m : Process) (p : Proc Frame) (i : ℕ) (e : Entry) (f : Frame)
+    : Type 0 where
+  pub block : ℕ
+  pub instr : ℕ
+  pub state : ℕ
+  pub stood : Stood r ls x m (put_frame i (stale block instr state f) p) i e (stale block instr state f)
+  pub acting : thing p.actors i ≡ Some f
+  pub standing : Standing s i f
+  pub instruction : s.instruction ≡ f.instr
+  pub free : Free i p.core
+  pub operands : e.operands ≡ []
+
 module _ (r : RawTree) (ls : List Line) (m : Process) (p : Proc Frame) (i : ℕ) (e : Entry) (f : Frame) where
   abbrev pub DropStep : Type 0
   DropStep =
-      (x : Scan) (s : Stand) (w : Supply) (ns : List ℕ) (pace : Pace) (n : Process) → Stood r ls x m p i e f
-      → MayMove s p i e f → s.instruction ≡ f.instr → HasLocals f ns
-      → fetch f.code f.block f.instr ≡ Body (DropInstr ns)
+      (x : Scan) (s : Stand) (w : Supply) (ns : List ℕ) (pace : Pace) (n : Process)
+      → MayBeStale r ls x s m p i e f → HasLocals f ns → fetch f.code f.block f.instr ≡ Body (DropInstr ns)
       → OnAfter (next_stand s) (places_taken i (map (λ k. length f.code.slots + k) ns) m.heap)
       (on_heap (places_emptied i (map (λ k. length f.code.slots + k) ns)) m) pace n
       → StepsAs r ls x w p i e pace n
 
   abbrev pub GotoStep : Type 0
   GotoStep =
-      (x : Scan) (s : Stand) (w : Supply) (b : ℕ) (pace : Pace) (n : Process) → Stood r ls x m p i e f
-      → MayMove s p i e f → fetch f.code f.block f.instr ≡ Last (GotoLast b) → GoesOnAt s b m pace n
+      (x : Scan) (s : Stand) (w : Supply) (b : ℕ) (pace : Pace) (n : Process)
+      → MayBeStale r ls x s m p i e f → fetch f.code f.block f.instr ≡ Last (GotoLast b) → GoesOnAt s b m pace n
       → StepsAs r ls x w p i e pace n
 
   abbrev pub PassStep : Type 0
   PassStep =
-      (x : Scan) (s : Stand) (w : Supply) (b : ℕ) (pace : Pace) (n : Process) → Stood r ls x m p i e f
-      → MayMove s p i e f → fetch f.code f.block f.instr ≡ Last (PassLast b) → Passes s b m pace n
+      (x : Scan) (s : Stand) (w : Supply) (b : ℕ) (pace : Pace) (n : Process)
+      → MayBeStale r ls x s m p i e f → fetch f.code f.block f.instr ≡ Last (PassLast b) → Passes s b m pace n
       → StepsAs r ls x w p i e pace n

@@ -8,6 +8,7 @@ use Rattle.flow_class.specs.Classes.{RawTree}
 use Rattle.std.specs.declared.option.Option.{Option}
 use Rattle.std.specs.declared.option.Option.TheVariants.{None, Some}
 use Rattle.flow_trace.specs.declared.line.Line.{Line}
+use Rattle.flow_cancel.specs.Heap.{actor_id}
 use Rattle.flow_meaning.specs.Numbered.{put}
 use Rattle.flow_meaning.specs.Cells.{Ref}
 use Rattle.flow_meaning.specs.Process.{Run, Entry, Proc}
@@ -15,7 +16,7 @@ use Rattle.flow_meaning.specs.Occ.{Scan, refs_in}
 use Rattle.flow_meaning.specs.Work.{turn, pushed, dropping, dropping_values}
 use Rattle.flow_meaning.specs.Step.{proc, on_core}
 use Rattle.flow_meaning.specs.Variables.{filled}
-use Rattle.flow_meaning.specs.Frame.{Memory, Frame, read, write, held_in, emptied, go, next_instr}
+use Rattle.flow_meaning.specs.Frame.{Memory, Frame, read, write, held_in, emptied, go}
 use Rattle.flow_picture.specs.Acting.{Free, put_frame}
 use Rattle.flow_picture.specs.Standing.{HasPlace, number_in}
 use Rattle.flow_picture.specs.Holds.{with_refs}
@@ -31,9 +32,11 @@ use Rattle.flow_follows.specs.Shown.{Shown, AreSpent}
 use Rattle.flow_follows.specs.Placing.{Stood, HasLocals}
 use Rattle.flow_follows.specs.Taking.{Standing}
 
--- an actor that is free to go on: it runs, waits nowhere and has kept no operand
+-- An actor that is free to go on: it runs, waits nowhere and has kept no operand. Where its frame in memory says that it
+-- stands may be stale.
 pub record MayMove (s : Stand) (p : Proc Frame) (i : ℕ) (e : Entry) (f : Frame) : Type 0 where
-  pub standing : Standing s i f
+  pub actor : s.actor ≡ actor_id i
+  pub slots : s.class.now.slots ≡ length f.code.slots
   pub free : Free i p.core
   pub operands : e.operands ≡ []
 
@@ -63,11 +66,17 @@ module _ (r : RawTree) (ls : List Line) (m : Process) (p : Proc Frame) (i : ℕ)
   -- locals are emptied by an instruction, and dropped
   abbrev pub LocalsDropped : Type 0
   LocalsDropped =
-      (x : Scan) (s : Stand) (ns : List ℕ) (pace : Pace) (n : Process) → Stood r ls x m p i e f → MayMove s p i e f
-      → s.instruction ≡ f.instr → HasLocals f ns
+      (x : Scan) (s : Stand) (ns : List ℕ) (k : ℕ) (pace : Pace) (n : Process) → Stood r ls x m p i e f
+      → MayMove s p i e f → HasLocals f ns
       → OnAfter (next_stand s) (places_taken i (map (λ k. length f.code.slots + k) ns) m.heap)
       (on_heap (places_emptied i (map (λ k. length f.code.slots + k) ns)) m) pace n
-      → AfterValues x (next_stand s) (refs_in (held_in f.mem ns)) (next_instr (emptied ns f.mem) f) pace n
+      → AfterValues x (next_stand s) (refs_in (held_in f.mem ns)) (record f {
+        mem =
+            emptied ns f.mem;
+        block = s.place;
+        instr = suc s.instruction;
+        state = k;
+      }) pace n
 
   -- It goes on at a block at once; where a pass of a loop begins, if a turn is left.
   abbrev pub GoesAt : Scan → Frame → Pace → Process → Type 0
