@@ -15,9 +15,12 @@ pub fn moves_follow()
     ensures bound { ForActors law.ValueBound }
 {}
 
-/// A step in memory by a drop of locals, a jump or a pass of a loop is a step of the class machine, after which the actor goes on at
+/// A step in memory by a drop of locals, a jump, a pass of a loop or an evaluation that fails or needs a turn that isn't left is a step of the class machine, after which the actor goes on at
 /// once, with its own task the newest, or other tasks come first.
 pub fn instructions_follow()
+    ensures noted { ForActors steps.NotedFollows }
+    ensures thrown { ForActors steps.ErrorThrown }
+    ensures spent { ForActors steps.RanOut }
     ensures drop { ForActors steps.DropStep }
     ensures goto { ForActors steps.GotoStep }
     ensures pass { ForActors steps.PassStep }

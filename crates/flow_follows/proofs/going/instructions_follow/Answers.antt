@@ -1,4 +1,4 @@
-use Rattle.flow_follows.proofs.Carrying.{drop_step, goto_step, pass_step}
+use Rattle.flow_follows.proofs.Carrying.{noted_follows, error_thrown, ran_out, drop_step, goto_step, pass_step}
 use Rattle.flow_follows.proofs.going.instructions_follow.Goals as goal
 
 pub returns-clause-drop : goal.returns-clause-drop
@@ -9,3 +9,12 @@ returns-clause-goto c = goto_step
 
 pub returns-clause-pass : goal.returns-clause-pass
 returns-clause-pass c = pass_step
+
+pub returns-clause-noted : goal.returns-clause-noted
+returns-clause-noted c = noted_follows
+
+pub returns-clause-thrown : goal.returns-clause-thrown
+returns-clause-thrown c = error_thrown
+
+pub returns-clause-spent : goal.returns-clause-spent
+returns-clause-spent c = ran_out
