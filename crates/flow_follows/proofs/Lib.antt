@@ -22,3 +22,4 @@ pub mod Gone
 pub mod Seen
 pub mod Doing
 pub mod Carrying
+pub mod Evaluations

@@ -13,3 +13,4 @@ pub mod Going
 pub mod Seeing
 pub mod Stepped
 pub mod Carried
+pub mod Evaluated

@@ -1,4 +1,5 @@
 use Rattle.flow_follows.proofs.Carrying.{noted_follows, error_thrown, ran_out, drop_step, goto_step, pass_step}
+use Rattle.flow_follows.proofs.Evaluations.{throw_step}
 use Rattle.flow_follows.proofs.going.instructions_follow.Goals as goal
 
 pub returns-clause-drop : goal.returns-clause-drop
@@ -18,3 +19,6 @@ returns-clause-thrown c = error_thrown
 
 pub returns-clause-spent : goal.returns-clause-spent
 returns-clause-spent c = ran_out
+
+pub returns-clause-throw : goal.returns-clause-throw
+returns-clause-throw c = throw_step
