@@ -1,6 +1,5 @@
 -- A step of an actor in memory by an instruction that evaluates nothing is a step of the class machine.
-use Rattle.std.proofs.Common.{◌≡◌, ℕ, zero, suc, ◌+◌, List, [], ◌∷◌, Bool, true, false, length, map, refl, sym, ap, ◌∙◌, subst, arith}
-use Rattle.std.specs.declared.option.Option.{Option}
+use Rattle.std.proofs.Common.{◌≡◌, ℕ, suc, List, Bool, true, false, refl, sym, ap, ◌∙◌, subst, arith}
 use Rattle.std.specs.declared.option.Option.TheVariants.{None, Some}
 use Rattle.flow_base.specs.declared.ids.ActorId.{ActorId}
 use Rattle.flow_class.specs.Classes.{DropInstr, GotoLast, PassLast, RawTree}
@@ -16,7 +15,7 @@ use Rattle.flow_meaning.specs.Process.{Run, Throw, Spent, Entry, Proc}
 use Rattle.flow_meaning.specs.Occ.{Scan, refs_in}
 use Rattle.flow_meaning.specs.Work as work
 use Rattle.flow_meaning.specs.Work.{turn, turn_of, halt, pushed}
-use Rattle.flow_meaning.specs.Step.{silent, view, run, run_next, step_if, step, proc, on_core}
+use Rattle.flow_meaning.specs.Step.{view, run, run_next, step_if, step, proc, on_core}
 use Rattle.flow_meaning.specs.Class.{fetched, next_step, class_names, classes}
 use Rattle.flow_meaning.specs.Frame.{Frame, held_in, emptied, go, next_instr}
 use Rattle.flow_picture.specs.Acting.{put_frame}

@@ -1,37 +1,29 @@
 -- A task that needs no step of an actor, done in memory, is a step of the class machine.
-use Rattle.std.proofs.Common.{◌≡◌, ℕ, zero, suc, ◌+◌, List, [], ◌∷◌, refl, sym, ap, ◌∙◌, subst, arith}
-use Rattle.std.specs.declared.option.Option.{Option}
+use Rattle.std.proofs.Common.{◌≡◌, List, ◌∷◌, refl, sym, ap, ◌∙◌, subst, arith}
 use Rattle.std.specs.declared.option.Option.TheVariants.{None, Some}
-use Rattle.flow_base.specs.declared.ids.ActorId.{ActorId}
-use Rattle.flow_base.specs.declared.ids.CellId.{CellId}
-use Rattle.flow_base.specs.declared.ids.ErrorCode.{ErrorCode}
-use Rattle.flow_value.specs.declared.value.Kind.{Kind}
-use Rattle.flow_value.specs.declared.value.Outcome.{Outcome}
 use Rattle.flow_value.specs.View.{outcome_of}
 use Rattle.flow_class.specs.Classes.{RawTree}
 use Rattle.flow_code.specs.declared.program.Code.{Code}
 use Rattle.flow_trace.specs.declared.line.Line.{Line}
-use Rattle.flow_numbered.specs.Numbered as stored
 use Rattle.flow_cancel.specs.declared.actors.Note.{Note}
 use Rattle.flow_cancel.specs.declared.task.Task as stack
 use Rattle.flow_cancel.specs.declared.task.Task.TheVariants as task
-use Rattle.flow_meaning.specs.Numbered.{thing, removed}
+use Rattle.flow_meaning.specs.Numbered.{removed}
 use Rattle.flow_meaning.specs.Asks.{Supply}
 use Rattle.flow_meaning.specs.Cells.{FutureSide, side_of}
-use Rattle.flow_meaning.specs.Process.{Task, Drop, Fire, Close, Throw, Catch, Entry, Halt, Proc}
+use Rattle.flow_meaning.specs.Process.{Task, Drop, Fire, Close, Throw, Catch, Proc}
 use Rattle.flow_meaning.specs.Occ.{one}
 use Rattle.flow_meaning.specs.Dropping.{drop, close}
 use Rattle.flow_meaning.specs.Step.{silent, popped, step_tasks, step_if, step, throw, close_actor, handle, scanned, proc, on_core}
 use Rattle.flow_meaning.specs.Class.{classes}
-use Rattle.flow_meaning.specs.Frame.{Frame, raise}
+use Rattle.flow_meaning.specs.Frame.{Frame}
 use Rattle.flow_picture.specs.Counted.{frames_hold, nothing_in_hand}
 use Rattle.flow_picture.proofs.Shown.{popped_shown}
 use Rattle.flow_picture.proofs.Referring.{of_popped}
 use Rattle.flow_steps.specs.declared.process.Process.{Process}
-use Rattle.flow_steps.specs.Tasks.{TopTaken, IsDone}
+use Rattle.flow_steps.specs.Tasks.{IsDone}
 use Rattle.flow_steps.specs.Bringing.{closed}
 use Rattle.flow_follows.specs.Shown.{Shown, Follows, shows, with_task}
-use Rattle.flow_follows.specs.Placing.{Stood}
 use Rattle.flow_follows.specs.Stepped.{TopOff, Doable, Steps}
 use Rattle.flow_follows.specs.Stepped as law
 use Rattle.flow_follows.proofs.Working.{changed, as_many_shown}

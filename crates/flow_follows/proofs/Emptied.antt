@@ -1,5 +1,5 @@
 -- All locals of a frame, or all its places, are emptied; and locals by number.
-use Rattle.std.proofs.Common.{◌≡◌, ℕ, zero, suc, ◌+◌, ◌<◌, ◌-◌, Bool, true, false, List, [], ◌∷◌, ◌++◌, length, map, refl, sym, ap, ◌∙◌, subst, arith}
+use Rattle.std.proofs.Common.{◌≡◌, ℕ, zero, suc, ◌+◌, ◌-◌, Bool, true, false, List, [], ◌∷◌, ◌++◌, length, map, refl, sym, ap, ◌∙◌, subst, arith}
 use Rattle.std.specs.Option.{option_map}
 use Rattle.std.specs.declared.option.Option.{Option}
 use Rattle.std.specs.declared.option.Option.TheVariants.{None, Some}
@@ -13,18 +13,18 @@ use Rattle.flow_frame.specs.Frames.{FrameTree}
 use Rattle.flow_cancel.specs.Heap.{HeapTree}
 use Rattle.flow_meaning.specs.Numbered.{put}
 use Rattle.flow_meaning.specs.Process.{Entry, Proc}
-use Rattle.flow_meaning.specs.Occ.{Scan, count, refs_in}
-use Rattle.flow_meaning.specs.Step.{proc, on_core}
+use Rattle.flow_meaning.specs.Occ.{refs_in}
+use Rattle.flow_meaning.specs.Step.{proc}
 use Rattle.flow_meaning.specs.Work as work
 use Rattle.flow_meaning.specs.Variables.{filled}
-use Rattle.flow_meaning.specs.Frame.{Memory, Frame, read, write, held_in, emptied, reversed, blanks, everything, lose}
+use Rattle.flow_meaning.specs.Frame.{Frame, read, write, held_in, emptied, reversed, blanks, everything, lose}
 use Rattle.flow_picture.specs.Shows.{Stands}
 use Rattle.flow_picture.specs.Acting.{put_frame}
 use Rattle.flow_picture.specs.Holds.{with_refs}
 use Rattle.flow_picture.proofs.Sums.{refs_joined}
 use Rattle.flow_steps.specs.declared.process.Process.{Process}
 use Rattle.flow_steps.specs.Holding.{on_heap}
-use Rattle.flow_steps.specs.Standing.{place_held, place_put, place_lost, places_lost, losing_from, lost_from, may_refer, if_refers, referring, places_taken, places_emptied}
+use Rattle.flow_steps.specs.Standing.{place_held, place_put, place_lost, places_lost, losing_from, may_refer, if_refers, referring, places_taken, places_emptied}
 use Rattle.flow_follows.specs.Placing.{Stood, with_memory, HasLocals, nothing_in}
 use Rattle.flow_follows.specs.Placing as law
 use Rattle.flow_follows.proofs.Places.{as_many_stood, place_seen, place_changed}

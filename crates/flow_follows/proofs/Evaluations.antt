@@ -1,24 +1,20 @@
 -- What an actor does in memory with what evaluation comes to is a step of the class machine.
-use Rattle.std.proofs.Common.{◌≡◌, ◌⊎◌, inl, inr, ℕ, List, refl, sym, ap, ◌∙◌, subst}
-use Rattle.flow_value.specs.declared.value.Value.{Value}
+use Rattle.std.proofs.Common.{◌≡◌, ◌⊎◌, inl, inr, ℕ, List, sym, ap, ◌∙◌, subst}
 use Rattle.flow_value.specs.Values.{ValueTree, IntValue, BoolValue, TextValue, VoidValue, ErrorValue, RecordValue, RefValue}
 use Rattle.flow_value.specs.View.{value_of}
-use Rattle.flow_tree.specs.Tree.{ExprTree}
 use Rattle.flow_eval.specs.Answers.{error_of}
-use Rattle.flow_eval.specs.Eval.{Res, Done, Fails}
-use Rattle.flow_class.specs.Classes.{ThrowLast, RawTree}
-use Rattle.flow_class.specs.Code.{Last, fetch}
+use Rattle.flow_eval.specs.Eval.{Res}
+use Rattle.flow_class.specs.Classes.{RawTree}
 use Rattle.flow_trace.specs.declared.line.Line.{Line}
-use Rattle.flow_meaning.specs.Asks.{Throws, Supply}
-use Rattle.flow_meaning.specs.Evaluating.{StepOf, asks, evaluated, value}
+use Rattle.flow_meaning.specs.Asks.{Supply}
+use Rattle.flow_meaning.specs.Evaluating.{StepOf, evaluated}
 use Rattle.flow_meaning.specs.Process.{Entry, Proc}
 use Rattle.flow_meaning.specs.Occ.{Scan}
 use Rattle.flow_meaning.specs.Step.{view}
 use Rattle.flow_meaning.specs.Class.{throw_value, fetched, next_step, class_names}
-use Rattle.flow_meaning.specs.Frame.{Frame, look}
+use Rattle.flow_meaning.specs.Frame.{Frame}
 use Rattle.flow_steps.specs.declared.frames.Stand.{Stand}
 use Rattle.flow_steps.specs.declared.next.Pace.{Pace}
-use Rattle.flow_steps.specs.declared.next.Pace.TheVariants.{Off}
 use Rattle.flow_steps.specs.declared.process.Process.{Process}
 use Rattle.flow_steps.specs.Sights.{with_left, Evaluates, gives, throws, runs_out}
 use Rattle.flow_steps.specs.Stepping.{ErrorThrown, IsThrow}

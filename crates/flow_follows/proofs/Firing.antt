@@ -1,17 +1,13 @@
 -- Tasks that need no step of an actor are done in memory as the definitions do them.
-use Rattle.std.proofs.Common.{◌≡◌, ℕ, zero, suc, ◌+◌, nat_lt, Bool, true, false, List, [], ◌∷◌, ◌++◌, map, length, if◌then◌else◌, refl, sym, ap, ◌∙◌, subst, arith}
+use Rattle.std.proofs.Common.{◌≡◌, ℕ, Bool, true, false, List, [], ◌∷◌, map, if◌then◌else◌, refl, sym, ap, ◌∙◌, subst, arith}
 use Rattle.std.specs.Prelude.{slice_get}
 use Rattle.std.specs.Option.{option_map}
 use Rattle.std.specs.declared.option.Option.{Option}
 use Rattle.std.specs.declared.option.Option.TheVariants.{None, Some}
-use Rattle.flow_base.specs.declared.ids.ActorId.{ActorId}
-use Rattle.flow_base.specs.declared.ids.ErrorCode.{ErrorCode}
 use Rattle.flow_value.specs.declared.value.Value.{Value}
 use Rattle.flow_value.specs.declared.value.Outcome.{Outcome}
 use Rattle.flow_value.specs.declared.value.Kind.{Kind}
 use Rattle.flow_value.specs.declared.value.Kind.TheVariants as kind
-use Rattle.flow_value.specs.Values.{ValueTree, OutcomeTree}
-use Rattle.flow_value.specs.View.{value_of, outcome_of}
 use Rattle.flow_class.specs.Classes.{RawTree}
 use Rattle.flow_code.specs.View.{group_numbered}
 use Rattle.flow_code.specs.declared.program.Code.{Code}
@@ -21,36 +17,32 @@ use Rattle.flow_cell.specs.declared.waiter.Waiter as memory
 use Rattle.flow_cell.specs.Cells.{CellTree}
 use Rattle.flow_stream.specs.Streams.{StreamTree}
 use Rattle.flow_cancel.specs.declared.task.Task.TheVariants as task
-use Rattle.flow_cancel.specs.Heap.{HeapTree, cell_id, actor_id, pushed}
+use Rattle.flow_cancel.specs.Heap.{HeapTree, cell_id}
 use Rattle.flow_meaning.specs.Numbered.{thing, put}
 use Rattle.flow_meaning.specs.Asks.{Spot}
-use Rattle.flow_meaning.specs.Cells.{Side, FutureSide, side_of, Waiter, Cell, Single, Stream, waiters, is_ready, as_list}
-use Rattle.flow_meaning.specs.Process.{Run, Fire, Entry, Core, Proc}
-use Rattle.flow_meaning.specs.Occ.{Scan, one, refs_in, value_in}
+use Rattle.flow_meaning.specs.Cells.{FutureSide, side_of, Waiter, Cell, Single, Stream, waiters, is_ready, as_list}
+use Rattle.flow_meaning.specs.Process.{Run, Fire, Proc}
+use Rattle.flow_meaning.specs.Occ.{one, refs_in, value_in}
 use Rattle.flow_meaning.specs.Lines.{catch_line}
 use Rattle.flow_meaning.specs.Work as work
 use Rattle.flow_meaning.specs.Work.{running, take_branch, is_ready_at}
-use Rattle.flow_meaning.specs.Dropping.{drop, fire, fire_cell, fire_at, fire_to, lose_ref}
-use Rattle.flow_meaning.specs.Step.{scanned, proc, on_core}
-use Rattle.flow_meaning.specs.Class.{classes}
-use Rattle.flow_meaning.specs.Frame.{Frame, lose}
+use Rattle.flow_meaning.specs.Dropping.{fire_cell, fire_at, fire_to, lose_ref}
+use Rattle.flow_meaning.specs.Step.{proc, on_core}
+use Rattle.flow_meaning.specs.Frame.{Frame}
 use Rattle.flow_picture.specs.Shows.{Shows, CellShows, spot_of_actor, spot_by, wait_spot, waiter_in}
 use Rattle.flow_meaning.specs.Views.{spot_at}
 use Rattle.flow_picture.specs.Counted.{frames_hold, nothing_in_hand}
 use Rattle.flow_picture.specs.Rested.{Sorted}
 use Rattle.flow_picture.specs.Losing.{RightCell}
-use Rattle.flow_picture.specs.Holds.{There, MayWait}
 use Rattle.flow_picture.proofs.Acted.{same_put}
-use Rattle.flow_steps.specs.declared.frames.Stand.{Stand}
 use Rattle.flow_steps.specs.declared.process.Process.{Process}
-use Rattle.flow_steps.specs.Doing.{turned, doing, telling}
+use Rattle.flow_steps.specs.Doing.{turned, doing}
 use Rattle.flow_steps.specs.Holding.{lost, kind_in}
-use Rattle.flow_steps.specs.Standing.{StandsNow}
-use Rattle.flow_steps.specs.Waiting.{ready_at, TakesBranch}
-use Rattle.flow_steps.specs.Tasks.{cell_waiter, stream_waiter, waiter_by, next_waiter, drops_one, WaiterTakes, FiresAt, Fires}
-use Rattle.flow_follows.specs.Shown.{Shown, Follows, shows, with_task, Sound}
-use Rattle.flow_follows.specs.Placing.{Acts, Stood}
-use Rattle.flow_follows.specs.Taking.{Standing, AtWait, MayGo, Takeable}
+use Rattle.flow_steps.specs.Waiting.{TakesBranch}
+use Rattle.flow_steps.specs.Tasks.{cell_waiter, stream_waiter, next_waiter, WaiterTakes, FiresAt}
+use Rattle.flow_follows.specs.Shown.{Shown, Follows, with_task, Sound}
+use Rattle.flow_follows.specs.Placing.{Stood}
+use Rattle.flow_follows.specs.Taking.{MayGo, Takeable}
 use Rattle.flow_follows.specs.Tasking.{Suspended, MayFire}
 use Rattle.flow_follows.specs.Tasking as law
 use Rattle.flow_follows.proofs.Working.{as_many_shown, turn_taken, task_done, telling_shown}

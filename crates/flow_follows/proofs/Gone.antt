@@ -1,5 +1,5 @@
 -- An actor that goes on in memory, at once or by its task, goes on in the process.
-use Rattle.std.proofs.Common.{◌≡◌, ℕ, zero, suc, ◌+◌, ◌-◌, nat_lt, Bool, true, false, List, [], ◌∷◌, ◌++◌, length, map, if◌then◌else◌, refl, sym, ap, ◌∙◌, subst, arith}
+use Rattle.std.proofs.Common.{◌≡◌, ℕ, suc, ◌+◌, ◌-◌, false, List, [], ◌∷◌, ◌++◌, length, map, refl, sym, ap, ◌∙◌, subst, arith}
 use Rattle.std.proofs.lemmas.Bool.Decides.{nat_tests}
 use Rattle.std.specs.declared.option.Option.{Option}
 use Rattle.std.specs.declared.option.Option.TheVariants.{None, Some}
@@ -11,18 +11,17 @@ use Rattle.flow_class.specs.Classes.{RawTree}
 use Rattle.flow_trace.specs.declared.line.Line.{Line}
 use Rattle.flow_cancel.specs.declared.task.Task.TheVariants as task
 use Rattle.flow_cancel.specs.Heap.{HeapTree, actor_id}
-use Rattle.flow_cancel.specs.Heap as heap
 use Rattle.flow_cancel.specs.Dropping as dropping
 use Rattle.flow_meaning.specs.Numbered.{put}
 use Rattle.flow_meaning.specs.Cells.{Side, Ref}
-use Rattle.flow_meaning.specs.Process.{Run, Entry, Core, Proc}
+use Rattle.flow_meaning.specs.Process.{Run, Entry, Proc}
 use Rattle.flow_meaning.specs.Occ.{Scan, count, refs_in}
 use Rattle.flow_meaning.specs.Work as work
 use Rattle.flow_meaning.specs.Work.{turn, turn_of, pushed}
 use Rattle.flow_meaning.specs.Step.{proc, on_core}
 use Rattle.flow_meaning.specs.Variables.{filled}
-use Rattle.flow_meaning.specs.Frame.{Frame, read, write, held_in, emptied, go, next_instr}
-use Rattle.flow_picture.specs.Acting.{Free, put_frame}
+use Rattle.flow_meaning.specs.Frame.{Frame, read, write, held_in, emptied, go}
+use Rattle.flow_picture.specs.Acting.{put_frame}
 use Rattle.flow_picture.specs.Standing.{number_in}
 use Rattle.flow_picture.specs.Holds.{with_refs}
 use Rattle.flow_picture.proofs.Tasks.{refs_same}
@@ -34,10 +33,9 @@ use Rattle.flow_steps.specs.Doing.{turned, doing}
 use Rattle.flow_steps.specs.Holding.{on_heap, value_refs, refs_dropped}
 use Rattle.flow_steps.specs.Standing.{gone, noting, noted, GoesTo, next_stand, place_held, place_put, referring, places_taken, places_emptied}
 use Rattle.flow_steps.specs.Tasks.{bound_over, bound}
-use Rattle.flow_steps.specs.Stepping.{OnAfter, GoesOnAt, Passes, no_pass, pass_begins}
+use Rattle.flow_steps.specs.Stepping.{OnAfter, Passes, no_pass, pass_begins}
 use Rattle.flow_follows.specs.Shown.{Shown, AreSpent, with_task}
-use Rattle.flow_follows.specs.Placing.{Acts, Stood, with_memory, HasLocals}
-use Rattle.flow_follows.specs.Taking.{Standing}
+use Rattle.flow_follows.specs.Placing.{Stood, with_memory}
 use Rattle.flow_follows.specs.Going.{MayMove, Goes}
 use Rattle.flow_follows.specs.Going as law
 use Rattle.flow_follows.proofs.Working.{as_many_shown, task_done, refs_dropped_shown, with_turn, without_turn}

@@ -1,5 +1,5 @@
 -- An operand is kept in memory as the definitions keep it.
-use Rattle.std.proofs.Common.{◌≡◌, ℕ, zero, suc, ◌+◌, Bool, true, false, List, [], ◌∷◌, ◌++◌, length, map, refl, sym, ap, ◌∙◌, subst, arith}
+use Rattle.std.proofs.Common.{◌≡◌, ℕ, ◌+◌, Bool, true, false, List, [], ◌∷◌, ◌++◌, length, map, refl, sym, ap, ◌∙◌, subst, arith}
 use Rattle.std.specs.Prelude.{is_some}
 use Rattle.std.specs.Option.{option_map}
 use Rattle.std.specs.declared.option.Option.{Option}
@@ -9,57 +9,49 @@ use Rattle.flow_base.specs.declared.ids.ActorId.{ActorId}
 use Rattle.flow_base.specs.declared.ids.ErrorCode.{ErrorCode}
 use Rattle.flow_value.specs.declared.value.Value.{Value}
 use Rattle.flow_value.specs.declared.value.Outcome.{Outcome}
-use Rattle.flow_value.specs.declared.value.Kind.TheVariants as kind
-use Rattle.flow_value.specs.Values.{ValueTree, OutcomeTree}
 use Rattle.flow_value.specs.View.{value_of, outcome_of}
-use Rattle.flow_class.specs.Classes.{RawTree, ChooseLast}
-use Rattle.flow_class.specs.Code.{Last}
+use Rattle.flow_class.specs.Classes.{RawTree}
 use Rattle.flow_code.specs.View.{group_numbered}
 use Rattle.flow_trace.specs.declared.line.Line.{Line}
 use Rattle.flow_numbered.specs.Numbered as stored
 use Rattle.flow_cell.specs.Cells.{CellTree}
 use Rattle.flow_stream.specs.Streams.{StreamTree, ready}
-use Rattle.flow_frame.specs.Frames.{FrameTree, with_callback}
-use Rattle.flow_cancel.specs.declared.actors.Note.{Note}
+use Rattle.flow_frame.specs.Frames.{with_callback}
 use Rattle.flow_cancel.specs.declared.task.Task.TheVariants as task
-use Rattle.flow_cancel.specs.Heap.{HeapTree, cell_id, actor_id}
+use Rattle.flow_cancel.specs.Heap.{HeapTree, actor_id}
 use Rattle.flow_meaning.specs.Numbered.{Numbered, thing, put}
 use Rattle.flow_meaning.specs.Cells.{Side, FutureSide, Ref, Waiter, Cell, Single, Stream, is_ready}
 use Rattle.flow_meaning.specs.Cells as cells
 use Rattle.flow_meaning.specs.Process.{Run, Throw, Entry, Core, Proc}
-use Rattle.flow_meaning.specs.Occ.{Scan, one, count, count_maybe, count_kept, refs_in, value_in}
+use Rattle.flow_meaning.specs.Occ.{Scan, count, count_kept, refs_in, value_in}
 use Rattle.flow_meaning.specs.Work.{pushed, running, leave_for, is_ready_at, take_branch}
-use Rattle.flow_meaning.specs.Step.{Verdict, verdict, GoesOn, Cancelled, Ready, with_operand, keep_by, proc, on_core}
+use Rattle.flow_meaning.specs.Step.{verdict, keep_by, proc, on_core}
 use Rattle.flow_meaning.specs.Class.{classes}
 use Rattle.flow_meaning.specs.Frame.{Frame, lose}
 use Rattle.flow_meaning.proofs.Posture.{each_number, thing_put, thing_put_other}
 use Rattle.flow_picture.specs.Shows.{Shows, CellShows, Stands, OneActor, stands, spot_of_actor, spot_by, wait_spot, error_number}
-use Rattle.flow_picture.specs.Counted.{references, branches_of, branches_at, waiters_at, waiting_of, waiting_by, Agree}
-use Rattle.flow_picture.specs.Acting.{At, Free, actor_put, put_actor, frame_put}
+use Rattle.flow_picture.specs.Counted.{branches_at, waiting_of, waiting_by}
+use Rattle.flow_picture.specs.Acting.{Free, put_actor, frame_put}
 use Rattle.flow_picture.specs.Leaving.{wait_kind, RightKinds}
-use Rattle.flow_picture.specs.References.{entry_holds}
 use Rattle.flow_picture.specs.Holds.{with_refs}
 use Rattle.flow_picture.proofs.Acted.{actor_moved, same_put}
-use Rattle.flow_picture.proofs.Cells.{as_single, as_stream}
 use Rattle.flow_picture.proofs.Finds.{stored_put}
 use Rattle.flow_picture.proofs.Referring.{of_entry}
 use Rattle.flow_picture.proofs.Standing.{operand_kept}
 use Rattle.flow_picture.proofs.Tidy.{agree_by}
 use Rattle.flow_numbered.proofs.Things.{put_same}
-use Rattle.flow_steps.specs.declared.frames.Stand.{Stand}
 use Rattle.flow_steps.specs.declared.next.Pace.{Pace}
-use Rattle.flow_steps.specs.declared.next.Pace.TheVariants.{On, Off}
 use Rattle.flow_steps.specs.declared.process.Process.{Process}
 use Rattle.flow_steps.specs.Holding.{on_heap}
 use Rattle.flow_steps.specs.Standing.{reframed}
 use Rattle.flow_steps.specs.Waiting as waiting
 use Rattle.flow_steps.specs.Waiting.{ready_in, ready_at, is_marked, marked_at, left_for, BranchOf, TakesBranch, Keeps, kept_marked, kept_unready, kept_ready}
-use Rattle.flow_follows.specs.Shown.{Shown, Follows, shows, with_task}
+use Rattle.flow_follows.specs.Shown.{Follows, shows, with_task}
 use Rattle.flow_follows.specs.Placing.{Acts, Stood}
-use Rattle.flow_follows.specs.Taking.{Standing, AtWait, MayGo, Takeable}
+use Rattle.flow_follows.specs.Taking.{MayGo}
 use Rattle.flow_follows.specs.Keeping.{MayKeep, callback_of, with_one}
 use Rattle.flow_follows.specs.Keeping as law
-use Rattle.flow_follows.proofs.Working.{changed, as_many_shown}
+use Rattle.flow_follows.proofs.Working.{changed}
 use Rattle.flow_follows.proofs.Brought.{all_there_by}
 use Rattle.flow_follows.proofs.Places.{at_of, as_many_stood}
 use Rattle.flow_follows.proofs.Lost.{put_over}

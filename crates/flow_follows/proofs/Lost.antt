@@ -1,16 +1,12 @@
 -- Places of a frame that are emptied, one after another.
-use Rattle.std.proofs.Common.{◌≡◌, ℕ, zero, suc, ◌+◌, ◌<◌, ◌-◌, nat_eq, Bool, true, false, List, [], ◌∷◌, ◌++◌, length, map, set, if◌then◌else◌, refl, sym, ap, ◌∙◌, subst, arith}
+use Rattle.std.proofs.Common.{◌≡◌, ℕ, zero, suc, ◌+◌, ◌<◌, nat_eq, Bool, true, false, List, [], ◌∷◌, ◌++◌, length, set, if◌then◌else◌, refl, sym, ap, ◌∙◌, subst, arith}
 use Rattle.std.specs.Prelude.{slice_get}
-use Rattle.std.specs.Option.{option_map}
 use Rattle.std.specs.declared.option.Option.{Option}
 use Rattle.std.specs.declared.option.Option.TheVariants.{None, Some}
-use Rattle.flow_value.specs.declared.value.Value.{Value}
-use Rattle.flow_value.specs.Values.{ValueTree, IntValue, BoolValue, TextValue, VoidValue, ErrorValue, RecordValue, RefValue, refs_of}
-use Rattle.flow_value.specs.View.{value_of}
+use Rattle.flow_value.specs.Values.{ValueTree, refs_of}
 use Rattle.flow_class.specs.declared.class.Slotted.TheVariants.{Slot, Local}
 use Rattle.flow_class.specs.Classes.{RawTree}
 use Rattle.flow_trace.specs.declared.line.Line.{Line}
-use Rattle.flow_cancel.specs.Heap.{HeapTree}
 use Rattle.flow_meaning.specs.Numbered.{Numbered, put}
 use Rattle.flow_meaning.specs.Cells.{Ref}
 use Rattle.flow_meaning.specs.Process.{Task, Drop, Entry, Proc}
@@ -18,17 +14,14 @@ use Rattle.flow_meaning.specs.Occ.{Scan, count, refs_in}
 use Rattle.flow_meaning.specs.Step.{proc, on_core}
 use Rattle.flow_meaning.specs.Work as work
 use Rattle.flow_meaning.specs.Variables.{flat, filled}
-use Rattle.flow_meaning.specs.Frame.{Memory, Frame, read, write, held_in, emptied, reversed, blanks}
+use Rattle.flow_meaning.specs.Frame.{Frame, read, write, reversed, blanks}
 use Rattle.flow_picture.specs.Acting.{put_frame}
-use Rattle.flow_picture.specs.Holds.{with_refs}
 use Rattle.flow_picture.proofs.Acted.{same_put}
-use Rattle.flow_picture.proofs.Sums.{refs_joined}
 use Rattle.flow_steps.specs.declared.process.Process.{Process}
 use Rattle.flow_steps.specs.Holding.{on_heap}
-use Rattle.flow_steps.specs.Standing.{place_held, place_put, place_lost, places_lost, losing_from, may_refer, if_refers, referring, places_taken, places_emptied}
-use Rattle.flow_follows.specs.Placing.{Acts, Stood, with_memory, HasLocals, nothing_in}
-use Rattle.flow_follows.specs.Placing as law
-use Rattle.flow_follows.proofs.Places.{as_many_stood, place_seen, place_changed, one_lost}
+use Rattle.flow_steps.specs.Standing.{place_lost, places_lost}
+use Rattle.flow_follows.specs.Placing.{Stood, with_memory}
+use Rattle.flow_follows.proofs.Places.{one_lost}
 
 -- lists
 pub put_over : {A : Type 0} (xs : Numbered A) (i : ℕ) (a b : A) → put (put xs i a) i b ≡ put xs i b

@@ -1,5 +1,5 @@
 -- An actor that waits for nothing goes on elsewhere, or is over.
-use Rattle.std.proofs.Common.{◌≡◌, ℕ, zero, suc, ◌+◌, nat_eq, Bool, true, false, List, [], ◌∷◌, ◌++◌, length, map, if◌then◌else◌, refl, sym, ap, ◌∙◌, subst, arith}
+use Rattle.std.proofs.Common.{◌≡◌, ℕ, nat_eq, Bool, true, false, List, [], ◌∷◌, ◌++◌, map, if◌then◌else◌, refl, sym, ap, ◌∙◌, subst, arith}
 use Rattle.std.specs.Option.{option_map}
 use Rattle.std.specs.declared.option.Option.{Option}
 use Rattle.std.specs.declared.option.Option.TheVariants.{None, Some}
@@ -8,15 +8,11 @@ use Rattle.flow_value.specs.Values.{ValueTree}
 use Rattle.flow_value.specs.View.{value_of}
 use Rattle.flow_class.specs.Classes.{RawTree}
 use Rattle.flow_trace.specs.declared.line.Line.{Line}
-use Rattle.flow_numbered.specs.Numbered as stored
 use Rattle.flow_frame.specs.Frames.{FrameTree, all_empty}
-use Rattle.flow_cancel.specs.Heap.{HeapTree}
-use Rattle.flow_meaning.specs.Numbered.{thing, put}
-use Rattle.flow_meaning.specs.Cells.{Side, Waiter, Cell, Single, Stream, waiters, as_list, without, without_one, left_by}
+use Rattle.flow_meaning.specs.Numbered.{thing}
+use Rattle.flow_meaning.specs.Cells.{Side, Waiter, Cell, Single, Stream, as_list, without, without_one, left_by}
 use Rattle.flow_meaning.specs.Process.{Entry, Core, Proc}
 use Rattle.flow_meaning.specs.Occ.{Scan}
-use Rattle.flow_meaning.specs.Work.{left_cells}
-use Rattle.flow_meaning.specs.Step.{proc, on_core}
 use Rattle.flow_meaning.specs.Frame.{Memory, Frame, blanks, over, occ_memory}
 use Rattle.flow_meaning.proofs.Posture.{thing_put}
 use Rattle.flow_picture.specs.Shows.{Shows, Stands, OneActor, stands, here}
@@ -35,7 +31,7 @@ use Rattle.flow_steps.specs.Holding.{on_heap}
 use Rattle.flow_steps.specs.Bringing.{gone_to}
 use Rattle.flow_steps.specs.Standing.{reframed, gone}
 use Rattle.flow_follows.specs.Shown.{Shown}
-use Rattle.flow_follows.specs.Placing.{Acts, Stood, with_memory, nothing_in}
+use Rattle.flow_follows.specs.Placing.{Stood, with_memory, nothing_in}
 use Rattle.flow_follows.specs.Taking.{MayGo}
 use Rattle.flow_follows.proofs.Working.{changed}
 use Rattle.flow_follows.proofs.Places.{at_of}

@@ -1,5 +1,5 @@
 -- An actor that leaves its wait in memory does so in the process.
-use Rattle.std.proofs.Common.{◌≡◌, ℕ, zero, suc, ◌+◌, Bool, true, false, List, [], ◌∷◌, ◌++◌, length, if◌then◌else◌, refl, sym, ap, ◌∙◌, subst, arith}
+use Rattle.std.proofs.Common.{◌≡◌, ℕ, zero, suc, Bool, true, false, List, [], ◌∷◌, length, refl, sym, ap, ◌∙◌, subst, arith}
 use Rattle.std.specs.declared.option.Option.{Option}
 use Rattle.std.specs.declared.option.Option.TheVariants.{None, Some}
 use Rattle.flow_value.specs.declared.value.Value.{Value}
@@ -9,47 +9,40 @@ use Rattle.flow_trace.specs.declared.line.Line.{Line}
 use Rattle.flow_numbered.specs.Numbered as stored
 use Rattle.flow_cell.specs.declared.waiter.Waiter as memory
 use Rattle.flow_cell.specs.Cells.{CellTree}
-use Rattle.flow_stream.specs.Streams.{StreamTree}
 use Rattle.flow_frame.specs.declared.held.Held.{Held}
 use Rattle.flow_frame.specs.Frames.{FrameTree}
 use Rattle.flow_cancel.specs.declared.actors.Note.{Note}
-use Rattle.flow_cancel.specs.declared.task.Task as stack
-use Rattle.flow_cancel.specs.Heap.{HeapTree, pushed, actor_id}
+use Rattle.flow_cancel.specs.Heap.{HeapTree, pushed}
 use Rattle.flow_cancel.specs.Leaving.{leave_cell_at, leave_one, leave_all, without_callbacks, withdrawn_from, withdrawn, waits}
 use Rattle.flow_cancel.specs.Leaving as leaving
-use Rattle.flow_meaning.specs.Numbered.{Numbered, thing, put}
+use Rattle.flow_meaning.specs.Numbered.{thing, put}
 use Rattle.flow_meaning.specs.Cells.{Ref}
 use Rattle.flow_meaning.specs.Process.{Task, Entry, Core, Proc}
 use Rattle.flow_meaning.specs.Process as process
-use Rattle.flow_meaning.specs.Occ.{Scan, refs_in}
+use Rattle.flow_meaning.specs.Occ.{refs_in}
 use Rattle.flow_meaning.specs.Work.{running, leave_for}
 use Rattle.flow_meaning.specs.Work as work
 use Rattle.flow_meaning.specs.Step.{proc, on_core}
 use Rattle.flow_meaning.specs.Frame.{Frame, lose}
 use Rattle.flow_meaning.proofs.Posture.{thing_put}
 use Rattle.flow_picture.specs.Shows.{Stands, Position, here, at_wait}
-use Rattle.flow_picture.specs.Changes.{SameTask}
-use Rattle.flow_picture.specs.Counted.{kept_count, branches_at, waiting_by, waiting_of}
-use Rattle.flow_picture.specs.Acting.{NoKeep, frame_put, put_frame}
+use Rattle.flow_picture.specs.Counted.{branches_at, waiting_by, waiting_of}
+use Rattle.flow_picture.specs.Acting.{NoKeep, frame_put}
 use Rattle.flow_picture.specs.Leaving.{MayLeave, left_wait, first_part}
 use Rattle.flow_picture.proofs.Finds.{stored_put}
 use Rattle.flow_picture.proofs.Acted.{same_put}
 use Rattle.flow_picture.proofs.Left.{withdrawn_shown}
 use Rattle.flow_picture.proofs.Referring.{of_left}
 use Rattle.flow_picture.proofs.Further.{kept_withdrawn}
-use Rattle.flow_steps.specs.declared.frames.Stand.{Stand}
 use Rattle.flow_steps.specs.declared.process.Process.{Process}
 use Rattle.flow_steps.specs.Holding.{on_heap}
 use Rattle.flow_steps.specs.Bringing.{gone_to}
 use Rattle.flow_steps.specs.Standing.{reframed, gone, lost_from}
-use Rattle.flow_steps.specs.Waiting.{left_for}
-use Rattle.flow_follows.specs.Shown.{Shown, with_task}
 use Rattle.flow_follows.specs.Placing.{Acts, Stood}
 use Rattle.flow_follows.specs.Taking.{Standing, MayGo}
 use Rattle.flow_follows.specs.Taking as law
 use Rattle.flow_follows.proofs.Working.{changed, task_done}
 use Rattle.flow_follows.proofs.Places.{at_of, framed_anew}
-use Rattle.flow_follows.proofs.Lost.{unchanged}
 use Rattle.flow_follows.proofs.Emptied.{locals_lost}
 
 -- An actor stands as before where memory has the same frame of it, and the process the same entry.

@@ -1,35 +1,32 @@
 -- The places of a frame in memory and of the frame that it shows.
-use Rattle.std.proofs.Common.{◌≡◌, ℕ, zero, suc, ◌+◌, ◌<◌, ◌≤◌, ◌-◌, Bool, true, false, List, [], ◌∷◌, ◌++◌, length, map, set, refl, sym, ap, ◌∙◌, subst, arith}
+use Rattle.std.proofs.Common.{◌≡◌, ℕ, ◌+◌, List, [], ◌∷◌, length, refl, sym, ap, ◌∙◌, subst, arith}
 use Rattle.std.specs.Option.{option_map}
 use Rattle.std.specs.declared.option.Option.{Option}
 use Rattle.std.specs.declared.option.Option.TheVariants.{None, Some}
 use Rattle.flow_value.specs.declared.value.Value.{Value}
-use Rattle.flow_value.specs.Values.{ValueTree}
 use Rattle.flow_value.specs.View.{value_of}
 use Rattle.flow_class.specs.declared.class.Slotted.{Slotted}
 use Rattle.flow_class.specs.declared.class.Slotted.TheVariants.{Slot, Local}
 use Rattle.flow_class.specs.Classes.{RawTree}
 use Rattle.flow_trace.specs.declared.line.Line.{Line}
-use Rattle.flow_numbered.specs.Numbered as stored
 use Rattle.flow_frame.specs.Frames as frames
 use Rattle.flow_frame.specs.Frames.{FrameTree, with_place}
 use Rattle.flow_cancel.specs.Heap.{HeapTree}
 use Rattle.flow_cancel.specs.Dropping as dropping
-use Rattle.flow_meaning.specs.Numbered.{Numbered, thing, put}
 use Rattle.flow_meaning.specs.Cells.{Side}
 use Rattle.flow_meaning.specs.Process.{Entry, Proc}
-use Rattle.flow_meaning.specs.Occ.{Scan, count, refs_in}
-use Rattle.flow_meaning.specs.Step.{proc, on_core}
+use Rattle.flow_meaning.specs.Occ.{Scan, refs_in}
+use Rattle.flow_meaning.specs.Step.{on_core}
 use Rattle.flow_meaning.specs.Work as work
 use Rattle.flow_meaning.specs.Variables.{filled}
-use Rattle.flow_meaning.specs.Frame.{Memory, Frame, read, write, held_in, emptied}
+use Rattle.flow_meaning.specs.Frame.{Frame, read, write}
 use Rattle.flow_meaning.proofs.Posture.{thing_put}
 use Rattle.flow_picture.specs.Shows.{Stands, OneActor, stands, wait_spot}
 use Rattle.flow_picture.specs.Acting.{At, frame_put, put_frame}
 use Rattle.flow_picture.specs.Standing.{HasPlace, number_in}
-use Rattle.flow_picture.specs.Holding.{held, InMemory}
+use Rattle.flow_picture.specs.Holding.{InMemory}
 use Rattle.flow_picture.specs.References.{frame_holds}
-use Rattle.flow_picture.specs.Holds.{Holds, with_refs}
+use Rattle.flow_picture.specs.Holds.{with_refs}
 use Rattle.flow_picture.proofs.Finds.{stored_put}
 use Rattle.flow_picture.proofs.Acted.{frame_kept}
 use Rattle.flow_picture.proofs.Referring.{of_frame}
@@ -38,7 +35,6 @@ use Rattle.flow_picture.proofs.Holding.{of_written}
 use Rattle.flow_steps.specs.declared.process.Process.{Process}
 use Rattle.flow_steps.specs.Holding.{on_heap, refs_dropped}
 use Rattle.flow_steps.specs.Standing.{reframed, place_held, place_put, values, place_lost}
-use Rattle.flow_follows.specs.Shown.{Shown}
 use Rattle.flow_follows.specs.Placing.{Acts, Stood, Exchanged, with_memory}
 use Rattle.flow_follows.specs.Placing as law
 use Rattle.flow_follows.proofs.Working.{changed, as_many_shown, refs_dropped_shown}

@@ -1,35 +1,30 @@
 -- The operands of an actor wait at their cells, in memory and in the process.
-use Rattle.std.proofs.Common.{◌≡◌, ◌⊎◌, inl, inr, ℕ, zero, suc, ◌+◌, nat_eq, Bool, true, false, List, [], ◌∷◌, ◌++◌, length, if◌then◌else◌, refl, sym, ap, ◌∙◌, subst, arith}
+use Rattle.std.proofs.Common.{◌≡◌, ◌⊎◌, inl, inr, ℕ, suc, ◌+◌, Bool, true, false, List, [], ◌∷◌, ◌++◌, if◌then◌else◌, refl, sym, ap, ◌∙◌, subst, arith}
 use Rattle.std.specs.Option.{option_map}
 use Rattle.std.specs.declared.option.Option.{Option}
 use Rattle.std.specs.declared.option.Option.TheVariants.{None, Some}
 use Rattle.flow_value.specs.declared.value.Kind.{Kind}
-use Rattle.flow_value.specs.declared.value.Kind.TheVariants as kind
 use Rattle.flow_value.specs.declared.value.Value.{Value}
-use Rattle.flow_value.specs.declared.value.Outcome.{Outcome}
 use Rattle.flow_value.specs.Values.{ValueTree, OutcomeTree}
 use Rattle.flow_class.specs.Classes.{RawTree}
 use Rattle.flow_numbered.specs.Numbered as stored
-use Rattle.flow_cell.specs.Cells.{CellTree}
 use Rattle.flow_stream.specs.Streams.{StreamTree}
-use Rattle.flow_cell.specs.declared.waiter.Waiter as memory
 use Rattle.flow_frame.specs.declared.held.Held.{Held}
-use Rattle.flow_cancel.specs.Heap.{HeapTree, cell_id, actor_id}
+use Rattle.flow_cancel.specs.Heap.{HeapTree, cell_id}
 use Rattle.flow_cancel.specs.Leaving as leaving
 use Rattle.flow_meaning.specs.Numbered.{Numbered, thing, put}
-use Rattle.flow_meaning.specs.Cells.{Side, FutureSide, side_of, Ref, Waiter, Cell, Single, Stream, waiters, with_waiter, is_busy}
-use Rattle.flow_meaning.specs.Process.{Entry, Core, Proc}
+use Rattle.flow_meaning.specs.Cells.{Side, FutureSide, side_of, Ref, Waiter, Cell, Single, Stream, with_waiter, is_busy}
+use Rattle.flow_meaning.specs.Process.{Proc}
 use Rattle.flow_meaning.specs.Occ.{one, count}
 use Rattle.flow_meaning.specs.Orderly.{Rising}
-use Rattle.flow_meaning.specs.Work.{Registration, Registered, Refused, Missing, register_at, register_one, register}
+use Rattle.flow_meaning.specs.Work.{Registered, Refused, register_at, register}
 use Rattle.flow_meaning.specs.Step.{on_core}
 use Rattle.flow_meaning.specs.Frame.{Frame}
-use Rattle.flow_meaning.proofs.Posture.{each_number, thing_put, thing_put_other, same_number}
+use Rattle.flow_meaning.proofs.Posture.{each_number, thing_put, thing_put_other}
 use Rattle.flow_meaning.proofs.Order.{rising_put}
 use Rattle.flow_picture.specs.Shows.{Shows, CellShows, spot_of_actor, held_from, waiter_in}
 use Rattle.flow_picture.specs.Counted.{kept_count, references}
 use Rattle.flow_picture.specs.Changes.{cell_put, stream_put}
-use Rattle.flow_picture.specs.Changes as change
 use Rattle.flow_picture.specs.Leaving.{wait_kind}
 use Rattle.flow_picture.proofs.Cells.{as_stream}
 use Rattle.flow_picture.proofs.Keeping.{cell_keeps, stream_keeps}
@@ -38,7 +33,6 @@ use Rattle.flow_picture.proofs.Shown.{cell_awaited, stream_awaited}
 use Rattle.flow_steps.specs.Waiting as waiting
 use Rattle.flow_follows.specs.Waiting.{Waitable}
 use Rattle.flow_follows.proofs.Brought.{found_single, found_stream}
-use Rattle.flow_follows.proofs.Takings.{kinds_by}
 
 abbrev pub with_cells : Numbered Cell → Proc Frame → Proc Frame
 with_cells ds p = on_core (λ c. record c { cells = ds }) p

@@ -1,45 +1,40 @@
 -- What an actor in memory evaluates is what the frame evaluates that it shows.
-use Rattle.std.proofs.Common.{◌≡◌, ◌≤◌, ◌<◌, ◌^◌, ℕ, zero, suc, ◌+◌, pos, nat_lt, Bool, true, false, List, [], ◌∷◌, ◌++◌, length, if◌then◌else◌, refl, sym, ap, ◌∙◌, subst, arith}
+use Rattle.std.proofs.Common.{◌≡◌, ◌≤◌, ◌<◌, ◌^◌, ℕ, zero, suc, ◌+◌, nat_lt, Bool, true, false, List, [], ◌∷◌, length, if◌then◌else◌, refl, sym, ap, ◌∙◌, subst, arith}
 use Rattle.std.proofs.lemmas.Bool.Decides.{nat_tests}
 use Rattle.std.proofs.Math.Path.{fun_ext}
 use Rattle.std.specs.Prelude.{slice_get, slice_index_or}
 use Rattle.std.specs.Option.{option_map, option_and_then}
 use Rattle.std.specs.declared.option.Option.{Option}
 use Rattle.std.specs.declared.option.Option.TheVariants.{None, Some}
-use Rattle.flow_tree.specs.Tree.{ExprTree}
 use Rattle.flow_value.specs.declared.value.Value.{Value}
 use Rattle.flow_value.specs.declared.value.Outcome.{Outcome}
-use Rattle.flow_value.specs.Values.{ValueTree, OutcomeTree}
-use Rattle.flow_value.specs.View.{value_of, outcome_of}
-use Rattle.flow_eval.specs.Eval.{Setting, Res}
+use Rattle.flow_value.specs.Values.{ValueTree}
+use Rattle.flow_value.specs.View.{value_of}
 use Rattle.flow_eval.specs.Functions.{Eval}
 use Rattle.flow_class.specs.declared.class.Slotted.{Slotted}
 use Rattle.flow_class.specs.declared.class.Slotted.TheVariants.{Slot, Local}
 use Rattle.flow_class.specs.Classes.{RawTree}
 use Rattle.flow_class.specs.Places.{place_named, small_place, small}
-use Rattle.flow_code.specs.declared.program.Code.{Code}
 use Rattle.flow_code.specs.Places.{place_of, place_in}
-use Rattle.flow_resolved.specs.Resolving.{Naming, resolved, held_by, AreRecords, AreFunctions, IsNumbering}
+use Rattle.flow_resolved.specs.Resolving.{Naming, held_by, AreRecords, AreFunctions, IsNumbering}
 use Rattle.flow_resolved.specs.View.{places_in}
-use Rattle.flow_resolved.specs.Evaluation.{Sight, value_at}
 use Rattle.flow_resolved.proofs.Alike.{resolved_alike}
 use Rattle.flow_trace.specs.declared.line.Line.{Line}
 use Rattle.flow_numbered.specs.Numbered as stored
 use Rattle.flow_cell.specs.Cells.{CellTree}
 use Rattle.flow_stream.specs.Streams.{StreamTree}
-use Rattle.flow_frame.specs.Frames.{FrameTree, held_in}
-use Rattle.flow_cancel.specs.Heap.{HeapTree}
+use Rattle.flow_frame.specs.Frames.{held_in}
 use Rattle.flow_meaning.specs.Numbered.{thing}
 use Rattle.flow_meaning.specs.Cells.{Cell, Single, Stream, outcome}
-use Rattle.flow_meaning.specs.Asks.{Spot, Supply}
+use Rattle.flow_meaning.specs.Asks.{Spot}
 use Rattle.flow_meaning.specs.Process.{Entry, Proc}
 use Rattle.flow_meaning.specs.Occ.{Scan}
-use Rattle.flow_meaning.specs.Evaluating.{bind, setting, value}
+use Rattle.flow_meaning.specs.Evaluating.{bind, setting}
 use Rattle.flow_meaning.specs.Variables.{flat}
 use Rattle.flow_meaning.specs.Step.{view}
 use Rattle.flow_meaning.specs.Class.{class_names}
-use Rattle.flow_meaning.specs.Frame.{Memory, Frame, read, look}
-use Rattle.flow_picture.specs.Shows.{Shows, CellShows, spot_of_actor}
+use Rattle.flow_meaning.specs.Frame.{Frame, read, look}
+use Rattle.flow_picture.specs.Shows.{CellShows, spot_of_actor}
 use Rattle.flow_steps.specs.declared.process.Process.{Process}
 use Rattle.flow_steps.specs.Seen.{value_in, content_of, content_in}
 use Rattle.flow_steps.specs.Sights.{setting_in, sight_in, program_time}

@@ -6,13 +6,13 @@ use Rattle.std.specs.declared.option.Option.{Option}
 use Rattle.std.specs.declared.option.Option.TheVariants.{None, Some}
 use Rattle.flow_value.specs.declared.value.Value.{Value}
 use Rattle.flow_class.specs.Classes.{InstrTree, LastTree, GotoLast, PassLast, TestLast, ChooseLast, ReturnLast, ThrowLast, CatcherTree, CallbackTree, BlockTree, ClassTree, RawTree}
-use Rattle.flow_class.specs.Code.{Fetched, Body, Last, Nothing, fetch_in, fetch_at, fetch, catcher_in, catcher_at, callbacks_before}
+use Rattle.flow_class.specs.Code.{Fetched, Body, Last, Nothing, fetch_in, fetch_at, fetch, catcher_in, callbacks_before}
 use Rattle.flow_code.specs.declared.class.Class.{Class}
 use Rattle.flow_code.specs.declared.class.Group.{Group}
 use Rattle.flow_code.specs.declared.class.Catcher.{Catcher}
 use Rattle.flow_code.specs.declared.class.Last as coded_last
 use Rattle.flow_code.specs.declared.class.Last.TheVariants as last
-use Rattle.flow_code.specs.Classes.{GroupCode, EndTree, ChooseEnd, BlockCode, ClassCode}
+use Rattle.flow_code.specs.Classes.{GroupCode, ChooseEnd, BlockCode, ClassCode}
 use Rattle.flow_code.specs.View.{code_of, block_of, group_of, end_of, catcher_of, group_numbered}
 use Rattle.flow_code.specs.Coding.{Coding, homes_of, caught, ended, coded_block, coded_branch, coded_groups}
 use Rattle.flow_code.specs.Coded.{coding, coded}
@@ -25,7 +25,7 @@ use Rattle.flow_steps.specs.declared.frames.Stand.{Stand}
 use Rattle.flow_steps.specs.declared.process.Process.{Process}
 use Rattle.flow_steps.specs.Standing.{block_in, StandsNow}
 use Rattle.flow_follows.specs.Placing.{Acts}
-use Rattle.flow_follows.specs.Taking.{Standing, AtWait}
+use Rattle.flow_follows.specs.Taking.{AtWait}
 use Rattle.flow_follows.specs.Throwing.{SameCatcher}
 use Rattle.flow_follows.specs.Coded.{CodedBy, AtHome, StandsBy}
 use Rattle.flow_follows.specs.Coded as law

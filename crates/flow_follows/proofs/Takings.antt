@@ -1,5 +1,5 @@
 -- A branch takes what its cell gives, in memory and in the process.
-use Rattle.std.proofs.Common.{◌≡◌, ℕ, zero, suc, ◌+◌, ◌-◌, nat_lt, Bool, true, false, List, [], ◌∷◌, ◌++◌, length, map, if◌then◌else◌, refl, sym, ap, ◌∙◌, subst, arith}
+use Rattle.std.proofs.Common.{◌≡◌, ℕ, ◌-◌, nat_lt, Bool, true, false, List, [], ◌∷◌, map, if◌then◌else◌, refl, sym, ap, ◌∙◌, subst, arith}
 use Rattle.std.proofs.lemmas.Bool.Decides.{nat_tests}
 use Rattle.std.specs.Option.{option_map}
 use Rattle.std.specs.declared.option.Option.{Option}
@@ -14,8 +14,6 @@ use Rattle.flow_value.specs.declared.value.Kind.TheVariants as kind
 use Rattle.flow_value.specs.Values.{ValueTree, OutcomeTree, GoodOutcome, BadOutcome}
 use Rattle.flow_value.specs.View.{value_of, outcome_of}
 use Rattle.flow_class.specs.Classes.{RawTree}
-use Rattle.flow_code.specs.declared.class.Last.{Last}
-use Rattle.flow_code.specs.declared.class.Last.TheVariants as last
 use Rattle.flow_trace.specs.declared.line.Line.{Line}
 use Rattle.flow_trace.specs.declared.line.Line.TheVariants as line
 use Rattle.flow_numbered.specs.Numbered as stored
@@ -23,31 +21,29 @@ use Rattle.flow_cell.specs.declared.counts.Side as counts
 use Rattle.flow_cell.specs.declared.counts.Side.TheVariants as sides
 use Rattle.flow_cell.specs.Cells.{CellTree}
 use Rattle.flow_stream.specs.Streams.{StreamTree, head, tail}
-use Rattle.flow_stream.specs.declared.head.Head.{Head}
 use Rattle.flow_stream.specs.declared.head.Head.TheVariants as heads
 use Rattle.flow_cancel.specs.declared.task.Task as stack
 use Rattle.flow_cancel.specs.declared.task.Task.TheVariants as task
 use Rattle.flow_cancel.specs.Heap.{HeapTree, actor_id}
 use Rattle.flow_meaning.specs.Numbered.{Numbered, thing, put}
-use Rattle.flow_meaning.specs.Cells.{Side, Ref, Waiter, Cell, Single, Stream, waiters, taken, after_taking}
-use Rattle.flow_meaning.specs.Process.{Task, Give, Entry, Core, Proc}
+use Rattle.flow_meaning.specs.Cells.{Ref, Waiter, Cell, Single, Stream, waiters, taken, after_taking}
+use Rattle.flow_meaning.specs.Process.{Give, Entry, Proc}
 use Rattle.flow_meaning.specs.Occ.{Scan, refs_in, value_in}
 use Rattle.flow_meaning.specs.Lines.{take_line}
 use Rattle.flow_meaning.specs.Work.{running, leave_for, give, take_branch, writes}
 use Rattle.flow_meaning.specs.Step.{proc, on_core}
 use Rattle.flow_meaning.specs.Frame.{Frame, lose}
-use Rattle.flow_picture.specs.Shows.{Shows, CellShows, spot_of_actor, error_number}
-use Rattle.flow_picture.specs.Counted.{kept_count, references, waiters_at}
+use Rattle.flow_picture.specs.Shows.{CellShows, spot_of_actor, error_number}
+use Rattle.flow_picture.specs.Counted.{waiters_at}
 use Rattle.flow_picture.specs.Changes.{SameTask, put_cell, stream_put}
-use Rattle.flow_picture.specs.Holds.{Holds, with_refs, AllThere, held_cell, held_stream, hold, hold_all}
+use Rattle.flow_picture.specs.Holds.{with_refs, held_cell, held_stream, hold, hold_all}
 use Rattle.flow_meaning.proofs.Posture.{each_number, thing_put, thing_put_other}
 use Rattle.flow_meaning.proofs.Order.{rising_put}
 use Rattle.flow_picture.specs.Leaving.{wait_kind, RightKinds}
 use Rattle.flow_picture.proofs.Tidy.{agree_by}
-use Rattle.flow_picture.proofs.Cells.{AsSingle, AsStream, as_single, as_stream}
+use Rattle.flow_picture.proofs.Cells.{AsStream, as_single, as_stream}
 use Rattle.flow_picture.proofs.Acted.{same_put}
 use Rattle.flow_numbered.proofs.Things.{put_same}
-use Rattle.flow_picture.proofs.Finds.{stored_put}
 use Rattle.flow_picture.proofs.Shown.{element_taken}
 use Rattle.flow_picture.proofs.Keeping.{stream_keeps}
 use Rattle.flow_picture.proofs.Referring.{of_taken}
@@ -58,7 +54,7 @@ use Rattle.flow_steps.specs.Seen.{content_of, content_in}
 use Rattle.flow_steps.specs.Holding.{on_heap, outcome_refs}
 use Rattle.flow_steps.specs.Bringing.{head_of}
 use Rattle.flow_steps.specs.Waiting.{left_for, Takes, copied, popped, IsGive, BranchTaken, TakesBranch, no_turn, takes_branch}
-use Rattle.flow_follows.specs.Shown.{Shown, Follows, shows, with_task}
+use Rattle.flow_follows.specs.Shown.{Shown, Follows, shows}
 use Rattle.flow_follows.specs.Placing.{Acts, Stood}
 use Rattle.flow_follows.specs.Taking.{Standing, AtWait, MayGo, Takeable}
 use Rattle.flow_follows.specs.Taking as law

@@ -1,11 +1,10 @@
 -- An error is thrown in memory where an actor stands as the definitions throw it.
-use Rattle.std.proofs.Common.{◌≡◌, ℕ, zero, suc, ◌+◌, ◌<◌, List, [], ◌∷◌, ◌++◌, length, map, set, refl, sym, ap, ◌∙◌, subst, arith}
+use Rattle.std.proofs.Common.{◌≡◌, ℕ, ◌+◌, ◌<◌, List, [], ◌∷◌, length, map, refl, sym, ap, ◌∙◌, subst, arith}
 use Rattle.std.specs.Option.{option_map}
 use Rattle.std.specs.declared.option.Option.{Option}
 use Rattle.std.specs.declared.option.Option.TheVariants.{None, Some}
 use Rattle.flow_base.specs.declared.ids.ActorId.{ActorId}
 use Rattle.flow_base.specs.declared.ids.ErrorCode.{ErrorCode}
-use Rattle.flow_value.specs.declared.value.Value.{Value}
 use Rattle.flow_value.specs.declared.value.Value.TheVariants.{Error, rolls-Error}
 use Rattle.flow_value.specs.declared.value.Value.TheOpen as layer
 use Rattle.flow_value.specs.declared.value.Value.TheFolds.{fold-roll-Value}
@@ -17,15 +16,14 @@ use Rattle.flow_class.specs.declared.class.Slotted.TheVariants.{Local}
 use Rattle.flow_class.specs.Classes.{CatcherTree, RawTree}
 use Rattle.flow_class.specs.Code.{catcher_at}
 use Rattle.flow_code.specs.declared.class.Catcher.{Catcher}
-use Rattle.flow_code.specs.declared.program.Code.{Code}
 use Rattle.flow_trace.specs.declared.line.Line.{Line}
 use Rattle.flow_trace.specs.declared.line.Line.TheVariants as line
 use Rattle.flow_cancel.specs.declared.task.Task as stack
 use Rattle.flow_cancel.specs.declared.task.Task.TheVariants as task
-use Rattle.flow_cancel.specs.Heap.{HeapTree, pushed, actor_id}
+use Rattle.flow_cancel.specs.Heap.{pushed}
 use Rattle.flow_cancel.specs.Dropping as dropping
 use Rattle.flow_cancel.specs.Leaving.{withdrawn}
-use Rattle.flow_meaning.specs.Numbered.{Numbered, thing, put}
+use Rattle.flow_meaning.specs.Numbered.{put}
 use Rattle.flow_meaning.specs.Cells.{Side}
 use Rattle.flow_meaning.specs.Process.{Task, Catch, Close, Entry, Core, Proc}
 use Rattle.flow_meaning.specs.Occ.{Scan, in_task, refs_in}
@@ -38,26 +36,24 @@ use Rattle.flow_picture.specs.Changes.{SameTask}
 use Rattle.flow_picture.specs.Acting.{put_frame}
 use Rattle.flow_picture.specs.Leaving.{left_wait}
 use Rattle.flow_picture.specs.Holding.{held}
-use Rattle.flow_picture.proofs.Acted.{same_put}
 use Rattle.flow_picture.proofs.Tasks.{refs_same}
-use Rattle.flow_steps.specs.declared.frames.Stand.{Stand}
 use Rattle.flow_steps.specs.declared.process.Process.{Process}
 use Rattle.flow_steps.specs.Doing.{telling}
 use Rattle.flow_steps.specs.Holding.{on_heap, refs_dropped}
-use Rattle.flow_steps.specs.Standing.{StandsNow, gone, place_put, places_taken, places_emptied, lost_from}
+use Rattle.flow_steps.specs.Standing.{gone, place_put, places_taken, places_emptied, lost_from}
 use Rattle.flow_steps.specs.Stepping.{IsClose}
 use Rattle.flow_steps.specs.Tasks as tasks
 use Rattle.flow_steps.specs.Tasks.{dropped_places, caught, failed, FailsBy, Raises, Raised}
 use Rattle.flow_follows.specs.Shown.{Shown, with_task}
-use Rattle.flow_follows.specs.Placing.{Acts, Stood, with_memory, nothing_in, HasLocals}
-use Rattle.flow_follows.specs.Taking.{Standing, MayGo}
+use Rattle.flow_follows.specs.Placing.{Stood, with_memory, nothing_in, HasLocals}
+use Rattle.flow_follows.specs.Taking.{MayGo}
 use Rattle.flow_follows.specs.Throwing.{SameCatcher, CatcherFits, MayThrow}
 use Rattle.flow_follows.specs.Throwing as law
 use Rattle.flow_follows.proofs.Working.{as_many_shown, task_done, refs_dropped_shown, telling_shown}
 use Rattle.flow_follows.proofs.Places.{place_changed}
 use Rattle.flow_follows.proofs.Lost.{put_over, as_long, unchanged}
 use Rattle.flow_follows.proofs.Emptied.{locals_taken, all_lost}
-use Rattle.flow_follows.proofs.Parting.{acts_by, actor_withdrawn, no_keep_under, no_keep_over}
+use Rattle.flow_follows.proofs.Parting.{acts_by, actor_withdrawn, no_keep_under}
 use Rattle.flow_follows.proofs.Moving.{goes_to, free_left, is_over_shown}
 
 -- the view of an error

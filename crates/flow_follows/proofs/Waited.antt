@@ -1,5 +1,5 @@
 -- An actor that has kept all its operands waits in memory as it does by the definitions.
-use Rattle.std.proofs.Common.{◌≡◌, ℕ, zero, suc, ◌+◌, Bool, true, false, List, [], ◌∷◌, ◌++◌, length, if◌then◌else◌, refl, sym, ap, ◌∙◌, subst, arith}
+use Rattle.std.proofs.Common.{◌≡◌, ℕ, suc, ◌+◌, Bool, true, false, List, [], ◌∷◌, length, if◌then◌else◌, refl, sym, ap, ◌∙◌, subst, arith}
 use Rattle.std.proofs.lemmas.Bool.{false≢true}
 use Rattle.std.specs.declared.option.Option.{Option}
 use Rattle.std.specs.declared.option.Option.TheVariants.{None, Some}
@@ -12,12 +12,11 @@ use Rattle.flow_trace.specs.declared.line.Line.TheVariants as line
 use Rattle.flow_numbered.specs.Numbered as stored
 use Rattle.flow_frame.specs.declared.held.Held.{Held}
 use Rattle.flow_frame.specs.Frames.{FrameTree, in_state}
-use Rattle.flow_cancel.specs.declared.actors.Note.{Note}
-use Rattle.flow_cancel.specs.Heap.{HeapTree, cell_id, actor_id}
+use Rattle.flow_cancel.specs.Heap.{HeapTree, cell_id}
 use Rattle.flow_meaning.specs.Numbered.{Numbered, thing, put}
 use Rattle.flow_meaning.specs.Cells.{Side, Ref, Cell}
-use Rattle.flow_meaning.specs.Process.{Entry, Core, Proc}
-use Rattle.flow_meaning.specs.Occ.{Scan, count, count_kept, refs_in, value_in}
+use Rattle.flow_meaning.specs.Process.{Entry, Proc}
+use Rattle.flow_meaning.specs.Occ.{Scan, refs_in, value_in}
 use Rattle.flow_meaning.specs.Lines.{wait_line}
 use Rattle.flow_meaning.specs.Work as work
 use Rattle.flow_meaning.specs.Work.{writes, running, take_branch, is_ready_at, Registration, Registered, register, dropping_values}
@@ -27,10 +26,9 @@ use Rattle.flow_meaning.specs.Frame.{Frame, lose}
 use Rattle.flow_meaning.specs.Views.{spot_at}
 use Rattle.flow_meaning.proofs.Posture.{each_number, thing_put, thing_put_other}
 use Rattle.flow_picture.specs.Shows.{Shows, Stands, OneActor, stands, Position, here, at_wait, spot_of_actor, spot_by, wait_spot, held_from}
-use Rattle.flow_picture.specs.Counted.{kept_count, references, waiting_of}
-use Rattle.flow_picture.specs.Acting.{frame_put, actor_put, put_actor}
+use Rattle.flow_picture.specs.Counted.{references, waiting_of}
+use Rattle.flow_picture.specs.Acting.{frame_put, put_actor}
 use Rattle.flow_picture.specs.References.{entry_holds, frame_holds}
-use Rattle.flow_picture.specs.Holds.{Holds}
 use Rattle.flow_picture.proofs.Tidy.{agree_by}
 use Rattle.flow_picture.proofs.Acted.{actor_kept}
 use Rattle.flow_picture.proofs.Finds.{stored_put}

@@ -1,46 +1,33 @@
 -- What a process in memory does to its own state is what the definitions do.
-use Rattle.std.proofs.Common.{◌≡◌, ℕ, zero, suc, ◌+◌, ◌-◌, nat_lt, Bool, true, false, List, [], ◌∷◌, ◌++◌, if◌then◌else◌, refl, sym, ap, ◌∙◌, subst, arith}
+use Rattle.std.proofs.Common.{◌≡◌, ℕ, zero, suc, ◌-◌, nat_lt, Bool, true, false, List, [], ◌∷◌, ◌++◌, if◌then◌else◌, refl, sym, ap, ◌∙◌, subst, arith}
 use Rattle.std.proofs.lemmas.Bool.Decides.{nat_tests}
-use Rattle.std.specs.declared.option.Option.{Option}
-use Rattle.std.specs.declared.option.Option.TheVariants.{None, Some}
+use Rattle.std.specs.declared.option.Option.TheVariants.{None}
 use Rattle.flow_base.specs.ErrorNumbers.{broken_promise}
-use Rattle.flow_base.specs.declared.ids.ActorId.{ActorId}
-use Rattle.flow_value.specs.declared.value.Value.{Value}
-use Rattle.flow_value.specs.declared.value.Outcome.{Outcome}
 use Rattle.flow_value.specs.declared.value.Outcome.TheVariants as outcome
 use Rattle.flow_value.specs.declared.value.Kind.{Kind}
-use Rattle.flow_value.specs.View.{value_of, outcome_of}
+use Rattle.flow_value.specs.View.{outcome_of}
 use Rattle.flow_value.specs.Values.{BadOutcome}
 use Rattle.flow_class.specs.Classes.{RawTree}
 use Rattle.flow_trace.specs.declared.line.Line.{Line}
-use Rattle.flow_cancel.specs.declared.task.Task as stack
 use Rattle.flow_cancel.specs.Heap.{HeapTree}
 use Rattle.flow_cancel.specs.Heap as heap
-use Rattle.flow_cancel.specs.Dropping.{drops}
-use Rattle.flow_meaning.specs.Numbered.{Numbered, thing}
-use Rattle.flow_meaning.specs.Asks as asks
-use Rattle.flow_meaning.specs.Cells.{Side, Ref, side_of, Cell, is_complete}
-use Rattle.flow_meaning.specs.Process.{Task, Spent, Entry, Core, Proc}
-use Rattle.flow_meaning.specs.Occ.{Scan, one, in_task}
+use Rattle.flow_meaning.specs.Numbered.{Numbered}
+use Rattle.flow_meaning.specs.Cells.{Side}
+use Rattle.flow_meaning.specs.Process.{Core, Proc}
+use Rattle.flow_meaning.specs.Occ.{Scan}
 use Rattle.flow_meaning.specs.Lines.{broken_line}
-use Rattle.flow_meaning.specs.Work as work
 use Rattle.flow_meaning.specs.Work.{turn, turn_of, writes, pushed, dropping, fill, fill_cell}
-use Rattle.flow_meaning.specs.Dropping.{lose_ref, break_cell}
 use Rattle.flow_meaning.specs.Step.{proc, on_core}
 use Rattle.flow_meaning.specs.Frame.{Frame}
-use Rattle.flow_picture.specs.Shows.{Shows}
-use Rattle.flow_picture.specs.Counted.{references}
-use Rattle.flow_picture.specs.Changes.{SameTask}
-use Rattle.flow_picture.specs.Losing.{RightCell}
-use Rattle.flow_picture.specs.Holds.{Holds, with_refs, There, AllThere, hold, hold_all, filled_in}
+use Rattle.flow_picture.specs.Holds.{Holds, with_refs, hold, hold_all, filled_in}
 use Rattle.flow_picture.proofs.Shown.{pushed_shown, dropped_shown}
 use Rattle.flow_picture.proofs.Referring.{of_pushed, of_dropped}
 use Rattle.flow_picture.proofs.Holds.{held_holds, all_held, filled_holds, as_many}
 use Rattle.flow_picture.proofs.Further.{aside}
 use Rattle.flow_steps.specs.declared.process.Process.{Process}
-use Rattle.flow_steps.specs.Doing.{turned, telling, doing}
-use Rattle.flow_steps.specs.Holding.{on_heap, outcome_refs, refs_dropped, filled_broken, broken}
-use Rattle.flow_follows.specs.Shown.{told, Writes, Shown, AreSpent, Follows, shows, ends, with_task}
+use Rattle.flow_steps.specs.Doing.{turned, telling}
+use Rattle.flow_steps.specs.Holding.{outcome_refs, refs_dropped, filled_broken}
+use Rattle.flow_follows.specs.Shown.{told, Shown, AreSpent, Follows, shows, ends, with_task}
 use Rattle.flow_follows.specs.Working as law
 use Rattle.flow_follows.specs.Working.{Sendable}
 

@@ -13,7 +13,7 @@ use Rattle.flow_meaning.specs.Numbered.{put}
 use Rattle.flow_meaning.specs.Cells.{Ref}
 use Rattle.flow_meaning.specs.Process.{Run, Entry, Proc}
 use Rattle.flow_meaning.specs.Occ.{Scan, refs_in}
-use Rattle.flow_meaning.specs.Work.{turn, pushed, dropping, dropping_values}
+use Rattle.flow_meaning.specs.Work.{turn, pushed, dropping}
 use Rattle.flow_meaning.specs.Step.{proc, on_core}
 use Rattle.flow_meaning.specs.Variables.{filled}
 use Rattle.flow_meaning.specs.Frame.{Memory, Frame, read, write, held_in, emptied, go}

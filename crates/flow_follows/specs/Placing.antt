@@ -1,13 +1,12 @@
 -- What becomes of the places of a frame in memory is what becomes of those of the frame that it shows.
-use Rattle.std.specs.Prelude.{◌≡◌, ◌<◌, ℕ, suc, ◌+◌, List, [], ◌∷◌, ◌++◌, map, length}
+use Rattle.std.specs.Prelude.{◌≡◌, ◌<◌, ℕ, ◌+◌, List, [], ◌∷◌, map, length}
 use Rattle.std.specs.Option.{option_map}
 use Rattle.std.specs.declared.option.Option.{Option}
-use Rattle.std.specs.declared.option.Option.TheVariants.{None, Some}
+use Rattle.std.specs.declared.option.Option.TheVariants.{Some}
 use Rattle.flow_value.specs.declared.value.Value.{Value}
 use Rattle.flow_value.specs.Values.{ValueTree}
 use Rattle.flow_value.specs.View.{value_of}
 use Rattle.flow_class.specs.declared.class.Slotted.{Slotted}
-use Rattle.flow_class.specs.declared.class.Slotted.TheVariants.{Local}
 use Rattle.flow_class.specs.Classes.{RawTree}
 use Rattle.flow_trace.specs.declared.line.Line.{Line}
 use Rattle.flow_numbered.specs.Numbered as stored
@@ -20,7 +19,6 @@ use Rattle.flow_meaning.specs.Process.{Entry, Proc}
 use Rattle.flow_meaning.specs.Occ.{Scan, refs_in}
 use Rattle.flow_meaning.specs.Work.{dropping_values}
 use Rattle.flow_meaning.specs.Step.{proc}
-use Rattle.flow_meaning.specs.Variables.{filled}
 use Rattle.flow_meaning.specs.Frame.{Memory, Frame, read, write, held_in, emptied, blanks, lose, everything}
 use Rattle.flow_picture.specs.Shows.{Stands, cell_number}
 use Rattle.flow_picture.specs.Acting.{put_frame}

@@ -1,7 +1,6 @@
 -- An actor that leaves its wait in memory, or takes a branch of it, does what the definitions do.
-use Rattle.std.specs.Prelude.{◌≡◌, ℕ, suc, ◌+◌, false, List, [], ◌∷◌, length}
+use Rattle.std.specs.Prelude.{◌≡◌, ℕ, false, List, [], ◌∷◌, length}
 use Rattle.std.specs.declared.option.Option.TheVariants.{None, Some}
-use Rattle.flow_base.specs.declared.ids.CellId.{CellId}
 use Rattle.flow_value.specs.declared.value.Outcome.{Outcome}
 use Rattle.flow_value.specs.Values.{OutcomeTree}
 use Rattle.flow_value.specs.View.{outcome_of}
@@ -12,10 +11,10 @@ use Rattle.flow_code.specs.View.{group_numbered}
 use Rattle.flow_code.specs.declared.class.Last.TheVariants as last
 use Rattle.flow_trace.specs.declared.line.Line.{Line}
 use Rattle.flow_cancel.specs.declared.task.Task as stack
-use Rattle.flow_cancel.specs.Heap.{HeapTree, actor_id}
+use Rattle.flow_cancel.specs.Heap.{actor_id}
 use Rattle.flow_cancel.specs.Leaving.{withdrawn}
 use Rattle.flow_meaning.specs.Numbered.{Numbered, thing, put}
-use Rattle.flow_meaning.specs.Cells.{Ref, Cell, taken, after_taking}
+use Rattle.flow_meaning.specs.Cells.{Cell, taken, after_taking}
 use Rattle.flow_meaning.specs.Process.{Task, Entry, Core, Proc}
 use Rattle.flow_meaning.specs.Occ.{Scan, refs_in, value_in}
 use Rattle.flow_meaning.specs.Orderly.{Rising}
