@@ -29,8 +29,8 @@ use Rattle.flow_steps.specs.Sights.{with_left}
 use Rattle.flow_steps.specs.Standing.{gone, noting, noted, next_stand}
 use Rattle.flow_follows.specs.Shown.{Shown, AreSpent, shows, ends, with_task}
 use Rattle.flow_follows.specs.Placing.{Stood}
-use Rattle.flow_follows.specs.Going.{MayMove}
-use Rattle.flow_follows.specs.Carried.{Carries, stale, StepsAs, MayBeStale}
+use Rattle.flow_follows.specs.Going.{stale, MayBeStale, MayMove}
+use Rattle.flow_follows.specs.Carried.{Carries, StepsAs}
 use Rattle.flow_picture.proofs.Acted.{same_put}
 use Rattle.flow_follows.proofs.Working.{as_many_shown, holds_aside, task_done}
 use Rattle.flow_follows.proofs.Parting.{acts_by}

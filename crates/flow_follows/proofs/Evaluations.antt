@@ -18,7 +18,8 @@ use Rattle.flow_steps.specs.declared.next.Pace.{Pace}
 use Rattle.flow_steps.specs.declared.process.Process.{Process}
 use Rattle.flow_steps.specs.Sights.{with_left, Evaluates, gives, throws, runs_out}
 use Rattle.flow_steps.specs.Stepping.{ErrorThrown, IsThrow}
-use Rattle.flow_follows.specs.Carried.{StepsAs, MayBeStale}
+use Rattle.flow_follows.specs.Going.{MayBeStale}
+use Rattle.flow_follows.specs.Carried.{StepsAs}
 use Rattle.flow_follows.specs.Evaluated.{GivesValue}
 use Rattle.flow_follows.specs.Evaluated as law
 use Rattle.flow_follows.proofs.Carrying.{error_thrown, ran_out}

@@ -24,6 +24,8 @@ use Rattle.flow_meaning.specs.Frame.{Frame, read, write, held_in, emptied, go}
 use Rattle.flow_picture.specs.Acting.{put_frame}
 use Rattle.flow_picture.specs.Standing.{number_in}
 use Rattle.flow_picture.specs.Holds.{with_refs}
+use Rattle.flow_meaning.proofs.Posture.{thing_put}
+use Rattle.flow_picture.proofs.Acted.{same_put}
 use Rattle.flow_picture.proofs.Tasks.{refs_same}
 use Rattle.flow_steps.specs.declared.frames.Stand.{Stand}
 use Rattle.flow_steps.specs.declared.next.Pace.{Pace}
@@ -36,7 +38,7 @@ use Rattle.flow_steps.specs.Tasks.{bound_over, bound}
 use Rattle.flow_steps.specs.Stepping.{OnAfter, Passes, no_pass, pass_begins}
 use Rattle.flow_follows.specs.Shown.{Shown, AreSpent, with_task}
 use Rattle.flow_follows.specs.Placing.{Stood, with_memory}
-use Rattle.flow_follows.specs.Going.{MayMove, Goes}
+use Rattle.flow_follows.specs.Going.{MayBeStale, MayMove, Goes}
 use Rattle.flow_follows.specs.Going as law
 use Rattle.flow_follows.proofs.Working.{as_many_shown, task_done, refs_dropped_shown, with_turn, without_turn}
 use Rattle.flow_follows.proofs.Places.{as_many_stood, place_seen, place_changed}
@@ -64,22 +66,34 @@ goes_stands s b n t g = record {
 }
 
 module _ (r : RawTree) (ls : List Line) (m : Process) (p : Proc Frame) (i : ℕ) (e : Entry) (f : Frame) where
+  -- its frame is told
+  told_there : (x : Scan) (s t : Stand) (b n k : ℕ) → Stood r ls x m p i e f → MayMove s p i e f → Stands s b n t
+      → Stood r ls x (noted t m) (put_frame i (record f { block = b; instr = n; state = k }) p) i e (record f { block = b; instr = n; state = k })
+  told_there x s t b n k st may to =
+      let g : Frame = record f { block = b; instr = n; state = k } in
+      let told = goes_in r ls x m p i e f b n k st may.operands may.free in
+      let actor : t.actor ≡ actor_id i = to.actor ∙ may.actor in
+      subst (λ y. Stood r ls x (on_heap (noting y t.actor.0 t.place t.instruction) m) (put_frame i g p) i e g) (sym to.noted)
+      (subst (λ (a : ActorId). Stood r ls x (on_heap (gone a.0 t.place t.instruction) m) (put_frame i g p) i e g) (sym actor)
+      (subst (λ y. Stood r ls x (on_heap (gone i y t.instruction) m) (put_frame i g p) i e g) (sym to.place)
+      (subst (λ y. Stood r ls x (on_heap (gone i b y) m) (put_frame i g p) i e g) (sym to.instruction) told)))
+
+  -- or it isn't yet
   moved : (x : Scan) (s t : Stand) (b n k : ℕ) → Stood r ls x m p i e f → MayMove s p i e f → Stands s b n t → Goes r ls x t m p i e (record f { block = b; instr = n; state = k })
   moved x s t b n k st may to =
       let g : Frame = record f { block = b; instr = n; state = k } in
-      let told = goes_in r ls x m p i e f b n k st may.operands may.free in
-      let actor : t.actor ≡ actor_id i = to.actor ∙ may.actor in (
-        subst (λ y. Stood r ls x (on_heap (noting y t.actor.0 t.place t.instruction) m) (put_frame i g p) i e g) (sym to.noted)
-            (subst (λ (a : ActorId). Stood r ls x (on_heap (gone a.0 t.place t.instruction) m) (put_frame i g p) i e g) (sym actor)
-            (subst (λ y. Stood r ls x (on_heap (gone i y t.instruction) m) (put_frame i g p) i e g) (sym to.place)
-            (subst (λ y. Stood r ls x (on_heap (gone i b y) m) (put_frame i g p) i e g) (sym to.instruction) told))),
-        record {
-          actor = actor;
-          slots = ap (λ c. c.now.slots) to.class ∙ may.slots;
-          place = to.place;
-        },
-        to.instruction,
-      )
+      let back : put (put p.actors i g) i f ≡ p.actors = put_over p.actors i g f ∙ same_put p.actors i f st.acts.acting in record {
+        block = f.block;
+        instr = f.instr;
+        state = f.state;
+        stood = subst (λ xs. Stood r ls x m (proc p.core xs) i e f) (sym back) st;
+        told = λ y. let z = to.noted in absurd (cc (y, z));
+        acting = thing_put p.actors i f g st.acts.acting;
+        standing = record { actor = to.actor ∙ may.actor; slots = ap (λ c. c.now.slots) to.class ∙ may.slots; place = to.place };
+        instruction = to.instruction;
+        free = record { waits = may.free.waits; keeps = may.free.keeps };
+        operands = may.operands;
+      }
 
   pub gone_on : law.GoneOn r ls m p i e f
   gone_on x s t b n k st may to = moved x s t b n k st may (goes_stands s b n t to)
@@ -98,11 +112,11 @@ module _ (r : RawTree) (ls : List Line) (m : Process) (p : Proc Frame) (i : ℕ)
   left_over x s t b j k (v ∷ vs) pace n st may to after =
       let g : Frame = record f { block = b; instr = j; state = k } in
       let rs = refs_in (map value_of (v ∷ vs)) in
-      let went = moved (with_refs rs x) s t b j k st may to in
+      let went = told_there (with_refs rs x) s t b j k st may to in
       let m1 : Process = noted t m in
       let q1 : Proc Frame = put_frame i g p in
       let actor : t.actor ≡ actor_id i = to.actor ∙ may.actor in
-      let ran = task_done r ls (with_refs rs x) m1 q1 (task.Run (actor_id i)) (Run i) (as_many_shown r ls (with_refs rs x) (with_task (Run i) (with_refs rs x)) m1 q1 (λ z y. omega arith) went.0.shown) refl in
+      let ran = task_done r ls (with_refs rs x) m1 q1 (task.Run (actor_id i)) (Run i) (as_many_shown r ls (with_refs rs x) (with_task (Run i) (with_refs rs x)) m1 q1 (λ z y. omega arith) went.shown) refl in
       let dropped = refs_dropped_shown r ls x (doing (task.Run (actor_id i)) m1) (on_core (pushed (Run i)) q1) rs ran in
       subst (λ q. law.AfterValues r ls m p i e f x t rs g q n) (sym after.0)
       (subst (λ q. Shown r ls x q (proc (work.dropping rs (pushed (Run i) p.core)) (put p.actors i g))) (sym after.1)
@@ -124,7 +138,7 @@ over_after : (r : RawTree) (ls : List Line) (m n1 : Process) (p : Proc Frame) (i
 over_after r ls m n1 p i e f h g x t rs qs (On u) n same a = (
   a.0,
   sym same ∙ a.1,
-  (subst (λ xs. Stood r ls x (noted t n) (proc p.core xs) i e g) (put_over p.actors i h g) a.2.0, a.2.1, a.2.2),
+  subst (λ xs. MayBeStale r ls x t n (proc p.core xs) i e g) (put_over p.actors i h g) a.2,
 )
 over_after r ls m n1 p i e f h g x t rs qs Off n same a =
     subst (λ us. Shown r ls x n (proc (work.dropping us (pushed (Run i) p.core)) (put p.actors i g))) same

@@ -27,7 +27,7 @@ use Rattle.flow_steps.specs.Stepping.{OnAfter, GoesOnAt, Passes}
 use Rattle.flow_follows.specs.Shown.{Follows}
 use Rattle.flow_follows.specs.Placing.{Stood, HasLocals}
 use Rattle.flow_follows.specs.Taking.{Standing}
-use Rattle.flow_follows.specs.Going.{Goes}
+use Rattle.flow_follows.specs.Going.{stale, MayBeStale, Goes}
 
 -- After a step the actor goes on at once, where its own task is the newest of the process; or other tasks come first.
 abbrev pub Carries : RawTree → List Line → Scan → (actor : ℕ) → Entry → Pace → Process → Proc Frame → Type 0
@@ -35,30 +35,12 @@ Carries r ls x i e (On t) n q =
     (p : Proc Frame) × ((g : Frame) × ((q ≡ on_core (pushed (Run i)) (put_frame i g p)) × Goes r ls x t n p i e g))
 Carries r ls x i e Off n q = Follows r ls x n q
 
--- a frame that says that it stands elsewhere
-abbrev pub stale : (block instr state : ℕ) → Frame → Frame
-stale b n k f = record f { block = b; instr = n; state = k }
-
 -- the process with the actor's own task takes a step, after which memory shows it
 pub record StepsAs (r : RawTree) (ls : List Line) (x : Scan) (s : Supply) (p : Proc Frame) (i : ℕ) (e : Entry) (pace : Pace) (n : Process)
     : Type 0 where
   pub after : Proc Frame
   pub steps : step (classes r) s (on_core (pushed (Run i)) p) ≡ Some (silent after)
   pub carries : Carries r ls x i e pace n after
-
--- Memory shows the process but for where an actor stands, which its frame there need not say yet.
-pub record MayBeStale (r : RawTree) (ls : List Line) (x : Scan) (s : Stand) (m : Process) (p : Proc Frame) (i : ℕ) (e : Entry) (f : Frame)
-    : Type 0 where
-  pub block : ℕ
-  pub instr : ℕ
-  pub state : ℕ
-  pub stood : Stood r ls x m (put_frame i (stale block instr state f) p) i e (stale block instr state f)
-  pub told : s.noted ≡ true → stale block instr state f ≡ f
-  pub acting : thing p.actors i ≡ Some f
-  pub standing : Standing s i f
-  pub instruction : s.instruction ≡ f.instr
-  pub free : Free i p.core
-  pub operands : e.operands ≡ []
 
 module _ (r : RawTree) (ls : List Line) (m : Process) (p : Proc Frame) (i : ℕ) (e : Entry) (f : Frame) where
   -- its frame is told where it stands

@@ -19,7 +19,8 @@ use Rattle.flow_steps.specs.declared.next.Pace.{Pace}
 use Rattle.flow_steps.specs.declared.process.Process.{Process}
 use Rattle.flow_steps.specs.Sights.{with_left, Evaluates}
 use Rattle.flow_steps.specs.Stepping.{IsThrow}
-use Rattle.flow_follows.specs.Carried.{StepsAs, MayBeStale}
+use Rattle.flow_follows.specs.Going.{MayBeStale}
+use Rattle.flow_follows.specs.Carried.{StepsAs}
 
 -- A value was given, with these turns left, and memory goes on with it.
 pub record GivesValue {A B : Type 0} (seen : B → A) (comes_to : Res A) (m : Process) (goal : B → Process → Pace → Process → Type 0) (pace : Pace) (n : Process) : Type 0 where

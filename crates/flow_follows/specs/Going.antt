@@ -1,5 +1,5 @@
 -- An actor that goes on in memory, at once or by its task, goes on in the process.
-use Rattle.std.specs.Prelude.{◌≡◌, ℕ, suc, ◌+◌, List, [], ◌∷◌, map, length}
+use Rattle.std.specs.Prelude.{◌≡◌, ℕ, suc, ◌+◌, true, List, [], ◌∷◌, map, length}
 use Rattle.flow_value.specs.declared.value.Value.{Value}
 use Rattle.flow_value.specs.Values.{ValueTree}
 use Rattle.flow_value.specs.View.{value_of}
@@ -9,7 +9,7 @@ use Rattle.std.specs.declared.option.Option.{Option}
 use Rattle.std.specs.declared.option.Option.TheVariants.{None, Some}
 use Rattle.flow_trace.specs.declared.line.Line.{Line}
 use Rattle.flow_cancel.specs.Heap.{actor_id}
-use Rattle.flow_meaning.specs.Numbered.{put}
+use Rattle.flow_meaning.specs.Numbered.{thing, put}
 use Rattle.flow_meaning.specs.Cells.{Ref}
 use Rattle.flow_meaning.specs.Process.{Run, Entry, Proc}
 use Rattle.flow_meaning.specs.Occ.{Scan, refs_in}
@@ -40,9 +40,27 @@ pub record MayMove (s : Stand) (p : Proc Frame) (i : ℕ) (e : Entry) (f : Frame
   pub free : Free i p.core
   pub operands : e.operands ≡ []
 
--- The actor is where this stand is, once its frame says so; its own task is off.
+-- a frame that says that it stands elsewhere
+abbrev pub stale : (block instr state : ℕ) → Frame → Frame
+stale b n k f = record f { block = b; instr = n; state = k }
+
+-- Memory shows the process but for where an actor stands, which its frame there need not say yet.
+pub record MayBeStale (r : RawTree) (ls : List Line) (x : Scan) (s : Stand) (m : Process) (p : Proc Frame) (i : ℕ) (e : Entry) (f : Frame)
+    : Type 0 where
+  pub block : ℕ
+  pub instr : ℕ
+  pub state : ℕ
+  pub stood : Stood r ls x m (put_frame i (stale block instr state f) p) i e (stale block instr state f)
+  pub told : s.noted ≡ true → stale block instr state f ≡ f
+  pub acting : thing p.actors i ≡ Some f
+  pub standing : Standing s i f
+  pub instruction : s.instruction ≡ f.instr
+  pub free : Free i p.core
+  pub operands : e.operands ≡ []
+
+-- The actor goes on where this stand is, at once; its own task is off.
 abbrev pub Goes : RawTree → List Line → Scan → Stand → Process → Proc Frame → ℕ → Entry → Frame → Type 0
-Goes r ls x t m p i e g = Stood r ls x (noted t m) (put_frame i g p) i e g × Standing t i g × (t.instruction ≡ g.instr)
+Goes r ls x t m p i e g = MayBeStale r ls x t m (put_frame i g p) i e g
 
 module _ (r : RawTree) (ls : List Line) (m : Process) (p : Proc Frame) (i : ℕ) (e : Entry) (f : Frame) where
   -- it goes on at another instruction, or at the begin of another block
