@@ -1,12 +1,11 @@
 -- A step of an actor in memory by an instruction that evaluates nothing is a step of the class machine.
-use Rattle.std.specs.Prelude.{◌≡◌, ℕ, ◌+◌, true, List, [], map, length}
+use Rattle.std.specs.Prelude.{◌≡◌, ℕ, ◌+◌, List, map, length}
 use Rattle.std.specs.declared.option.Option.TheVariants.{Some}
 use Rattle.flow_base.specs.declared.ids.ErrorCode.{ErrorCode}
 use Rattle.flow_eval.specs.declared.stop.Halt.TheVariants as halt
 use Rattle.flow_class.specs.Classes.{DropInstr, GotoLast, PassLast, RawTree}
 use Rattle.flow_class.specs.Code.{Body, Last, fetch}
 use Rattle.flow_trace.specs.declared.line.Line.{Line}
-use Rattle.flow_meaning.specs.Numbered.{thing}
 use Rattle.flow_meaning.specs.Asks.{Throws, RunsOut, Supply}
 use Rattle.flow_meaning.specs.Evaluating.{asks}
 use Rattle.flow_meaning.specs.Process.{Run, Entry, Proc}
@@ -15,7 +14,7 @@ use Rattle.flow_meaning.specs.Work.{pushed}
 use Rattle.flow_meaning.specs.Step.{view, silent, step, on_core}
 use Rattle.flow_meaning.specs.Class.{next_step, class_names, classes}
 use Rattle.flow_meaning.specs.Frame.{Frame}
-use Rattle.flow_picture.specs.Acting.{Free, put_frame}
+use Rattle.flow_picture.specs.Acting.{put_frame}
 use Rattle.flow_steps.specs.declared.frames.Stand.{Stand}
 use Rattle.flow_steps.specs.declared.next.Pace.{Pace}
 use Rattle.flow_steps.specs.declared.next.Pace.TheVariants.{On, Off}
@@ -26,8 +25,7 @@ use Rattle.flow_steps.specs.Standing.{noted, next_stand, places_taken, places_em
 use Rattle.flow_steps.specs.Stepping.{OnAfter, GoesOnAt, Passes}
 use Rattle.flow_follows.specs.Shown.{Follows}
 use Rattle.flow_follows.specs.Placing.{Stood, HasLocals}
-use Rattle.flow_follows.specs.Taking.{Standing}
-use Rattle.flow_follows.specs.Going.{stale, MayBeStale, Goes}
+use Rattle.flow_follows.specs.Going.{MayBeStale, Goes}
 
 -- After a step the actor goes on at once, where its own task is the newest of the process; or other tasks come first.
 abbrev pub Carries : RawTree → List Line → Scan → (actor : ℕ) → Entry → Pace → Process → Proc Frame → Type 0

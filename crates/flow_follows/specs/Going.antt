@@ -25,7 +25,7 @@ use Rattle.flow_steps.specs.declared.next.Pace.{Pace}
 use Rattle.flow_steps.specs.declared.next.Pace.TheVariants.{On, Off}
 use Rattle.flow_steps.specs.declared.process.Process.{Process}
 use Rattle.flow_steps.specs.Holding.{on_heap, value_refs}
-use Rattle.flow_steps.specs.Standing.{noted, GoesTo, next_stand, places_taken, places_emptied}
+use Rattle.flow_steps.specs.Standing.{GoesTo, next_stand, places_taken, places_emptied}
 use Rattle.flow_steps.specs.Stepping.{OnAfter, GoesOnAt, Passes}
 use Rattle.flow_steps.specs.Tasks.{bound_over, bound}
 use Rattle.flow_follows.specs.Shown.{Shown, AreSpent}
