@@ -1,5 +1,5 @@
 -- What comes to a process in memory from outside, and what is sent, is what the definitions have.
-use Rattle.std.proofs.Common.{◌≡◌, ℕ, zero, suc, ◌+◌, ◌-◌, nat_lt, Bool, true, false, List, [], ◌∷◌, map, if◌then◌else◌, refl, sym, ap, ◌∙◌, subst, arith}
+use Rattle.std.proofs.Common.{◌≡◌, ℕ, nat_lt, Bool, true, false, List, [], ◌∷◌, map, if◌then◌else◌, refl, sym, ap, ◌∙◌, subst, arith}
 use Rattle.std.specs.Option.{option_map, is_some}
 use Rattle.std.specs.declared.option.Option.{Option}
 use Rattle.std.specs.declared.option.Option.TheVariants.{None, Some}
@@ -22,19 +22,18 @@ use Rattle.flow_cancel.specs.Heap.{HeapTree, cell_id, without_number}
 use Rattle.flow_cancel.specs.Heap as heap
 use Rattle.flow_cancel.specs.declared.task.Task.TheVariants as task
 use Rattle.flow_meaning.specs.Numbered.{thing}
-use Rattle.flow_meaning.specs.Asks.{Spot}
 use Rattle.flow_meaning.specs.Cells.{Side, FutureSide, Ref, Waiter, Cell, Single, Stream, is_complete}
 use Rattle.flow_meaning.specs.Cells as cells
-use Rattle.flow_meaning.specs.Process.{Task, Run, Throw, Drop, Core, Proc}
+use Rattle.flow_meaning.specs.Process.{Task, Run, Throw, Drop, Proc}
 use Rattle.flow_meaning.specs.Occ.{Scan, count_maybe, in_task}
-use Rattle.flow_meaning.specs.Work.{turn, pushed, fill}
+use Rattle.flow_meaning.specs.Work.{pushed, fill}
 use Rattle.flow_meaning.specs.React.{send_by, send_in}
 use Rattle.flow_meaning.specs.Deliver.{closed_request, stop, stop_main}
 use Rattle.flow_meaning.specs.Step.{on_core}
 use Rattle.flow_meaning.specs.Frame.{Frame}
 use Rattle.flow_picture.specs.Shows.{Shows, CellShows, spot_of_actor, cell_number, error_number}
 use Rattle.flow_picture.specs.Losing.{RightCell}
-use Rattle.flow_picture.specs.Holds.{Holds, with_refs, There, AllThere, hold_all}
+use Rattle.flow_picture.specs.Holds.{with_refs, There, AllThere, hold_all}
 use Rattle.flow_picture.proofs.Beside.{main_shown, request_closed}
 use Rattle.flow_picture.proofs.Cells.{as_single, as_stream}
 use Rattle.flow_picture.proofs.Referring.{of_pushed, of_answered, of_main}
@@ -43,8 +42,8 @@ use Rattle.flow_picture.proofs.Loss.{memory_single, memory_stream}
 use Rattle.flow_steps.specs.declared.process.Process.{Process}
 use Rattle.flow_steps.specs.Doing.{turned, doing}
 use Rattle.flow_steps.specs.Holding.{on_heap, outcome_refs}
-use Rattle.flow_steps.specs.Bringing.{content_brought, brought, answered, main_dropped, complete_at, is_set, is_ended, sent_into, sending}
-use Rattle.flow_follows.specs.Shown.{Shown, Follows, shows, ends, with_task}
+use Rattle.flow_steps.specs.Bringing.{content_brought, answered, main_dropped, complete_at, is_set, is_ended, sent_into, sending}
+use Rattle.flow_follows.specs.Shown.{Shown, Follows, shows, with_task}
 use Rattle.flow_follows.specs.Working.{Sendable}
 use Rattle.flow_follows.specs.Bringing as law
 use Rattle.flow_follows.proofs.Working.{changed, as_many_shown, turn_taken, task_done, refs_held, cell_filled}

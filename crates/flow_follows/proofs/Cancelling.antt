@@ -1,9 +1,8 @@
 -- An actor leaves its wait, one is cancelled, and a reference is lost, as the definitions have it.
-use Rattle.std.proofs.Common.{◌≡◌, ℕ, zero, suc, ◌+◌, ◌≤◌, ◌-◌, nat_lt, Bool, true, false, List, [], ◌∷◌, ◌++◌, if◌then◌else◌, refl, sym, ap, ◌∙◌, subst, arith}
+use Rattle.std.proofs.Common.{◌≡◌, ℕ, ◌≤◌, Bool, true, false, List, [], ◌∷◌, ◌++◌, if◌then◌else◌, refl, sym, ap, ◌∙◌, subst, arith}
 use Rattle.std.specs.Option.{option_map}
 use Rattle.std.specs.declared.option.Option.{Option}
 use Rattle.std.specs.declared.option.Option.TheVariants.{None, Some}
-use Rattle.flow_value.specs.declared.value.Kind.{Kind}
 use Rattle.flow_class.specs.Classes.{RawTree}
 use Rattle.flow_trace.specs.declared.line.Line.{Line}
 use Rattle.flow_numbered.specs.Numbered as stored
@@ -15,36 +14,29 @@ use Rattle.flow_cancel.specs.Heap as heap
 use Rattle.flow_cancel.specs.Dropping.{Lost, dropped}
 use Rattle.flow_cancel.specs.Dropping as dropping
 use Rattle.flow_cancel.specs.Leaving.{withdrawn, cancelled}
-use Rattle.flow_meaning.specs.Numbered.{Numbered, thing, put}
-use Rattle.flow_meaning.specs.Cells.{Side, PromiseSide, FutureSide, side_of, Cell, is_complete}
+use Rattle.flow_meaning.specs.Numbered.{Numbered, thing}
+use Rattle.flow_meaning.specs.Cells.{PromiseSide}
 use Rattle.flow_meaning.specs.Process.{Entry, Core, Proc}
-use Rattle.flow_meaning.specs.Occ.{Scan, one, in_entries}
+use Rattle.flow_meaning.specs.Occ.{Scan, in_entries}
 use Rattle.flow_meaning.specs.Lines.{cancel_line}
-use Rattle.flow_meaning.specs.Work.{writes, cancel, cancel_by, cancel_owner, owner, free}
-use Rattle.flow_meaning.specs.Dropping.{Loss, Kept, Freed, Broken, Orphan, Unheard, loss, port_of, suffer, lose_cell, lose_ref}
+use Rattle.flow_meaning.specs.Work.{writes, cancel, cancel_by, cancel_owner, owner}
 use Rattle.flow_meaning.specs.Step.{on_core}
 use Rattle.flow_meaning.specs.Frame.{Frame}
-use Rattle.flow_picture.specs.Shows.{Somebody, cell_number}
-use Rattle.flow_picture.specs.Counted.{references, frames_hold, nothing_in_hand}
+use Rattle.flow_picture.specs.Shows.{cell_number}
 use Rattle.flow_picture.specs.Rested.{Sorted}
 use Rattle.flow_picture.specs.Acting.{At}
 use Rattle.flow_picture.specs.Leaving.{left_wait}
-use Rattle.flow_picture.specs.Losing.{RightCell, Losing, Follows, free_port}
-use Rattle.flow_picture.specs.Losing as losing
-use Rattle.flow_picture.specs.Holds.{Holds, There, MayWait}
+use Rattle.flow_picture.specs.Holds.{Holds, MayWait}
 use Rattle.flow_picture.proofs.Actors.{by_note, by_entry}
 use Rattle.flow_picture.proofs.Owners.{noted_result, result_noted, note_found, note_unfound, entry_found, entry_unfound, one_owner}
-use Rattle.flow_picture.proofs.Loss.{loss_follows}
 use Rattle.flow_picture.proofs.Further.{wait_left, actor_cancelled}
-use Rattle.flow_steps.specs.declared.call.Call.TheVariants as call
 use Rattle.flow_steps.specs.declared.process.Process.{Process}
-use Rattle.flow_steps.specs.Doing.{departed, asking, stopped}
-use Rattle.flow_steps.specs.Holding.{on_heap, with_heap, broken, lost_by, lost, cancelled_if, owner_cancelled}
-use Rattle.flow_follows.specs.Shown.{told, Writes, Shown, Sound}
-use Rattle.flow_follows.specs.Shown as shown
+use Rattle.flow_steps.specs.Doing.{stopped}
+use Rattle.flow_steps.specs.Holding.{cancelled_if}
+use Rattle.flow_follows.specs.Shown.{told, Shown, Sound}
 use Rattle.flow_follows.specs.Working as law
 use Rattle.flow_follows.specs.Working.{Sendable}
-use Rattle.flow_follows.proofs.Working.{changed, as_many_shown, no_more, cell_broken}
+use Rattle.flow_follows.proofs.Working.{changed, no_more}
 
 -- a cancelled actor changes neither turns nor the halt, and one line more is written
 cancelled_lines : (b : Bool) (i : ℕ) (e : Entry) (c : Core) → (cancel_by b i e c).lines ≡ c.lines

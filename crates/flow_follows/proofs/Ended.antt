@@ -1,5 +1,5 @@
 -- The end of an actor in memory is that of the definitions.
-use Rattle.std.proofs.Common.{◌≡◌, ℕ, zero, suc, ◌+◌, ◌<◌, ◌-◌, nat_lt, Bool, true, false, List, [], ◌∷◌, ◌++◌, if◌then◌else◌, refl, sym, ap, ◌∙◌, subst, arith}
+use Rattle.std.proofs.Common.{◌≡◌, ℕ, zero, suc, ◌+◌, ◌<◌, ◌-◌, nat_lt, Bool, true, false, List, [], if◌then◌else◌, refl, sym, ap, ◌∙◌, subst, arith}
 use Rattle.std.proofs.lemmas.Bool.Decides.{nat_tests}
 use Rattle.std.specs.Option.{option_map}
 use Rattle.std.specs.declared.option.Option.{Option}
@@ -9,7 +9,6 @@ use Rattle.flow_base.specs.declared.ids.CellId.{CellId}
 use Rattle.flow_value.specs.declared.value.Outcome.{Outcome}
 use Rattle.flow_value.specs.declared.value.Outcome.TheVariants as outcome
 use Rattle.flow_value.specs.declared.value.Kind.TheVariants as kind
-use Rattle.flow_value.specs.Values.{OutcomeTree}
 use Rattle.flow_value.specs.View.{outcome_of}
 use Rattle.flow_class.specs.Classes.{RawTree}
 use Rattle.flow_trace.specs.declared.line.Line.{Line}
@@ -17,26 +16,25 @@ use Rattle.flow_numbered.specs.Numbered as stored
 use Rattle.flow_cell.specs.Cells.{CellTree, Counts, released}
 use Rattle.flow_cell.specs.declared.counts.Side.TheVariants.{Promise}
 use Rattle.flow_cancel.specs.Heap.{HeapTree, without, finished}
-use Rattle.flow_cancel.specs.Dropping.{dropped, drop_cell}
-use Rattle.flow_meaning.specs.Numbered.{thing, removed}
+use Rattle.flow_cancel.specs.Dropping.{drop_cell}
+use Rattle.flow_meaning.specs.Numbered.{thing}
 use Rattle.flow_meaning.specs.Cells.{Side, PromiseSide, FutureSide, Waiter, Cell, Single, Stream}
-use Rattle.flow_meaning.specs.Process.{Entry, Core, Proc}
-use Rattle.flow_meaning.specs.Occ.{Scan, one, count, count_maybe, count_kept, count_waiters, refs_in, value_in}
+use Rattle.flow_meaning.specs.Process.{Entry, Proc}
+use Rattle.flow_meaning.specs.Occ.{Scan, one, count, count_maybe, count_kept, count_waiters}
 use Rattle.flow_meaning.specs.Lines as lines
-use Rattle.flow_meaning.specs.Work.{turn, writes, dropping_values, fill}
+use Rattle.flow_meaning.specs.Work.{turn, writes, fill}
 use Rattle.flow_meaning.specs.Orderly.{Rising}
-use Rattle.flow_meaning.specs.Dropping.{set_result, give_result, close}
+use Rattle.flow_meaning.specs.Dropping.{set_result, give_result}
 use Rattle.flow_meaning.specs.Step.{proc, on_core}
 use Rattle.flow_meaning.specs.Frame.{Frame}
 use Rattle.flow_meaning.proofs.Posture.{each_number}
-use Rattle.flow_picture.specs.Shows.{Shows, CellShows, spot_of_actor, cell_number}
+use Rattle.flow_picture.specs.Shows.{CellShows, spot_of_actor, cell_number}
 use Rattle.flow_picture.specs.Counted.{kept_count, count_at, references, frames_hold, nothing_in_hand}
 use Rattle.flow_picture.specs.Rested.{IsUnset, Sorted}
 use Rattle.flow_picture.specs.Changes.{cell_put, without_cell}
-use Rattle.flow_picture.specs.Acting.{At, without_actor}
-use Rattle.flow_picture.specs.References.{entry_holds, frame_holds, cell_holds}
-use Rattle.flow_picture.specs.Holds.{Holds, with_refs, hold_all, filled_in}
-use Rattle.flow_picture.proofs.Finds.{stored_gone, stored_removed, stored_put}
+use Rattle.flow_picture.specs.Acting.{without_actor}
+use Rattle.flow_picture.specs.Holds.{with_refs, filled_in}
+use Rattle.flow_picture.proofs.Finds.{stored_gone, stored_removed}
 use Rattle.flow_picture.proofs.Cells.{AsSingle, as_single}
 use Rattle.flow_picture.proofs.Losing.{unwaited, one_is, counts_are}
 use Rattle.flow_picture.proofs.Keeping.{cell_released, no_one}
@@ -46,9 +44,8 @@ use Rattle.flow_picture.proofs.Acted.{finished_shown}
 use Rattle.flow_steps.specs.declared.process.Process.{Process}
 use Rattle.flow_steps.specs.Doing.{turned, telling}
 use Rattle.flow_steps.specs.Holding.{on_heap, outcome_refs, refs_dropped, futures_of, lost_by, lost}
-use Rattle.flow_steps.specs.Bringing.{promise_ended, without_promise, result_set, end_line, ended_in, ended_with, closing, closed}
-use Rattle.flow_follows.specs.Shown.{Shown, Follows, shows, ends, Sound}
-use Rattle.flow_follows.specs.Working.{Sendable}
+use Rattle.flow_steps.specs.Bringing.{promise_ended, without_promise, result_set, end_line, ended_in, ended_with}
+use Rattle.flow_follows.specs.Shown.{Shown, Follows, shows, Sound}
 use Rattle.flow_follows.specs.Closing as law
 use Rattle.flow_follows.specs.Closing.{MayClose}
 use Rattle.flow_follows.proofs.Working.{changed, as_many_shown, turn_taken, refs_dropped_shown, cell_filled, telling_shown}

@@ -1,10 +1,8 @@
 -- The result of an effect goes where it belongs, as the definitions have it.
-use Rattle.std.proofs.Common.{◌≡◌, ℕ, zero, suc, ◌+◌, List, [], ◌∷◌, refl, sym, ap, ◌∙◌, subst, arith}
-use Rattle.std.specs.declared.option.Option.TheVariants.{None, Some}
+use Rattle.std.proofs.Common.{◌≡◌, ℕ, ◌+◌, List, [], ◌∷◌, refl, sym, ap, ◌∙◌, subst, arith}
 use Rattle.flow_base.specs.declared.ids.ActorId.{ActorId}
 use Rattle.flow_value.specs.declared.value.Value.{Value}
-use Rattle.flow_value.specs.declared.value.Kind.{Kind}
-use Rattle.flow_value.specs.Values.{ValueTree, RefValue, refs_of}
+use Rattle.flow_value.specs.Values.{refs_of}
 use Rattle.flow_value.specs.View.{value_of}
 use Rattle.flow_class.specs.Classes.{RawTree}
 use Rattle.flow_trace.specs.declared.line.Line.{Line}
@@ -13,9 +11,9 @@ use Rattle.flow_cancel.specs.declared.task.Task.TheVariants as task
 use Rattle.flow_meaning.specs.Asks as asks
 use Rattle.flow_meaning.specs.Cells.{Side, Ref}
 use Rattle.flow_meaning.specs.Process.{Task, Run, Store, Keep, Proc}
-use Rattle.flow_meaning.specs.Occ.{Scan, one, count, in_task}
+use Rattle.flow_meaning.specs.Occ.{Scan, count, in_task}
 use Rattle.flow_meaning.specs.Work.{pushed}
-use Rattle.flow_meaning.specs.Effects.{result_task, push_result, gives}
+use Rattle.flow_meaning.specs.Effects.{gives}
 use Rattle.flow_meaning.specs.Numbered.{thing}
 use Rattle.flow_meaning.specs.Step.{kept_by, on_core}
 use Rattle.flow_meaning.specs.Frame.{Frame}
@@ -26,7 +24,7 @@ use Rattle.flow_picture.proofs.Holds.{given_holds}
 use Rattle.flow_steps.specs.declared.call.Goal.{Goal}
 use Rattle.flow_steps.specs.declared.call.Goal.TheVariants as goal
 use Rattle.flow_steps.specs.declared.process.Process.{Process}
-use Rattle.flow_steps.specs.Holding.{on_heap, value_refs, IsGiving, Gives}
+use Rattle.flow_steps.specs.Holding.{on_heap, value_refs, IsGiving}
 use Rattle.flow_follows.specs.Shown.{Shown}
 use Rattle.flow_follows.specs.Working as law
 use Rattle.flow_follows.specs.Working.{SameGoal}

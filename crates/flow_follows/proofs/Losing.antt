@@ -1,32 +1,30 @@
 -- A reference is lost, and what that leads to is done, as the definitions have it.
-use Rattle.std.proofs.Common.{◌≡◌, ℕ, zero, suc, ◌+◌, Bool, true, false, List, [], ◌∷◌, ◌++◌, refl, sym, ap, ◌∙◌, subst, arith}
+use Rattle.std.proofs.Common.{◌≡◌, ℕ, zero, suc, Bool, true, false, List, ◌++◌, refl, sym, ap, ◌∙◌, subst}
 use Rattle.std.specs.declared.option.Option.{Option}
 use Rattle.std.specs.declared.option.Option.TheVariants.{None, Some}
 use Rattle.flow_value.specs.declared.value.Kind.{Kind}
 use Rattle.flow_class.specs.Classes.{RawTree}
 use Rattle.flow_trace.specs.declared.line.Line.{Line}
 use Rattle.flow_cancel.specs.declared.task.Dropped.TheVariants as after
-use Rattle.flow_cancel.specs.Heap.{HeapTree, cell_id, actor_id}
+use Rattle.flow_cancel.specs.Heap.{HeapTree, cell_id}
 use Rattle.flow_cancel.specs.Dropping.{Lost, dropped}
 use Rattle.flow_meaning.specs.Numbered.{thing, removed}
 use Rattle.flow_meaning.specs.Cells.{Side, PromiseSide, FutureSide, side_of, Cell, is_complete}
 use Rattle.flow_meaning.specs.Process.{Entry, Core, Proc}
 use Rattle.flow_meaning.specs.Occ.{one}
 use Rattle.flow_meaning.specs.Work.{owner, free, free_cell}
-use Rattle.flow_meaning.specs.Dropping.{Loss, Kept, Freed, Broken, Orphan, Unheard, promises_gone, futures_gone, loss, port_of, suffer, lose_cell, lose_ref}
+use Rattle.flow_meaning.specs.Dropping.{Loss, Kept, Freed, Broken, Orphan, Unheard, promises_gone, futures_gone, loss, port_of, suffer, lose_cell}
 use Rattle.flow_meaning.specs.Step.{on_core}
 use Rattle.flow_meaning.specs.Frame.{Frame}
 use Rattle.flow_picture.specs.Counted.{references, frames_hold, nothing_in_hand}
-use Rattle.flow_picture.specs.Rested.{Sorted}
 use Rattle.flow_picture.specs.Losing.{RightCell, Losing, Same, free_port}
 use Rattle.flow_picture.specs.Losing as losing
-use Rattle.flow_picture.specs.Holds.{Holds, There}
 use Rattle.flow_picture.proofs.Loss.{loss_follows}
 use Rattle.flow_steps.specs.declared.call.Call.TheVariants as call
 use Rattle.flow_steps.specs.declared.process.Process.{Process}
 use Rattle.flow_steps.specs.Doing.{asking, stopped}
-use Rattle.flow_steps.specs.Holding.{with_heap, broken, lost_by, lost}
-use Rattle.flow_follows.specs.Shown.{told, Writes, Shown, Follows, shows, ends, Sound}
+use Rattle.flow_steps.specs.Holding.{with_heap, lost_by, lost}
+use Rattle.flow_follows.specs.Shown.{told, Shown, Follows, shows, Sound}
 use Rattle.flow_follows.specs.Working as law
 use Rattle.flow_follows.specs.Working.{Sendable}
 use Rattle.flow_follows.proofs.Working.{changed, cell_broken}

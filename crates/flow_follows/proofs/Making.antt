@@ -1,8 +1,7 @@
 -- What is made in a process in memory and given to an actor is what the definitions have.
-use Rattle.std.proofs.Common.{◌≡◌, ℕ, zero, suc, ◌+◌, ◌<◌, List, [], ◌∷◌, ◌++◌, refl, sym, ap, ◌∙◌, subst, arith}
+use Rattle.std.proofs.Common.{◌≡◌, ℕ, suc, ◌+◌, ◌<◌, List, [], ◌∷◌, ◌++◌, refl, sym, ap, ◌∙◌, subst, arith}
 use Rattle.std.specs.declared.option.Option.{Option}
 use Rattle.std.specs.declared.option.Option.TheVariants.{None, Some}
-use Rattle.flow_base.specs.declared.ids.ActorId.{ActorId}
 use Rattle.flow_base.specs.declared.ids.CellId.{CellId}
 use Rattle.flow_value.specs.declared.value.Value.TheVariants.{Ref, rolls-Ref}
 use Rattle.flow_value.specs.declared.value.Kind.{Kind}
@@ -14,16 +13,15 @@ use Rattle.flow_value.specs.declared.value.Value.TheOpen as layer
 use Rattle.flow_class.specs.Classes.{RawTree}
 use Rattle.flow_trace.specs.declared.line.Line.{Line}
 use Rattle.flow_numbered.specs.Numbered as stored
-use Rattle.flow_cancel.specs.Heap.{HeapTree, next_cell, with_result, with_stream}
+use Rattle.flow_cancel.specs.Heap.{next_cell, with_result, with_stream}
 use Rattle.flow_meaning.specs.Numbered.{thing, added}
 use Rattle.flow_meaning.specs.Asks as asks
-use Rattle.flow_meaning.specs.Cells as cells
 use Rattle.flow_meaning.specs.Cells.{Cell, Single, Stream}
-use Rattle.flow_meaning.specs.Process.{Task, Run, Store, Keep, Core, Proc}
+use Rattle.flow_meaning.specs.Process.{Task, Run, Store, Keep, Proc}
 use Rattle.flow_meaning.specs.Occ.{Scan}
 use Rattle.flow_meaning.specs.Orderly.{Rising}
 use Rattle.flow_meaning.specs.Work.{pushed, new_cell}
-use Rattle.flow_meaning.specs.Effects.{result_task, push_result, gives, gives_new, gives_open, empty_cell, open_port}
+use Rattle.flow_meaning.specs.Effects.{result_task, push_result, gives, gives_open, empty_cell, open_port}
 use Rattle.flow_meaning.specs.Step.{kept_by, proc, on_core}
 use Rattle.flow_meaning.specs.Frame.{Frame}
 use Rattle.flow_picture.specs.Shows.{spot_of_actor}
@@ -39,8 +37,8 @@ use Rattle.flow_picture.proofs.Beside.{request_shown, port_shown}
 use Rattle.flow_steps.specs.declared.call.Goal.{Goal}
 use Rattle.flow_steps.specs.declared.call.Goal.TheVariants as goal
 use Rattle.flow_steps.specs.declared.process.Process.{Process}
-use Rattle.flow_steps.specs.Holding.{on_heap, value_refs, Gives}
-use Rattle.flow_steps.specs.Bringing.{made, requested, heard, OpenGiven, PortGiven}
+use Rattle.flow_steps.specs.Holding.{on_heap, value_refs}
+use Rattle.flow_steps.specs.Bringing.{made, requested, heard}
 use Rattle.flow_follows.specs.Shown.{Shown}
 use Rattle.flow_follows.specs.Working.{SameGoal}
 use Rattle.flow_follows.specs.Bringing as law

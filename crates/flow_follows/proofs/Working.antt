@@ -1,46 +1,33 @@
 -- What a process in memory does to its own state is what the definitions do.
-use Rattle.std.proofs.Common.{◌≡◌, ℕ, zero, suc, ◌+◌, ◌-◌, nat_lt, Bool, true, false, List, [], ◌∷◌, ◌++◌, if◌then◌else◌, refl, sym, ap, ◌∙◌, subst, arith}
+use Rattle.std.proofs.Common.{◌≡◌, ℕ, zero, suc, ◌-◌, nat_lt, Bool, true, false, List, [], ◌∷◌, ◌++◌, if◌then◌else◌, refl, sym, ap, ◌∙◌, subst, arith}
 use Rattle.std.proofs.lemmas.Bool.Decides.{nat_tests}
-use Rattle.std.specs.declared.option.Option.{Option}
-use Rattle.std.specs.declared.option.Option.TheVariants.{None, Some}
+use Rattle.std.specs.declared.option.Option.TheVariants.{None}
 use Rattle.flow_base.specs.ErrorNumbers.{broken_promise}
-use Rattle.flow_base.specs.declared.ids.ActorId.{ActorId}
-use Rattle.flow_value.specs.declared.value.Value.{Value}
-use Rattle.flow_value.specs.declared.value.Outcome.{Outcome}
 use Rattle.flow_value.specs.declared.value.Outcome.TheVariants as outcome
 use Rattle.flow_value.specs.declared.value.Kind.{Kind}
-use Rattle.flow_value.specs.View.{value_of, outcome_of}
+use Rattle.flow_value.specs.View.{outcome_of}
 use Rattle.flow_value.specs.Values.{BadOutcome}
 use Rattle.flow_class.specs.Classes.{RawTree}
 use Rattle.flow_trace.specs.declared.line.Line.{Line}
-use Rattle.flow_cancel.specs.declared.task.Task as stack
 use Rattle.flow_cancel.specs.Heap.{HeapTree}
 use Rattle.flow_cancel.specs.Heap as heap
-use Rattle.flow_cancel.specs.Dropping.{drops}
-use Rattle.flow_meaning.specs.Numbered.{thing}
-use Rattle.flow_meaning.specs.Asks as asks
-use Rattle.flow_meaning.specs.Cells.{Side, Ref, side_of, Cell, is_complete}
-use Rattle.flow_meaning.specs.Process.{Task, Spent, Entry, Core, Proc}
-use Rattle.flow_meaning.specs.Occ.{Scan, one, in_task}
+use Rattle.flow_meaning.specs.Numbered.{Numbered}
+use Rattle.flow_meaning.specs.Cells.{Side}
+use Rattle.flow_meaning.specs.Process.{Core, Proc}
+use Rattle.flow_meaning.specs.Occ.{Scan}
 use Rattle.flow_meaning.specs.Lines.{broken_line}
-use Rattle.flow_meaning.specs.Work as work
 use Rattle.flow_meaning.specs.Work.{turn, turn_of, writes, pushed, dropping, fill, fill_cell}
-use Rattle.flow_meaning.specs.Dropping.{lose_ref, break_cell}
-use Rattle.flow_meaning.specs.Step.{on_core}
+use Rattle.flow_meaning.specs.Step.{proc, on_core}
 use Rattle.flow_meaning.specs.Frame.{Frame}
-use Rattle.flow_picture.specs.Shows.{Shows}
-use Rattle.flow_picture.specs.Counted.{references}
-use Rattle.flow_picture.specs.Changes.{SameTask}
-use Rattle.flow_picture.specs.Losing.{RightCell}
-use Rattle.flow_picture.specs.Holds.{Holds, with_refs, There, AllThere, hold, hold_all, filled_in}
+use Rattle.flow_picture.specs.Holds.{Holds, with_refs, hold, hold_all, filled_in}
 use Rattle.flow_picture.proofs.Shown.{pushed_shown, dropped_shown}
 use Rattle.flow_picture.proofs.Referring.{of_pushed, of_dropped}
 use Rattle.flow_picture.proofs.Holds.{held_holds, all_held, filled_holds, as_many}
 use Rattle.flow_picture.proofs.Further.{aside}
 use Rattle.flow_steps.specs.declared.process.Process.{Process}
-use Rattle.flow_steps.specs.Doing.{turned, telling, doing}
-use Rattle.flow_steps.specs.Holding.{on_heap, outcome_refs, refs_dropped, filled_broken, broken}
-use Rattle.flow_follows.specs.Shown.{told, Writes, Shown, AreSpent, Follows, shows, ends, with_task}
+use Rattle.flow_steps.specs.Doing.{turned, telling}
+use Rattle.flow_steps.specs.Holding.{outcome_refs, refs_dropped, filled_broken}
+use Rattle.flow_follows.specs.Shown.{told, Shown, AreSpent, Follows, shows, ends, with_task}
 use Rattle.flow_follows.specs.Working as law
 use Rattle.flow_follows.specs.Working.{Sendable}
 
@@ -80,26 +67,34 @@ module _ (r : RawTree) (ls : List Line) (x : Scan) (m : Process) (p : Proc Frame
         goes = s.goes;
       })
 
-  without_turn : (act : Core → Core) → m.left ≡ 0 → Shown r ls x m p → AreSpent ls (turned m) (on_core (λ c. turn c act) p)
-  without_turn act e s =
-      subst (λ k. AreSpent ls k (on_core (λ c. turn c act) p)) (sym (turned_none m e))
-      (subst (λ n. AreSpent ls (record m { spent = true }) (on_core (λ c. turn_of n c act) p)) (sym (s.left ∙ e)) (record {
+  pub without_turn : (act : Core → Core) (c : Core) (xs : Numbered Frame) → m.left ≡ 0 → c.left ≡ p.core.left → c.lines ≡ p.core.lines → Shown r ls x m p → AreSpent ls (turned m) (proc (turn c act) xs)
+  without_turn act c xs e same lines s =
+      subst (λ k. AreSpent ls k (proc (turn c act) xs)) (sym (turned_none m e))
+      (subst (λ n. AreSpent ls (record m { spent = true }) (proc (turn_of n c act) xs)) (sym (same ∙ s.left ∙ e)) (record {
         spent = refl;
         halted = refl;
-        lines = s.lines;
+        lines = lines ∙ s.lines;
       }))
 
-  pub turn_taken : law.TurnTaken r ls x m p
-  turn_taken y f act s go = by_left m.left refl
+  -- a turn is left, or none; whatever else there is then
+  pub by_turn : (y : Scan) (n : Process) (act : Core → Core) (c : Core) (xs : Numbered Frame) → Shown r ls x m p → c.left ≡ p.core.left → c.lines ≡ p.core.lines
+      → (m.left ≡ 0 → n ≡ turned m)
+      → ((k : ℕ) → m.left ≡ suc k → Shown r ls x (turned m) (on_core (λ d. record d { left = k }) p)
+      → Follows r ls y n (proc (act (record c { left = k })) xs))
+      → Follows r ls y n (proc (turn c act) xs)
+  by_turn y n act c xs s same lines none go = by_left m.left refl
     where
-      by_left : (n : ℕ) → m.left ≡ n → Follows r ls y (if nat_lt 0 m.left then f (turned m) else turned m) (on_core (λ c. turn c act) p)
-      by_left zero e =
-          let t : nat_lt 0 m.left ≡ false = grind (arith, nat_tests, e) in
-          subst (λ b. Follows r ls y (if b then f (turned m) else turned m) (on_core (λ c. turn c act) p)) (sym t) (ends (without_turn act e s))
-      by_left (suc n) e =
-          let t : nat_lt 0 m.left ≡ true = grind (arith, nat_tests, e) in
-          subst (λ b. Follows r ls y (if b then f (turned m) else turned m) (on_core (λ c. turn c act) p)) (sym t)
-          (subst (λ k. Follows r ls y (f (turned m)) (on_core (λ c. turn_of k c act) p)) (sym (s.left ∙ e)) (go n e (with_turn n e s)))
+      by_left : (k : ℕ) → m.left ≡ k → Follows r ls y n (proc (turn c act) xs)
+      by_left zero e = subst (λ t. Follows r ls y t (proc (turn c act) xs)) (sym (none e)) (ends (without_turn act c xs e same lines s))
+      by_left (suc k) e = subst (λ t. Follows r ls y n (proc (turn_of t c act) xs)) (sym (same ∙ s.left ∙ e)) (go k e (with_turn k e s))
+
+  pub turn_taken : law.TurnTaken r ls x m p
+  turn_taken y f act s go =
+      by_turn y (if nat_lt 0 m.left then f (turned m) else turned m) act p.core p.actors s refl refl
+      (λ e. let t : nat_lt 0 m.left ≡ false = grind (arith, nat_tests, e) in ap (λ b. if b then f (turned m) else turned m) t)
+      (λ k e now.
+      let t : nat_lt 0 m.left ≡ true = grind (arith, nat_tests, e) in
+      subst (λ b. Follows r ls y (if b then f (turned m) else turned m) (on_core act (on_core (λ c. record c { left = k }) p))) (sym t) (go k e now))
 
   -- tasks
   pub task_done : law.TaskDone r ls x m p

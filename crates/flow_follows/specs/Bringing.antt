@@ -1,6 +1,6 @@
 -- What comes to a process in memory from outside, what is made in it and sent is what the definitions have.
-use Rattle.std.specs.Prelude.{◌≡◌, ℕ, suc, true, List, [], ◌∷◌}
-use Rattle.std.specs.declared.option.Option.TheVariants.{None, Some}
+use Rattle.std.specs.Prelude.{◌≡◌, ℕ, suc, true, List}
+use Rattle.std.specs.declared.option.Option.TheVariants.{None}
 use Rattle.flow_base.specs.declared.ids.ActorId.{ActorId}
 use Rattle.flow_base.specs.declared.ids.CellId.{CellId}
 use Rattle.flow_value.specs.declared.value.Value.TheVariants.{Ref}
@@ -13,8 +13,7 @@ use Rattle.flow_trace.specs.declared.line.Line.{Line}
 use Rattle.flow_cancel.specs.Heap.{next_cell}
 use Rattle.flow_meaning.specs.Numbered.{thing}
 use Rattle.flow_meaning.specs.Asks as asks
-use Rattle.flow_meaning.specs.Cells.{Cell}
-use Rattle.flow_meaning.specs.Process.{Drop, Core, Proc}
+use Rattle.flow_meaning.specs.Process.{Drop, Proc}
 use Rattle.flow_meaning.specs.Occ.{Scan}
 use Rattle.flow_meaning.specs.Orderly.{Rising}
 use Rattle.flow_meaning.specs.Work.{turn, pushed, fill, new_cell}
@@ -24,7 +23,6 @@ use Rattle.flow_meaning.specs.Deliver.{closed_request, stop}
 use Rattle.flow_meaning.specs.Step.{on_core}
 use Rattle.flow_meaning.specs.Frame.{Frame}
 use Rattle.flow_picture.specs.Rested.{has, InNumbers}
-use Rattle.flow_picture.specs.Losing.{RightCell}
 use Rattle.flow_picture.specs.Holds.{There, AllThere}
 use Rattle.flow_steps.specs.declared.call.Goal.{Goal}
 use Rattle.flow_steps.specs.declared.process.Process.{Process}

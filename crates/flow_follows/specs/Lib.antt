@@ -2,3 +2,15 @@ pub mod Shown
 pub mod Working
 pub mod Bringing
 pub mod Closing
+pub mod Placing
+pub mod Taking
+pub mod Keeping
+pub mod Tasking
+pub mod Throwing
+pub mod Coded
+pub mod Waiting
+pub mod Going
+pub mod Seeing
+pub mod Stepped
+pub mod Carried
+pub mod Evaluated

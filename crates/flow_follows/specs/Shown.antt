@@ -1,5 +1,5 @@
 -- A process in memory, while an event goes on, and the process of the definitions that it shows.
-use Rattle.std.specs.Prelude.{◌≡◌, ℕ, ◌+◌, true, false, List, [], ◌∷◌, ◌++◌}
+use Rattle.std.specs.Prelude.{◌≡◌, ◌+◌, true, false, List, [], ◌∷◌, ◌++◌}
 use Rattle.std.specs.declared.option.Option.{Option}
 use Rattle.std.specs.declared.option.Option.TheVariants.{None, Some}
 use Rattle.flow_class.specs.Classes.{RawTree}
@@ -7,7 +7,6 @@ use Rattle.flow_trace.specs.declared.line.Line.{Line}
 use Rattle.flow_steps.specs.declared.call.Call.{Call}
 use Rattle.flow_steps.specs.declared.call.Call.TheVariants as call
 use Rattle.flow_steps.specs.declared.process.Process.{Process}
-use Rattle.flow_meaning.specs.Cells.{PromiseSide, FutureSide}
 use Rattle.flow_meaning.specs.Process.{Task, Spent, Proc}
 use Rattle.flow_meaning.specs.Occ.{Scan, in_task}
 use Rattle.flow_meaning.specs.Orderly.{Rising}

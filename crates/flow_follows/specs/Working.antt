@@ -1,6 +1,5 @@
 -- What a process in memory does to its own state is what the definitions do.
 use Rattle.std.specs.Prelude.{◌≡◌, ℕ, suc, ◌+◌, nat_lt, false, List, [], ◌∷◌, if◌then◌else◌}
-use Rattle.std.specs.declared.option.Option.{Option}
 use Rattle.std.specs.declared.option.Option.TheVariants.{None, Some}
 use Rattle.flow_base.specs.declared.ids.ActorId.{ActorId}
 use Rattle.flow_value.specs.declared.value.Value.{Value}
@@ -15,7 +14,6 @@ use Rattle.flow_meaning.specs.Asks as asks
 use Rattle.flow_meaning.specs.Cells.{Ref, side_of, Cell, is_complete}
 use Rattle.flow_meaning.specs.Process.{Task, Entry, Core, Proc}
 use Rattle.flow_meaning.specs.Occ.{Scan, one}
-use Rattle.flow_meaning.specs.Work as work
 use Rattle.flow_meaning.specs.Work.{turn, pushed, dropping, fill, owner, cancel_owner, cancel}
 use Rattle.flow_meaning.specs.Dropping.{lose_ref, break_cell}
 use Rattle.flow_meaning.specs.Effects.{gives}

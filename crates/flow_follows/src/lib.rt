@@ -4,4 +4,11 @@
 #![tactic(auto)]
 
 pub mod bringing;
+pub mod going;
+pub mod keeping;
+pub mod placing;
+pub mod seeing;
+pub mod standing;
+pub mod taking;
+pub mod tasking;
 pub mod work;

@@ -45,7 +45,7 @@ shown = record {
           class = refl;
           result = refl;
           marked = refl;
-          frame = stands (record { code = refl; places = refl; slots = refl; position = at_wait refl; callbacks = refl; suspended = refl; spot = λ e. refl });
+          frame = stands (record { code = refl; places = refl; slots = refl; position = at_wait 0 refl refl; callbacks = refl; suspended = refl; spot = λ e. refl });
         };
       }))
       (nobody refl refl refl refl) (λ i a b. rw a (nobody refl refl refl refl));

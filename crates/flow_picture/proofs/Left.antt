@@ -80,16 +80,16 @@ held_as r n m e f o = by_frame o.frame
     by_frame (stands s) = s.callbacks
     by_frame (ended x) = x.callbacks ∙ ap (held_from (wait_spot f).first) (sym x.operands)
 
+waits_for_none : (n : ℕ) → waits n [] ≡ false
+waits_for_none zero = refl
+waits_for_none (suc n) = refl
+
 pub suspended_as : (r : RawTree) (n : Note) (m : FrameTree Value) (e : Entry) (f : Frame) → OneActor r n m e f → waits m.state m.callbacks ≡ e.suspended
 suspended_as r n m e f o = by_frame o.frame
   where
     by_frame : FrameShows r m e f → waits m.state m.callbacks ≡ e.suspended
     by_frame (stands s) = s.suspended
-    by_frame (ended x) = ap (λ y. waits y m.callbacks) x.state ∙ sym x.suspended
-
-waits_for_none : (n : ℕ) → waits n [] ≡ false
-waits_for_none zero = refl
-waits_for_none (suc n) = refl
+    by_frame (ended x) = ap (waits m.state) x.callbacks ∙ waits_for_none m.state ∙ sym x.suspended
 
 -- without its callbacks it runs
 runs : (r : RawTree) (n : Note) (m : FrameTree Value) (e : Entry) (f : Frame) → OneActor r n m e f → OneActor r n (record m { callbacks = [] }) (running e) f
@@ -97,7 +97,7 @@ runs r n m e f o = record { class = o.class; result = o.result; marked = o.marke
   where
     position : Position m f → Position (record m { callbacks = [] }) f
     position (here a b c) = here a b c
-    position (at_wait a) = at_wait a
+    position (at_wait g a b) = at_wait g a b
 
     by_frame : FrameShows r m e f → FrameShows r (record m { callbacks = [] }) (running e) f
     by_frame (stands s) = stands (record {
@@ -114,7 +114,6 @@ runs r n m e f o = record { class = o.class; result = o.result; marked = o.marke
       places = x.places;
       callbacks = refl;
       operands = refl;
-      state = x.state;
       suspended = refl;
     })
 
@@ -136,7 +135,6 @@ marks r n m e f o = record { class = o.class; result = o.result; marked = refl; 
       places = x.places;
       callbacks = x.callbacks;
       operands = x.operands;
-      state = x.state;
       suspended = x.suspended;
     })
 

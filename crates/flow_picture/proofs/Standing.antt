@@ -103,7 +103,7 @@ module _ (r : RawTree) (m : FrameTree Value) (e : Entry) (f : Frame) where
 
   position_of : (b : Memory) (places : List (Option Value)) → Position m f → Position (record m { places = places }) (record f { mem = b })
   position_of b places (here x y z) = here x y z
-  position_of b places (at_wait x) = at_wait x
+  position_of b places (at_wait g x y) = at_wait g x y
 
   pub place_written : law.PlaceWritten r m e f
   place_written (Slot n) v s l = record {
@@ -159,21 +159,21 @@ module _ (r : RawTree) (m : FrameTree Value) (e : Entry) (f : Frame) where
     where
       moved : Position m f → Position (with_callback m (record { callback = next_callback e f; cell = cell_id x.1 })) f
       moved (here a b c) = here a b c
-      moved (at_wait a) = at_wait a
+      moved (at_wait g a b) = at_wait g a b
 
   pub suspends : law.Suspends r m e f
   suspends g x xs s grp ops = record {
     code = s.code;
     places = s.places;
     slots = s.slots;
-    position = at_wait (sym grp);
+    position = at_wait g refl (sym grp);
     callbacks = s.callbacks;
     suspended = ap (waits (suc g)) (s.callbacks ∙ ap (held_from (wait_spot f).first) ops);
     spot = λ h. refl;
   }
 
   pub is_over : law.IsOver r m e f
-  is_over n o z awake none empty = record {
+  is_over n o awake none empty = record {
     class = o.class;
     result = o.result;
     marked = o.marked;
@@ -182,7 +182,6 @@ module _ (r : RawTree) (m : FrameTree Value) (e : Entry) (f : Frame) where
       places = empty;
       callbacks = held_as r n m e f o ∙ ap (held_from (wait_spot f).first) none;
       operands = none;
-      state = z;
       suspended = awake;
     });
   }

@@ -73,7 +73,7 @@ CellShows spots _ _ _ = ⊥
 -- Where a frame stands: in memory at a block and an instruction, or, with a state other than 0, at the wait of that group.
 pub data Position (m : FrameTree Value) (f : Frame) : Type 0 where
   here : m.state ≡ 0 → m.block ≡ f.block → m.instruction ≡ f.instr → Position m f
-  at_wait : m.state ≡ (wait_spot f).group → Position m f
+  at_wait : (g : ℕ) → m.state ≡ suc g → m.state ≡ (wait_spot f).group → Position m f
 
 -- The frame of an actor in memory, what the process keeps of the actor, and its frame there: the class is the same, and so
 -- are the places, the locals behind the slots, the position, and the operands of a wait.
@@ -92,7 +92,6 @@ pub record Ended (m : FrameTree Value) (e : Entry) (f : Frame) : Type 0 where
   pub places : all_empty m.places ≡ true
   pub callbacks : m.callbacks ≡ []
   pub operands : e.operands ≡ []
-  pub state : m.state ≡ 0
   pub suspended : e.suspended ≡ false
 
 pub data FrameShows (r : RawTree) (m : FrameTree Value) (e : Entry) (f : Frame) : Type 0 where

@@ -79,5 +79,5 @@ module _ (r : RawTree) (m : FrameTree Value) (e : Entry) (f : Frame) where
   -- all has left an actor that is over
   abbrev pub IsOver : Type 0
   IsOver =
-      (n : Note) → OneActor r n m e f → m.state ≡ 0 → e.suspended ≡ false → e.operands ≡ []
+      (n : Note) → OneActor r n m e f → e.suspended ≡ false → e.operands ≡ []
       → all_empty m.places ≡ true → OneActor r n m e over
