@@ -1,2 +1,4 @@
 pub mod Cause
+pub mod Hosting
 pub mod Requests
+pub mod Serving

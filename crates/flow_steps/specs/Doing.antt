@@ -1,6 +1,6 @@
 -- What a process does to its own state.
 use Rattle.std.specs.Prelude.{ℕ, ◌-◌, nat_lt, false, true, if◌then◌else◌}
-use Rattle.std.specs.declared.option.Option.TheVariants.{Some}
+use Rattle.std.specs.declared.option.Option.TheVariants.{None, Some}
 use Rattle.flow_trace.specs.declared.line.Line.{Line}
 use Rattle.flow_trace.specs.declared.line.Line.TheVariants.{Cancel}
 use Rattle.flow_steps.specs.declared.call.Call.{Call}
@@ -36,6 +36,10 @@ asking c p = record p { asked = Some c }
 
 abbrev pub telling : Line → Process → Process
 telling l p = asking (call.Line l) p
+
+-- nothing is asked any more
+abbrev pub unasked : Process → Process
+unasked p = record p { asked = None }
 
 -- an actor is marked as cancelled, and leaves its wait if it is suspended; the line is asked for
 abbrev pub stopped : (actor : ℕ) → Process → Process

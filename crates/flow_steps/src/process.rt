@@ -1,7 +1,7 @@
 // A process while it runs.
 
 ghost use Rattle.std.specs.Prelude.{◌≡◌, is_some};
-ghost use Rattle.flow_steps.specs.Doing.{begun, vanished, asking, telling};
+ghost use Rattle.flow_steps.specs.Doing.{begun, vanished, asking, telling, unasked};
 
 use crate::call::Call;
 use crate::errors::Fault;
@@ -87,7 +87,10 @@ impl Process {
     }
 
     /// Hands over what the step that was done last asks of the world, if anything.
-    pub fn take_asked(&mut self) -> Option<Call> {
+    pub fn take_asked(&mut self) -> Option<Call>
+        ensures asked { result ≡ self.old.asked }
+        ensures left { self.new ≡ unasked self.old }
+    {
         self.asked.take()
     }
 
