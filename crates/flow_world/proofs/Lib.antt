@@ -3,5 +3,5 @@ pub mod Coming
 pub mod Links
 pub mod Requests
 pub mod Events
+pub mod ServedAround
 pub mod Listening
-pub mod Around

@@ -14,9 +14,16 @@ use Rattle.flow_machine.specs.Hosting.{unheard_at, unheard}
 use Rattle.flow_world.specs.declared.ports.Ports.{Ports}
 use Rattle.flow_world.specs.Ports.{Once, PortsShow}
 
+-- nothing is found, or something
+some_isnt : {A : Type 0} (a : A) → Some a ≡ None → ⊥
+some_isnt a e = cc
+
+none_isnt : {A : Type 0} (a : A) → None ≡ Some a → ⊥
+none_isnt a e = cc
+
 -- what isn't found isn't the first, and not among the others
 tested : {A : Type 0} (t : Bool) (a : A) (o : Option A) → (if t then Some a else o) ≡ None → (t ≡ false) × (o ≡ None)
-tested true a o ()
+tested true a o e = absurd (some_isnt a e)
 tested false a o e = (refl, e)
 
 differ : (i j : ℕ) → nat_eq i j ≡ false → i ≡ j → ⊥
@@ -48,7 +55,7 @@ once_added (x ∷ xs) port k e f h =
 
 -- one port less
 port_there : (ps : Numbered ℕ) (port k : ℕ) → port_of k ps ≡ Some port → thing ps port ≡ None → ⊥
-port_there [] port k () e
+port_there [] port k f e = none_isnt port f
 port_there (x ∷ xs) port k f e =
     let d : (nat_eq port x.0 ≡ false) × (thing xs port ≡ None) = tested (nat_eq port x.0) x.1 (thing xs port) e in
     by_test (nat_eq k x.1) d.0 f (λ g. port_there xs port k g d.1)
@@ -78,7 +85,7 @@ stands x xs port k h f = by_test (nat_eq k x.1) refl (nat_eq port x.0) refl f
     by_test false e false d g = inr (e, d, g)
 
 port_gone : (ps : Numbered ℕ) (port k : ℕ) → Once ps → port_of k ps ≡ Some port → port_of k (removed ps port) ≡ None
-port_gone [] port k h ()
+port_gone [] port k h f = refl
 port_gone (x ∷ xs) port k h f = by_place (stands x xs port k h.0 f) (port_gone xs port k h.2)
   where
     by_place : Stands x xs port k → (port_of k xs ≡ Some port → port_of k (removed xs port) ≡ None) → port_of k (removed (x ∷ xs) port) ≡ None
@@ -88,7 +95,7 @@ port_gone (x ∷ xs) port k h f = by_place (stands x xs port k h.0 f) (port_gone
         ap (λ t. port_of k (if t then xs else x ∷ removed xs port)) d ∙ ap (λ t. if t then Some x.0 else port_of k (removed xs port)) e ∙ rest g
 
 port_stays : (ps : Numbered ℕ) (port k j : ℕ) → Once ps → port_of k ps ≡ Some port → (k ≡ j → ⊥) → port_of j (removed ps port) ≡ port_of j ps
-port_stays [] port k j h () n
+port_stays [] port k j h f n = refl
 port_stays (x ∷ xs) port k j h f n = by_place (stands x xs port k h.0 f) (λ g. port_stays xs port k j h.2 g n)
   where
     by_place : Stands x xs port k → (port_of k xs ≡ Some port → port_of j (removed xs port) ≡ port_of j xs) → port_of j (removed (x ∷ xs) port) ≡ port_of j (x ∷ xs)
