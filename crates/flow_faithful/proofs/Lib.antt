@@ -1,3 +1,3 @@
-mod Grammar
+pub mod Grammar
 mod Rules
 pub mod Whole

@@ -14,9 +14,10 @@ use Rattle.flow_meaning.specs.World.{disk_of, with_disk}
 use Rattle.flow_world.specs.Changes.{Surroundings}
 use Rattle.flow_world.specs.declared.outside.What as kept
 use Rattle.flow_world.specs.Changes as does
-use Rattle.flow_world.specs.Shows.{EventsShow, PacketsOnce, OutsideShows}
+use Rattle.flow_world.specs.Shows.{EventsShow, PacketsOnce, NumbersOnce, OutsideShows}
 use Rattle.flow_world.specs.Laws.{LinkCut, LinkHealed, DiskServed, EventTaken, RequestsGone, first_left}
 use Rattle.flow_world.proofs.Coming.{once_left, once_gone, gone_shows}
+use Rattle.flow_world.proofs.Numbers.{numbers_gone, numbers_left}
 use Rattle.flow_world.proofs.Links.{at_set, set_length, same_place, link_within, healed_cuts}
 
 pub link_cut : (m : Surroundings) (w : Outside) → LinkCut m w
@@ -33,6 +34,7 @@ link_cut m w p q s few h i = record {
   made = s.made;
   events = s.events;
   packets = s.packets;
+  numbers = s.numbers;
   table = set_length m.net.cuts (table.link p q) true ∙ s.table;
   cuts = λ a b j k.
       at_set m.net.cuts (table.link p q) (table.link a b) true (subst (λ n. table.link p q < n) (sym s.table) (link_within p q (omega (arith, h, few)) (omega (arith, i, few))))
@@ -60,6 +62,7 @@ link_healed m w p q s few h i = record {
   made = s.made;
   events = s.events;
   packets = s.packets;
+  numbers = s.numbers;
   table = set_length m.net.cuts (table.link p q) false ∙ s.table;
   cuts = λ a b j k.
       at_set m.net.cuts (table.link p q) (table.link a b) false (subst (λ n. table.link p q < n) (sym s.table) (link_within p q (omega (arith, h, few)) (omega (arith, i, few))))
@@ -83,6 +86,7 @@ event_is_taken m w s = record {
   made = s.made;
   events = left_shows m.timers.pending w.events.pending s.events;
   packets = left_once m.timers.pending s.packets;
+  numbers = left_numbers m.timers.pending s.numbers;
   table = s.table;
   cuts = s.cuts;
   disks = s.disks;
@@ -93,6 +97,10 @@ event_is_taken m w s = record {
     left_shows [] (x ∷ xs) h = absurd h
     left_shows (e ∷ es) [] h = absurd h
     left_shows (e ∷ es) (x ∷ xs) h = h.1
+
+    left_numbers : (es : List (Pending kept.What)) → NumbersOnce m.timers.made es → NumbersOnce m.timers.made (first_left es)
+    left_numbers [] h = h
+    left_numbers (e ∷ es) h = numbers_left m.timers.made e es h
 
     left_once : (es : List (Pending kept.What)) → PacketsOnce m.net.sent es → PacketsOnce m.net.sent (first_left es)
     left_once [] h = h
@@ -112,6 +120,7 @@ requests_are_gone m w p s = record {
   made = s.made;
   events = gone_shows m.net.on_way p m.timers.pending w.events.pending s.events;
   packets = once_gone m.net.sent p m.timers.pending s.packets;
+  numbers = numbers_gone m.timers.made p m.timers.pending s.numbers;
   table = s.table;
   cuts = s.cuts;
   disks = s.disks;
@@ -147,6 +156,7 @@ disk_served m w p request n reply s d =
       made = s.made;
       events = s.events;
       packets = s.packets;
+      numbers = s.numbers;
       table = s.table;
       cuts = s.cuts;
       disks = ap (λ ds. slice_set ds p.0 new) s.disks;

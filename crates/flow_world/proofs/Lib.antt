@@ -5,3 +5,4 @@ pub mod Requests
 pub mod Events
 pub mod ServedAround
 pub mod Listening
+pub mod Numbers

@@ -23,6 +23,7 @@ use Rattle.flow_world.specs.declared.outside.What.TheVariants as kept_what
 use Rattle.flow_world.specs.Changes as does
 use Rattle.flow_world.specs.Shows.{letter_at, ArrivalShows, WhatShows, EventShows, brings, coming, OutsideShows}
 use Rattle.flow_world.specs.Laws.{WordDrawn, TimerAsked, DiskAsked, PacketSent, disk_asked, packet_sent, packet_lines, with_arrival, fate_lines}
+use Rattle.flow_world.proofs.Numbers.{numbers_placed}
 use Rattle.flow_world.proofs.Letters.{letter_put, letter_beside}
 use Rattle.flow_world.proofs.Coming.{events_kept, placed_shows, once_placed, once_new, once_later}
 
@@ -42,6 +43,7 @@ pending_more m w time e x none what s = record {
   made = ap suc s.made;
   events = placed_shows m.net.on_way _ _ m.timers.pending w.events.pending (record { time = refl; number = ap suc s.made; what = what m.net.on_way }) s.events;
   packets = once_placed m.net.sent _ m.timers.pending none s.packets;
+  numbers = numbers_placed m.timers.made _ m.timers.pending refl s.numbers;
   table = s.table;
   cuts = s.cuts;
   disks = s.disks;
@@ -66,6 +68,7 @@ word_drawn m w s = (
     made = s.made;
     events = s.events;
     packets = s.packets;
+    numbers = s.numbers;
     table = s.table;
     cuts = s.cuts;
     disks = s.disks;
@@ -110,6 +113,7 @@ lost_packet m w taken s = record {
   made = s.made;
   events = s.events;
   packets = once_later m.net.sent m.timers.pending s.packets;
+  numbers = s.numbers;
   table = s.table;
   cuts = s.cuts;
   disks = s.disks;
@@ -134,6 +138,7 @@ coming_packet m w p q port text time s me = record {
       (record { time = refl; number = ap suc s.made; what = subst (λ o. ArrivalShows q.0 (suc m.net.sent) o (Arrives (suc w.sent) w.active q.0 port text)) (sym there) (refl, arrival) })
       (events_kept m.net.on_way on_way m.timers.pending w.events.pending others s.events);
   packets = once_new m.net.sent time (suc m.timers.made) q m.timers.pending s.packets;
+  numbers = numbers_placed m.timers.made _ m.timers.pending refl s.numbers;
   table = s.table;
   cuts = s.cuts;
   disks = s.disks;

@@ -4,7 +4,8 @@ use Rattle.std.specs.declared.option.Option.TheVariants.{Some}
 use Rattle.flow_base.specs.declared.ids.CellId.{CellId}
 use Rattle.flow_base.specs.declared.ids.ProcId.{ProcId}
 use Rattle.flow_draw.specs.Words.{Drawn, next_word, one_taken}
-use Rattle.flow_timers.specs.Pending.{Pending, Queue, with_event}
+use Rattle.std.specs.List.{fold}
+use Rattle.flow_timers.specs.Pending.{Pending, Queue, with_event, without_event}
 use Rattle.flow_simnet.specs.declared.packet.Fate.{Fate}
 use Rattle.flow_simnet.specs.declared.packet.Letter.{Letter}
 use Rattle.flow_simnet.specs.Links.{Links, draw_in, fate, word_in, words_of, with_sent}
@@ -83,3 +84,13 @@ requests_gone p es = filter (λ e. not (is_request_of p e.what)) es
 
 abbrev pub without_requests : ProcId → Surroundings → Surroundings
 without_requests p w = record w { timers = record w.timers { pending = requests_gone p w.timers.pending } }
+
+-- the times and numbers of those that are requests of a process, and pending events without those of these times and numbers
+abbrev pub request_keys : ProcId → List (Pending What) → List (ℕ × ℕ)
+request_keys p es = map (λ e. (e.time, e.number)) (filter (λ e. is_request_of p e.what) es)
+
+abbrev pub without_events : List (ℕ × ℕ) → List (Pending What) → List (Pending What)
+without_events ks es = fold (λ rest k. without_event k.0 k.1 rest) es ks
+
+abbrev pub without_keys : List (ℕ × ℕ) → Surroundings → Surroundings
+without_keys ks w = record w { timers = record w.timers { pending = without_events ks w.timers.pending } }

@@ -54,6 +54,14 @@ coming m (e ∷ es) = brings m e.what + coming m es
 abbrev pub PacketsOnce : (sent : ℕ) → List (Pending kept.What) → Type 0
 PacketsOnce n es = (m : ℕ) → (coming m es ≤ 1) × (n < m → coming m es ≡ 0)
 
+-- how many pending events have a number; no two have the same, and each was made
+abbrev pub having : ℕ → List (Pending kept.What) → ℕ
+having n [] = 0
+having n (e ∷ es) = (if nat_eq n e.number then 1 else 0) + having n es
+
+abbrev pub NumbersOnce : (made : ℕ) → List (Pending kept.What) → Type 0
+NumbersOnce made es = (n : ℕ) → (having n es ≤ 1) × (made < n → having n es ≡ 0)
+
 -- the same links are cut
 abbrev pub CutsShow : (processes : ℕ) → table.Links → Outside → Type 0
 CutsShow n net w = (p q : ℕ) → p < n → q < n → table.is_cut net.cuts p q ≡ is_cut w.cuts p q
@@ -73,6 +81,7 @@ pub record OutsideShows (m : Surroundings) (w : Outside) : Type 0 where
   pub made : m.timers.made ≡ w.events.made
   pub events : EventsShow m.net.on_way m.timers.pending w.events.pending
   pub packets : PacketsOnce m.net.sent m.timers.pending
+  pub numbers : NumbersOnce m.timers.made m.timers.pending
   pub table : length m.net.cuts ≡ 4096
   pub cuts : CutsShow w.file.processes m.net w
   pub disks : m.disks ≡ w.disks

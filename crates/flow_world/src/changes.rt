@@ -1,11 +1,13 @@
 // What the calls of a world make of what is outside of its processes.
 
-ghost use Rattle.std.specs.Prelude.{◌≡◌, ◌+◌, ◌<◌, ◌≤◌, ◌^◌, pos, ◌+ℤ◌, ◌≤ℤ◌, ◌<ℤ◌, IfOk, OnOk, IsErrOf};
+ghost use Rattle.std.specs.Prelude.{◌≡◌, ℕ, ◌+◌, ◌<◌, ◌≤◌, ◌^◌, pos, ◌+ℤ◌, ◌≤ℤ◌, ◌<ℤ◌, IfOk, OnOk, IsErrOf};
 ghost use Rattle.flow_draw.specs.Words.{next_word, scaled};
 ghost use Rattle.flow_machine.specs.Requests.{call_of};
 ghost use Rattle.flow_machine.specs.declared.host.RunFault.TheVariants.{Failed};
 ghost use Rattle.flow_world.specs.Changes.{seen, with_pending, with_word, next_delay, fate_of, letter};
 ghost use Rattle.flow_world.specs.Changes.{sent_by, DiskServes, DiskLoses, is_request_of};
+ghost use Rattle.flow_world.specs.Changes.{request_keys, without_keys, without_requests};
+ghost use Rattle.flow_world.specs.Shows.{NumbersOnce};
 
 use crate::asked::Asked;
 use crate::outside::{Outside, What};
@@ -134,17 +136,35 @@ impl Outside {
         Ok(disk.kill(&mut self.draws)?)
     }
 
-    /// The timers and disk requests of a process are gone.
-    pub fn forget(&mut self, p: ProcId) -> Result<(), NoMemory> {
-        let mut gone = Vec::new(self.alloc);
+    // The times and numbers of the timers and disk requests of a process.
+    fn requests_of(&self, p: ProcId) -> Result<Vec<(u64, u64)>, NoMemory>
+        ensures { IfOk result (λ keys. keys.items ≡ request_keys p self.now.timers.pending) }
+    {
+        let mut keys = Vec::new(self.alloc);
         for (time, number, what) in self.timers.entries()? {
             if what.is_request_of(p) {
-                gone.push((time, number))?;
+                keys.push((time, number))?;
             }
         }
-        for (time, number) in gone {
+        Ok(keys)
+    }
+
+    // The events of these times and numbers are gone.
+    fn drop_events(&mut self, keys: Vec<(u64, u64)>)
+        ensures { seen self.new ≡ without_keys keys.items (seen self.old) }
+    {
+        for (time, number) in keys {
             self.timers.remove(time, number);
         }
+    }
+
+    /// The timers and disk requests of a process are gone.
+    pub fn forget(&mut self, p: ProcId) -> Result<(), NoMemory>
+        ensures { OnOk result ((made : ℕ) → NumbersOnce made (seen self.old).timers.pending
+            → seen self.new ≡ without_requests p (seen self.old)) }
+    {
+        let keys = self.requests_of(p)?;
+        self.drop_events(keys);
         Ok(())
     }
 }
