@@ -1,5 +1,5 @@
 -- A port and its stream, more or less.
-use Rattle.std.proofs.Common.{◌≡◌, ℕ, nat_eq, Bool, true, false, List, [], ◌∷◌, refl, sym, ap, subst, ◌∙◌, arith, if◌then◌else◌}
+use Rattle.std.proofs.Common.{◌≡◌, ℕ, nat_eq, Bool, true, false, List, [], ◌∷◌, refl, sym, ap, subst, ◌∙◌, arith, ◌⊎◌, inl, inr, if◌then◌else◌}
 use Rattle.std.specs.Prelude.{cond}
 use Rattle.std.specs.Map.{lookup}
 use Rattle.std.specs.Ordering.{nat_cmp}
@@ -73,7 +73,7 @@ thing_gone (x ∷ xs) port h = by_test (nat_eq port x.0) refl (thing_gone xs por
     by_test false e rest = ap (λ t. if t then Some x.1 else thing (removed xs port) port) e ∙ rest
 
 -- where the port of a stream stands: it is the first, or among the others
-Stands : (x : ℕ × ℕ) (xs : Numbered ℕ) (port k : ℕ) → Type 0
+abbrev Stands : (x : ℕ × ℕ) (xs : Numbered ℕ) (port k : ℕ) → Type 0
 Stands x xs port k = ((k ≡ x.1) × (port ≡ x.0)) ⊎ ((nat_eq k x.1 ≡ false) × (nat_eq port x.0 ≡ false) × (port_of k xs ≡ Some port))
 
 stands : (x : ℕ × ℕ) (xs : Numbered ℕ) (port k : ℕ) → thing xs x.0 ≡ None → port_of k (x ∷ xs) ≡ Some port → Stands x xs port k

@@ -39,7 +39,6 @@ impl Ports {
         Some(CellId(*number))
     }
 
-    #[tactic(auto, using(crate::proofs::Listening::ports_opened))]
     /// A port is listened at. On an error the ports are of no use any more.
     pub fn listen(&mut self, port: u16, cell: CellId) -> Result<(), NoMemory>
         ensures { OnOk result ((ps : Numbered ℕ) → PortsShow self.old ps → thing ps port ≡ None
@@ -50,7 +49,7 @@ impl Ports {
         Ok(())
     }
 
-    #[tactic(auto, using(crate::proofs::Listening::ports_closed, crate::proofs::Listening::ports_same))]
+    #[tactic(auto, using(crate::proofs::Listening::ports_same))]
     /// The port of a stream is listened at no more.
     pub fn unlisten(&mut self, cell: CellId)
         ensures { (ps : Numbered ℕ) → PortsShow self.old ps → PortsShow self.new (unheard cell.0 ps) }
