@@ -51,7 +51,7 @@ fn delay<H: Host>(
 ) -> Result<(), RunFault>
     ensures served { let time = process.old.time + natural ticks in
         OnOk result (DelayServed H.serves H.shows H.wrote (nat_le time (2 ^ 62))
-            actor goal time process.old host.old process.new host.new) }
+        actor goal time process.old host.old process.new host.new) }
     ensures cause { RunCause (H.faults host.old) (H.faults host.new) result }
     ensures kept { H.kept host.new ≡ H.kept host.old }
 {

@@ -56,18 +56,21 @@ module _ {A : Type 0} (puts : A → Line → Result (Unit {0}) OutFault → A �
       (r : Result ℤ NoMemory) (o : A) (n : Surroundings) (lo : ℤ) (width : ℕ)
       → IfOk r (λ x. x ≡ scaled lo width (next_word m.draws)) → OnOk r (n ≡ with_word m)
       → IfOk r (λ x. ServedTo Drew o o n × ((ps : Numbered ℕ) (w : Outside) → AroundShows me p m ps w → x ≡ scaled lo width (supply w).word))
-  word_served (Ok x) o n lo width d e =
-      (λ ps w h. (no_line, subst (λ z. AroundShows me p z ps (serve Drew w).1) (sym e) (record { outside = (word_drawn m w h.outside).1; active = h.active; ports = h.ports })),
-      λ ps w h. d ∙ ap (scaled lo width) (word_drawn m w h.outside).0)
+  word_served (Ok x) o n lo width d e = (
+    λ ps w h. (no_line, subst (λ z. AroundShows me p z ps (serve Drew w).1) (sym e) (record { outside = (word_drawn m w h.outside).1; active = h.active; ports = h.ports })),
+    λ ps w h. d ∙ ap (scaled lo width) (word_drawn m w h.outside).0,
+  )
   word_served (Err x) o n lo width d e = tt
 
   -- a timer
   pub timer_served :
       (r : Result (Unit {0}) NoMemory) (o : A) (n : Surroundings) (k : CellId) (time : ℕ) → OnOk r (n ≡ with_pending m time (kept.Rings me k))
       → OnOk r (ServedTo (Timer k.0 time) o o n)
-  timer_served (Ok done) o n k time e = λ ps w h.
-      (no_line, subst (λ z. AroundShows me p z ps (serve (Timer k.0 time) w).1) (sym e)
-          (record { outside = timer_asked m w me k time h.outside h.active; active = h.active; ports = h.ports }))
+  timer_served (Ok done) o n k time e = λ ps w h. (
+    no_line,
+    subst (λ z. AroundShows me p z ps (serve (Timer k.0 time) w).1) (sym e)
+        (record { outside = timer_asked m w me k time h.outside h.active; active = h.active; ports = h.ports }),
+  )
   timer_served (Err x) o n k time e = tt
 
   -- a request to the disk
@@ -77,9 +80,11 @@ module _ {A : Type 0} (puts : A → Line → Result (Unit {0}) OutFault → A �
       → OnOk r (ServedTo (Disks k.0 (call_of a)) o o n)
   disk_served (Ok done) o n between k a delay d b e = λ ps w h.
       let same : n ≡ disk_asked m me k a =
-          e ∙ ap (λ z. with_pending z (z.time + delay) (kept.Answers me k a)) b ∙ ap (λ t. with_pending (with_word m) (m.time + t) (kept.Answers me k a)) d in
-      (no_line, subst (λ z. AroundShows me p z ps (serve (Disks k.0 (call_of a)) w).1) (sym same)
-          (record { outside = disk_is_asked m w me k a h.outside h.active; active = h.active; ports = h.ports }))
+      e ∙ ap (λ z. with_pending z (z.time + delay) (kept.Answers me k a)) b ∙ ap (λ t. with_pending (with_word m) (m.time + t) (kept.Answers me k a)) d in (
+        no_line,
+        subst (λ z. AroundShows me p z ps (serve (Disks k.0 (call_of a)) w).1) (sym same)
+            (record { outside = disk_is_asked m w me k a h.outside h.active; active = h.active; ports = h.ports }),
+      )
   disk_served (Err x) o n between k a delay d b e = tt
 
   -- a port
@@ -87,8 +92,8 @@ module _ {A : Type 0} (puts : A → Line → Result (Unit {0}) OutFault → A �
       (r : Result (Unit {0}) NoMemory) (o : A) (q : Ports) (port k : ℕ)
       → OnOk r ((ps : Numbered ℕ) → PortsShow p ps → thing ps port ≡ None → port_of k ps ≡ None → PortsShow q (added ps port k))
       → OnOk r (Puts puts o [] o
-          × ((ps : Numbered ℕ) (w : Outside) → AroundShows me p m ps w → thing ps port ≡ None → port_of k ps ≡ None
-              → AroundShows me q m (added ps port k) w))
+      × ((ps : Numbered ℕ) (w : Outside) → AroundShows me p m ps w → thing ps port ≡ None → port_of k ps ≡ None
+      → AroundShows me q m (added ps port k) w))
   port_opened (Ok done) o q port k f = (no_line, λ ps w h t u. record { outside = h.outside; active = h.active; ports = f ps h.ports t u })
   port_opened (Err x) o q port k f = tt
 
@@ -112,10 +117,10 @@ module _ {A : Type 0} (puts : A → Line → Result (Unit {0}) OutFault → A �
         let next : suc m.net.sent ≡ number = grind (arith, e) in
         let s = packet_shown ps w h in
         let lines : packet_lines m me q port text ≡ Send number q port text ∷ fate_lines f number =
-            ap (λ j. Send j q port text ∷ fate_lines (fate_of m me q) j) next ∙ ap (λ x. Send number q port text ∷ fate_lines x number) (sym g) in
+        ap (λ j. Send j q port text ∷ fate_lines (fate_of m me q) j) next ∙ ap (λ x. Send number q port text ∷ fate_lines x number) (sym g) in
         let left : packet_sent m me q port text ≡ n =
-            ap (λ j. with_arrival (fate_of m me q) q j (sent_by (fate_of m me q) (letter me q port text) m)) next
-            ∙ ap (λ x. with_arrival x q number (sent_by x (letter me q port text) m)) (sym g) ∙ sym same in
+        ap (λ j. with_arrival (fate_of m me q) q j (sent_by (fate_of m me q) (letter me q port text) m)) next
+        ∙ ap (λ x. with_arrival x q number (sent_by x (letter me q port text) m)) (sym g) ∙ sym same in
         (subst (λ ls. Puts puts o ls o2) (sym lines ∙ s.0) (more_lines sent rest), subst (λ z. AroundShows me p z ps (serve (Packet q.0 port text) w).1) left s.1)
 
     -- over a cut link, lost by a draw, and on its way

@@ -12,6 +12,6 @@ returns-clause-drawn g c =
     let here = seen c.args.self.now.outside.now in
     let same : to_z w64 (of_z w64 c.args.lo) ≡ c.args.lo = search (rules, to_z-of_z) in
     let number : IfOk c.draw.result (λ x. x ≡ scaled c.args.lo c.args.width (next_word here.draws)) =
-        subst (λ lo. IfOk c.draw.result (λ x. x ≡ scaled lo c.args.width (next_word here.draws))) same c.draw.ensures.number in
+    subst (λ lo. IfOk c.draw.result (λ x. x ≡ scaled lo c.args.width (next_word here.draws))) same c.draw.ensures.number in
     word_served g.L.LineOut.puts c.args.self.now.me c.args.self.now.ports.now here
-        c.draw.result c.args.self.now.out.now (seen c.draw.new.self) c.args.lo c.args.width number c.draw.ensures.drawn
+    c.draw.result c.args.self.now.out.now (seen c.draw.new.self) c.args.lo c.args.width number c.draw.ensures.drawn
