@@ -1,2 +1,10 @@
 pub mod Holding
 pub mod Over
+pub mod Framing
+pub mod Sights
+pub mod Evaluating
+pub mod Parts
+pub mod Waits
+pub mod Acts
+pub mod Stepped
+pub mod Done

@@ -3,3 +3,9 @@ pub mod Doing
 pub mod Drops
 pub mod Holding
 pub mod Seen
+pub mod Standing
+pub mod Waiting
+pub mod Sights
+pub mod Acting
+pub mod Stepping
+pub mod Tasks

@@ -1,6 +1,11 @@
 // Call statements: messages, sends, cancelling, and calls of functions.
 
-ghost use Rattle.std.specs.Prelude.{◌≡◌, IfOk, OnOk};
+ghost use Rattle.std.specs.Prelude.{◌≡◌, IfOk, OnOk, Some, map, slice_get};
+ghost use Rattle.flow_value.specs.View.{value_of, outcome_of};
+ghost use Rattle.flow_meaning.specs.Lines.{print_line};
+ghost use Rattle.flow_meaning.specs.Evaluating.{sent};
+ghost use Rattle.flow_steps.specs.Standing.{values};
+ghost use Rattle.flow_steps.specs.Acting.{args_of, IsMessage, Printed, PredefinedCalled, MethodCalled};
 ghost use Rattle.flow_steps.specs.Bringing.{complete_at, sending};
 
 use crate::call::Call;
@@ -16,12 +21,16 @@ use flow_value::value::{Kind, Outcome, Value, own_text};
 use std::alloc::Global;
 
 /// Takes the first argument out of the arguments.
-fn first(args: Vec<Value>) -> Option<Value> {
+fn first(args: Vec<Value>) -> Option<Value>
+    ensures { result ≡ slice_get args.items 0 }
+{
     args.into_iter().next()
 }
 
 /// The line of a printed value.
-fn print_line(alloc: Global, actor: ActorId, value: Value) -> Result<Line, Fault> {
+fn print_line(alloc: Global, actor: ActorId, value: Value) -> Result<Line, Fault>
+    ensures { IfOk result (λ l. print_line actor.0 (value_of value) ≡ Some l) }
+{
     match value {
         Value::Int(n) => Ok(Line::PrintInt(actor, n)),
         Value::Bool(b) => Ok(Line::PrintBool(actor, b)),
@@ -33,7 +42,9 @@ fn print_line(alloc: Global, actor: ActorId, value: Value) -> Result<Line, Fault
 }
 
 /// What a method sends: `send` a value, `sendError` an error.
-fn sent(method: Method, arg: Option<Value>) -> Result<Outcome, Fault> {
+fn sent(method: Method, arg: Option<Value>) -> Result<Outcome, Fault>
+    ensures { IfOk result (λ o. sent method (map value_of (values arg)) ≡ Some (outcome_of o)) }
+{
     match (method, arg) {
         (Method::Send, Some(value)) => Ok(Outcome::Value(value)),
         (Method::SendError, Some(Value::Error(error))) => Ok(Outcome::Error(error)),
@@ -42,7 +53,9 @@ fn sent(method: Method, arg: Option<Value>) -> Result<Outcome, Fault> {
 }
 
 /// A text that is sent to a port of a process.
-fn send_to(alloc: Global, actor: ActorId, args: Vec<Value>) -> Result<Call, Fault> {
+fn send_to(alloc: Global, actor: ActorId, args: Vec<Value>) -> Result<Call, Fault>
+    ensures { IfOk result (λ c. IsMessage actor (args_of args) c) }
+{
     let mut args = args;
     let process = int_at(&args, 0)?;
     let port = int_at(&args, 1)?;
@@ -51,8 +64,11 @@ fn send_to(alloc: Global, actor: ActorId, args: Vec<Value>) -> Result<Call, Faul
 }
 
 impl Process {
+    #[tactic(auto, using(crate::proofs::Acts::printed_by))]
     // A value is printed.
-    fn print(&mut self, actor: ActorId, args: Vec<Value>) -> Result<(), Fault> {
+    fn print(&mut self, actor: ActorId, args: Vec<Value>) -> Result<(), Fault>
+        ensures { OnOk result (Printed actor (args_of args) self.old self.new) }
+    {
         let Some(value) = first(args) else {
             return Err(Fault::Astray);
         };
@@ -62,13 +78,16 @@ impl Process {
         Ok(())
     }
 
+    #[tactic(auto, using(crate::proofs::Acts::message_by))]
     /// A call statement of a predefined name.
     pub(crate) fn predefined_act(
         &mut self,
         actor: ActorId,
         call: Predefined,
         args: Vec<Value>,
-    ) -> Result<(), Fault> {
+    ) -> Result<(), Fault>
+        ensures { OnOk result (PredefinedCalled actor call args self.old self.new) }
+    {
         match call {
             Predefined::Trace => self.print(actor, args),
             Predefined::SendTo => {
@@ -121,6 +140,7 @@ impl Process {
         self.fill(kind, cell, outcome)
     }
 
+    #[tactic(auto, using(crate::proofs::Acts::sends_by))]
     /// A call statement on a reference.
     pub(crate) fn method_act(
         &mut self,
@@ -129,7 +149,9 @@ impl Process {
         kind: Kind,
         cell: CellId,
         arg: Option<Value>,
-    ) -> Result<(), Fault> {
+    ) -> Result<(), Fault>
+        ensures { OnOk result (MethodCalled actor method kind cell arg self.old self.new) }
+    {
         match kind {
             Kind::Promise | Kind::PromiseStream => {
                 let outcome = sent(method, arg)?;

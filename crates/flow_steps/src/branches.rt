@@ -1,7 +1,7 @@
 // Waits: operands, the branch that is taken, and suspending.
 
-ghost use Rattle.std.specs.Prelude.{◌≡◌, ◌∷◌, OnOk, IfOk, Some};
-ghost use Rattle.std.specs.Option.{IsSomeAnd};
+ghost use Rattle.std.specs.Prelude.{◌≡◌, ◌∷◌, OnOk, IfOk, Some, length, slice_get};
+ghost use Rattle.std.specs.Option.{IsSomeAnd, option_copied};
 ghost use Rattle.flow_value.specs.View.{outcome_of};
 ghost use Rattle.flow_numbered.specs.Numbered.{thing};
 ghost use Rattle.flow_stream.specs.Streams.{head, tail};
@@ -10,7 +10,11 @@ ghost use Rattle.flow_picture.specs.Holds.{hold_all};
 ghost use Rattle.flow_steps.specs.Seen.{content_in};
 ghost use Rattle.flow_steps.specs.Holding.{on_heap, outcome_refs};
 ghost use Rattle.flow_steps.specs.Bringing.{head_of};
+ghost use Rattle.flow_code.specs.declared.class.Last.TheVariants.{Choose};
+ghost use Rattle.flow_cancel.specs.declared.task.Task.TheVariants.{Run};
 ghost use Rattle.flow_steps.specs.Drops.{DropsOver};
+ghost use Rattle.flow_steps.specs.Waiting.{BranchOf, Takes, BranchTaken, TakesBranch, left_for, marked_at, operand_kept, Keeps, callbacks_of, first_ready, register, register_all, Registers, suspended_at, Waits};
+ghost use Rattle.flow_steps.specs.Tasks.{TopTaken, IsKept};
 
 use crate::errors::Fault;
 use crate::frames::Stand;
@@ -20,23 +24,35 @@ use flow_base::errors::{OPERATION_CANCELLED, SECOND_WAITER};
 use flow_base::ids::{ActorId, CellId};
 use flow_cancel::task::Task;
 use flow_cell::waiter::Waiter;
-use flow_code::class::{Block, Last};
+use flow_code::class::{Block, Branch, Group, Last};
 use flow_code::program::Code;
 use flow_frame::held::Held;
 use flow_stream::head::{Head, Wait};
 use flow_trace::line::Line;
 use flow_value::value::{Kind, Outcome};
 
+/// The branch of a group at a place, from 0.
+pub(crate) fn branch_in(group: &Group, place: usize) -> Option<&Branch>
+    ensures { option_copied result ≡ slice_get group.now.branches.items place }
+{
+    group.branches.get(place)
+}
+
 /// The number of the group of the wait that ends a block.
-pub(crate) fn group_at(block: &Block) -> Result<u32, Fault> {
+pub(crate) fn group_at(block: &Block) -> Result<u32, Fault>
+    ensures { IfOk result (λ g. block.now.last ≡ Choose g) }
+{
     match &block.last {
         Last::Choose(group) => Ok(*group),
         _ => Err(Fault::Astray),
     }
 }
 
+#[tactic(auto, using(crate::proofs::Waits::branch_is))]
 /// The number of a branch in its group, from its number through the class.
-pub(crate) fn branch_of(stand: &Stand<'_>, callback: u32) -> Result<u32, Fault> {
+pub(crate) fn branch_of(stand: &Stand<'_>, callback: u32) -> Result<u32, Fault>
+    ensures { IfOk result (λ b. BranchOf stand.now callback b) }
+{
     let number = group_at(stand.block)?;
     let Some(group) = stand.class.group(number) else {
         return Err(Fault::Astray);
@@ -48,8 +64,11 @@ pub(crate) fn branch_of(stand: &Stand<'_>, callback: u32) -> Result<u32, Fault> 
 }
 
 impl Process {
+    #[tactic(auto, using(crate::proofs::Waits::copy_taken, crate::proofs::Waits::first_taken, crate::proofs::Waits::no_result))]
     // What a branch takes from a cell that is ready: a copy of the outcome, the first element, or else the end.
-    fn taken_from(&mut self, cell: CellId) -> Result<Outcome, Fault> {
+    fn taken_from(&mut self, cell: CellId) -> Result<Outcome, Fault>
+        ensures { IfOk result (λ o. Takes cell.0 o self.old self.new) }
+    {
         match self.kind_at(cell) {
             Some(Kind::Future | Kind::Promise) => self.copied_from(cell),
             Some(Kind::FutureStream | Kind::PromiseStream) => self.popped_from(cell),
@@ -95,27 +114,36 @@ impl Process {
 
     /// An actor leaves its wait for a task: its operands are dropped, then its locals, and then the task comes.
     pub(crate) fn leave_for(&mut self, stand: &Stand<'_>, task: Task) -> Result<(), Fault>
-        ensures { OnOk result (DropsOver (task ∷ self.old.heap.tasks) self.new.heap.tasks) }
+        ensures left { OnOk result (self.new ≡ on_heap (left_for stand.now task) self.old) }
+        ensures drops { OnOk result (DropsOver (task ∷ self.old.heap.tasks) self.new.heap.tasks) }
     {
         let actor = stand.actor;
         self.heap.push(task)?;
         self.lose_locals(stand.class, actor)?;
         self.leave(actor)?;
-        let last = u32::try_from(stand.block.body.len()).unwrap_or(u32::MAX);
+        let Ok(last) = u32::try_from(stand.block.body.len()) else {
+            return Err(Fault::Astray);
+        };
         self.go(actor, stand.place, last)?;
         Ok(())
     }
 
+    #[tactic(auto, using(crate::proofs::Waits::untaken, crate::proofs::Waits::taken_by))]
     /// A branch, numbered from 0 in its group, takes what its cell gives: a turn, the line; then the actor leaves its wait.
-    pub(crate) fn take(
-        &mut self,
-        stand: &Stand<'_>,
-        branch: u32,
-        cell: CellId,
-    ) -> Result<(), Fault> {
+    pub(crate) fn take(&mut self, stand: &Stand<'_>, branch: u32, cell: CellId) -> Result<(), Fault>
+        ensures { OnOk result (TakesBranch stand.now branch cell self.old self.new) }
+    {
         if !self.turn() {
             return Ok(());
         }
+        self.take_now(stand, branch, cell)
+    }
+
+    #[tactic(auto, using(crate::proofs::Waits::branch_taken))]
+    // A branch takes what its cell gives, with the line; then the actor leaves its wait.
+    fn take_now(&mut self, stand: &Stand<'_>, branch: u32, cell: CellId) -> Result<(), Fault>
+        ensures { OnOk result (BranchTaken stand.now branch cell self.old self.new) }
+    {
         let actor = stand.actor;
         let group = group_at(stand.block)?;
         let outcome = Box::new(self.alloc, self.taken_from(cell)?)?;
@@ -124,59 +152,82 @@ impl Process {
         Ok(())
     }
 
+    #[tactic(auto, using(crate::proofs::Waits::kept_cancelled, crate::proofs::Waits::kept_on, crate::proofs::Waits::kept_taken))]
     /// An operand that counts already is kept. A marked actor then leaves its wait and is thrown that it was cancelled; an
     /// operand that is ready is taken; otherwise the actor goes on.
     pub(crate) fn keep_operand<'a>(
         &mut self,
         stand: &Stand<'a>,
-        callback: u32,
-        cell: CellId,
-    ) -> Result<Pace<'a>, Fault> {
+        held: Held,
+    ) -> Result<Pace<'a>, Fault>
+        ensures { IfOk result (λ pace. Keeps stand.now held self.old pace self.new) }
+    {
         let actor = stand.actor;
-        if !self.heap.unfinished(actor) || !self.heap.frames().contains(actor) {
-            return Err(Fault::Astray);
-        }
-        let held = Held { callback, cell };
-        self.heap.frames_mut().add_callback(actor, held)?;
-        if self.heap.marked(actor) {
+        let marked = self.is_marked(actor)?;
+        let ready = self.is_ready(held.cell);
+        self.add_operand(actor, held)?;
+        if marked {
             let thrown = Task::Throw(actor, OPERATION_CANCELLED);
             self.leave_for(stand, thrown)?;
             return Ok(Pace::Off);
         }
-        if !self.is_ready(cell) {
+        if !ready {
             return Ok(Pace::On(*stand));
         }
-        let branch = branch_of(stand, callback)?;
-        self.take(stand, branch, cell)?;
+        let branch = branch_of(stand, held.callback)?;
+        self.take(stand, branch, held.cell)?;
         Ok(Pace::Off)
     }
 
+    // Whether an unfinished actor is marked as cancelled.
+    fn is_marked(&self, actor: ActorId) -> Result<bool, Fault>
+        ensures { IfOk result (λ b. b ≡ marked_at actor.0 self.now.heap) }
+    {
+        if !self.heap.unfinished(actor) {
+            return Err(Fault::Astray);
+        }
+        Ok(self.heap.marked(actor))
+    }
+
+    #[tactic(auto, using(crate::proofs::Framing::frame_changed))]
+    // The frame of an actor keeps an operand more.
+    fn add_operand(&mut self, actor: ActorId, held: Held) -> Result<(), Fault>
+        ensures { OnOk result (self.new ≡ on_heap (operand_kept actor.0 held) self.old) }
+    {
+        if !self.heap.frames().contains(actor) {
+            return Err(Fault::Astray);
+        }
+        self.heap.frames_mut().add_callback(actor, held)?;
+        Ok(())
+    }
+
+    #[tactic(auto, using(crate::proofs::Done::kept_by))]
     /// The result of an effect is kept as an operand, and the actor, whose task is next, goes on.
-    pub(crate) fn keep(
-        &mut self,
-        code: &Code,
-        actor: ActorId,
-        callback: u32,
-        cell: CellId,
-    ) -> Result<(), Fault> {
+    pub(crate) fn keep(&mut self, code: &Code, actor: ActorId, held: Held) -> Result<(), Fault>
+        ensures { OnOk result (IsKept code.now actor held self.old self.new) }
+    {
         self.pop_run(actor)?;
         let stand = self.stand_of(code, actor)?;
-        match self.keep_operand(&stand, callback, cell)? {
-            Pace::On(stand) => self.run_from(code, stand),
-            Pace::Off => Ok(()),
-        }
+        let pace = self.keep_operand(&stand, held)?;
+        self.go_from(code, pace)?;
+        Ok(())
     }
 
     // Takes the actor's own task off the stack.
-    fn pop_run(&mut self, actor: ActorId) -> Result<(), Fault> {
+    fn pop_run(&mut self, actor: ActorId) -> Result<(), Fault>
+        ensures { OnOk result (TopTaken (Run actor) self.old self.new) }
+    {
         match self.heap.next_task() {
             Some(Task::Run(top)) if top == actor => Ok(()),
             _ => Err(Fault::Astray),
         }
     }
 
+    #[tactic(auto, using(crate::proofs::Waits::one_unready, crate::proofs::Waits::one_ready, crate::proofs::Waits::none_ready))]
     // The first operand that is ready.
-    fn first_ready(&self, actor: ActorId) -> Option<Held> {
+    fn first_ready(&self, actor: ActorId) -> Option<Held>
+        ensures { result ≡ first_ready self.now.heap (callbacks_of actor.0 self.now.heap) }
+    {
         if !self.heap.frames().contains(actor) {
             return None;
         }
@@ -189,7 +240,10 @@ impl Process {
     }
 
     // A callback waits at its cell: false where a stream refuses it.
-    fn register(&mut self, actor: ActorId, held: Held) -> Result<bool, Fault> {
+    fn register(&mut self, actor: ActorId, held: Held) -> Result<bool, Fault>
+        ensures { IfOk result (λ all. Registers (register actor.0 held self.old.heap) all self.old
+            self.new) }
+    {
         let waiter = Waiter {
             actor,
             callback: held.callback,
@@ -208,7 +262,9 @@ impl Process {
     }
 
     // The callback of an actor at a place among its operands.
-    fn held_at(&self, actor: ActorId, place: usize) -> Option<Held> {
+    fn held_at(&self, actor: ActorId, place: usize) -> Option<Held>
+        ensures { result ≡ slice_get (callbacks_of actor.0 self.now.heap) place }
+    {
         if !self.heap.frames().contains(actor) {
             return None;
         }
@@ -216,16 +272,23 @@ impl Process {
     }
 
     // How many operands an actor has.
-    pub(crate) fn operands(&self, actor: ActorId) -> usize {
+    pub(crate) fn operands(&self, actor: ActorId) -> usize
+        ensures { result ≡ length (callbacks_of actor.0 self.now.heap) }
+    {
         if !self.heap.frames().contains(actor) {
             return 0;
         }
         self.heap.frames().callbacks(actor).len()
     }
 
+    #[tactic(auto, using(crate::proofs::Waits::one_registered, crate::proofs::Waits::one_refused, crate::proofs::Waits::all_registered))]
     // All operands wait at their cells in order: false where a stream refuses one.
-    fn register_all(&mut self, actor: ActorId) -> Result<bool, Fault> {
-        for place in 0..self.operands(actor) {
+    fn register_all(&mut self, actor: ActorId) -> Result<bool, Fault>
+        ensures { IfOk result (λ all. Registers (register_all actor.0
+            (callbacks_of actor.0 self.old.heap) self.old.heap) all self.old self.new) }
+    {
+        let count = self.operands(actor);
+        for place in 0..count {
             let Some(held) = self.held_at(actor, place) else {
                 return Err(Fault::Astray);
             };
@@ -236,8 +299,11 @@ impl Process {
         Ok(true)
     }
 
+    #[tactic(auto, using(crate::proofs::Framing::frame_changed))]
     // The frame of an actor goes into a state.
-    fn suspend(&mut self, actor: ActorId, group: u32) -> Result<(), Fault> {
+    fn suspend(&mut self, actor: ActorId, group: u32) -> Result<(), Fault>
+        ensures { OnOk result (self.new ≡ on_heap (suspended_at actor.0 group) self.old) }
+    {
         if !self.heap.frames().contains(actor) {
             return Err(Fault::Astray);
         }
@@ -245,9 +311,12 @@ impl Process {
         Ok(())
     }
 
+    #[tactic(auto, using(crate::proofs::Waits::wait_takes, crate::proofs::Waits::wait_refused, crate::proofs::Waits::wait_suspended))]
     /// All operands are kept. The first that is ready is taken. Otherwise the actor waits for all of them, and its locals
     /// are dropped; where a stream refuses, that is thrown.
-    pub(crate) fn wait(&mut self, stand: &Stand<'_>, group: u32) -> Result<(), Fault> {
+    pub(crate) fn wait(&mut self, stand: &Stand<'_>, group: u32) -> Result<(), Fault>
+        ensures { OnOk result (Waits stand.now group self.old self.new) }
+    {
         let actor = stand.actor;
         if let Some(held) = self.first_ready(actor) {
             let branch = branch_of(stand, held.callback)?;

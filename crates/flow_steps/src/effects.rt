@@ -1,7 +1,16 @@
 // Effects: new cells, calls of actors, and what is asked of the world. A bad argument is an error that is thrown where the
 // actor stands.
 
-ghost use Rattle.std.specs.Prelude.{◌≡◌, IfOk, OnOk};
+ghost use Rattle.std.specs.Prelude.{◌≡◌, IfOk, OnOk, Some, map, slice_set};
+ghost use Rattle.flow_ast.specs.declared.predefined.Predefined.TheVariants.{ReadFile, WriteFile};
+ghost use Rattle.flow_value.specs.View.{value_of};
+ghost use Rattle.flow_value.specs.declared.value.Value.TheVariants.{Void};
+ghost use Rattle.flow_eval.specs.Answers.{int_of, text_of, arg};
+ghost use Rattle.flow_cancel.specs.Dropping.{refs_in};
+ghost use Rattle.flow_meaning.specs.Asks.{Disk};
+ghost use Rattle.flow_meaning.specs.Evaluating.{world_effect};
+ghost use Rattle.flow_picture.specs.Holds.{hold_all};
+ghost use Rattle.flow_steps.specs.Acting.{disk_of, some_values, Enrols, StartTold, ActorCalled, WorldAsked, EffectMade, EffectDone, IsEffect};
 ghost use Rattle.flow_value.specs.declared.value.Value.TheVariants.{Ref};
 ghost use Rattle.flow_cancel.specs.Heap.{next_cell};
 ghost use Rattle.flow_steps.specs.Holding.{on_heap, Gives};
@@ -24,7 +33,9 @@ use flow_value::value::{Kind, Value, own_text};
 use std::alloc::Global;
 
 /// The number that an argument is.
-pub(crate) fn int_at(args: &[Value], place: usize) -> Result<i64, Fault> {
+pub(crate) fn int_at(args: &[Value], place: usize) -> Result<i64, Fault>
+    ensures { IfOk result (λ n. int_of (arg (map value_of args.now) place) ≡ Some n) }
+{
     match args.get(place) {
         Some(Value::Int(n)) => Ok(*n),
         _ => Err(Fault::Astray),
@@ -32,32 +43,55 @@ pub(crate) fn int_at(args: &[Value], place: usize) -> Result<i64, Fault> {
 }
 
 /// Takes the text that an argument is out of the arguments.
-pub(crate) fn take_text(alloc: Global, args: &mut [Value], place: usize) -> Result<Text, Fault> {
-    match args.get_mut(place) {
-        Some(arg) => match std::mem::replace(arg, Value::Void) {
-            Value::Text(text) => Ok(own_text(alloc, text)?),
-            _ => Err(Fault::Astray),
-        },
-        None => Err(Fault::Astray),
+pub(crate) fn take_text(alloc: Global, args: &mut [Value], place: usize) -> Result<Text, Fault>
+    ensures text { IfOk result (λ t. text_of (arg (map value_of args.old) place) ≡ Some t) }
+    ensures rest { OnOk result (args.new ≡ slice_set args.old place Void) }
+{
+    if place >= args.len() {
+        return Err(Fault::Astray);
+    }
+    match std::mem::replace(&mut args[place], Value::Void) {
+        Value::Text(text) => Ok(own_text(alloc, text)?),
+        _ => Err(Fault::Astray),
     }
 }
 
 /// The request to a disk that a predefined call makes.
-fn disk_call(alloc: Global, call: Predefined, args: &mut [Value]) -> Result<DiskCall, Fault> {
-    let file = take_text(alloc, args, 0)?;
+fn disk_call(alloc: Global, call: Predefined, args: &mut [Value]) -> Result<DiskCall, Fault>
+    ensures { IfOk result (λ d. world_effect call (map value_of args.old)
+        ≡ Some (Disk (disk_of d))) }
+{
     match call {
-        Predefined::ReadFile => {
-            let offset = int_at(args, 1)?;
-            Ok(DiskCall::Read(file, offset, int_at(args, 2)?))
-        }
-        Predefined::WriteFile => {
-            let offset = int_at(args, 1)?;
-            Ok(DiskCall::Write(file, offset, take_text(alloc, args, 2)?))
-        }
-        Predefined::SyncFile => Ok(DiskCall::Sync(file)),
-        Predefined::FileSize => Ok(DiskCall::Size(file)),
+        Predefined::ReadFile => read_call(alloc, args),
+        Predefined::WriteFile => write_call(alloc, args),
+        Predefined::SyncFile => Ok(DiskCall::Sync(take_text(alloc, args, 0)?)),
+        Predefined::FileSize => Ok(DiskCall::Size(take_text(alloc, args, 0)?)),
         _ => Err(Fault::Astray),
     }
+}
+
+#[tactic(auto, using(crate::proofs::Acts::read_asked))]
+// A read.
+fn read_call(alloc: Global, args: &mut [Value]) -> Result<DiskCall, Fault>
+    ensures { IfOk result (λ d. world_effect ReadFile (map value_of args.old)
+        ≡ Some (Disk (disk_of d))) }
+{
+    let offset = int_at(args, 1)?;
+    let count = int_at(args, 2)?;
+    let file = take_text(alloc, args, 0)?;
+    Ok(DiskCall::Read(file, offset, count))
+}
+
+#[tactic(auto, using(crate::proofs::Acts::write_asked))]
+// A write.
+fn write_call(alloc: Global, args: &mut [Value]) -> Result<DiskCall, Fault>
+    ensures { IfOk result (λ d. world_effect WriteFile (map value_of args.old)
+        ≡ Some (Disk (disk_of d))) }
+{
+    let offset = int_at(args, 1)?;
+    let text = take_text(alloc, args, 2)?;
+    let file = take_text(alloc, args, 0)?;
+    Ok(DiskCall::Write(file, offset, text))
 }
 
 impl Process {
@@ -110,6 +144,7 @@ impl Process {
         Ok(cell)
     }
 
+    #[tactic(auto, using(crate::proofs::Evaluating::value_given, crate::proofs::Evaluating::values_break))]
     /// An effect of an actor.
     pub(crate) fn effect<'a>(
         &mut self,
@@ -118,20 +153,52 @@ impl Process {
         goal: Goal,
         effect: Effect,
         args: &[Resolved],
-    ) -> Result<Pace<'a>, Fault> {
-        match effect {
-            Effect::World(call) => match self.values(code, stand.actor, args) {
-                Ok(args) => {
-                    self.note(*stand)?;
-                    self.world_effect(stand.actor, goal, call, args)?;
-                    Ok(Pace::Off)
-                }
-                Err(halt) => self.halted(stand, halt),
-            },
-            Effect::Actor(class) => self.start(code, stand, goal, class, args),
+    ) -> Result<Pace<'a>, Fault>
+        ensures { IfOk result (λ pace. IsEffect code.now stand.now goal effect args.now self.old
+            pace self.new) }
+    {
+        match self.values(code, stand.actor, args) {
+            Ok(args) => self.effect_with(code, stand, goal, effect, args),
+            Err(halt) => self.halted(stand, halt),
         }
     }
 
+    #[tactic(auto, using(crate::proofs::Acts::effect_done))]
+    // That, with its arguments known.
+    fn effect_with<'a>(
+        &mut self,
+        code: &Code,
+        stand: &Stand<'a>,
+        goal: Goal,
+        effect: Effect,
+        args: Vec<Value>,
+    ) -> Result<Pace<'a>, Fault>
+        ensures { IfOk result (λ pace. EffectDone code.now stand.now goal effect args self.old pace
+            self.new) }
+    {
+        self.note(*stand)?;
+        self.make_effect(code, stand.actor, goal, effect, args)?;
+        Ok(Pace::Off)
+    }
+
+    // An actor is called, or something is asked of the world.
+    fn make_effect(
+        &mut self,
+        code: &Code,
+        actor: ActorId,
+        goal: Goal,
+        effect: Effect,
+        args: Vec<Value>,
+    ) -> Result<(), Fault>
+        ensures { OnOk result (EffectMade code.now actor goal effect args self.old self.new) }
+    {
+        match effect {
+            Effect::World(call) => self.world_effect(actor, goal, call, args),
+            Effect::Actor(class) => self.call_actor(code, actor, goal, class, args),
+        }
+    }
+
+    #[tactic(auto, using(crate::proofs::Acts::new_given))]
     // An effect that is the world's, or a result that never comes.
     fn world_effect(
         &mut self,
@@ -139,7 +206,9 @@ impl Process {
         goal: Goal,
         call: Predefined,
         args: Vec<Value>,
-    ) -> Result<(), Fault> {
+    ) -> Result<(), Fault>
+        ensures { OnOk result (WorldAsked actor goal call args self.old self.new) }
+    {
         let asked = match call {
             Predefined::RandomInt => {
                 let lo = int_at(&args, 0)?;
@@ -160,8 +229,13 @@ impl Process {
         Ok(())
     }
 
+    #[tactic(auto, using(crate::proofs::Acts::args_held, crate::proofs::Acts::args_filled))]
     // Arguments count, and fill the first of so many places.
-    fn fill_places(&mut self, args: Vec<Value>, places: u32) -> Result<Vec<Option<Value>>, Fault> {
+    fn fill_places(&mut self, args: Vec<Value>, places: u32) -> Result<Vec<Option<Value>>, Fault>
+        ensures filled { IfOk result (λ xs. xs.items ≡ some_values args.items) }
+        ensures counted { OnOk result (self.new
+            ≡ on_heap (hold_all (refs_in args.items)) self.old) }
+    {
         let mut filled = Vec::with_capacity(self.alloc, places as usize)?;
         for arg in args {
             self.hold_value(&arg)?;
@@ -170,13 +244,16 @@ impl Process {
         Ok(filled)
     }
 
+    #[tactic(auto, using(crate::proofs::Acts::enrols_by))]
     /// An actor of the class at a place is made, with these arguments: its result, its number and its frame.
     pub(crate) fn enrol(
         &mut self,
         code: &Code,
         number: u32,
         args: Vec<Value>,
-    ) -> Result<(ActorId, CellId), Fault> {
+    ) -> Result<(ActorId, CellId), Fault>
+        ensures { IfOk result (λ r. Enrols code.now number args.items r.0 r.1 self.old self.new) }
+    {
         let Some(class) = code.class(number) else {
             return Err(Fault::Astray);
         };
@@ -194,13 +271,16 @@ impl Process {
         Ok((actor, cell))
     }
 
+    #[tactic(auto, using(crate::proofs::Acts::told_by))]
     /// The line of an actor's start.
     pub(crate) fn tell_start(
         &mut self,
         code: &Code,
         class: u32,
         actor: ActorId,
-    ) -> Result<(), Fault> {
+    ) -> Result<(), Fault>
+        ensures { OnOk result (StartTold code.now class actor self.old self.new) }
+    {
         match code.class(class) {
             Some(class) => {
                 let name = class.name.copy(self.alloc)?;
@@ -211,27 +291,25 @@ impl Process {
         }
     }
 
-    // The call of an actor: a turn, and the new actor runs; its result is then stored or kept, and the caller goes on.
-    fn start<'a>(
+    #[tactic(auto, using(crate::proofs::Acts::uncalled, crate::proofs::Acts::called_by))]
+    // A turn, and an actor is made and runs; its result is then stored or kept, and the caller goes on.
+    fn call_actor(
         &mut self,
         code: &Code,
-        stand: &Stand<'a>,
+        caller: ActorId,
         goal: Goal,
         number: u32,
-        args: &[Resolved],
-    ) -> Result<Pace<'a>, Fault> {
-        let args = match self.values(code, stand.actor, args) {
-            Ok(args) => args,
-            Err(halt) => return self.halted(stand, halt),
-        };
-        self.note(*stand)?;
+        args: Vec<Value>,
+    ) -> Result<(), Fault>
+        ensures { OnOk result (ActorCalled code.now caller goal number args.items self.old
+            self.new) }
+    {
         if !self.turn() {
-            return Ok(Pace::Off);
+            return Ok(());
         }
         let (actor, cell) = self.enrol(code, number, args)?;
-        self.gives(stand.actor, goal, Value::Ref(Kind::Future, cell))?;
+        self.gives(caller, goal, Value::Ref(Kind::Future, cell))?;
         self.heap.push(Task::Run(actor))?;
-        self.tell_start(code, number, actor)?;
-        Ok(Pace::Off)
+        self.tell_start(code, number, actor)
     }
 }

@@ -5,6 +5,7 @@ ghost use Rattle.flow_value.specs.declared.value.Kind.TheVariants as kind;
 ghost use Rattle.flow_value.specs.declared.value.Outcome.TheVariants as outcome;
 ghost use Rattle.flow_steps.specs.Holding.{on_heap};
 ghost use Rattle.flow_steps.specs.Bringing.{brought, answered, main_dropped};
+ghost use Rattle.flow_steps.specs.Tasks.{MainStarts, MainCalled};
 
 use crate::errors::Fault;
 use crate::process::Process;
@@ -14,15 +15,26 @@ use flow_code::program::Code;
 use flow_value::value::{Kind, Outcome, Value};
 
 impl Process {
+    #[tactic(auto, using(crate::proofs::Done::main_not_called, crate::proofs::Done::main_called))]
     /// Calls `main` with the process's number, where no result of `main` is held: this one is from the moment that its cell
     /// is made.
-    pub fn call_main(&mut self, code: &Code, me: ProcId) -> Result<(), Fault> {
+    pub fn call_main(&mut self, code: &Code, me: ProcId) -> Result<(), Fault>
+        ensures { OnOk result (MainCalled code.now me self.old self.new) }
+    {
         if self.heap.main().is_some() {
             return Err(Fault::Astray);
         }
         if !self.turn() {
             return Ok(());
         }
+        self.start_main(code, me)
+    }
+
+    #[tactic(auto, using(crate::proofs::Done::main_starts_by))]
+    // `main` starts, and its result is held.
+    fn start_main(&mut self, code: &Code, me: ProcId) -> Result<(), Fault>
+        ensures { OnOk result (MainStarts code.now me self.old self.new) }
+    {
         let Some(class) = code.main() else {
             return Err(Fault::Astray);
         };

@@ -1,34 +1,49 @@
 // The frames of a process: places, positions, and values that leave them.
 
-ghost use Rattle.std.specs.Prelude.{◌≡◌, OnOk, IfOk, slice_index_or, None};
-ghost use Rattle.std.specs.Option.{IsSomeAnd};
+ghost use Rattle.std.specs.Prelude.{◌≡◌, ◌∷◌, ◌++◌, ◌<◌, OnOk, IfOk, IfSome, IsSome, length, slice_get};
+ghost use Rattle.std.specs.Option.{option_copied};
+ghost use Rattle.std.specs.declared.option.Option.TheVariants.{Some};
+ghost use Rattle.flow_value.specs.View.{value_of, values_of};
+ghost use Rattle.flow_value.specs.Values.{ValueTree, RecordValue};
+ghost use Rattle.flow_eval.specs.Records.{value_at, value_put};
+ghost use Rattle.flow_resolved.specs.View.{places_in};
 ghost use Rattle.flow_numbered.specs.Numbered.{thing};
-ghost use Rattle.flow_frame.specs.Frames.{with_place};
 ghost use Rattle.flow_cancel.specs.Dropping.{dropping};
-ghost use Rattle.flow_picture.specs.Acting.{frame_put};
 ghost use Rattle.flow_steps.specs.Holding.{on_heap};
-ghost use Rattle.flow_steps.specs.Bringing.{gone_to};
+ghost use Rattle.flow_steps.specs.Standing.{GoesTo, next_stand, noted_stand, noted, block_in, StandsIn, StandsNow, gone, place_held, place_put, may_refer, referring, exchanged, Assigns, places_taken, places_emptied, place_lost, lost_from};
 ghost use Rattle.flow_steps.specs.Drops.{DropsOver};
 
 use crate::errors::Fault;
 use crate::process::Process;
 use flow_base::ids::ActorId;
-use flow_code::class::{Aim, Block, Class};
+use flow_code::class::{Aim, Block, Class, Instruction};
 use flow_code::program::Code;
 use flow_frame::standing::Standing;
 use flow_resolved::names::FieldNames;
-use flow_value::value::Value;
+use flow_value::value::{Record, Value};
 use std::mem;
 
 /// Whether a value may hold references.
-pub(crate) fn may_refer(value: &Value) -> bool {
+pub(crate) fn may_refer(value: &Value) -> bool
+    ensures { result ≡ may_refer (value_of value.now) }
+{
     matches!(value, Value::Struct(_) | Value::Ref(_, _))
+}
+
+/// A value that left a place joins others, if it may hold references.
+fn keep_referring(values: &mut Vec<Value>, old: Option<Value>) -> Result<(), Fault>
+    ensures { OnOk result (values.new.items ≡ values.old.items ++ referring old) }
+{
+    match old {
+        Some(value) if may_refer(&value) => Ok(values.push(value)?),
+        _ => Ok(()),
+    }
 }
 
 /// Where an actor stands: its class, and the block and the instruction; where it waits, the block of the wait; and whether its
 /// frame says so already.
 #[derive(Clone, Copy)]
-pub(crate) struct Stand<'a> {
+pub struct Stand<'a> {
     pub(crate) actor: ActorId,
     pub(crate) class: &'a Class,
     pub(crate) place: u32,
@@ -39,7 +54,9 @@ pub(crate) struct Stand<'a> {
 
 impl<'a> Stand<'a> {
     /// Where the actor stands that goes on at a block and an instruction of it. Its frame doesn't say so yet.
-    pub(crate) fn at(&self, place: u32, instruction: u32) -> Result<Stand<'a>, Fault> {
+    pub(crate) fn at(&self, place: u32, instruction: u32) -> Result<Stand<'a>, Fault>
+        ensures { IfOk result (λ t. GoesTo self.now place instruction t) }
+    {
         match self.class.blocks.get(place as usize) {
             Some(block) => Ok(Stand {
                 actor: self.actor,
@@ -54,7 +71,9 @@ impl<'a> Stand<'a> {
     }
 
     /// Where the actor stands that goes on at its next instruction. Its frame doesn't say so yet.
-    pub(crate) fn next(&self) -> Result<Stand<'a>, Fault> {
+    pub(crate) fn next(&self) -> Result<Stand<'a>, Fault>
+        ensures { IfOk result (λ t. t ≡ next_stand self.now) }
+    {
         match self.instruction.checked_add(1) {
             Some(instruction) => Ok(Stand {
                 actor: self.actor,
@@ -69,8 +88,17 @@ impl<'a> Stand<'a> {
     }
 }
 
+/// The instruction of a block at a place, from 0, the last one left out.
+pub(crate) fn instruction_at(block: &Block, place: u32) -> Option<&Instruction>
+    ensures { option_copied result ≡ slice_get block.now.body.items place }
+{
+    block.body.get(place as usize)
+}
+
 /// The number of the block in which a frame stands; where its actor waits, that of the wait.
-fn block_number(class: &Class, at: Standing) -> Option<u32> {
+fn block_number(class: &Class, at: Standing) -> Option<u32>
+    ensures { result ≡ block_in class.now at.state at.block }
+{
     if at.state == 0 {
         return Some(at.block);
     }
@@ -78,7 +106,9 @@ fn block_number(class: &Class, at: Standing) -> Option<u32> {
 }
 
 /// Where the frame of an actor stands in its class.
-fn stand_in(code: &Code, actor: ActorId, at: Standing) -> Option<Stand<'_>> {
+fn stand_in(code: &Code, actor: ActorId, at: Standing) -> Option<Stand<'_>>
+    ensures { IfSome result (λ s. StandsIn code.now.classes.items actor at s) }
+{
     let class = code.class(at.class)?;
     let place = block_number(class, at)?;
     Some(Stand {
@@ -91,23 +121,94 @@ fn stand_in(code: &Code, actor: ActorId, at: Standing) -> Option<Stand<'_>> {
     })
 }
 
-/// Exchanges the part of a value to which the fields with names of these numbers lead, if they do. Gives what stood there.
-fn exchange(fields: &FieldNames, root: &mut Value, path: &[usize], value: Value) -> Option<Value> {
+#[tactic(auto, using(flow_eval::proofs::Lookups::values_set, flow_eval::proofs::Lookups::put_again, flow_eval::proofs::Lookups::value_there))]
+// Takes a field out, and leaves a place that is yet to be filled.
+fn take_field(fields: &mut Vec<Value>, place: usize) -> Value
+    requires { place < length fields.old.items }
+    ensures part { value_at (values_of fields.old.items) place ≡ Some (value_of result) }
+    ensures rest { (w : ValueTree) → value_put (values_of fields.new.items) place w
+        ≡ value_put (values_of fields.old.items) place w }
+    ensures count { length fields.new.items ≡ length fields.old.items }
+{
+    mem::replace(&mut fields[place], Value::Void)
+}
+
+#[tactic(auto, using(flow_eval::proofs::Lookups::values_set))]
+// Fills it.
+fn fill_field(fields: &mut Vec<Value>, place: usize, value: Value)
+    requires { place < length fields.old.items }
+    ensures { values_of fields.new.items
+        ≡ value_put (values_of fields.old.items) place (value_of value) }
+{
+    fields[place] = value;
+}
+
+// A record as a value.
+fn record_value(of: Box<Record<Value>>) -> Value
+    ensures { value_of result ≡ RecordValue of.value.id (values_of of.value.fields.items) }
+{
+    Value::Struct(of)
+}
+
+/// Exchanges the part of a value to which the fields with names of these numbers lead, if they do. Gives what stood there, and
+/// the value then.
+#[cycle(exchange)]
+fn exchange(
+    fields: &FieldNames,
+    root: Value,
+    path: &[usize],
+    value: Value,
+) -> Option<(Value, Value)>
+    ensures { IfSome result (λ r. exchanged (places_in fields.now) path.now (value_of value)
+        (Some (value_of root)) ≡ Some (Some (value_of r.0), Some (value_of r.1))) }
+{
     let Some((name, rest)) = path.split_first() else {
-        return Some(mem::replace(root, value));
+        return Some((root, value));
     };
     match root {
-        Value::Struct(record) => {
-            let place = fields.place(record.id, *name)?;
-            exchange(fields, record.fields.get_mut(place)?, rest, value)
-        }
-        _ => None,
+        Value::Struct(record) => exchange_field(fields, record, *name, rest, value),
+        Value::Int(_)
+        | Value::Bool(_)
+        | Value::Text(_)
+        | Value::Void
+        | Value::Error(_)
+        | Value::Ref(_, _) => None,
     }
+}
+
+#[cycle(exchange)]
+#[tactic(auto, using(crate::proofs::Parts::exchanged_field))]
+// The same of a field of a record.
+fn exchange_field(
+    fields: &FieldNames,
+    mut of: Box<Record<Value>>,
+    name: usize,
+    rest: &[usize],
+    value: Value,
+) -> Option<(Value, Value)>
+    ensures { IfSome result (λ r. exchanged (places_in fields.now) (name ∷ rest.now)
+        (value_of value) (Some (RecordValue of.value.id (values_of of.value.fields.items)))
+        ≡ Some (Some (value_of r.0), Some (value_of r.1))) }
+{
+    let Some(place) = fields.place(of.id, name) else {
+        return None;
+    };
+    if place >= of.fields.len() {
+        return None;
+    }
+    let part = take_field(&mut of.fields, place);
+    let Some((old, part)) = exchange(fields, part, rest, value) else {
+        return None;
+    };
+    fill_field(&mut of.fields, place, part);
+    Some((old, record_value(of)))
 }
 
 impl Process {
     /// Where an actor that has a frame stands.
-    pub(crate) fn stand_of<'a>(&self, code: &'a Code, actor: ActorId) -> Result<Stand<'a>, Fault> {
+    pub(crate) fn stand_of<'a>(&self, code: &'a Code, actor: ActorId) -> Result<Stand<'a>, Fault>
+        ensures { IfOk result (λ s. StandsNow code.now.classes.items actor self.now s) }
+    {
         let Some(at) = self.heap.frames().standing(actor) else {
             return Err(Fault::Astray);
         };
@@ -117,6 +218,7 @@ impl Process {
         }
     }
 
+    #[tactic(auto, using(crate::proofs::Framing::frame_changed))]
     /// Has a place of a frame hold something or nothing, and gives what it held.
     pub(crate) fn put(
         &mut self,
@@ -125,10 +227,10 @@ impl Process {
         value: Option<Value>,
     ) -> Result<Option<Value>, Fault>
         ensures tasks { self.new.heap.tasks ≡ self.old.heap.tasks }
-        ensures changed { OnOk result (IsSomeAnd (thing self.old.heap.frames.things actor.0)
-            (λ f. self.new ≡ on_heap (frame_put actor.0 (with_place f place value)) self.old)) }
-        ensures held { IfOk result (λ o. IsSomeAnd (thing self.old.heap.frames.things actor.0)
-            (λ f. o ≡ slice_index_or f.places place None)) }
+        ensures there { OnOk result (IsSome (thing self.old.heap.frames.things actor.0)) }
+        ensures changed { OnOk result (self.new
+            ≡ on_heap (place_put actor.0 place value) self.old) }
+        ensures held { IfOk result (λ o. o ≡ place_held actor.0 place self.old.heap) }
     {
         let Some(places) = self.heap.frames().places_of(actor) else {
             return Err(Fault::Astray);
@@ -139,11 +241,12 @@ impl Process {
         Ok(self.heap.frames_mut().set_slot(actor, place, value)?)
     }
 
+    #[tactic(auto, using(crate::proofs::Framing::frame_changed))]
     /// Has a frame go on at a block and an instruction of it.
     pub(crate) fn go(&mut self, actor: ActorId, block: u32, instruction: u32) -> Result<(), Fault>
         ensures tasks { self.new.heap.tasks ≡ self.old.heap.tasks }
-        ensures gone { OnOk result (IsSomeAnd (thing self.old.heap.frames.things actor.0)
-            (λ f. self.new ≡ on_heap (frame_put actor.0 (gone_to block instruction f)) self.old)) }
+        ensures there { OnOk result (IsSome (thing self.old.heap.frames.things actor.0)) }
+        ensures gone { OnOk result (self.new ≡ on_heap (gone actor.0 block instruction) self.old) }
     {
         if !self.heap.frames().contains(actor) {
             return Err(Fault::Astray);
@@ -153,7 +256,10 @@ impl Process {
     }
 
     /// Has the frame of an actor say where the actor stands, where it does not yet.
-    pub(crate) fn note<'a>(&mut self, stand: Stand<'a>) -> Result<Stand<'a>, Fault> {
+    pub(crate) fn note<'a>(&mut self, stand: Stand<'a>) -> Result<Stand<'a>, Fault>
+        ensures stand { IfOk result (λ s. s ≡ noted_stand stand.entry) }
+        ensures noted { OnOk result (self.new ≡ noted stand.entry self.old) }
+    {
         if stand.noted {
             return Ok(stand);
         }
@@ -169,10 +275,13 @@ impl Process {
     }
 
     /// Has the frame of an actor go on at its next instruction.
-    pub(crate) fn go_on<'a>(&mut self, stand: &Stand<'a>) -> Result<Stand<'a>, Fault> {
+    pub(crate) fn go_on<'a>(&mut self, stand: &Stand<'a>) -> Result<Stand<'a>, Fault>
+        ensures { OnOk result (self.new ≡ noted (next_stand stand.now) self.old) }
+    {
         self.note(stand.next()?)
     }
 
+    #[tactic(auto, using(crate::proofs::Parts::part_assigned))]
     // The part of a place at which an actor aims gets a value that counts already. Gives what stood there.
     fn put_part(
         &mut self,
@@ -180,18 +289,21 @@ impl Process {
         actor: ActorId,
         aim: &Aim,
         value: Value,
-    ) -> Result<Option<Value>, Fault> {
+    ) -> Result<Option<Value>, Fault>
+        ensures { IfOk result (λ old. Assigns fields.now actor aim.now value self.old old
+            self.new) }
+    {
         let Some(root) = self.put(actor, aim.place, None)? else {
             return Err(Fault::Astray);
         };
-        let mut root = root;
-        let Some(old) = exchange(fields, &mut root, &aim.path, value) else {
+        let Some((old, root)) = exchange(fields, root, &aim.path, value) else {
             return Err(Fault::Astray);
         };
         self.put(actor, aim.place, Some(root))?;
         Ok(Some(old))
     }
 
+    #[tactic(auto, using(crate::proofs::Parts::whole_assigned))]
     /// Where an actor aims gets a value that counts already. Gives what stood there.
     pub(crate) fn assign(
         &mut self,
@@ -199,21 +311,28 @@ impl Process {
         actor: ActorId,
         aim: &Aim,
         value: Value,
-    ) -> Result<Option<Value>, Fault> {
+    ) -> Result<Option<Value>, Fault>
+        ensures { IfOk result (λ old. Assigns code.now.fields actor aim.now value self.old old
+            self.new) }
+    {
         if aim.path.is_empty() {
             return self.put(actor, aim.place, Some(value));
         }
         self.put_part(code.fields(), actor, aim, value)
     }
 
+    #[tactic(auto, using(crate::proofs::Framing::one_emptied, crate::proofs::Framing::one_taken))]
     /// The values with references that leave these places, each emptied as it is read.
-    pub(crate) fn taken(&mut self, actor: ActorId, places: &[u32]) -> Result<Vec<Value>, Fault> {
+    pub(crate) fn taken(&mut self, actor: ActorId, places: &[u32]) -> Result<Vec<Value>, Fault>
+        ensures taken { IfOk result (λ vs. vs.items
+            ≡ places_taken actor.0 places.now self.old.heap) }
+        ensures emptied { OnOk result (self.new
+            ≡ on_heap (places_emptied actor.0 places.now) self.old) }
+    {
         let mut values = Vec::new(self.alloc);
         for place in places {
-            match self.put(actor, *place, None)? {
-                Some(value) if may_refer(&value) => values.push(value)?,
-                _ => (),
-            }
+            let old = self.put(actor, *place, None)?;
+            keep_referring(&mut values, old)?;
         }
         Ok(values)
     }
@@ -230,10 +349,11 @@ impl Process {
         Ok(())
     }
 
-    #[tactic(auto, using(crate::proofs::Over::over_none, crate::proofs::Over::over_these))]
+    #[tactic(auto, using(crate::proofs::Over::over_none, crate::proofs::Over::over_these, crate::proofs::Framing::lost_none))]
     // A place is emptied, and what it held is dropped.
     fn empty(&mut self, actor: ActorId, place: u32) -> Result<(), Fault>
-        ensures { OnOk result (DropsOver self.old.heap.tasks self.new.heap.tasks) }
+        ensures lost { OnOk result (self.new ≡ on_heap (place_lost actor.0 place) self.old) }
+        ensures drops { OnOk result (DropsOver self.old.heap.tasks self.new.heap.tasks) }
     {
         if self.heap.frames().held(actor, place).is_none() {
             return Ok(());
@@ -246,13 +366,16 @@ impl Process {
 
     // The places from one on are emptied, and what they held is dropped, that of the last place first.
     fn empty_from(&mut self, actor: ActorId, first: u32) -> Result<(), Fault>
-        ensures { OnOk result (DropsOver self.old.heap.tasks self.new.heap.tasks) }
+        ensures lost { OnOk result (self.new ≡ on_heap (lost_from actor.0 first) self.old) }
+        ensures drops { OnOk result (DropsOver self.old.heap.tasks self.new.heap.tasks) }
     {
         if !self.heap.frames().contains(actor) {
             return Err(Fault::Astray);
         }
         let count = self.heap.frames().places_held(actor).len();
-        let last = u32::try_from(count).unwrap_or(u32::MAX);
+        let Ok(last) = u32::try_from(count) else {
+            return Err(Fault::Astray);
+        };
         for place in first..last {
             self.empty(actor, place)?;
         }
@@ -261,13 +384,17 @@ impl Process {
 
     /// All locals are emptied, and what they held is dropped by falling number.
     pub(crate) fn lose_locals(&mut self, class: &Class, actor: ActorId) -> Result<(), Fault>
-        ensures { OnOk result (DropsOver self.old.heap.tasks self.new.heap.tasks) }
+        ensures lost { OnOk result (self.new
+            ≡ on_heap (lost_from actor.0 class.now.slots) self.old) }
+        ensures drops { OnOk result (DropsOver self.old.heap.tasks self.new.heap.tasks) }
     {
         self.empty_from(actor, class.slots)
     }
 
     /// All places are emptied, and what they held is dropped, by falling number, the locals before the slots.
-    pub(crate) fn lose_all(&mut self, actor: ActorId) -> Result<(), Fault> {
+    pub(crate) fn lose_all(&mut self, actor: ActorId) -> Result<(), Fault>
+        ensures { OnOk result (self.new ≡ on_heap (lost_from actor.0 0) self.old) }
+    {
         self.empty_from(actor, 0)
     }
 }

@@ -1,18 +1,43 @@
 // The step of an actor by its instruction.
 
+ghost use Rattle.std.specs.Prelude.{◌≡◌, ◌+◌, IfOk, OnOk, IfSome, Some, map, slice_get};
+ghost use Rattle.flow_tree.specs.DeclView.{function_of};
+ghost use Rattle.flow_tree.specs.declared.limits.TheConstants.{CALL_DEPTH};
+ghost use Rattle.flow_eval.specs.Eval.{function_called};
+ghost use Rattle.flow_eval.specs.Functions.{run_function};
+ghost use Rattle.std.specs.Option.{option_copied, option_map};
+ghost use Rattle.flow_value.specs.View.{value_of};
+ghost use Rattle.flow_value.specs.Values.{RefValue};
+ghost use Rattle.flow_eval.specs.View.{Gives, GivesAll, setting_of};
+ghost use Rattle.flow_resolved.specs.Truth.{GivesTruth};
+ghost use Rattle.flow_resolved.specs.View.{places_in, sight_of};
+ghost use Rattle.flow_resolved.specs.Evaluation.{value_at};
+ghost use Rattle.flow_code.specs.declared.class.Act.TheVariants.{Function};
+ghost use Rattle.flow_steps.specs.declared.next.Pace.TheVariants.{On, Off};
+ghost use Rattle.flow_steps.specs.Sights.{Halted, program_time, setting_in, sight_in, with_left, Evaluates};
+ghost use Rattle.flow_steps.specs.Seen.{contents_seen};
+ghost use Rattle.flow_steps.specs.Standing.{noted, place_held, places_taken, places_emptied, referring, field_path, next_stand};
+ghost use Rattle.flow_steps.specs.Holding.{on_heap};
+ghost use Rattle.flow_steps.specs.Acting.{args_of};
+ghost use Rattle.flow_steps.specs.Stepping.{OnAfter, Does, Ends, StepsOn, Runs, GoesOn, IsSet, IsNew, IsAct, IsChoose, IsMethod, MethodStep, function_result, FunctionCalled, Passes, IsTest, OperandStep, OperandKept, IsReturn, IsThrow, value_for, truth_for, values_for, truth_value};
+ghost use Rattle.flow_steps.specs.Tasks.{RunsNow};
+
+use crate::branches::branch_in;
 use crate::call::Goal;
 use crate::errors::Fault;
-use crate::frames::{Stand, may_refer};
+use crate::frames::{Stand, instruction_at, may_refer};
 use crate::process::Process;
 use crate::seen::Contents;
 use flow_ast::predefined::Method;
 use flow_base::ids::{ActorId, CellId};
 use flow_cancel::task::Task;
-use flow_code::class::{Act, Aim, Branch, Effect, Instruction, Last, Operand};
+use flow_code::class::{Act, Aim, Effect, Group, Instruction, Last, Operand};
 use flow_code::program::Code;
+use flow_eval::cells::CellView;
 use flow_eval::evaluate::{Setting, Turns, run_at};
 use flow_eval::stop::Halt;
 use flow_eval::variables::VarList;
+use flow_frame::held::Held;
 use flow_resolved::evaluate::{Sight, evaluate_args, evaluate_resolved, evaluate_truth, field};
 use flow_resolved::expr::Resolved;
 use flow_resolved::names::FieldNames;
@@ -21,13 +46,16 @@ use flow_value::value::{Kind, Outcome, Value};
 
 /// How an actor goes on after an instruction: at once where it stands now, or by its task, or not at all.
 #[derive(Clone, Copy)]
-pub(crate) enum Pace<'a> {
+pub enum Pace<'a> {
     On(Stand<'a>),
     Off,
 }
 
 /// The part of a value to which fields with names of these numbers lead.
-fn part<'a>(fields: &FieldNames, value: &'a Value, path: &[usize]) -> Option<&'a Value> {
+fn part<'a>(fields: &FieldNames, value: &'a Value, path: &[usize]) -> Option<&'a Value>
+    ensures { IfSome result (λ v. field_path (places_in fields.now) path.now
+        (Some (value_of value.now)) ≡ Some (value_of v.now)) }
+{
     let mut part = value;
     for name in path {
         let Some(inner) = field(fields, part, *name) else {
@@ -38,21 +66,90 @@ fn part<'a>(fields: &FieldNames, value: &'a Value, path: &[usize]) -> Option<&'a
     Some(part)
 }
 
+/// The time of an event as a number of programs, the greatest of them where it is later.
+fn program_time(ticks: u64) -> i64
+    ensures { result ≡ program_time ticks }
+{
+    i64::try_from(ticks).unwrap_or(i64::MAX)
+}
+
+/// The number through its class of the branch of a group that waits for the operand after so many.
+fn callback_of(group: &Group, kept: usize) -> Result<u32, Fault>
+    ensures { IfOk result (λ n. n ≡ group.now.first + kept) }
+{
+    match u32::try_from(kept) {
+        Ok(kept) => match group.first.checked_add(kept) {
+            Some(callback) => Ok(callback),
+            None => Err(Fault::Astray),
+        },
+        Err(_) => Err(Fault::Astray),
+    }
+}
+
+/// A plain function of a program is run, where it has one at this place.
+fn run_function<C: CellView>(
+    setting: &Setting<C>,
+    function: usize,
+    args: Vec<Value>,
+    turns: &mut Turns,
+) -> Result<Value, Halt>
+    ensures { Gives (function_called (setting_of C.content setting.now)
+        (run_function (setting_of C.content setting.now) CALL_DEPTH)
+        (slice_get (map function_of setting.now.functions.now) function) (map value_of args.items)
+        turns.old.left) result turns.new.left }
+{
+    if function >= setting.functions.len() {
+        return Err(Halt::NoMeaning);
+    }
+    run_at::<VarList, C>(setting, CALL_DEPTH, function, args, turns)
+}
+
+/// A value is forgotten, and the actor goes on at its next instruction.
+fn next_after<'a>(stand: &Stand<'a>, _value: Value) -> Result<Pace<'a>, Fault>
+    ensures { IfOk result (λ pace. pace ≡ On (next_stand stand.now)) }
+{
+    Ok(Pace::On(stand.next()?))
+}
+
 impl Process {
     // What stays the same while an expression is evaluated.
-    fn setting<'a>(&self, code: &'a Code, contents: &'a Contents<'a>) -> Setting<'a, Contents<'a>> {
+    fn setting<'a>(&self, code: &'a Code, contents: &'a Contents<'a>) -> Setting<'a, Contents<'a>>
+        requires { contents.now.cells.now ≡ self.now.heap.cells }
+        ensures { setting_of contents_seen result ≡ setting_in code.now self.now }
+    {
         let raw = code.program().raw();
         Setting {
             alloc: self.alloc,
             records: &raw.records,
             functions: &raw.functions,
             view: contents,
-            time: i64::try_from(self.time).unwrap_or(i64::MAX),
+            time: program_time(self.time),
+        }
+    }
+
+    #[tactic(auto, using(crate::proofs::Sights::same_sight))]
+    // What an actor sees while it evaluates.
+    fn sight<'a>(
+        &'a self,
+        code: &'a Code,
+        actor: ActorId,
+        contents: &'a Contents<'a>,
+    ) -> Sight<'a, Contents<'a>>
+        requires { contents.now.cells.now ≡ self.now.heap.cells }
+        ensures { sight_of contents_seen result ≡ sight_in code.now actor.0 self.now }
+    {
+        Sight {
+            setting: self.setting(code, contents),
+            fields: code.fields(),
+            places: self.heap.frames().places_held(actor),
         }
     }
 
     /// Evaluation gave no value: an error is thrown where the actor stands, or no turn was left.
-    pub(crate) fn halted<'a>(&mut self, stand: &Stand<'a>, halt: Halt) -> Result<Pace<'a>, Fault> {
+    pub(crate) fn halted<'a>(&mut self, stand: &Stand<'a>, halt: Halt) -> Result<Pace<'a>, Fault>
+        ensures off { IfOk result (λ pace. pace ≡ Off) }
+        ensures halted { OnOk result (Halted stand.now halt self.old self.new) }
+    {
         self.note(*stand)?;
         match halt {
             Halt::Thrown(error) => self.throw(stand.actor, error)?,
@@ -63,83 +160,91 @@ impl Process {
         Ok(Pace::Off)
     }
 
+    #[tactic(auto, using(crate::proofs::Sights::value_seen))]
     /// The value of an expression for an actor.
     pub(crate) fn value(
         &mut self,
         code: &Code,
         actor: ActorId,
         expr: &Resolved,
-    ) -> Result<Value, Halt> {
+    ) -> Result<Value, Halt>
+        ensures gives { Gives (value_for code.now actor.0 expr.now self.old) result
+            self.new.left }
+        ensures rest { self.new ≡ with_left self.new.left self.old }
+    {
         let mut turns = Turns { left: self.left };
         let value = {
             let contents = Contents {
                 cells: self.heap.cells(),
             };
-            let sight = Sight {
-                setting: self.setting(code, &contents),
-                fields: code.fields(),
-                places: self.heap.frames().places_held(actor),
-            };
+            let sight = self.sight(code, actor, &contents);
             evaluate_resolved(&sight, expr, &mut turns)
         };
         self.left = turns.left;
         value
     }
 
+    #[tactic(auto, using(crate::proofs::Sights::truth_seen))]
     /// The truth value of an expression for an actor.
     pub(crate) fn truth(
         &mut self,
         code: &Code,
         actor: ActorId,
         expr: &Resolved,
-    ) -> Result<bool, Halt> {
+    ) -> Result<bool, Halt>
+        ensures gives { GivesTruth (truth_for code.now actor.0 expr.now self.old) result
+            self.new.left }
+        ensures rest { self.new ≡ with_left self.new.left self.old }
+    {
         let mut turns = Turns { left: self.left };
         let value = {
             let contents = Contents {
                 cells: self.heap.cells(),
             };
-            let sight = Sight {
-                setting: self.setting(code, &contents),
-                fields: code.fields(),
-                places: self.heap.frames().places_held(actor),
-            };
+            let sight = self.sight(code, actor, &contents);
             evaluate_truth(&sight, expr, &mut turns)
         };
         self.left = turns.left;
         value
     }
 
+    #[tactic(auto, using(crate::proofs::Sights::values_seen))]
     /// The values of arguments for an actor.
     pub(crate) fn values(
         &mut self,
         code: &Code,
         actor: ActorId,
         args: &[Resolved],
-    ) -> Result<Vec<Value>, Halt> {
+    ) -> Result<Vec<Value>, Halt>
+        ensures gives { GivesAll (values_for code.now actor.0 args.now self.old) result
+            self.new.left }
+        ensures rest { self.new ≡ with_left self.new.left self.old }
+    {
         let mut turns = Turns { left: self.left };
         let values = {
             let contents = Contents {
                 cells: self.heap.cells(),
             };
-            let sight = Sight {
-                setting: self.setting(code, &contents),
-                fields: code.fields(),
-                places: self.heap.frames().places_held(actor),
-            };
+            let sight = self.sight(code, actor, &contents);
             evaluate_args(&sight, args, &mut turns)
         };
         self.left = turns.left;
         values
     }
 
+    #[tactic(auto, using(crate::proofs::Done::runs_now))]
     /// An actor takes its next steps from where its frame stands.
-    pub(crate) fn run(&mut self, code: &Code, actor: ActorId) -> Result<(), Fault> {
+    pub(crate) fn run(&mut self, code: &Code, actor: ActorId) -> Result<(), Fault>
+        ensures { OnOk result (RunsNow code.now actor self.old self.new) }
+    {
         let stand = self.stand_of(code, actor)?;
         self.run_from(code, stand)
     }
 
     /// An actor takes its next steps, by its instructions, up to one after which other tasks come first.
-    pub(crate) fn run_from(&mut self, code: &Code, stand: Stand<'_>) -> Result<(), Fault> {
+    pub(crate) fn run_from(&mut self, code: &Code, stand: Stand<'_>) -> Result<(), Fault>
+        ensures { OnOk result (Runs code.now stand.entry self.old self.new) }
+    {
         let mut stand = stand;
         for _step in 0..u64::MAX {
             match self.take_step(code, &stand)? {
@@ -150,10 +255,23 @@ impl Process {
         Err(Fault::Astray)
     }
 
+    /// An actor goes on after a step, where that leaves nothing to do first.
+    pub(crate) fn go_from(&mut self, code: &Code, pace: Pace<'_>) -> Result<(), Fault>
+        ensures { OnOk result (GoesOn code.now pace.entry self.old self.new) }
+    {
+        match pace {
+            Pace::On(stand) => self.run_from(code, stand),
+            Pace::Off => Ok(()),
+        }
+    }
+
+    #[tactic(auto, using(crate::proofs::Stepped::steps_by))]
     // An actor takes its next step, by its instruction.
-    fn take_step<'a>(&mut self, code: &Code, stand: &Stand<'a>) -> Result<Pace<'a>, Fault> {
+    fn take_step<'a>(&mut self, code: &Code, stand: &Stand<'a>) -> Result<Pace<'a>, Fault>
+        ensures { IfOk result (λ pace. StepsOn code.now stand.now self.old pace self.new) }
+    {
         let block = stand.block;
-        if let Some(instruction) = block.body.get(stand.instruction as usize) {
+        if let Some(instruction) = instruction_at(block, stand.instruction) {
             return self.instruction(code, stand, instruction);
         }
         if stand.instruction as usize == block.body.len() {
@@ -162,12 +280,15 @@ impl Process {
         Err(Fault::Astray)
     }
 
+    #[tactic(auto, using(crate::proofs::Stepped::after_one, crate::proofs::Stepped::after_none, crate::proofs::Holding::value_dropped))]
     /// A value that is left over, if any, is dropped; the actor goes on at once where that leaves nothing to do.
     pub(crate) fn on_after<'a>(
         &mut self,
         stand: Stand<'a>,
         old: Option<Value>,
-    ) -> Result<Pace<'a>, Fault> {
+    ) -> Result<Pace<'a>, Fault>
+        ensures { IfOk result (λ pace. OnAfter stand.entry (referring old) self.old pace self.new) }
+    {
         match old {
             Some(old) if may_refer(&old) => {
                 self.note(stand)?;
@@ -184,7 +305,10 @@ impl Process {
         code: &Code,
         stand: &Stand<'a>,
         instruction: &Instruction,
-    ) -> Result<Pace<'a>, Fault> {
+    ) -> Result<Pace<'a>, Fault>
+        ensures { IfOk result (λ pace. Does code.now stand.now instruction.now self.old pace
+            self.new) }
+    {
         match instruction {
             Instruction::Set(aim, expr) => self.set_aim(code, stand, aim, expr),
             Instruction::Effect(_, effect, args) => {
@@ -198,8 +322,13 @@ impl Process {
         }
     }
 
+    #[tactic(auto, using(crate::proofs::Stepped::after_values, crate::proofs::Stepped::after_none))]
     // Places are emptied, and what they held is dropped.
-    fn empty_places<'a>(&mut self, stand: &Stand<'a>, places: &[u32]) -> Result<Pace<'a>, Fault> {
+    fn empty_places<'a>(&mut self, stand: &Stand<'a>, places: &[u32]) -> Result<Pace<'a>, Fault>
+        ensures { IfOk result (λ pace. OnAfter (next_stand stand.now)
+            (places_taken stand.now.actor.0 places.now self.old.heap)
+            (on_heap (places_emptied stand.now.actor.0 places.now) self.old) pace self.new) }
+    {
         let next = stand.next()?;
         let values = self.taken(stand.actor, places)?;
         if values.is_empty() {
@@ -211,6 +340,7 @@ impl Process {
         Ok(Pace::Off)
     }
 
+    #[tactic(auto, using(crate::proofs::Evaluating::value_given, crate::proofs::Evaluating::value_breaks))]
     // An assignment: the value is put in place, what stood there is dropped, and the next instruction follows.
     fn set_aim<'a>(
         &mut self,
@@ -218,29 +348,51 @@ impl Process {
         stand: &Stand<'a>,
         aim: &Aim,
         expr: &Resolved,
-    ) -> Result<Pace<'a>, Fault> {
-        let value = match self.value(code, stand.actor, expr) {
-            Ok(value) => value,
-            Err(halt) => return self.halted(stand, halt),
-        };
+    ) -> Result<Pace<'a>, Fault>
+        ensures { IfOk result (λ pace. Evaluates stand.now value_of
+            (value_for code.now stand.now.actor.0 expr.now self.old) self.old
+            (IsSet code.now stand.now aim.now) pace self.new) }
+    {
+        match self.value(code, stand.actor, expr) {
+            Ok(value) => self.set_value(code, stand, aim, value),
+            Err(halt) => self.halted(stand, halt),
+        }
+    }
+
+    #[tactic(auto, using(crate::proofs::Stepped::set_by))]
+    // That, with the value known.
+    fn set_value<'a>(
+        &mut self,
+        code: &Code,
+        stand: &Stand<'a>,
+        aim: &Aim,
+        value: Value,
+    ) -> Result<Pace<'a>, Fault>
+        ensures { IfOk result (λ pace. IsSet code.now stand.now aim.now value self.old pace
+            self.new) }
+    {
         self.hold_value(&value)?;
         let old = self.assign(code, stand.actor, aim, value)?;
         self.on_after(stand.next()?, old)
     }
 
+    #[tactic(auto, using(crate::proofs::Stepped::new_by))]
     // A new cell for a place of a promise's type.
     fn new_promise<'a>(
         &mut self,
         stand: &Stand<'a>,
         place: u32,
         kind: Kind,
-    ) -> Result<Pace<'a>, Fault> {
+    ) -> Result<Pace<'a>, Fault>
+        ensures { IfOk result (λ pace. IsNew stand.now place kind self.old pace self.new) }
+    {
         let cell = self.new_cell(kind)?;
         self.hold(kind, cell)?;
         let old = self.put(stand.actor, place, Some(Value::Ref(kind, cell)))?;
         self.on_after(stand.next()?, old)
     }
 
+    #[tactic(auto, using(crate::proofs::Evaluating::value_given, crate::proofs::Evaluating::values_break))]
     // A call statement without a base: a predefined one, or a function of the program, whose value is forgotten.
     fn act<'a>(
         &mut self,
@@ -248,11 +400,28 @@ impl Process {
         stand: &Stand<'a>,
         act: Act,
         args: &[Resolved],
-    ) -> Result<Pace<'a>, Fault> {
-        let args = match self.values(code, stand.actor, args) {
-            Ok(args) => args,
-            Err(halt) => return self.halted(stand, halt),
-        };
+    ) -> Result<Pace<'a>, Fault>
+        ensures { IfOk result (λ pace. Evaluates stand.now args_of
+            (values_for code.now stand.now.actor.0 args.now self.old) self.old
+            (IsAct code.now stand.now act) pace self.new) }
+    {
+        match self.values(code, stand.actor, args) {
+            Ok(args) => self.act_with(code, stand, act, args),
+            Err(halt) => self.halted(stand, halt),
+        }
+    }
+
+    // That, with its arguments known.
+    fn act_with<'a>(
+        &mut self,
+        code: &Code,
+        stand: &Stand<'a>,
+        act: Act,
+        args: Vec<Value>,
+    ) -> Result<Pace<'a>, Fault>
+        ensures { IfOk result (λ pace. IsAct code.now stand.now act args self.old pace
+            self.new) }
+    {
         match act {
             Act::World(call) => {
                 self.go_on(stand)?;
@@ -263,6 +432,7 @@ impl Process {
         }
     }
 
+    #[tactic(auto, using(crate::proofs::Evaluating::value_given, crate::proofs::Evaluating::value_breaks))]
     // A method of the reference at which an actor aims.
     fn method<'a>(
         &mut self,
@@ -271,15 +441,33 @@ impl Process {
         aim: &Aim,
         method: Method,
         args: &[Resolved],
-    ) -> Result<Pace<'a>, Fault> {
-        let sent = match args {
-            [] => None,
+    ) -> Result<Pace<'a>, Fault>
+        ensures { IfOk result (λ pace. MethodStep code.now stand.now aim.now method args.now
+            self.old pace self.new) }
+    {
+        match args {
+            [] => self.method_with(code, stand, aim, method, None),
             [arg] => match self.value(code, stand.actor, arg) {
-                Ok(value) => Some(value),
-                Err(halt) => return self.halted(stand, halt),
+                Ok(value) => self.method_with(code, stand, aim, method, Some(value)),
+                Err(halt) => self.halted(stand, halt),
             },
-            _ => return Err(Fault::Astray),
-        };
+            _ => Err(Fault::Astray),
+        }
+    }
+
+    #[tactic(auto, using(crate::proofs::Stepped::method_by))]
+    // That, with what is sent known.
+    fn method_with<'a>(
+        &mut self,
+        code: &Code,
+        stand: &Stand<'a>,
+        aim: &Aim,
+        method: Method,
+        sent: Option<Value>,
+    ) -> Result<Pace<'a>, Fault>
+        ensures { IfOk result (λ pace. IsMethod code.now stand.now aim.now method sent self.old
+            pace self.new) }
+    {
         let Some((kind, cell)) = self.reference_at(code, stand.actor, aim) else {
             return Err(Fault::Astray);
         };
@@ -289,7 +477,11 @@ impl Process {
     }
 
     // The reference at which an actor aims.
-    fn reference_at(&self, code: &Code, actor: ActorId, aim: &Aim) -> Option<(Kind, CellId)> {
+    fn reference_at(&self, code: &Code, actor: ActorId, aim: &Aim) -> Option<(Kind, CellId)>
+        ensures { IfSome result (λ r. field_path (places_in code.now.fields) aim.now.path.items
+            (option_map value_of (place_held actor.0 aim.now.place self.now.heap))
+            ≡ Some (RefValue r.0 r.1.0)) }
+    {
         let root = self.heap.frames().held(actor, aim.place)?;
         match part(code.fields(), root, &aim.path)? {
             Value::Ref(kind, cell) => Some((*kind, *cell)),
@@ -297,35 +489,53 @@ impl Process {
         }
     }
 
+    #[tactic(auto, using(crate::proofs::Evaluating::function_done, crate::proofs::Evaluating::value_breaks))]
     fn call_function<'a>(
         &mut self,
         code: &Code,
         stand: &Stand<'a>,
         function: usize,
         args: Vec<Value>,
-    ) -> Result<Pace<'a>, Fault> {
-        let mut turns = Turns { left: self.left };
-        let came_to = {
-            let contents = Contents {
-                cells: self.heap.cells(),
-            };
-            let setting = self.setting(code, &contents);
-            if function >= setting.functions.len() {
-                return Err(Fault::Astray);
-            }
-            run_at::<VarList, Contents>(&setting, CALL_DEPTH, function, args, &mut turns)
-        };
-        self.left = turns.left;
-        match came_to {
-            Ok(_) => Ok(Pace::On(stand.next()?)),
+    ) -> Result<Pace<'a>, Fault>
+        ensures { IfOk result (λ pace. FunctionCalled code.now stand.now function args self.old
+            pace self.new) }
+    {
+        match self.function_value(code, function, args) {
+            Ok(value) => next_after(stand, value),
             Err(halt) => self.halted(stand, halt),
         }
     }
 
-    fn last<'a>(&mut self, code: &Code, stand: &Stand<'a>, last: &Last) -> Result<Pace<'a>, Fault> {
+    // The value of a plain function.
+    fn function_value(
+        &mut self,
+        code: &Code,
+        function: usize,
+        args: Vec<Value>,
+    ) -> Result<Value, Halt>
+        ensures gives { Gives (function_result code.now function args self.old) result
+            self.new.left }
+        ensures rest { self.new ≡ with_left self.new.left self.old }
+    {
+        let mut turns = Turns { left: self.left };
+        let value = {
+            let contents = Contents {
+                cells: self.heap.cells(),
+            };
+            let setting = self.setting(code, &contents);
+            run_function(&setting, function, args, &mut turns)
+        };
+        self.left = turns.left;
+        value
+    }
+
+    #[tactic(auto, using(crate::proofs::Stepped::goes_at))]
+    fn last<'a>(&mut self, code: &Code, stand: &Stand<'a>, last: &Last) -> Result<Pace<'a>, Fault>
+        ensures { IfOk result (λ pace. Ends code.now stand.now last.now self.old pace self.new) }
+    {
         match last {
             Last::Goto(block) => Ok(Pace::On(stand.at(*block, 0)?)),
-            Last::Pass(block) => self.pass(stand.at(*block, 0)?),
+            Last::Pass(block) => self.pass(stand, *block),
             Last::Test(expr, yes, no) => self.test(code, stand, expr, *yes, *no),
             Last::Choose(group) => self.choose(code, stand, *group),
             Last::Return(expr) => self.finish_with(code, stand, expr),
@@ -333,33 +543,52 @@ impl Process {
         }
     }
 
+    #[tactic(auto, using(crate::proofs::Stepped::pass_on, crate::proofs::Stepped::pass_off))]
     // A pass of a loop begins: it takes a turn.
-    fn pass<'a>(&mut self, stand: Stand<'a>) -> Result<Pace<'a>, Fault> {
+    fn pass<'a>(&mut self, stand: &Stand<'a>, block: u32) -> Result<Pace<'a>, Fault>
+        ensures { IfOk result (λ pace. Passes stand.now block self.old pace self.new) }
+    {
+        let begin = stand.at(block, 0)?;
         if self.turn() {
-            return Ok(Pace::On(stand));
+            return Ok(Pace::On(begin));
         }
-        self.note(stand)?;
+        self.note(begin)?;
         Ok(Pace::Off)
     }
 
+    #[tactic(auto, using(crate::proofs::Evaluating::value_given, crate::proofs::Evaluating::value_breaks))]
     // The error that an expression gives is thrown.
     fn throw_value<'a>(
         &mut self,
         code: &Code,
         stand: &Stand<'a>,
         expr: &Resolved,
-    ) -> Result<Pace<'a>, Fault> {
+    ) -> Result<Pace<'a>, Fault>
+        ensures { IfOk result (λ pace. Evaluates stand.now value_of
+            (value_for code.now stand.now.actor.0 expr.now self.old) self.old
+            (IsThrow stand.now) pace self.new) }
+    {
         match self.value(code, stand.actor, expr) {
-            Ok(Value::Error(error)) => {
-                self.note(*stand)?;
-                self.throw(stand.actor, error)?;
-                Ok(Pace::Off)
-            }
-            Ok(_) => Err(Fault::Astray),
+            Ok(value) => self.throw_with(stand, value),
             Err(halt) => self.halted(stand, halt),
         }
     }
 
+    // That, with the value known.
+    fn throw_with<'a>(&mut self, stand: &Stand<'a>, value: Value) -> Result<Pace<'a>, Fault>
+        ensures { IfOk result (λ pace. IsThrow stand.now value self.old pace self.new) }
+    {
+        match value {
+            Value::Error(error) => {
+                self.note(*stand)?;
+                self.throw(stand.actor, error)?;
+                Ok(Pace::Off)
+            }
+            _ => Err(Fault::Astray),
+        }
+    }
+
+    #[tactic(auto, using(crate::proofs::Evaluating::test_done, crate::proofs::Stepped::goes_at, crate::proofs::Evaluating::truth_breaks))]
     fn test<'a>(
         &mut self,
         code: &Code,
@@ -367,71 +596,116 @@ impl Process {
         expr: &Resolved,
         yes: u32,
         no: u32,
-    ) -> Result<Pace<'a>, Fault> {
-        let next = match self.truth(code, stand.actor, expr) {
-            Ok(true) => yes,
-            Ok(false) => no,
-            Err(halt) => return self.halted(stand, halt),
-        };
-        Ok(Pace::On(stand.at(next, 0)?))
+    ) -> Result<Pace<'a>, Fault>
+        ensures { IfOk result (λ pace. Evaluates stand.now truth_value
+            (truth_for code.now stand.now.actor.0 expr.now self.old) self.old
+            (IsTest stand.now yes no) pace self.new) }
+    {
+        match self.truth(code, stand.actor, expr) {
+            Ok(true) => Ok(Pace::On(stand.at(yes, 0)?)),
+            Ok(false) => Ok(Pace::On(stand.at(no, 0)?)),
+            Err(halt) => self.halted(stand, halt),
+        }
     }
 
+    #[tactic(auto, using(crate::proofs::Stepped::operand_asked, crate::proofs::Stepped::operands_kept))]
     // The next operand of a wait is asked for; when all are kept, the actor waits.
-    fn choose<'a>(
-        &mut self,
-        code: &Code,
-        stand: &Stand<'a>,
-        number: u32,
-    ) -> Result<Pace<'a>, Fault> {
+    fn choose<'a>(&mut self, code: &Code, stand: &Stand<'a>, number: u32) -> Result<Pace<'a>, Fault>
+        ensures { IfOk result (λ pace. IsChoose code.now stand.now number self.old pace
+            self.new) }
+    {
         let Some(group) = stand.class.group(number) else {
             return Err(Fault::Astray);
         };
         let stand = self.note(*stand)?;
         let kept = self.operands(stand.actor);
-        let Some(branch) = group.branches.get(kept) else {
+        let Some(branch) = branch_in(group, kept) else {
             self.wait(&stand, number)?;
             return Ok(Pace::Off);
         };
-        let number = group
-            .first
-            .saturating_add(u32::try_from(kept).unwrap_or(u32::MAX));
-        self.operand(code, &stand, number, branch)
+        let callback = callback_of(group, kept)?;
+        self.operand(code, &stand, callback, &branch.operand)
     }
 
     fn operand<'a>(
         &mut self,
         code: &Code,
         stand: &Stand<'a>,
-        number: u32,
-        branch: &Branch,
-    ) -> Result<Pace<'a>, Fault> {
-        let expr = match &branch.operand {
-            Operand::Value(expr) => expr,
+        callback: u32,
+        operand: &Operand,
+    ) -> Result<Pace<'a>, Fault>
+        ensures { IfOk result (λ pace. OperandStep code.now stand.now callback operand.now self.old
+            pace self.new) }
+    {
+        match operand {
+            Operand::Value(expr) => self.value_operand(code, stand, callback, expr),
             Operand::Effect(effect, args) => {
-                return self.effect(code, stand, Goal::Kept(number), *effect, args);
+                self.effect(code, stand, Goal::Kept(callback), *effect, args)
             }
-        };
+        }
+    }
+
+    #[tactic(auto, using(crate::proofs::Evaluating::value_given, crate::proofs::Evaluating::value_breaks))]
+    // An operand that is the value of an expression.
+    fn value_operand<'a>(
+        &mut self,
+        code: &Code,
+        stand: &Stand<'a>,
+        callback: u32,
+        expr: &Resolved,
+    ) -> Result<Pace<'a>, Fault>
+        ensures { IfOk result (λ pace. Evaluates stand.now value_of
+            (value_for code.now stand.now.actor.0 expr.now self.old) self.old
+            (OperandKept stand.now callback) pace self.new) }
+    {
         match self.value(code, stand.actor, expr) {
-            Ok(Value::Ref(kind, cell)) => {
-                self.hold(kind, cell)?;
-                self.keep_operand(stand, number, cell)
-            }
-            Ok(_) => Err(Fault::Astray),
+            Ok(value) => self.operand_with(stand, callback, value),
             Err(halt) => self.halted(stand, halt),
         }
     }
 
+    // That, with the value known.
+    fn operand_with<'a>(
+        &mut self,
+        stand: &Stand<'a>,
+        callback: u32,
+        value: Value,
+    ) -> Result<Pace<'a>, Fault>
+        ensures { IfOk result (λ pace. OperandKept stand.now callback value self.old pace
+            self.new) }
+    {
+        match value {
+            Value::Ref(kind, cell) => {
+                self.hold(kind, cell)?;
+                self.keep_operand(stand, Held { callback, cell })
+            }
+            _ => Err(Fault::Astray),
+        }
+    }
+
+    #[tactic(auto, using(crate::proofs::Evaluating::value_given, crate::proofs::Evaluating::value_breaks))]
     // The actor ends with a value; everything leaves its variables.
     fn finish_with<'a>(
         &mut self,
         code: &Code,
         stand: &Stand<'a>,
         expr: &Resolved,
-    ) -> Result<Pace<'a>, Fault> {
-        let value = match self.value(code, stand.actor, expr) {
-            Ok(value) => value,
-            Err(halt) => return self.halted(stand, halt),
-        };
+    ) -> Result<Pace<'a>, Fault>
+        ensures { IfOk result (λ pace. Evaluates stand.now value_of
+            (value_for code.now stand.now.actor.0 expr.now self.old) self.old
+            (IsReturn stand.now) pace self.new) }
+    {
+        match self.value(code, stand.actor, expr) {
+            Ok(value) => self.end_with_value(stand, value),
+            Err(halt) => self.halted(stand, halt),
+        }
+    }
+
+    #[tactic(auto, using(crate::proofs::Stepped::returns_by))]
+    // That, with the value known.
+    fn end_with_value<'a>(&mut self, stand: &Stand<'a>, value: Value) -> Result<Pace<'a>, Fault>
+        ensures { IfOk result (λ pace. IsReturn stand.now value self.old pace self.new) }
+    {
         self.hold_value(&value)?;
         self.note(*stand)?;
         let outcome = Box::new(self.alloc, Outcome::Value(value))?;

@@ -1,6 +1,7 @@
 // A process while it runs.
 
-ghost use Rattle.std.specs.Prelude.{◌≡◌, is_some};
+ghost use Rattle.std.specs.Prelude.{◌≡◌, is_some, IfOk};
+ghost use Rattle.flow_steps.specs.Tasks.{Tasks};
 ghost use Rattle.flow_steps.specs.Doing.{begun, vanished, asking, telling, unasked};
 
 use crate::call::Call;
@@ -96,7 +97,9 @@ impl Process {
 
     /// Does the newest task, and again, until a step asks something of the world, a turn was wanted in vain, or no task is
     /// left.
-    pub fn run_tasks(&mut self, code: &Code) -> Result<Next, Fault> {
+    pub fn run_tasks(&mut self, code: &Code) -> Result<Next, Fault>
+        ensures { IfOk result (λ n. Tasks code.now self.old n self.new) }
+    {
         for _step in 0..u64::MAX {
             if self.spent {
                 return Ok(Next::Spent);

@@ -1,8 +1,9 @@
 // The steps of a process: the newest task is done.
 
-ghost use Rattle.std.specs.Prelude.{◌≡◌, OnOk, IfOk, slice_get};
+ghost use Rattle.std.specs.Prelude.{◌≡◌, OnOk, IfOk};
+ghost use Rattle.flow_cancel.specs.Dropping.{dropping};
 ghost use Rattle.flow_cancel.specs.Heap.{finished};
-ghost use Rattle.std.specs.Option.{ForSome, IsSomeAnd};
+ghost use Rattle.std.specs.Option.{IsSomeAnd};
 ghost use Rattle.flow_cell.specs.declared.counts.Side.TheVariants.{Promise};
 ghost use Rattle.flow_cell.specs.Cells.{released};
 ghost use Rattle.flow_picture.specs.Changes.{cell_put};
@@ -11,18 +12,20 @@ ghost use Rattle.flow_steps.specs.Bringing.{result_set, end_line, ended_with, cl
 ghost use Rattle.flow_numbered.specs.Numbered.{thing};
 ghost use Rattle.flow_steps.specs.Doing.{departed};
 ghost use Rattle.flow_steps.specs.Drops.{DropsOver};
+ghost use Rattle.flow_steps.specs.Standing.{referring, values};
+ghost use Rattle.flow_steps.specs.Tasks.{BranchAt, Given, ValueGiven, bound_over, bound, Stored, Raises, Raised, FailsBy, caught, with_error, cell_waiter, stream_waiter, next_waiter, WaiterTakes, Fires, drops_one, IsDone};
 
-use crate::branches::{branch_of, group_at};
+use crate::branches::{branch_in, branch_of, group_at};
 use crate::errors::Fault;
-use crate::frames::Stand;
-use crate::next::Pace;
+use crate::frames::{Stand, instruction_at};
 use crate::process::Process;
 use flow_base::ids::{ActorId, CellId, ErrorCode};
 use flow_cancel::task::Task;
 use flow_cell::counts::Side;
 use flow_cell::waiter::Waiter;
-use flow_code::class::{Branch, Catcher, Class, Instruction};
+use flow_code::class::{Branch, Catcher, Instruction};
 use flow_code::program::Code;
+use flow_frame::held::Held;
 use flow_trace::line::Line;
 use flow_value::value::{Kind, Outcome, Value};
 
@@ -36,14 +39,27 @@ fn end_line(actor: ActorId, outcome: &Outcome) -> Line
     }
 }
 
-/// The branch of a group.
-fn branch_at(class: &Class, group: u32, branch: u32) -> Option<&Branch> {
-    class.group(group)?.branches.get(branch as usize)
+#[tactic(auto, using(crate::proofs::Done::branch_found))]
+/// The branch of this number of the wait at which an actor stands.
+fn branch_at<'a>(stand: &Stand<'a>, branch: u32) -> Result<&'a Branch, Fault>
+    ensures { IfOk result (λ b. BranchAt stand.now branch b.now) }
+{
+    let number = group_at(stand.block)?;
+    let Some(group) = stand.class.group(number) else {
+        return Err(Fault::Astray);
+    };
+    match branch_in(group, branch as usize) {
+        Some(branch) => Ok(branch),
+        None => Err(Fault::Astray),
+    }
 }
 
 impl Process {
+    #[tactic(auto, using(crate::proofs::Done::closes_by))]
     /// Does a task that was the newest.
-    pub(crate) fn do_task(&mut self, code: &Code, task: Task) -> Result<(), Fault> {
+    pub(crate) fn do_task(&mut self, code: &Code, task: Task) -> Result<(), Fault>
+        ensures { OnOk result (IsDone code.now task self.old self.new) }
+    {
         match task {
             Task::Run(actor) => self.run(code, actor),
             Task::Give(actor, branch, outcome) => {
@@ -56,16 +72,21 @@ impl Process {
                 Ok(())
             }
             Task::Fire(cell) => self.fire(code, cell),
-            Task::Drop(kind, cell) => {
-                if !self.turn() {
-                    return Ok(());
-                }
-                self.lose(kind, cell)
-            }
+            Task::Drop(kind, cell) => self.drop_one(kind, cell),
             Task::Store(actor, value) => self.store(code, actor, Box::into_inner(value)),
-            Task::Keep(actor, callback, cell) => self.keep(code, actor, callback, cell),
+            Task::Keep(actor, callback, cell) => self.keep(code, actor, Held { callback, cell }),
             Task::Close(actor, outcome) => self.close(actor, Box::into_inner(outcome)),
         }
+    }
+
+    // A reference is dropped: a turn, and it counts no more.
+    fn drop_one(&mut self, kind: Kind, cell: CellId) -> Result<(), Fault>
+        ensures { OnOk result (self.new ≡ drops_one kind cell self.old) }
+    {
+        if !self.turn() {
+            return Ok(());
+        }
+        self.lose(kind, cell)
     }
 
     // A branch was taken: its value goes to it, and an error is thrown.
@@ -75,21 +96,32 @@ impl Process {
         actor: ActorId,
         branch: u32,
         outcome: Outcome,
-    ) -> Result<(), Fault> {
-        let value = match outcome {
-            Outcome::Value(value) => value,
-            Outcome::Error(error) => return self.throw(actor, error),
-        };
-        let stand = self.stand_of(code, actor)?;
-        let group = group_at(stand.block)?;
-        let Some(branch) = branch_at(stand.class, group, branch) else {
-            return Err(Fault::Astray);
-        };
-        let old = self.bind(actor, branch, value)?;
-        match self.on_after(stand.at(branch.block, 0)?, old)? {
-            Pace::On(next) => self.run_from(code, next),
-            Pace::Off => Ok(()),
+    ) -> Result<(), Fault>
+        ensures { OnOk result (Given code.now actor branch outcome self.old self.new) }
+    {
+        match outcome {
+            Outcome::Value(value) => self.give_value(code, actor, branch, value),
+            Outcome::Error(error) => self.throw(actor, error),
         }
+    }
+
+    #[tactic(auto, using(crate::proofs::Done::value_given))]
+    // The value goes to the branch that was taken, and the actor goes on there.
+    fn give_value(
+        &mut self,
+        code: &Code,
+        actor: ActorId,
+        branch: u32,
+        value: Value,
+    ) -> Result<(), Fault>
+        ensures { OnOk result (ValueGiven code.now actor branch value self.old self.new) }
+    {
+        let stand = self.stand_of(code, actor)?;
+        let branch = branch_at(&stand, branch)?;
+        let old = self.bind(actor, branch, value)?;
+        let pace = self.on_after(stand.at(branch.block, 0)?, old)?;
+        self.go_from(code, pace)?;
+        Ok(())
     }
 
     // The value of a branch goes into its place. Gives what is to be dropped: what the place held, or the value where there is
@@ -99,59 +131,108 @@ impl Process {
         actor: ActorId,
         branch: &Branch,
         value: Value,
-    ) -> Result<Option<Value>, Fault> {
+    ) -> Result<Option<Value>, Fault>
+        ensures over { IfOk result (λ old. referring old
+            ≡ bound_over actor.0 branch.now.into value self.old.heap) }
+        ensures bound { OnOk result (self.new
+            ≡ on_heap (bound actor.0 branch.now.into value) self.old) }
+    {
         match branch.into {
             Some(place) => self.put(actor, place, Some(value)),
             None => Ok(Some(value)),
         }
     }
 
+    #[tactic(auto, using(crate::proofs::Done::stored_by))]
     // The result of an effect goes into the place of the instruction.
-    fn store(&mut self, code: &Code, actor: ActorId, value: Value) -> Result<(), Fault> {
+    fn store(&mut self, code: &Code, actor: ActorId, value: Value) -> Result<(), Fault>
+        ensures { OnOk result (Stored code.now actor value self.old self.new) }
+    {
         let stand = self.stand_of(code, actor)?;
-        let old = match stand.block.body.get(stand.instruction as usize) {
-            Some(Instruction::Effect(aim, _, _)) => self.assign(code, actor, aim, value)?,
-            _ => return Err(Fault::Astray),
+        let Some(Instruction::Effect(aim, _, _)) = instruction_at(stand.block, stand.instruction)
+        else {
+            return Err(Fault::Astray);
         };
-        if let Some(old) = old {
-            self.heap.push_drops(&old)?;
-        }
+        let old = self.assign(code, actor, aim, value)?;
+        self.drop_old(old)?;
         self.go_on(&stand)?;
         Ok(())
     }
 
+    #[tactic(auto, using(crate::proofs::Holding::value_dropped))]
+    // What is left over is dropped, if anything.
+    fn drop_old(&mut self, old: Option<Value>) -> Result<(), Fault>
+        ensures { OnOk result (self.new ≡ on_heap (dropping (values old)) self.old) }
+    {
+        if let Some(old) = old {
+            self.heap.push_drops(&old)?;
+        }
+        Ok(())
+    }
+
+    #[tactic(auto, using(crate::proofs::Done::raised_by))]
     // The line; then the operands that are kept are dropped in order, and the values that leave the variables; then the
     // handler begins, or the actor ends.
-    fn raise(&mut self, code: &Code, actor: ActorId, error: ErrorCode) -> Result<(), Fault> {
+    fn raise(&mut self, code: &Code, actor: ActorId, error: ErrorCode) -> Result<(), Fault>
+        ensures { OnOk result (Raised code.now actor error self.old self.new) }
+    {
         let stand = self.stand_of(code, actor)?;
-        match &stand.block.catcher {
-            Some(catcher) => self.caught(&stand, catcher, error)?,
-            None => {
-                let outcome = Box::new(self.alloc, Outcome::Error(error))?;
-                self.heap.push(Task::Close(actor, outcome))?;
-                self.lose_all(actor)?;
-                self.leave(actor)?;
-            }
-        }
+        self.leave_by(actor, &stand.block.catcher, error)?;
         self.tell(Line::Throw(actor, error));
         Ok(())
     }
 
-    fn caught(
+    // An error goes to the handler of a block, or out of an actor.
+    fn leave_by(
         &mut self,
-        stand: &Stand<'_>,
-        catcher: &Catcher,
+        actor: ActorId,
+        catcher: &Option<Catcher>,
         error: ErrorCode,
-    ) -> Result<(), Fault> {
-        let actor = stand.actor;
+    ) -> Result<(), Fault>
+        ensures { OnOk result (Raises actor catcher.now error self.old self.new) }
+    {
+        match catcher {
+            Some(catcher) => self.caught(actor, catcher, error),
+            None => self.uncaught(actor, error),
+        }
+    }
+
+    #[tactic(auto, using(crate::proofs::Done::fails_by))]
+    // An error goes out of an actor, which is closed.
+    fn uncaught(&mut self, actor: ActorId, error: ErrorCode) -> Result<(), Fault>
+        ensures { OnOk result (FailsBy actor error self.old self.new) }
+    {
+        let outcome = Box::new(self.alloc, Outcome::Error(error))?;
+        self.heap.push(Task::Close(actor, outcome))?;
+        self.lose_all(actor)?;
+        self.leave(actor)
+    }
+
+    // An error goes to a handler.
+    fn caught(&mut self, actor: ActorId, catcher: &Catcher, error: ErrorCode) -> Result<(), Fault>
+        ensures { OnOk result (self.new ≡ on_heap (caught actor catcher.now error) self.old) }
+    {
         self.heap.push(Task::Catch(actor, error))?;
         let values = self.taken(actor, &catcher.drops)?;
         self.drop_values(values)?;
-        if let Some(place) = catcher.error {
-            self.put(actor, place, Some(Value::Error(error)))?;
-        }
+        self.put_error(actor, catcher.error, error)?;
         self.leave(actor)?;
         self.go(actor, catcher.block, 0)
+    }
+
+    // The place of a handler, if it has one, takes the error.
+    fn put_error(
+        &mut self,
+        actor: ActorId,
+        place: Option<u32>,
+        error: ErrorCode,
+    ) -> Result<(), Fault>
+        ensures { OnOk result (self.new ≡ on_heap (with_error actor.0 place error) self.old) }
+    {
+        if let Some(place) = place {
+            self.put(actor, place, Some(Value::Error(error)))?;
+        }
+        Ok(())
     }
 
     /// The operands of an actor leave all cells, and are dropped.
@@ -166,7 +247,9 @@ impl Process {
     }
 
     // The oldest waiter of a cell, where it has content.
-    fn next_waiter(&self, kind: Kind, cell: CellId) -> Option<Waiter> {
+    fn next_waiter(&self, kind: Kind, cell: CellId) -> Option<Waiter>
+        ensures { result ≡ next_waiter kind cell.0 self.now.heap }
+    {
         if !self.is_ready(cell) {
             return None;
         }
@@ -177,29 +260,39 @@ impl Process {
     }
 
     fn first_waiter(&self, cell: CellId) -> Option<Waiter>
-        ensures { ForSome (thing self.now.heap.cells.things cell.0)
-            (λ c. result ≡ slice_get c.waiters 0) }
+        ensures { result ≡ cell_waiter (thing self.now.heap.cells.things cell.0) }
     {
         self.heap.cells().references(cell)?;
         self.heap.cells().first_waiter(cell)
     }
 
     fn stream_waiter(&self, cell: CellId) -> Option<Waiter>
-        ensures { ForSome (thing self.now.heap.streams.things cell.0) (λ s. result ≡ s.waiter) }
+        ensures { result ≡ stream_waiter (thing self.now.heap.streams.things cell.0) }
     {
         self.heap.streams().references(cell)?;
         self.heap.streams().waiter(cell)
     }
 
+    #[tactic(auto, using(crate::proofs::Done::fires_by))]
     // The oldest waiter takes its branch, and the fire goes on after it. It ends, without a turn, where no waiter is left
     // or, on a stream, neither element nor end.
-    fn fire(&mut self, code: &Code, cell: CellId) -> Result<(), Fault> {
+    fn fire(&mut self, code: &Code, cell: CellId) -> Result<(), Fault>
+        ensures { OnOk result (Fires code.now cell self.old self.new) }
+    {
         let Some(kind) = self.kind_at(cell) else {
             return Err(Fault::Astray);
         };
-        let Some(waiter) = self.next_waiter(kind, cell) else {
-            return self.lose(kind, cell);
-        };
+        match self.next_waiter(kind, cell) {
+            Some(waiter) => self.fire_to(code, cell, waiter),
+            None => self.lose(kind, cell),
+        }
+    }
+
+    #[tactic(auto, using(crate::proofs::Done::waiter_takes))]
+    // A waiter of a cell takes its branch, and the fire goes on after it.
+    fn fire_to(&mut self, code: &Code, cell: CellId, waiter: Waiter) -> Result<(), Fault>
+        ensures { OnOk result (WaiterTakes code.now cell waiter self.old self.new) }
+    {
         self.heap.push(Task::Fire(cell))?;
         let stand = self.stand_of(code, waiter.actor)?;
         let branch = branch_of(&stand, waiter.callback)?;

@@ -9,6 +9,7 @@ ghost use Rattle.flow_stream.specs.Streams.{with_item};
 ghost use Rattle.flow_picture.specs.Changes.{cell_put, stream_put};
 ghost use Rattle.flow_picture.specs.Holds.{hold, hold_all, sent, filled_in};
 ghost use Rattle.flow_steps.specs.Doing.{turned, doing, stopped};
+ghost use Rattle.flow_steps.specs.Waiting.{ready_at};
 ghost use Rattle.flow_steps.specs.Holding.{on_heap, cell_holding, stream_holding, value_refs, outcome_refs, refs_dropped, result_filled, stream_filled, IsGiving, Gives, broken, lost, owner_cancelled, kind_in, futures_of};
 
 use crate::call::{Call, Goal};
@@ -325,7 +326,9 @@ impl Process {
     }
 
     /// Whether a wait at a cell needn't suspend.
-    pub(crate) fn is_ready(&self, cell: CellId) -> bool {
+    pub(crate) fn is_ready(&self, cell: CellId) -> bool
+        ensures { result ≡ ready_at cell.0 self.now.heap }
+    {
         match self.heap.cells().is_set(cell) {
             Some(set) => set,
             None => self.heap.streams().is_ready(cell).unwrap_or(false),

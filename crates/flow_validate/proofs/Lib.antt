@@ -11,6 +11,7 @@ pub mod Ways
 pub mod Passes
 pub mod Followed
 pub mod Everywhere
+pub mod Joining
 pub mod Leading
 pub mod Parting
 pub mod Taken

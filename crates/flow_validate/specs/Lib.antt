@@ -4,6 +4,7 @@ pub mod Counting
 pub mod PlaceNames
 pub mod Following
 pub mod Entered
+pub mod Joined
 pub mod Standing
 pub mod Small
 pub mod Apart

@@ -2,14 +2,14 @@
 -- the blocks that are still to be passed.
 use Rattle.std.specs.Prelude.{◌≡◌, ◌⊎◌, ℕ, ◌+◌, ◌-◌, ◌*◌, ◌^◌, ◌<◌, ◌≤◌, Bool, true, false, not, nat_eq, List, [], ◌∷◌, map, length, slice_get, Contains, bit_or, if◌then◌else◌}
 use Rattle.std.specs.List.{sum_by}
-use Rattle.std.specs.declared.alloc.Global.{Global}
-use Rattle.std.specs.declared.vec.Vec.{Vec}
 use Rattle.std.specs.declared.option.Option.{Option}
 use Rattle.std.specs.declared.option.Option.TheVariants.{None, Some}
 use Rattle.flow_class.specs.declared.class.Slotted.{Slotted}
 use Rattle.flow_class.specs.Classes.{CatcherTree, LastTree, ChooseLast, BlockTree, CallbackTree, ClassTree}
 use Rattle.flow_class.specs.Code.{group_at}
 use Rattle.flow_validate.specs.declared.touch.Touch.{Touch}
+use Rattle.flow_validate.specs.declared.touch.Touches.{Touches}
+use Rattle.flow_validate.specs.Joined.{AreJoined}
 use Rattle.flow_validate.specs.declared.window.Window.{Window}
 use Rattle.flow_validate.specs.declared.filling.Walks.{Walks}
 use Rattle.flow_valid.specs.Named.{targets}
@@ -124,6 +124,9 @@ pub record AreTouches (c : ClassTree) (touches : List (List Touch)) : Type 0 whe
   pub same_length : length touches ≡ length c.blocks
   pub each : (b : ℕ) (k : BlockTree) (ts : List Touch) → slice_get c.blocks b ≡ Some k → slice_get touches b ≡ Some ts → ts ≡ block_touches c k
 
+abbrev pub HoldsTouches : ClassTree → Touches → Type 0
+HoldsTouches c t = (all : List (List Touch)) × AreJoined t all × AreTouches c all
+
 -- a block is passed, or a place is read in it while it is empty
 pub record Passes (c : ClassTree) (w : Window) (old new : Standing) (block : ℕ) : Type 0 where
   pub grows : Grows old new
@@ -152,10 +155,7 @@ FilledOr c t false = ReadsEmpty c
 abbrev pub AreFilledBelow : ClassTree → (locals : Bool) → (count : ℕ) → Type 0
 AreFilledBelow c locals count = (n : ℕ) → n < count → IsFilled c (if locals then Local n else Slot n)
 
--- the lists of vectors, and entries before any walk
-abbrev pub items_of : List (Vec Touch Global) → List (List Touch)
-items_of vs = map (λ (v : Vec Touch Global). v.items) vs
-
+-- entries before any walk
 abbrev pub nothing_entered : {A : Type 0} → List A → List (Option ℕ)
 nothing_entered [] = []
 nothing_entered (x ∷ xs) = None ∷ nothing_entered xs

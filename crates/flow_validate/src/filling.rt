@@ -5,18 +5,17 @@
 
 ghost use Rattle.std.specs.Prelude.{◌≡◌, ◌<◌, ℕ, [], ◌∷◌, ◌++◌, map, length, IfOk, IfSome, Some, true, ◌^◌};
 ghost use Rattle.std.specs.Option.{option_map};
-ghost use Rattle.flow_class.specs.View.{class_of, block_of, catcher_of, last_of, callback_of};
+ghost use Rattle.flow_class.specs.View.{class_of, catcher_of, last_of, callback_of};
 ghost use Rattle.flow_valid.specs.Named.{names_exist};
-ghost use Rattle.flow_validate.specs.Small.{small_block};
 ghost use Rattle.flow_validate.specs.Sizes.{HasFewPlaces};
 ghost use Rattle.flow_valid.specs.Named.{listed};
 ghost use Rattle.flow_valid.specs.Filling.{among, is_error, ReadsFilled};
 ghost use Rattle.flow_class.specs.Classes.{ClassTree};
 ghost use Rattle.flow_class.specs.Classes as last;
 ghost use Rattle.flow_validate.specs.Following.{AreBits, place_in};
-ghost use Rattle.flow_validate.specs.Standing.{standing, widened, AnyBit, plain_way, handler_ways, branch_way, last_ways, Entered, AreTouches, PassesOr, AreWalks, IsFilled, FilledOr, items_of, nothing_entered, AreFilledBelow};
+ghost use Rattle.flow_validate.specs.Standing.{standing, widened, AnyBit, plain_way, handler_ways, branch_way, last_ways, Entered, HoldsTouches, PassesOr, AreWalks, IsFilled, FilledOr, nothing_entered, AreFilledBelow};
 
-use crate::touch::{Touch, block_touches, group_of};
+use crate::touch::{Touches, group_of};
 use crate::window::{Passage, Window};
 use flow_base::memory::NoMemory;
 use flow_class::class::{Block, Callback, Catcher, Class, Last, Slotted};
@@ -188,11 +187,11 @@ impl Walks {
         &mut self,
         window: Window,
         class: &Class,
-        touches: &[Vec<Touch>],
+        touches: &Touches,
         block: u32,
     ) -> Result<bool, NoMemory>
         requires same_length { length self.old.entries.items ≡ length (class_of class.now).blocks }
-        requires touches { AreTouches (class_of class.now) (items_of touches.now) }
+        requires touches { HoldsTouches (class_of class.now) touches.now }
         ensures { IfOk result (λ filled. PassesOr (class_of class.now) window (standing self.old)
             (standing self.new) block filled) }
     {
@@ -203,7 +202,7 @@ impl Walks {
         let Some(empty) = self.entries[number] else {
             return Ok(true);
         };
-        let passage = Passage::entering(empty).through(window, &touches[number]);
+        let passage = Passage::entering(empty).through(window, touches.of_block(number));
         if is_any(passage.misread) {
             return Ok(false);
         }
@@ -216,9 +215,9 @@ impl Walks {
         &mut self,
         window: Window,
         class: &Class,
-        touches: &[Vec<Touch>],
+        touches: &Touches,
     ) -> Result<bool, NoMemory>
-        requires touches { AreTouches (class_of class.now) (items_of touches.now) }
+        requires touches { HoldsTouches (class_of class.now) touches.now }
         requires walks { AreWalks (class_of class.now) window (standing self.old) }
         ensures { IfOk result (FilledOr (class_of class.now)
             ((j : ℕ) → j < 64 → IsFilled (class_of class.now) (place_in window j))) }
@@ -252,31 +251,20 @@ fn into_bit(window: Window, into: Option<Slotted>) -> u64
     }
 }
 
-fn touches_of(alloc: Global, class: &Class, blocks: &[Block]) -> Result<Vec<Vec<Touch>>, NoMemory>
-    ensures { IfOk result (λ v. items_of v.items
-        ≡ map (small_block (class_of class.now)) (map block_of blocks.now)) }
-{
-    let mut all = Vec::new(alloc);
-    for block in blocks {
-        all.push(block_touches(alloc, class, block)?)?;
-    }
-    Ok(all)
-}
-
 // What the blocks of a class do to places.
-fn all_touches(alloc: Global, class: &Class) -> Result<Vec<Vec<Touch>>, NoMemory>
+fn all_touches(alloc: Global, class: &Class) -> Result<Touches, NoMemory>
     requires few { HasFewPlaces (class_of class.now) }
     requires named { names_exist (class_of class.now) ≡ true }
-    ensures { IfOk result (λ v. AreTouches (class_of class.now) (items_of v.items)) }
+    ensures { IfOk result (HoldsTouches (class_of class.now)) }
 {
-    touches_of(alloc, class, &class.blocks)
+    Touches::of(alloc, class, &class.blocks)
 }
 
 // No walk leads anywhere yet.
 fn no_entries(alloc: Global, blocks: &[Block]) -> Result<Vec<Option<u64>>, NoMemory>
     ensures { IfOk result (λ v. v.items ≡ nothing_entered blocks.now) }
 {
-    let mut entries = Vec::new(alloc);
+    let mut entries = Vec::with_capacity(alloc, blocks.len())?;
     for _ in blocks {
         entries.push(None)?;
     }
@@ -300,9 +288,9 @@ fn window_filled(
     alloc: Global,
     window: Window,
     class: &Class,
-    touches: &[Vec<Touch>],
+    touches: &Touches,
 ) -> Result<bool, NoMemory>
-    requires touches { AreTouches (class_of class.now) (items_of touches.now) }
+    requires touches { HoldsTouches (class_of class.now) touches.now }
     ensures { IfOk result (FilledOr (class_of class.now)
         ((j : ℕ) → j < 64 → IsFilled (class_of class.now) (place_in window j))) }
 {
@@ -316,9 +304,9 @@ fn kind_filled(
     locals: bool,
     count: usize,
     class: &Class,
-    touches: &[Vec<Touch>],
+    touches: &Touches,
 ) -> Result<bool, NoMemory>
-    requires touches { AreTouches (class_of class.now) (items_of touches.now) }
+    requires touches { HoldsTouches (class_of class.now) touches.now }
     ensures { IfOk result (FilledOr (class_of class.now)
         (AreFilledBelow (class_of class.now) locals count)) }
 {

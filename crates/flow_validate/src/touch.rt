@@ -1,6 +1,6 @@
 // What a block does to places, in order.
 
-ghost use Rattle.std.specs.Prelude.{◌≡◌, ◌++◌, ◌∷◌, [], map, IfOk};
+ghost use Rattle.std.specs.Prelude.{◌≡◌, ◌<◌, ◌≤◌, ◌-◌, ◌++◌, ◌∷◌, [], List, Some, map, take, drop, length, slice_get, IfOk};
 ghost use Rattle.flow_tree.specs.View.{expr_of, exprs_of};
 ghost use Rattle.std.specs.Option.{option_map};
 ghost use denote.Ref.{Bor};
@@ -11,6 +11,8 @@ ghost use Rattle.flow_class.specs.Places.{place_named, small_place};
 ghost use Rattle.flow_validate.specs.declared.touch.Touch.TheVariants as touch;
 ghost use Rattle.flow_valid.specs.Named.{listed, expr_places, exprs_places, base_place, last_places};
 ghost use Rattle.flow_valid.specs.Filling.{filled_path, operands, group_reads};
+ghost use Rattle.flow_validate.specs.declared.touch.Touch.{Touch as Touching};
+ghost use Rattle.flow_validate.specs.Joined.{joined, AreJoined};
 ghost use Rattle.flow_validate.specs.Small.{small_places, reads_of, small_instr, small_body, small_last, small_block};
 
 use flow_base::memory::NoMemory;
@@ -199,12 +201,69 @@ fn add_last(touches: &mut Vec<Touch>, class: &Class, last: &Last) -> Result<(), 
     }
 }
 
-/// What a block of a class does to places.
-pub fn block_touches(alloc: Global, class: &Class, block: &Block) -> Result<Vec<Touch>, NoMemory>
-    ensures { IfOk result (λ v. v.items ≡ small_block (class_of class.now) (block_of block.now)) }
+// Touches from one place to another.
+fn touches_between(touches: &[Touch], start: usize, end: usize) -> &[Touch]
+    requires order { start ≤ end }
+    requires within { end ≤ length touches.now }
+    ensures { result.now ≡ take (end - start) (drop start touches.now) }
 {
-    let mut touches = Vec::new(alloc);
-    add_body(&mut touches, &block.body)?;
-    add_last(&mut touches, class, &block.last)?;
-    Ok(touches)
+    &touches[start..end]
+}
+
+/// What blocks of a class do to places: their touches, one block after another, and where those of each block end.
+#[derive(Drop)]
+pub struct Touches {
+    all: Vec<Touch>,
+    ends: Vec<usize>,
+}
+
+impl Touches {
+    // What one more block does.
+    fn add(&mut self, class: &Class, block: &Block) -> Result<(), NoMemory>
+        ensures { (before : List (List Touching)) → AreJoined self.old before
+            → IfOk result (λ _. AreJoined self.new
+            (before ++ small_block (class_of class.now) (block_of block.now) ∷ [])) }
+    {
+        add_body(&mut self.all, &block.body)?;
+        add_last(&mut self.all, class, &block.last)?;
+        Ok(self.ends.push(self.all.len())?)
+    }
+
+    /// What these blocks of a class do to places.
+    pub fn of(alloc: Global, class: &Class, blocks: &[Block]) -> Result<Touches, NoMemory>
+        ensures { IfOk result (λ t. AreJoined t
+            (map (small_block (class_of class.now)) (map block_of blocks.now))) }
+    {
+        let mut touches = Touches {
+            all: Vec::new(alloc),
+            ends: Vec::with_capacity(alloc, blocks.len())?,
+        };
+        for block in blocks {
+            touches.add(class, block)?;
+        }
+        Ok(touches)
+    }
+
+    // Where the touches of a block begin.
+    fn start(&self, number: usize) -> usize
+        requires { (all : List (List Touching)) × AreJoined self.now all × (number < length all) }
+        ensures { (all : List (List Touching)) → AreJoined self.now all
+            → result ≡ length (joined (take number all)) }
+    {
+        if number == 0 {
+            return 0;
+        }
+        self.ends[number - 1]
+    }
+
+    /// What the block with a number does.
+    pub fn of_block(&self, number: usize) -> &[Touch]
+        requires { (all : List (List Touching)) × AreJoined self.now all × (number < length all) }
+        ensures { (all : List (List Touching)) → AreJoined self.now all
+            → slice_get all number ≡ Some result.now }
+    {
+        let start = self.start(number);
+        let end = self.ends[number];
+        touches_between(&self.all, start, end)
+    }
 }

@@ -60,7 +60,7 @@ fn names_of(alloc: Global, are_locals: bool, count: u32) -> Result<Vec<Name>, No
     ensures named { IfOk result (λ v. AreNames are_locals v.items) }
     ensures count { IfOk result (λ v. length v.items ≡ count) }
 {
-    let mut names = Vec::new(alloc);
+    let mut names = Vec::with_capacity(alloc, count as usize)?;
     for number in 0..count {
         names.push(var_over(alloc, Some(place_of(are_locals, number)))?)?;
     }
@@ -317,7 +317,8 @@ pub fn variables<'a>(
     ensures { IfOk result (λ m. vars_of m
         ≡ slot_rows 0 (class_of class.now).slots ++ local_rows 0 (class_of class.now).locals) }
 {
-    let mut vars: Vars<'a> = IndexMap::new(alloc);
+    let count = class.slots.len() + class.locals.len();
+    let mut vars: Vars<'a> = IndexMap::with_capacity(alloc, count)?;
     add_slots(&mut vars, &names.slots, &class.slots)?;
     add_locals(&mut vars, &names.locals, &class.locals)?;
     Ok(vars)

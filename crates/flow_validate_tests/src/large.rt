@@ -40,9 +40,9 @@ fn step(alloc: Global, number: u32) -> Result<Block, SourceFault> {
     } else {
         Expr::Var(local(alloc, number.saturating_sub(1))?)
     };
-    let mut path = Vec::new(alloc);
+    let mut path = Vec::with_capacity(alloc, 1)?;
     path.push(local(alloc, number)?)?;
-    let mut body = Vec::new(alloc);
+    let mut body = Vec::with_capacity(alloc, 1)?;
     body.push(Instr::Set(Target { path }, value))?;
     Ok(Block {
         catcher: None,
@@ -51,10 +51,11 @@ fn step(alloc: Global, number: u32) -> Result<Block, SourceFault> {
     })
 }
 
-/// A class program of which `main` has so many locals, and a block that fills each from the one before.
+/// A class program of which `main` has so many locals, and a block that fills each from the one before. Its vectors have room for no
+/// more than they hold, so that what it takes in memory is the program's own.
 pub fn many_blocks(alloc: Global, count: u32) -> Result<RawClasses, SourceFault> {
-    let mut locals = Vec::new(alloc);
-    let mut blocks = Vec::new(alloc);
+    let mut locals = Vec::with_capacity(alloc, count as usize)?;
+    let mut blocks = Vec::with_capacity(alloc, count as usize + 1)?;
     for number in 0..count {
         locals.push(Ty::Int)?;
         blocks.push(step(alloc, number)?)?;

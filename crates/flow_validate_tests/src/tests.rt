@@ -51,8 +51,16 @@ fn order(rt: HostRuntime) -> Result<(), AllocError> {
     Ok(())
 }
 
+// The next test without the verdict.
 #[test]
-fn a_hundred_thousand_blocks_and_places(rt: HostRuntime) -> Result<(), SourceFault> {
+fn a_hundred_thousand_blocks_and_places_are_made(rt: HostRuntime) -> Result<(), SourceFault> {
+    let raw = many_blocks(rt.alloc(), 100_000)?;
+    assert_eq!(rt; raw.classes.len(), 1);
+    Ok(())
+}
+
+#[test]
+fn a_hundred_thousand_blocks_and_places_are_judged(rt: HostRuntime) -> Result<(), SourceFault> {
     let raw = many_blocks(rt.alloc(), 100_000)?;
     assert!(rt; is_judged(rt.alloc(), raw, None));
     Ok(())

@@ -1,10 +1,7 @@
 use Rattle.std.proofs.Common.{◌≡◌, ◌<◌, Some, length, refl, sym, subst, ap, ◌∙◌, arith}
-use Rattle.std.specs.declared.alloc.Global.{Global}
-use Rattle.std.specs.declared.vec.Vec.{Vec}
 use Rattle.std.proofs.lemmas.Option.{slice_get_read}
 use Rattle.std.proofs.lemmas.List.{length-map}
 use Rattle.flow_class.specs.View.{class_of, block_of}
-use Rattle.flow_validate.specs.declared.touch.Touch.{Touch}
 use Rattle.flow_validate.specs.declared.window.Passage.{Passage}
 use Rattle.flow_validate.specs.Following.{ArePassing}
 use Rattle.flow_validate.specs.Standing.{AnyBit, standing}
@@ -24,14 +21,13 @@ returns-then-is_any c =
     let long = c.requires.same_length in
     let within : b < length class.blocks = omega (arith, lt, long) in
     let k = there class.blocks b within in
-    let many : length c.args.touches.now ≡ length class.blocks = sym (length-map c.args.touches.now (λ (v : Vec Touch Global). v.items)) ∙ c.requires.touches.same_length in
-    let among_touches : b < length c.args.touches.now = omega (arith, within, many) in
-    let found = found_at (λ (v : Vec Touch Global). v.items) c.args.touches.now b c.index-touches-number.result among_touches c.index-touches-number.is in
-    let same = c.deref.ensures.value ∙ c.requires.touches.each b k.0 c.index-touches-number.result.items k.1 found in
+    let held = c.requires.touches in
+    let found = c.of_block.ensures held.0 held.1 in
+    let same = held.2.each b k.0 c.of_block.result.now k.1 found in
     let h = c.through-passage.ensures (seen w x) (subst (λ (p : Passage). ArePassing w p (seen w x)) (sym c.entering.ensures) (entered_passing w x)) in
     let at = slice_get_read es (length es) b c.index.result.now refl lt c.index.ensures ∙ ap Some c.in-Some.is in
     let any = subst (AnyBit c.through-passage.result.misread) c.if-is_any.true c.is_any.ensures in
-    λ sound. misreads class w k.0 b x k.1 c.deref.result.now same c.through-passage.result h any es at sound
+    λ sound. misreads class w k.0 b x k.1 c.of_block.result.now same c.through-passage.result h any es at sound
 
 pub returns : goal.returns
 returns c =
@@ -43,16 +39,15 @@ returns c =
     let lt : b < length es = omega (arith, c.if-number-len.false, c.len.ensures) in
     let long = c.requires.same_length in
     let within : b < length class.blocks = omega (arith, lt, long) in
-    let many : length c.args.touches.now ≡ length class.blocks = sym (length-map c.args.touches.now (λ (v : Vec Touch Global). v.items)) ∙ c.requires.touches.same_length in
-    let among_touches : b < length c.args.touches.now = omega (arith, within, many) in
-    let found = found_at (λ (v : Vec Touch Global). v.items) c.args.touches.now b c.index-touches-number.result among_touches c.index-touches-number.is in
+    let held = c.requires.touches in
+    let found = c.of_block.ensures held.0 held.1 in
     let blocks : length c.args.class.now.blocks.items ≡ length class.blocks = sym (length-map c.args.class.now.blocks.items block_of) in
     let r = c.index-2.result in
     let inside : b < length c.args.class.now.blocks.items = omega (arith, within, blocks) in
     let k = block_of r.now in
     let is = found_at block_of c.args.class.now.blocks.items b r.now inside c.index-2.ensures in
-    let same = c.deref.ensures.value ∙ c.requires.touches.each b k c.index-touches-number.result.items is found in
+    let same = held.2.each b k c.of_block.result.now is found in
     let h = c.through-passage.ensures (seen w x) (subst (λ (p : Passage). ArePassing w p (seen w x)) (sym c.entering.ensures) (entered_passing w x)) in
     let at = slice_get_read es (length es) b c.index.result.now refl lt c.index.ensures ∙ ap Some c.in-Some.is in
     let none = subst (AnyBit c.through-passage.result.misread) c.if-is_any.false c.is_any.ensures in
-    block_passes class w k b x is c.deref.result.now same c.through-passage.result h (standing c.args.self.now) (standing c.lead.new.self) at none c.in_ok-lead.ensures long
+    block_passes class w k b x is c.of_block.result.now same c.through-passage.result h (standing c.args.self.now) (standing c.lead.new.self) at none c.in_ok-lead.ensures long

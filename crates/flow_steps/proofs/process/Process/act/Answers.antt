@@ -1,0 +1,8 @@
+use Rattle.flow_steps.proofs.Evaluating.{value_given, values_break}
+use Rattle.flow_steps.proofs.process.Process.act.Goals as goal
+
+pub returns-in-Ok : goal.returns-in-Ok
+returns-in-Ok c = value_given _ _ _ _ _ _ _ _ _ c.in-Ok.ensures.gives c.in-Ok.ensures.rest c.act_with.ensures
+
+pub returns-in-Err : goal.returns-in-Err
+returns-in-Err c = values_break _ _ _ _ _ _ _ _ c.in-Err.ensures.gives c.in-Err.ensures.rest c.halted.ensures.off c.halted.ensures.halted
