@@ -1,3 +1,4 @@
+pub mod Bursts
 pub mod Cause
 pub mod Hosting
 pub mod Requests

@@ -1,9 +1,10 @@
 // Bursts: steps, and what each asks of the world around the process.
 
-ghost use Rattle.std.specs.Prelude.{◌≡◌, ◌+◌, ◌^◌, ◌-ℤ◌, nat_le, None, OnOk};
+ghost use Rattle.std.specs.Prelude.{◌≡◌, ◌+◌, ◌^◌, ◌-ℤ◌, nat_le, None, IfOk, OnOk};
 ghost use Rattle.flow_eval.specs.Predefined.{natural};
 ghost use Rattle.flow_meaning.specs.Effects.{between, is_port, judged};
 ghost use Rattle.flow_steps.specs.Doing.{unasked};
+ghost use Rattle.flow_machine.specs.Bursts.{Bursts};
 ghost use Rattle.flow_machine.specs.Cause.{RunCause};
 ghost use Rattle.flow_machine.specs.Requests.{asked_of};
 ghost use Rattle.flow_machine.specs.Serving.{DrawServed, DelayServed, ListenServed, DiskServed, SendServed};
@@ -187,7 +188,7 @@ pub(crate) fn ask<H: Host>(
     }
 }
 
-#[tactic(auto, using(crate::proofs::Causes::cause_before))]
+#[tactic(auto, using(crate::proofs::Causes::cause_before, crate::proofs::Rows::burst_rests, crate::proofs::Rows::burst_spent, crate::proofs::Rows::burst_asks))]
 /// Steps of a process, of so many, until no task is left, or a turn is needed and none is left.
 pub(crate) fn burst<H: Host>(
     process: &mut Process,
@@ -196,6 +197,8 @@ pub(crate) fn burst<H: Host>(
     host: &mut H,
 ) -> Result<Burst, RunFault>
     requires { H.processes (H.kept host.old) ≡ processes }
+    ensures bursts { IfOk result (λ e. Bursts H.serves H.shows H.wrote code.now processes
+        process.old host.old e process.new host.new) }
     ensures cause { RunCause (H.faults host.old) (H.faults host.new) result }
     ensures kept { H.kept host.new ≡ H.kept host.old }
 {
