@@ -1,6 +1,6 @@
 -- What a step asks of the world, served.
 use Rattle.std.proofs.Common.{◌≡◌, ℕ, suc, ◌+◌, ◌^◌, Bool, true, false, List, [], ◌∷◌, ◌++◌, refl, sym, ap, subst, ◌∙◌, arith, if◌then◌else◌}
-use Rattle.std.specs.Prelude.{ℤ, pos, ◌-ℤ◌, nat_le, is_some}
+use Rattle.std.specs.Prelude.{ℤ, ◌-ℤ◌, nat_le, is_some}
 use Rattle.std.specs.declared.option.Option.{Option}
 use Rattle.std.specs.declared.option.Option.TheVariants.{None, Some}
 use Rattle.flow_base.specs.ErrorNumbers.{bad_argument, out_of_range, port_in_use}
@@ -28,13 +28,13 @@ use Rattle.flow_meaning.specs.Burst.{Host}
 use Rattle.flow_meaning.specs.Effects.{between, scaled, throws, gives, gives_open, open_port, is_port, judged, ask_disk, result_task, push_result}
 use Rattle.flow_picture.specs.Rested.{InNumbers}
 use Rattle.flow_picture.specs.Holds.{AllThere}
-use Rattle.flow_meaning.specs.Step.{Stepped, on_core, reacted, proc}
+use Rattle.flow_meaning.specs.Step.{on_core, reacted, proc}
 use Rattle.flow_meaning.specs.Frame.{Frame}
 use Rattle.flow_steps.specs.declared.call.Goal.{Goal}
 use Rattle.flow_steps.specs.declared.process.Process.{Process}
 use Rattle.flow_steps.specs.Doing.{doing}
 use Rattle.flow_steps.specs.Holding.{Gives}
-use Rattle.flow_steps.specs.Bringing.{OpenGiven, PortGiven}
+use Rattle.flow_steps.specs.Bringing.{OpenGiven}
 use Rattle.flow_machine.specs.Requests.{asked_of}
 use Rattle.flow_machine.specs.Hosting.{Serves}
 use Rattle.flow_machine.specs.Serving.{Thrown, StreamGiven, DrawServed, DelayServed, DiskServed, PortOpened, ListenServed, SendServed, may_send}
