@@ -7,8 +7,8 @@ ghost use Rattle.flow_steps.specs.Doing.{unasked};
 ghost use Rattle.flow_machine.specs.Bursts.{Bursts};
 ghost use Rattle.flow_machine.specs.Cause.{RunCause};
 ghost use Rattle.flow_machine.specs.Requests.{asked_of};
-ghost use Rattle.flow_machine.specs.Serving.{DrawServed, DelayServed, ListenServed, DiskServed, SendServed};
-ghost use Rattle.flow_machine.specs.Serving.{may_send, Served, ServedIf};
+ghost use Rattle.flow_machine.specs.Serving.{DrawServed, DelayServed, ListenServed, DiskServed};
+ghost use Rattle.flow_machine.specs.Serving.{SendServed, may_send, Served, ServedIf};
 
 use crate::host::{Burst, Host, RunFault};
 use crate::judged::{judged, port_of, process, time_after, width};
@@ -28,8 +28,9 @@ fn draw<H: Host>(
     hi: i64,
     host: &mut H,
 ) -> Result<(), RunFault>
-    ensures served { OnOk result (DrawServed H.serves H.shows H.wrote (between (hi -ℤ lo) 1 (2 ^ 32))
-        actor goal lo (natural (hi -ℤ lo)) process.old host.old process.new host.new) }
+    ensures served { let width = natural (hi -ℤ lo) in
+        OnOk result (DrawServed H.serves H.shows H.wrote (between (hi -ℤ lo) 1 (2 ^ 32))
+        actor goal lo width process.old host.old process.new host.new) }
     ensures cause { RunCause (H.faults host.old) (H.faults host.new) result }
     ensures kept { H.kept host.new ≡ H.kept host.old }
 {

@@ -36,7 +36,8 @@ pub trait Host {
     /// What the world does for a request, by its definition.
     ghost serves: { meaning.Host World };
 
-    /// Which ports the process listens at, each with the number of its stream, and what stands in the world.
+    /// Which ports the process listens at, each with the number of its stream, and what stands in the
+    /// world.
     ghost shows: { Self → Numbered ℕ → World → Type 0 };
 
     /// Which lines were written between one moment and a later one.
@@ -44,7 +45,8 @@ pub trait Host {
 
     /// Writes a line of the trace.
     fn line(&mut self, line: &Line) -> Result<(), OutFault>
-        ensures written { OnOk result (Writes serves shows wrote (line.now ∷ []) self.old self.new) }
+        ensures written { OnOk result
+            (Writes serves shows wrote (line.now ∷ []) self.old self.new) }
         ensures cause { HasCause (faults self.old) (faults self.new) result }
         ensures kept { Self.kept self.new ≡ Self.kept self.old };
 
@@ -62,7 +64,8 @@ pub trait Host {
     /// Has the cell be set at this time, in ticks and not after 2^62, by `deliver` with `Void`.
     fn timer(&mut self, cell: CellId, at: u64) -> Result<(), NoMemory>
         requires { at ≤ 2 ^ 62 }
-        ensures served { OnOk result (Serves serves shows wrote (Timer cell.0 at) self.old self.new) }
+        ensures served { OnOk result
+            (Serves serves shows wrote (Timer cell.0 at) self.old self.new) }
         ensures faults { faults self.old ≤ faults self.new }
         ensures kept { Self.kept self.new ≡ Self.kept self.old };
 

@@ -33,7 +33,8 @@ impl Ports {
 
     /// The stream of a port, where it is listened at.
     pub fn stream(&self, port: u16) -> Option<CellId>
-        ensures { (ps : Numbered ℕ) → PortsShow self.now ps → option_map (λ k. k.0) result ≡ thing ps port }
+        ensures { (ps : Numbered ℕ) → PortsShow self.now ps
+            → option_map (λ k. k.0) result ≡ thing ps port }
     {
         let number = self.streams.get(&port)?;
         Some(CellId(*number))
@@ -52,7 +53,8 @@ impl Ports {
     #[tactic(auto, using(crate::proofs::Listening::ports_same))]
     /// The port of a stream is listened at no more.
     pub fn unlisten(&mut self, cell: CellId)
-        ensures { (ps : Numbered ℕ) → PortsShow self.old ps → PortsShow self.new (unheard cell.0 ps) }
+        ensures { (ps : Numbered ℕ) → PortsShow self.old ps
+            → PortsShow self.new (unheard cell.0 ps) }
     {
         if let Some(port) = self.ports.remove(&cell.0) {
             self.streams.remove(&port);
