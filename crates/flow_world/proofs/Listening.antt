@@ -10,6 +10,7 @@ use Rattle.flow_cancel.proofs.Noted.{at_number}
 use Rattle.flow_meaning.specs.Numbered.{Numbered, thing, added, removed}
 use Rattle.flow_meaning.specs.Dropping.{port_of}
 use Rattle.flow_meaning.proofs.Posture.{same_number, other_number, each_number, thing_added, thing_removed_other}
+use Rattle.flow_picture.proofs.Finds.{thing_new}
 use Rattle.flow_machine.specs.Hosting.{unheard_at, unheard}
 use Rattle.flow_world.specs.declared.ports.Ports.{Ports}
 use Rattle.flow_world.specs.Ports.{Once, PortsShow}
@@ -30,12 +31,6 @@ differ : (i j : ℕ) → nat_eq i j ≡ false → i ≡ j → ⊥
 differ i j e f = grind (arith, e, f)
 
 -- one port more
-thing_new : (ps : Numbered ℕ) (port k : ℕ) → thing ps port ≡ None → thing (added ps port k) port ≡ Some k
-thing_new [] port k e = ap (λ t. if t then Some k else None) (same_number port)
-thing_new (x ∷ xs) port k e =
-    let f : (nat_eq port x.0 ≡ false) × (thing xs port ≡ None) = tested (nat_eq port x.0) x.1 (thing xs port) e in
-    ap (λ t. if t then Some x.1 else thing (added xs port k) port) f.0 ∙ thing_new xs port k f.1
-
 port_new : (ps : Numbered ℕ) (port k : ℕ) → port_of k ps ≡ None → port_of k (added ps port k) ≡ Some port
 port_new [] port k e = ap (λ t. if t then Some port else None) (same_number k)
 port_new (x ∷ xs) port k e =
