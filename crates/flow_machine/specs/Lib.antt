@@ -1,2 +1,5 @@
+pub mod Bursts
 pub mod Cause
+pub mod Hosting
 pub mod Requests
+pub mod Serving

@@ -1,10 +1,17 @@
 // Bursts: steps, and what each asks of the world around the process.
 
-ghost use Rattle.std.specs.Prelude.{◌≡◌};
+ghost use Rattle.std.specs.Prelude.{◌≡◌, ◌+◌, ◌^◌, ◌-ℤ◌, nat_le, None, IfOk, OnOk};
+ghost use Rattle.flow_eval.specs.Predefined.{natural};
+ghost use Rattle.flow_meaning.specs.Effects.{between, is_port, judged};
+ghost use Rattle.flow_steps.specs.Doing.{unasked};
+ghost use Rattle.flow_machine.specs.Bursts.{Bursts};
 ghost use Rattle.flow_machine.specs.Cause.{RunCause};
+ghost use Rattle.flow_machine.specs.Requests.{asked_of};
+ghost use Rattle.flow_machine.specs.Serving.{DrawServed, DelayServed, ListenServed, DiskServed};
+ghost use Rattle.flow_machine.specs.Serving.{SendServed, may_send, Served, ServedIf};
 
 use crate::host::{Burst, Host, RunFault};
-use crate::judged::{judged, process, time_after, width};
+use crate::judged::{judged, port_of, process, time_after, width};
 use flow_base::errors::{BAD_ARGUMENT, OUT_OF_RANGE, PORT_IN_USE};
 use flow_base::ids::{ActorId, CellId};
 use flow_base::text::Text;
@@ -21,6 +28,9 @@ fn draw<H: Host>(
     hi: i64,
     host: &mut H,
 ) -> Result<(), RunFault>
+    ensures served { let width = natural (hi -ℤ lo) in
+        OnOk result (DrawServed H.serves H.shows H.wrote (between (hi -ℤ lo) 1 (2 ^ 32))
+        actor goal lo width process.old host.old process.new host.new) }
     ensures cause { RunCause (H.faults host.old) (H.faults host.new) result }
     ensures kept { H.kept host.new ≡ H.kept host.old }
 {
@@ -41,6 +51,9 @@ fn delay<H: Host>(
     ticks: i64,
     host: &mut H,
 ) -> Result<(), RunFault>
+    ensures served { let time = process.old.time + natural ticks in
+        OnOk result (DelayServed H.serves H.shows H.wrote (nat_le time (2 ^ 62))
+        actor goal time process.old host.old process.new host.new) }
     ensures cause { RunCause (H.faults host.old) (H.faults host.new) result }
     ensures kept { H.kept host.new ≡ H.kept host.old }
 {
@@ -62,10 +75,12 @@ fn listen<H: Host>(
     port: i64,
     host: &mut H,
 ) -> Result<(), RunFault>
+    ensures served { OnOk result (ListenServed H.serves H.shows H.wrote (is_port port)
+        actor goal (natural port) process.old host.old process.new host.new) }
     ensures cause { RunCause (H.faults host.old) (H.faults host.new) result }
     ensures kept { H.kept host.new ≡ H.kept host.old }
 {
-    let Ok(port) = u16::try_from(port) else {
+    let Some(port) = port_of(port) else {
         process.throw(actor, BAD_ARGUMENT)?;
         return Ok(());
     };
@@ -85,6 +100,8 @@ fn ask_disk<H: Host>(
     call: DiskCall,
     host: &mut H,
 ) -> Result<(), RunFault>
+    ensures served { OnOk result (DiskServed H.serves H.shows H.wrote (judged (asked_of call))
+        actor goal process.old host.old process.new host.new) }
     ensures cause { RunCause (H.faults host.old) (H.faults host.new) result }
     ensures kept { H.kept host.new ≡ H.kept host.old }
 {
@@ -107,11 +124,13 @@ fn send_to<H: Host>(
     host: &mut H,
 ) -> Result<(), RunFault>
     requires { H.processes (H.kept host.old) ≡ processes }
+    ensures served { OnOk result (SendServed H.serves H.shows H.wrote (may_send processes to.0 to.1)
+        actor (natural to.0) (natural to.1) text from.old host.old from.new host.new) }
     ensures cause { RunCause (H.faults host.old) (H.faults host.new) result }
     ensures kept { H.kept host.new ≡ H.kept host.old }
 {
     let (number, port) = to;
-    let (Some(to), Ok(port)) = (process(processes, number), u16::try_from(port)) else {
+    let (Some(to), Some(port)) = (process(processes, number), port_of(port)) else {
         from.throw(actor, BAD_ARGUMENT)?;
         return Ok(());
     };
@@ -128,6 +147,8 @@ fn ask_other<H: Host>(
     host: &mut H,
 ) -> Result<(), RunFault>
     requires { H.processes (H.kept host.old) ≡ processes }
+    ensures served { OnOk result (Served H.serves H.shows H.wrote processes call
+        process.old host.old process.new host.new) }
     ensures cause { RunCause (H.faults host.old) (H.faults host.new) result }
     ensures kept { H.kept host.new ≡ H.kept host.old }
 {
@@ -157,6 +178,8 @@ pub(crate) fn ask<H: Host>(
     host: &mut H,
 ) -> Result<(), RunFault>
     requires { H.processes (H.kept host.old) ≡ processes }
+    ensures served { OnOk result (ServedIf H.serves H.shows H.wrote processes process.old.asked
+        (unasked process.old) host.old process.new host.new) }
     ensures cause { RunCause (H.faults host.old) (H.faults host.new) result }
     ensures kept { H.kept host.new ≡ H.kept host.old }
 {
@@ -166,7 +189,7 @@ pub(crate) fn ask<H: Host>(
     }
 }
 
-#[tactic(auto, using(crate::proofs::Causes::cause_before))]
+#[tactic(auto, using(crate::proofs::Causes::cause_before, crate::proofs::Rows::burst_rests, crate::proofs::Rows::burst_spent, crate::proofs::Rows::burst_asks))]
 /// Steps of a process, of so many, until no task is left, or a turn is needed and none is left.
 pub(crate) fn burst<H: Host>(
     process: &mut Process,
@@ -175,6 +198,8 @@ pub(crate) fn burst<H: Host>(
     host: &mut H,
 ) -> Result<Burst, RunFault>
     requires { H.processes (H.kept host.old) ≡ processes }
+    ensures bursts { IfOk result (λ e. Bursts H.serves H.shows H.wrote code.now processes
+        process.old host.old e process.new host.new) }
     ensures cause { RunCause (H.faults host.old) (H.faults host.new) result }
     ensures kept { H.kept host.new ≡ H.kept host.old }
 {

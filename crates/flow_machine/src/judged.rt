@@ -5,7 +5,7 @@ ghost use Rattle.std.specs.declared.option.Option.TheVariants.{None, Some};
 ghost use Rattle.std.specs.Option.{option_map};
 ghost use Rattle.flow_eval.specs.Predefined.{natural};
 ghost use Rattle.flow_simdisk.specs.Asks.{ReadCall, WriteCall, SyncCall, SizeCall};
-ghost use Rattle.flow_meaning.specs.Effects.{between, is_file, judged};
+ghost use Rattle.flow_meaning.specs.Effects.{between, is_file, is_port, judged};
 ghost use Rattle.flow_machine.specs.Requests.{IsAllowed, IsRange, call_of, asked_of};
 
 use flow_base::ids::ProcId;
@@ -63,6 +63,13 @@ pub(crate) fn process(processes: u8, number: i64) -> Option<ProcId>
         return None;
     }
     Some(ProcId(number))
+}
+
+/// The port of a number.
+pub(crate) fn port_of(number: i64) -> Option<u16>
+    ensures { result ≡ (if is_port number then Some (natural number) else None) }
+{
+    u16::try_from(number).ok()
 }
 
 // Whether a file may have a name.

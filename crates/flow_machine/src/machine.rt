@@ -1,6 +1,12 @@
 // One process.
 
-ghost use Rattle.std.specs.Prelude.{◌≡◌, ◌<◌, ◌≤◌, ◌^◌, IfOk};
+ghost use Rattle.std.specs.Prelude.{◌≡◌, ◌<◌, ◌≤◌, ◌^◌, is_some, IfOk};
+ghost use Rattle.flow_value.specs.declared.value.Kind.TheVariants as kind;
+ghost use Rattle.flow_value.specs.declared.value.Outcome.TheVariants as outcome;
+ghost use Rattle.flow_steps.specs.Doing.{begun, vanished};
+ghost use Rattle.flow_steps.specs.Holding.{on_heap};
+ghost use Rattle.flow_steps.specs.Bringing.{brought, answered, main_dropped};
+ghost use Rattle.flow_machine.specs.Bursts.{Bursts, MainBursts};
 ghost use Rattle.flow_machine.specs.Cause.{RunCause};
 
 use crate::bursts::{ask, burst};
@@ -26,7 +32,8 @@ impl Machine {
     pub fn new(alloc: Global, me: ProcId, processes: u8) -> Result<Machine, NoMemory>
         requires mine { me.0 < processes }
         requires few { processes ≤ 64 }
-        ensures { IfOk result (λ m. m.processes ≡ processes) }
+        ensures processes { IfOk result (λ m. m.processes ≡ processes) }
+        ensures me { IfOk result (λ m. m.me ≡ me) }
     {
         Ok(Machine {
             me,
@@ -42,7 +49,7 @@ impl Machine {
         self.processes
     }
 
-    #[tactic(auto, using(crate::proofs::Causes::cause_before))]
+    #[tactic(auto, using(crate::proofs::Causes::cause_before, crate::proofs::Rows::main_bursts))]
     /// Calls `main` with the process's number, and does all that follows: `Rested` where nothing is left to do, `Spent` where
     /// a turn is needed and none is left. `Failed` comes only where the host's count of faults rose. `Astray` comes
     /// where a result of `main` is held already, or where the classes lead to where no valid class comes.
@@ -54,9 +61,13 @@ impl Machine {
         host: &mut H,
     ) -> Result<Burst, RunFault>
         requires { H.processes (H.kept host.old) ≡ self.old.processes }
+        ensures bursts { IfOk result (λ e. MainBursts H.serves H.shows H.wrote code.now
+            self.old.processes self.old.me (begun now turns self.old.process) host.old
+            e self.new.process host.new) }
         ensures cause { RunCause (H.faults host.old) (H.faults host.new) result }
         ensures host { H.kept host.new ≡ H.kept host.old }
         ensures processes { self.new.processes ≡ self.old.processes }
+        ensures me { self.new.me ≡ self.old.me }
     {
         self.process.begin(now, turns);
         self.process.call_main(code, self.me)?;
@@ -75,9 +86,14 @@ impl Machine {
         host: &mut H,
     ) -> Result<Burst, RunFault>
         requires { H.processes (H.kept host.old) ≡ self.old.processes }
+        ensures bursts { let start = begun now turns self.old.process in
+            IfOk result (λ e. Bursts H.serves H.shows H.wrote code.now self.old.processes
+            (brought kind.Promise cell.0 outcome (on_heap (answered cell.0) start)) host.old
+            e self.new.process host.new) }
         ensures cause { RunCause (H.faults host.old) (H.faults host.new) result }
         ensures host { H.kept host.new ≡ H.kept host.old }
         ensures processes { self.new.processes ≡ self.old.processes }
+        ensures me { self.new.me ≡ self.old.me }
     {
         self.process.begin(now, turns);
         self.process.answer(cell, outcome)?;
@@ -95,9 +111,14 @@ impl Machine {
         host: &mut H,
     ) -> Result<Burst, RunFault>
         requires { H.processes (H.kept host.old) ≡ self.old.processes }
+        ensures bursts { let start = begun now turns self.old.process in
+            IfOk result (λ e. Bursts H.serves H.shows H.wrote code.now self.old.processes
+            (brought kind.PromiseStream cell.0 (outcome.Value item) start) host.old
+            e self.new.process host.new) }
         ensures cause { RunCause (H.faults host.old) (H.faults host.new) result }
         ensures host { H.kept host.new ≡ H.kept host.old }
         ensures processes { self.new.processes ≡ self.old.processes }
+        ensures me { self.new.me ≡ self.old.me }
     {
         self.process.begin(now, turns);
         self.process.bring(cell, item)?;
@@ -113,9 +134,14 @@ impl Machine {
         host: &mut H,
     ) -> Result<Burst, RunFault>
         requires { H.processes (H.kept host.old) ≡ self.old.processes }
+        ensures bursts { let start = begun now turns self.old.process in
+            IfOk result (λ e. Bursts H.serves H.shows H.wrote code.now self.old.processes
+            (on_heap (main_dropped start.heap.main) start) host.old
+            e self.new.process host.new) }
         ensures cause { RunCause (H.faults host.old) (H.faults host.new) result }
         ensures host { H.kept host.new ≡ H.kept host.old }
         ensures processes { self.new.processes ≡ self.old.processes }
+        ensures me { self.new.me ≡ self.old.me }
     {
         self.process.begin(now, turns);
         self.process.drop_main()?;
@@ -124,13 +150,17 @@ impl Machine {
 
     /// A loss of power: everything goes but the numbers given so far.
     pub fn vanish(&mut self)
-        ensures { self.new.processes ≡ self.old.processes }
+        ensures vanished { self.new.process ≡ vanished self.old.process }
+        ensures processes { self.new.processes ≡ self.old.processes }
+        ensures me { self.new.me ≡ self.old.me }
     {
         self.process.vanish();
     }
 
     /// Whether the process holds the result of a `main`.
-    pub fn holds_main(&self) -> bool {
+    pub fn holds_main(&self) -> bool
+        ensures { result ≡ is_some self.now.process.heap.main }
+    {
         self.process.holds_main()
     }
 

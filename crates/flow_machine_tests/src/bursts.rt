@@ -28,11 +28,25 @@ fn new_host(alloc: Global) -> Lines {
 }
 
 impl Host for Lines {
+    ghost use Rattle.std.specs.Prelude.{[]};
+
     ghost kept = { λ _. tt };
 
     ghost processes = { λ _. 1 };
 
     ghost faults = { λ _. 0 };
+
+    ghost World = { Unit {0} };
+
+    ghost serves = { record {
+      supply = λ _. record { now = 0; processes = 1; word = 0 };
+      serve = λ _ w. ([], w);
+    } };
+
+    // It shows no world of the definitions.
+    ghost shows = { λ _ _ _. ⊥ };
+
+    ghost wrote = { λ _ _ _. Unit {0} };
 
     fn line(&mut self, line: &Line) -> Result<(), OutFault> {
         self.lines.put(line)

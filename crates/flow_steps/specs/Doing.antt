@@ -42,9 +42,9 @@ asking c p = record p { asked = Some c }
 abbrev pub telling : Line → Process → Process
 telling l p = asking (call.Line l) p
 
--- what the step asks of the world is handed over
-abbrev pub heard_out : Process → Process
-heard_out p = record p { asked = None }
+-- nothing is asked any more
+abbrev pub unasked : Process → Process
+unasked p = record p { asked = None }
 
 -- an actor is marked as cancelled, and leaves its wait if it is suspended; the line is asked for
 abbrev pub stopped : (actor : ℕ) → Process → Process

@@ -3,7 +3,7 @@
 ghost use Rattle.std.specs.Prelude.{◌≡◌, is_some, IfOk};
 ghost use Rattle.std.specs.Option.{option_copied};
 ghost use Rattle.flow_steps.specs.Tasks.{Tasks};
-ghost use Rattle.flow_steps.specs.Doing.{never_ran, begun, vanished, asking, telling, heard_out};
+ghost use Rattle.flow_steps.specs.Doing.{never_ran, begun, vanished, asking, telling, unasked};
 
 use crate::call::Call;
 use crate::errors::Fault;
@@ -95,7 +95,7 @@ impl Process {
     /// Hands over what the step that was done last asks of the world, if anything.
     pub fn take_asked(&mut self) -> Option<Call>
         ensures asked { result ≡ self.old.asked }
-        ensures taken { self.new ≡ heard_out self.old }
+        ensures left { self.new ≡ unasked self.old }
     {
         self.asked.take()
     }

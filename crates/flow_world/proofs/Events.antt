@@ -1,19 +1,14 @@
 -- What an event does to what is outside.
-use Rattle.std.proofs.Common.{◌≡◌, ℕ, zero, suc, ◌+◌, ◌<◌, ◌≤◌, nat_eq, Bool, true, false, List, [], ◌∷◌, length, refl, sym, ap, subst, ◌∙◌, arith, if◌then◌else◌}
+use Rattle.std.proofs.Common.{◌≡◌, ℕ, zero, suc, ◌<◌, Bool, true, false, List, [], ◌∷◌, refl, sym, ap, subst, ◌∙◌, arith, if◌then◌else◌}
 use Rattle.std.specs.Prelude.{◌||◌, slice_get, slice_set, slice_index_or}
-use Rattle.std.specs.declared.option.Option.{Option}
-use Rattle.std.specs.declared.option.Option.TheVariants.{None, Some}
-use Rattle.flow_base.specs.declared.ids.ProcId.{ProcId}
+use Rattle.std.specs.declared.option.Option.TheVariants.{Some}
 use Rattle.flow_timers.specs.Pending.{Pending}
 use Rattle.flow_simnet.specs.Links as table
-use Rattle.flow_simdisk.specs.declared.ask.DiskReply.{DiskReply}
 use Rattle.flow_simdisk.specs.Disk.{Disk, served}
-use Rattle.flow_meaning.specs.Asks.{DiskCall}
 use Rattle.flow_meaning.specs.Outside.{What, Outside, is_link, is_cut}
 use Rattle.flow_meaning.specs.World.{disk_of, with_disk}
 use Rattle.flow_world.specs.Changes.{Surroundings}
 use Rattle.flow_world.specs.declared.outside.What as kept
-use Rattle.flow_world.specs.Changes as does
 use Rattle.flow_world.specs.Shows.{EventsShow, PacketsOnce, NumbersOnce, OutsideShows}
 use Rattle.flow_world.specs.Laws.{LinkCut, LinkHealed, DiskServed, EventTaken, RequestsGone, first_left}
 use Rattle.flow_world.proofs.Coming.{once_left, once_gone, gone_shows}

@@ -1,10 +1,9 @@
 -- Pending events have numbers of their own.
-use Rattle.std.proofs.Common.{◌≡◌, ℕ, zero, suc, ◌+◌, ◌<◌, ◌≤◌, nat_eq, Bool, true, false, not, List, [], ◌∷◌, map, refl, sym, ap, subst, ◌∙◌, arith, if◌then◌else◌}
+use Rattle.std.proofs.Common.{◌≡◌, ℕ, suc, ◌+◌, ◌<◌, ◌≤◌, nat_eq, Bool, true, false, not, List, [], ◌∷◌, map, refl, ap, ◌∙◌, arith, if◌then◌else◌}
 use Rattle.std.specs.Prelude.{filter, ◌&&◌}
-use Rattle.std.specs.List.{fold}
 use Rattle.std.proofs.lemmas.Bool.Decides.{nat_tests}
 use Rattle.flow_base.specs.declared.ids.ProcId.{ProcId}
-use Rattle.flow_timers.specs.Pending.{Pending, comes_before, placed, without_event, is_at}
+use Rattle.flow_timers.specs.Pending.{Pending, comes_before, placed, without_event}
 use Rattle.flow_world.specs.declared.outside.What as kept
 use Rattle.flow_world.specs.Changes.{is_request_of, requests_gone, request_keys, without_events, Surroundings, without_keys, without_requests}
 use Rattle.flow_world.specs.Shows.{having, NumbersOnce}

@@ -1,7 +1,6 @@
 -- What a process asks of the world.
-use Rattle.std.proofs.Common.{◌≡◌, ℕ, zero, suc, ◌+◌, ◌<◌, ◌≤◌, nat_eq, Bool, true, false, List, [], ◌∷◌, refl, sym, ap, subst, ◌∙◌, arith, if◌then◌else◌}
-use Rattle.std.specs.declared.option.Option.TheVariants.{None, Some}
-use Rattle.flow_base.specs.declared.ids.CellId.{CellId}
+use Rattle.std.proofs.Common.{◌≡◌, ℕ, suc, ◌+◌, ◌<◌, List, ◌∷◌, refl, sym, ap, subst, ◌∙◌, arith}
+use Rattle.std.specs.declared.option.Option.TheVariants.{Some}
 use Rattle.flow_base.specs.declared.ids.ProcId.{ProcId}
 use Rattle.flow_draw.specs.Words.{next_word, word_at}
 use Rattle.flow_trace.specs.declared.line.Line.{Line}
@@ -9,20 +8,17 @@ use Rattle.flow_trace.specs.declared.line.Line.TheVariants as line
 use Rattle.std.specs.Ordering.{nat_cmp}
 use Rattle.std.specs.BTreeMap.{insert_entry}
 use Rattle.flow_simnet.specs.declared.packet.Letter.{Letter}
-use Rattle.flow_timers.specs.Pending.{Pending}
 use Rattle.flow_simnet.specs.declared.packet.Fate.{Fate}
 use Rattle.flow_simnet.specs.declared.packet.Fate.TheVariants.{Cut, Drawn, At}
 use Rattle.flow_simnet.specs.Links as table
-use Rattle.flow_simdisk.specs.declared.ask.DiskAsk.{DiskAsk}
 use Rattle.flow_machine.specs.Requests.{call_of}
-use Rattle.flow_meaning.specs.Asks.{Drew, Timer, Packet, Disks}
-use Rattle.flow_meaning.specs.Outside.{What, Arrives, Answers, Outside, process_id, word_in, with_drawn, with_pending, fate_in, sent_by, send_packet, serve, is_cut}
+use Rattle.flow_meaning.specs.Outside.{What, Arrives, Answers, Outside, process_id, word_in, with_drawn, with_pending, fate_in, sent_by, is_cut}
 use Rattle.flow_world.specs.Changes.{Surroundings}
 use Rattle.flow_world.specs.declared.outside.What as kept
 use Rattle.flow_world.specs.declared.outside.What.TheVariants as kept_what
 use Rattle.flow_world.specs.Changes as does
-use Rattle.flow_world.specs.Shows.{letter_at, ArrivalShows, WhatShows, EventShows, brings, coming, OutsideShows}
-use Rattle.flow_world.specs.Laws.{WordDrawn, TimerAsked, DiskAsked, PacketSent, disk_asked, packet_sent, packet_lines, with_arrival, fate_lines}
+use Rattle.flow_world.specs.Shows.{letter_at, ArrivalShows, WhatShows, brings, coming, OutsideShows}
+use Rattle.flow_world.specs.Laws.{WordDrawn, TimerAsked, DiskAsked, PacketSent, packet_sent, packet_lines, with_arrival, fate_lines}
 use Rattle.flow_world.proofs.Numbers.{numbers_placed}
 use Rattle.flow_world.proofs.Letters.{letter_put, letter_beside}
 use Rattle.flow_world.proofs.Coming.{events_kept, placed_shows, once_placed, once_new, once_later}

@@ -1,7 +1,6 @@
 -- What is outside of the processes of a world, as contracts see it, and what the calls of the world make of it.
 use Rattle.std.specs.Prelude.{◌≡◌, ℕ, ◌+◌, Bool, false, not, List, map, filter, nat_eq, slice_get, slice_set}
 use Rattle.std.specs.declared.option.Option.TheVariants.{Some}
-use Rattle.flow_base.specs.declared.ids.CellId.{CellId}
 use Rattle.flow_base.specs.declared.ids.ProcId.{ProcId}
 use Rattle.flow_draw.specs.Words.{Drawn, next_word, one_taken}
 use Rattle.std.specs.List.{fold}

@@ -1,9 +1,5 @@
 -- What the calls of a world do is what the definitions say, where what is outside shows.
-use Rattle.std.specs.Prelude.{◌≡◌, ℕ, suc, ◌+◌, ◌<◌, ◌≤◌, List, [], ◌∷◌, ◌++◌, map}
-use Rattle.std.specs.Map.{remove_entry}
-use Rattle.std.specs.Ordering.{nat_cmp}
-use Rattle.std.specs.BTreeMap.{is_at}
-use Rattle.std.specs.declared.option.Option.TheVariants.{Some}
+use Rattle.std.specs.Prelude.{◌≡◌, ℕ, suc, ◌+◌, ◌<◌, ◌≤◌, List, [], ◌∷◌}
 use Rattle.flow_base.specs.declared.ids.CellId.{CellId}
 use Rattle.flow_base.specs.declared.ids.ProcId.{ProcId}
 use Rattle.flow_draw.specs.Words.{next_word}
@@ -14,16 +10,13 @@ use Rattle.flow_simnet.specs.declared.packet.Fate.{Fate}
 use Rattle.flow_simnet.specs.declared.packet.Fate.TheVariants.{Cut, Drawn, At}
 use Rattle.flow_simdisk.specs.declared.ask.DiskAsk.{DiskAsk}
 use Rattle.flow_simdisk.specs.declared.ask.DiskReply.{DiskReply}
-use Rattle.flow_simdisk.specs.declared.write.Kept.{Kept}
-use Rattle.flow_simdisk.specs.Disk.{served, power_lost, Losing}
-use Rattle.flow_draw.specs.Words.{word_at}
+use Rattle.flow_simdisk.specs.Disk.{served}
 use Rattle.flow_simnet.specs.Links as table
 use Rattle.flow_machine.specs.Requests.{call_of}
 use Rattle.flow_meaning.specs.Asks.{Drew, Timer, Packet, Disks, DiskCall}
-use Rattle.flow_meaning.specs.Outside.{What, Outside, process_id, word_in, with_drawn, healed, serve}
+use Rattle.flow_meaning.specs.Outside.{Outside, word_in, healed, serve}
 use Rattle.flow_meaning.specs.World.{with_left, with_disk, disk_of, without_requests}
 use Rattle.flow_world.specs.Changes.{Surroundings}
-use Rattle.flow_world.specs.declared.outside.What as kept
 use Rattle.flow_world.specs.declared.outside.What.TheVariants as kept_what
 use Rattle.flow_world.specs.Changes as does
 use Rattle.flow_world.specs.Shows.{OutsideShows}

@@ -1,7 +1,10 @@
 // The world around a process in its event.
 
-ghost use Rattle.std.specs.Prelude.{◌<◌, IsErrOf};
+ghost use Rattle.std.specs.Prelude.{◌≡◌, ◌<◌, Ok, IfOk, IsErrOf};
 ghost use Rattle.flow_base.specs.declared.fault.OutFault.TheVariants.{Failed};
+ghost use Rattle.flow_meaning.specs.Outside as meaning;
+ghost use Rattle.flow_world.specs.Around.{AroundShows, Puts};
+ghost use Rattle.flow_world.specs.Changes.{seen};
 ghost use Rattle.flow_world.specs.Standing.{Standing};
 
 use crate::asked::Asked;
@@ -28,7 +31,8 @@ pub struct Around<'p, 'w, 'l, L: LineOut> {
 
 /// Want of memory as a fault.
 fn or_fault<T>(answer: Result<T, NoMemory>) -> Result<T, OutFault>
-    ensures { ¬ IsErrOf result Failed }
+    ensures cause { ¬ IsErrOf result Failed }
+    ensures same { IfOk result (λ value. answer ≡ Ok value) }
 {
     match answer {
         Ok(value) => Ok(value),
@@ -50,6 +54,14 @@ impl<'p, 'w, 'l, L: LineOut> Host for Around<'p, 'w, 'l, L> {
     ghost processes = { λ k. k.processes };
 
     ghost faults = { λ h. L.faults h.out.now };
+
+    ghost World = { meaning.Outside };
+
+    ghost serves = { meaning.host };
+
+    ghost shows = { λ h ps w. AroundShows h.me h.ports.now (seen h.outside.now) ps w };
+
+    ghost wrote = { λ g ls h. Puts L.puts g.out.now ls h.out.now };
 
     fn line(&mut self, line: &Line) -> Result<(), OutFault> {
         self.out.put(line)

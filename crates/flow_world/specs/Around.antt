@@ -1,0 +1,22 @@
+-- What the world around a process in its event shows, and which lines it wrote.
+use Rattle.std.specs.Prelude.{◌≡◌, ℕ, List, [], ◌∷◌, Result, Ok}
+use Rattle.flow_base.specs.declared.ids.ProcId.{ProcId}
+use Rattle.flow_base.specs.declared.fault.OutFault.{OutFault}
+use Rattle.flow_trace.specs.declared.line.Line.{Line}
+use Rattle.flow_meaning.specs.Numbered.{Numbered}
+use Rattle.flow_meaning.specs.Outside.{Outside}
+use Rattle.flow_world.specs.declared.ports.Ports.{Ports}
+use Rattle.flow_world.specs.Changes.{Surroundings}
+use Rattle.flow_world.specs.Shows.{OutsideShows}
+use Rattle.flow_world.specs.Ports.{PortsShow}
+
+-- the process is the one of the event, and its ports and what is outside show
+pub record AroundShows (me : ProcId) (p : Ports) (m : Surroundings) (ps : Numbered ℕ) (w : Outside) : Type 0 where
+  pub outside : OutsideShows m w
+  pub active : me.0 ≡ w.active
+  pub ports : PortsShow p ps
+
+-- lines are put, one after another
+pub data Puts {A : Type 0} (puts : A → Line → Result (Unit {0}) OutFault → A → Type 0) : A → List Line → A → Type 0 where
+  no_line : {a : A} → Puts puts a [] a
+  more_lines : {a b c : A} {l : Line} {ls : List Line} → puts a l (Ok tt) b → Puts puts b ls c → Puts puts a (l ∷ ls) c
