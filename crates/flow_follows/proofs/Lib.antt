@@ -23,3 +23,4 @@ pub mod Seen
 pub mod Doing
 pub mod Carrying
 pub mod Evaluations
+pub mod Arguments

@@ -86,7 +86,7 @@ module _ (r : RawTree) (ls : List Line) (x y : Scan) (m : Process) (p : Proc Fra
         };
       }
 
-in_memory : (f : Frame) (q : Slotted) → HasPlace f q → InMemory f.mem q
+pub in_memory : (f : Frame) (q : Slotted) → HasPlace f q → InMemory f.mem q
 in_memory f (Slot n) l = l
 in_memory f (Local n) l = l
 
