@@ -1,7 +1,6 @@
 -- A step of an actor in memory by an effect is a step of the class machine.
-use Rattle.std.specs.Prelude.{◌≡◌, ℕ, suc, List}
+use Rattle.std.specs.Prelude.{◌≡◌, ◌+◌, ℕ, List}
 use Rattle.std.specs.declared.option.Option.TheVariants.{Some}
-use Rattle.flow_ast.specs.declared.predefined.Predefined.{Predefined}
 use Rattle.flow_tree.specs.declared.ty.Ident.{Ident}
 use Rattle.flow_tree.specs.Tree.{ExprTree, ExprTrees}
 use Rattle.flow_value.specs.Values.{ValueTree}
@@ -12,28 +11,23 @@ use Rattle.flow_code.specs.declared.class.Effect.{Effect}
 use Rattle.flow_code.specs.declared.class.Effect.TheVariants as effect
 use Rattle.flow_code.specs.declared.program.Code.{Code}
 use Rattle.flow_trace.specs.declared.line.Line.{Line}
-use Rattle.flow_meaning.specs.Asks as asks
 use Rattle.flow_meaning.specs.Asks.{Supply}
 use Rattle.flow_meaning.specs.Evaluating.{Effectful, World, Actor, effect_in, values}
 use Rattle.flow_meaning.specs.Numbered.{thing}
 use Rattle.flow_meaning.specs.Process.{Entry, Proc}
-use Rattle.flow_meaning.specs.Occ.{Scan, refs_in}
+use Rattle.flow_meaning.specs.Occ.{Scan}
 use Rattle.flow_meaning.specs.Orderly.{Rising}
 use Rattle.flow_meaning.specs.Step.{kept_by, view}
 use Rattle.flow_meaning.specs.Class.{class_names}
 use Rattle.flow_meaning.specs.Frame.{Frame, look, spot_of}
-use Rattle.flow_picture.specs.Acting.{Free}
-use Rattle.flow_picture.specs.Holds.{AllThere}
-use Rattle.flow_steps.specs.declared.call.Goal.{Goal}
 use Rattle.flow_steps.specs.declared.call.Goal.TheVariants as goal
 use Rattle.flow_steps.specs.declared.frames.Stand.{Stand}
 use Rattle.flow_steps.specs.declared.next.Pace.{Pace}
 use Rattle.flow_steps.specs.declared.process.Process.{Process}
 use Rattle.flow_steps.specs.Sights.{Evaluates}
 use Rattle.flow_steps.specs.Acting.{args_of, EffectDone}
-use Rattle.flow_follows.specs.Working.{SameGoal}
-use Rattle.flow_follows.specs.Coded.{CodedBy}
 use Rattle.flow_effects.specs.Asking.{MayAsk, Answered}
+use Rattle.flow_effects.specs.Starting.{MayStart}
 
 -- an effect of the code and the one that it is coded from: a predefined call, or the call of the class at a place
 abbrev pub SameEffect : Effect → Effectful → Type 0
@@ -42,14 +36,10 @@ SameEffect (effect.Actor k) (Actor c) = k ≡ c
 SameEffect (effect.World p) (Actor c) = ⊥
 SameEffect (effect.Actor k) (World q) = ⊥
 
--- A process in which an effect may make a cell or start an actor: numbers rise, nothing waits for the next actor, and arguments
--- refer to what is there.
-pub record MayMake (r : RawTree) (code : Code) (p : Proc Frame) (comes_to : Res (List ValueTree)) : Type 0 where
-  pub coded : CodedBy r code.classes.items
+-- A process in which an effect may make a cell or start an actor, with what its arguments come to.
+pub record MayMake (r : RawTree) (code : Code) (p : Proc Frame) (called : Effectful) (comes_to : Res (List ValueTree)) : Type 0 where
   pub cells : Rising 0 p.core.made p.core.cells
-  pub entries : Rising 0 p.core.started p.core.entries
-  pub free : Free (suc p.core.started) p.core
-  pub there : (vs : List ValueTree) (left : ℕ) → comes_to ≡ Done vs left → AllThere p (refs_in vs)
+  pub starts : (k : ℕ) → called ≡ Actor k → (vs : List ValueTree) (left : ℕ) → comes_to ≡ Done vs left → MayStart r p code k vs
 
 module _ (r : RawTree) (ls : List Line) (m : Process) (p : Proc Frame) (i : ℕ) (e : Entry) (f : Frame) where
   -- an effect whose result is stored
@@ -57,7 +47,7 @@ module _ (r : RawTree) (ls : List Line) (m : Process) (p : Proc Frame) (i : ℕ)
   EffectStep =
       (x : Scan) (s : Stand) (w : Supply) (code : Code) (path : List Ident) (t : ExprTree) (es : ExprTrees) (called : Effectful) (eff : Effect)
       (comes_to : Res (List ValueTree)) (pace : Pace) (n : Process)
-      → MayAsk r ls x s m p i e f → MayMake r code p comes_to
+      → MayAsk r ls x s m p i e f → MayMake r code p called comes_to
       → fetch f.code f.block f.instr ≡ Body (EffectInstr path t) → effect_in (class_names r) t ≡ Some (called, es) → SameEffect eff called
       → comes_to ≡ values (class_names r) (view w i p.core) (look f.mem) es
       → Evaluates s args_of comes_to m (EffectDone code s goal.Stored eff) pace n
@@ -68,7 +58,7 @@ module _ (r : RawTree) (ls : List Line) (m : Process) (p : Proc Frame) (i : ℕ)
   EffectOperandStep =
       (x : Scan) (s : Stand) (w : Supply) (code : Code) (group k : ℕ) (b : CallbackTree) (es : ExprTrees) (called : Effectful) (eff : Effect)
       (comes_to : Res (List ValueTree)) (pace : Pace) (n : Process)
-      → MayAsk r ls x s m p i e f → MayMake r code p comes_to
+      → MayAsk r ls x s m p i e f → MayMake r code p called comes_to
       → fetch f.code f.block f.instr ≡ Last (ChooseLast group)
       → callback_at f.code group (kept_by (thing p.core.entries i)) ≡ Some b
       → effect_in (class_names r) b.operand ≡ Some (called, es) → SameEffect eff called

@@ -17,7 +17,7 @@ use Rattle.flow_picture.specs.Rested.{has, Rested}
 use Rattle.flow_picture.specs.Holds.{Holds, AllThere}
 use Rattle.flow_steps.specs.declared.process.Process.{Process}
 use Rattle.flow_steps.specs.Doing.{begun, vanished}
-use Rattle.flow_steps.specs.Holding.{on_heap, value_refs, outcome_refs}
+use Rattle.flow_steps.specs.Holding.{on_heap, outcome_refs}
 use Rattle.flow_steps.specs.Bringing.{brought, answered, main_dropped}
 use Rattle.flow_follows.specs.Shown.{Shown, Follows}
 use Rattle.flow_follows.specs.Working.{Sendable}
@@ -42,7 +42,7 @@ module _ (r : RawTree) (m : Process) (p : Proc Frame) (now turns : ℕ) where
   -- an element comes to the stream of a port
   abbrev pub Arrived : Type 0
   Arrived =
-      (k : ℕ) (v : Value) → ShownBetween r m p → Sendable p kind.PromiseStream k → AllThere p (value_refs v)
+      (k : ℕ) (v : Value) → ShownBetween r m p → Sendable p kind.PromiseStream k → AllThere p (outcome_refs (outcome.Value v))
       → Follows r [] nothing_in_hand (brought kind.PromiseStream k (outcome.Value v) (begun now turns m))
       (on_core (arrive k (value_of v)) (on_core (begin turns) p))
 
@@ -56,3 +56,7 @@ module _ (r : RawTree) (m : Process) (p : Proc Frame) (now turns : ℕ) where
 -- a loss of power: what is left rests
 abbrev pub Vanished : Type 0
 Vanished = (r : RawTree) (m : Process) (p : Proc Frame) → ShownBetween r m p → Rested r (vanished m).heap (vanish p) × ShownBetween r (vanished m) (vanish p)
+
+-- a law on each process in memory, the one that it shows, and each event's time and turns
+abbrev pub AtEvents : (RawTree → Process → Proc Frame → (now turns : ℕ) → Type 0) → Type 0
+AtEvents law = (r : RawTree) (m : Process) (p : Proc Frame) (now turns : ℕ) → law r m p now turns

@@ -5,3 +5,4 @@ pub mod Starting
 pub mod Calling
 pub mod Events
 pub mod Serving
+pub mod Texts
