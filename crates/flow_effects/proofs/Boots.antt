@@ -1,6 +1,6 @@
 -- `main` starts in memory as in the process.
 use Rattle.std.proofs.Common.{◌≡◌, ◌≤◌, ℕ, suc, ◌+◌, List, [], ◌∷◌, map, refl, sym, ap, ◌∙◌, subst, arith}
-use Rattle.std.specs.Prelude.{pos, slice_get}
+use Rattle.std.specs.Prelude.{ℤ, pos, slice_get}
 use Rattle.std.specs.declared.option.Option.TheVariants.{None, Some}
 use Rattle.flow_base.specs.declared.ids.ActorId.{ActorId}
 use Rattle.flow_base.specs.declared.ids.CellId.{CellId}
@@ -17,7 +17,7 @@ use Rattle.flow_code.specs.Classes.{ClassCode}
 use Rattle.flow_code.specs.declared.program.Code.{Code}
 use Rattle.flow_trace.specs.declared.line.Line.{Line}
 use Rattle.flow_trace.specs.declared.line.Line.TheVariants as line
-use Rattle.flow_cancel.specs.Heap.{HeapTree}
+use Rattle.flow_cancel.specs.Heap.{actor_id}
 use Rattle.flow_cancel.specs.declared.task.Task.TheVariants as task
 use Rattle.flow_meaning.specs.Numbered.{thing, added}
 use Rattle.flow_meaning.specs.Cells.{FutureSide, Single}
@@ -47,7 +47,7 @@ use Rattle.flow_effects.specs.Starting.{MayStart}
 use Rattle.flow_effects.proofs.Starts.{same_class, fresh_actor, label_is, celled, enrolled_shown, may_turned, some_left, none_left}
 
 -- a number is seen as itself
-int_seen : (n : _) → value_of (Int n) ≡ IntValue n
+int_seen : (n : ℤ) → value_of (Int n) ≡ IntValue n
 int_seen n = ap value_of (sym (rolls-Int n)) ∙ fold-roll-Value ValueTree value_step (layer.Int n)
 
 -- what comes out is what the definitions have
@@ -102,7 +102,7 @@ module _ (r : RawTree) (ls : List Line) (x : Scan) (m : Process) (p : Proc Frame
       let named : st.starts.of.name ≡ may.tree.name = ap (λ (c : ClassCode). c.name) (same_class r code.classes.items may.coded class st.starts.of may.tree at_main may.at) in
       let out : n ≡ telling (line.Start st.actor may.tree.name) (doing (task.Run st.actor) m4) =
       st.starts.told ∙ ap (λ l. telling (line.Start st.actor l) (doing (task.Run st.actor) m4)) named in
-      let actor : st.actor ≡ record { 0 = suc p.core.started } = ap (λ a. record { 0 = a }) en.actor in
+      let actor : st.actor ≡ actor_id (suc p.core.started) = ap actor_id en.actor in
       subst (λ z. Shown r ls x z (proc (record (enrol class may.tree.name p.core) { main = Some (suc p.core.made) }) (added p.actors (suc p.core.started) f))) (sym out)
       (subst (λ k. Shown r ls x (telling (line.Start st.actor may.tree.name) (doing (task.Run st.actor) m4)) (on_core (writes (start_line (suc p.core.started) may.tree.name)) (on_core (pushed (Run (suc p.core.started))) (on_core (λ c. record c { main = Some k }) (with_actor class k f (on_core (new_cell (Single None [])) p)))))) en.cell
       (subst (λ (a : ActorId). Shown r ls x (telling (line.Start st.actor may.tree.name) (doing (task.Run st.actor) m4)) (on_core (writes (line.Start a may.tree.name)) (on_core (pushed (Run a.0)) p4))) actor told))

@@ -140,7 +140,7 @@ shape (MethodCode a m es) = CallsMethod
 shape (DropCode ns) = Drops
 shape NoCode = Nothing
 
-Either : Shape → Shape → Type 0
+abbrev Either : Shape → Shape → Type 0
 Either s t = (s ≡ t) ⊎ (s ≡ Nothing)
 
 set_shape : (o : Option AimTree) (e : Node) → Either (shape (set_code o e)) Sets
@@ -186,14 +186,14 @@ effect_coded r c k (EffectInstr xs t) aim eff args names e = by_parts (aimed c x
           aims = a ∙ ap Some aims;
           effect = effect_text r c names t eff args (b ∙ ap (λ y. Some (y, f.1)) of ∙ ap (λ y. Some (eff, y)) with_args);
         }
-effect_coded r c k (SetInstr xs t) aim eff args names e = absurd (apart (EffectCode aim eff args) (set_code (aimed c xs) (resolved c.names t)) Sets e (set_shape (aimed c xs) (resolved c.names t)) (λ a. cc) (λ a. cc))
-effect_coded r c k (NewInstr q) aim eff args names e = absurd (apart (EffectCode aim eff args) (new_code (place_of c.slots q) (kind_at k q)) Makes e (new_shape (place_of c.slots q) (kind_at k q)) (λ a. cc) (λ a. cc))
+effect_coded r c k (SetInstr xs t) aim eff args names e = absurd (apart (EffectCode aim eff args) (set_code (aimed c xs) (resolved c.names t)) Sets e (set_shape (aimed c xs) (resolved c.names t)) (λ a. cc (a)) (λ a. cc (a)))
+effect_coded r c k (NewInstr q) aim eff args names e = absurd (apart (EffectCode aim eff args) (new_code (place_of c.slots q) (kind_at k q)) Makes e (new_shape (place_of c.slots q) (kind_at k q)) (λ a. cc (a)) (λ a. cc (a)))
 effect_coded r c k (ActInstr [] es) aim eff args names e = absurd (cc (e))
 effect_coded r c k (ActInstr (x ∷ []) es) aim eff args names e =
-    absurd (apart (EffectCode aim eff args) (plain_code (act_named (named call_names x.name) (c.names.function x.name)) (resolved_all c.names es)) Calls e (plain_shape (act_named (named call_names x.name) (c.names.function x.name)) (resolved_all c.names es)) (λ a. cc) (λ a. cc))
+    absurd (apart (EffectCode aim eff args) (plain_code (act_named (named call_names x.name) (c.names.function x.name)) (resolved_all c.names es)) Calls e (plain_shape (act_named (named call_names x.name) (c.names.function x.name)) (resolved_all c.names es)) (λ a. cc (a)) (λ a. cc (a)))
 effect_coded r c k (ActInstr (x ∷ y ∷ ys) es) aim eff args names e =
     absurd (apart (EffectCode aim eff args) (coding.coded_method c (x ∷ coding.before_last y ys) (coding.last_name y ys).name (resolved_all c.names es)) CallsMethod e
-    (method_shape (aimed c (x ∷ coding.before_last y ys)) (named method_names (coding.last_name y ys).name) (resolved_all c.names es)) (λ a. cc) (λ a. cc))
+    (method_shape (aimed c (x ∷ coding.before_last y ys)) (named method_names (coding.last_name y ys).name) (resolved_all c.names es)) (λ a. cc (a)) (λ a. cc (a)))
 effect_coded r c k (DropInstr ns) aim eff args names e = absurd (cc (e))
 
 pub operand_coded : law.OperandCoded
@@ -221,10 +221,10 @@ call_coded c k (ActInstr (x ∷ []) es) called args e = by_name (named call_name
 call_coded c k (ActInstr [] es) called args e = absurd (cc (e))
 call_coded c k (ActInstr (x ∷ y ∷ ys) es) called args e =
     absurd (apart (ActCode (act.World called) args) (coding.coded_method c (x ∷ coding.before_last y ys) (coding.last_name y ys).name (resolved_all c.names es)) CallsMethod e
-    (method_shape (aimed c (x ∷ coding.before_last y ys)) (named method_names (coding.last_name y ys).name) (resolved_all c.names es)) (λ a. cc) (λ a. cc))
-call_coded c k (SetInstr xs t) called args e = absurd (apart (ActCode (act.World called) args) (set_code (aimed c xs) (resolved c.names t)) Sets e (set_shape (aimed c xs) (resolved c.names t)) (λ a. cc) (λ a. cc))
-call_coded c k (EffectInstr xs t) called args e = absurd (apart (ActCode (act.World called) args) (effect_code (aimed c xs) (coding.effect_in c t)) Affects e (effect_shape (aimed c xs) (coding.effect_in c t)) (λ a. cc) (λ a. cc))
-call_coded c k (NewInstr q) called args e = absurd (apart (ActCode (act.World called) args) (new_code (place_of c.slots q) (kind_at k q)) Makes e (new_shape (place_of c.slots q) (kind_at k q)) (λ a. cc) (λ a. cc))
+    (method_shape (aimed c (x ∷ coding.before_last y ys)) (named method_names (coding.last_name y ys).name) (resolved_all c.names es)) (λ a. cc (a)) (λ a. cc (a)))
+call_coded c k (SetInstr xs t) called args e = absurd (apart (ActCode (act.World called) args) (set_code (aimed c xs) (resolved c.names t)) Sets e (set_shape (aimed c xs) (resolved c.names t)) (λ a. cc (a)) (λ a. cc (a)))
+call_coded c k (EffectInstr xs t) called args e = absurd (apart (ActCode (act.World called) args) (effect_code (aimed c xs) (coding.effect_in c t)) Affects e (effect_shape (aimed c xs) (coding.effect_in c t)) (λ a. cc (a)) (λ a. cc (a)))
+call_coded c k (NewInstr q) called args e = absurd (apart (ActCode (act.World called) args) (new_code (place_of c.slots q) (kind_at k q)) Makes e (new_shape (place_of c.slots q) (kind_at k q)) (λ a. cc (a)) (λ a. cc (a)))
 call_coded c k (DropInstr ns) called args e = absurd (cc (e))
 
 -- both take paths apart alike
@@ -259,10 +259,10 @@ method_coded c k (ActInstr (x ∷ y ∷ ys) es) aim called args e = by_parts (ai
         }
 method_coded c k (ActInstr [] es) aim called args e = absurd (cc (e))
 method_coded c k (ActInstr (x ∷ []) es) aim called args e =
-    absurd (apart (MethodCode aim called args) (plain_code (act_named (named call_names x.name) (c.names.function x.name)) (resolved_all c.names es)) Calls e (plain_shape (act_named (named call_names x.name) (c.names.function x.name)) (resolved_all c.names es)) (λ a. cc) (λ a. cc))
-method_coded c k (SetInstr xs t) aim called args e = absurd (apart (MethodCode aim called args) (set_code (aimed c xs) (resolved c.names t)) Sets e (set_shape (aimed c xs) (resolved c.names t)) (λ a. cc) (λ a. cc))
-method_coded c k (EffectInstr xs t) aim called args e = absurd (apart (MethodCode aim called args) (effect_code (aimed c xs) (coding.effect_in c t)) Affects e (effect_shape (aimed c xs) (coding.effect_in c t)) (λ a. cc) (λ a. cc))
-method_coded c k (NewInstr q) aim called args e = absurd (apart (MethodCode aim called args) (new_code (place_of c.slots q) (kind_at k q)) Makes e (new_shape (place_of c.slots q) (kind_at k q)) (λ a. cc) (λ a. cc))
+    absurd (apart (MethodCode aim called args) (plain_code (act_named (named call_names x.name) (c.names.function x.name)) (resolved_all c.names es)) Calls e (plain_shape (act_named (named call_names x.name) (c.names.function x.name)) (resolved_all c.names es)) (λ a. cc (a)) (λ a. cc (a)))
+method_coded c k (SetInstr xs t) aim called args e = absurd (apart (MethodCode aim called args) (set_code (aimed c xs) (resolved c.names t)) Sets e (set_shape (aimed c xs) (resolved c.names t)) (λ a. cc (a)) (λ a. cc (a)))
+method_coded c k (EffectInstr xs t) aim called args e = absurd (apart (MethodCode aim called args) (effect_code (aimed c xs) (coding.effect_in c t)) Affects e (effect_shape (aimed c xs) (coding.effect_in c t)) (λ a. cc (a)) (λ a. cc (a)))
+method_coded c k (NewInstr q) aim called args e = absurd (apart (MethodCode aim called args) (new_code (place_of c.slots q) (kind_at k q)) Makes e (new_shape (place_of c.slots q) (kind_at k q)) (λ a. cc (a)) (λ a. cc (a)))
 method_coded c k (DropInstr ns) aim called args e = absurd (cc (e))
 
 -- A field by the number of its name is the field of its name.

@@ -9,3 +9,4 @@ pub mod Served
 pub mod Calls
 pub mod Methods
 pub mod Decoded
+pub mod Instructing

@@ -31,7 +31,7 @@ use Rattle.flow_resolved.specs.View.{places_in}
 use Rattle.flow_cancel.specs.Heap.{HeapTree, actor_id}
 use Rattle.flow_cancel.specs.declared.task.Task.TheVariants as task
 use Rattle.flow_meaning.specs.Numbered.{thing, put}
-use Rattle.flow_meaning.specs.Cells.{Side, PromiseSide}
+use Rattle.flow_meaning.specs.Cells.{Side, PromiseSide, Ref}
 use Rattle.flow_meaning.specs.Asks as asks
 use Rattle.flow_meaning.specs.Asks.{Supply}
 use Rattle.flow_meaning.specs.Evaluating.{StepOf, evaluated, done, sent, cancelled, method_act, based_act, value, values, asks as asking_for, before_last, last_of}
@@ -72,7 +72,7 @@ use Rattle.flow_effects.proofs.Answering.{evaluated_then}
 use Rattle.flow_effects.proofs.Calls.{next, next_stood, stepped}
 
 -- what is sent refers to what the argument does
-there_over : (p : Proc Frame) (qs : List _) → AllThere p qs → AllThere p (qs ++ [])
+there_over : (p : Proc Frame) (qs : List Ref) → AllThere p qs → AllThere p (qs ++ [])
 there_over p [] t = tt
 there_over p (q ∷ qs) t = (t.0, there_over p qs t.1)
 

@@ -22,7 +22,7 @@ use Rattle.flow_code.specs.Classes.{ClassCode}
 use Rattle.flow_code.specs.View.{code_of}
 use Rattle.flow_code.specs.Coded.{coded}
 use Rattle.flow_cancel.specs.Dropping as dropping
-use Rattle.flow_cancel.specs.Heap.{HeapTree, next_cell, with_result, started_holding}
+use Rattle.flow_cancel.specs.Heap.{actor_id, next_cell, with_result}
 use Rattle.flow_cancel.specs.declared.task.Task.TheVariants as task
 use Rattle.flow_meaning.specs.Numbered.{thing, added}
 use Rattle.flow_meaning.specs.Asks as asks
@@ -188,7 +188,7 @@ module _ (r : RawTree) (ls : List Line) (x : Scan) (m : Process) (p : Proc Frame
       let named : st.starts.of.name ≡ may.tree.name = ap (λ (c : ClassCode). c.name) (same_class r code.classes.items may.coded class st.starts.of may.tree st.starts.at may.at) in
       let out : n ≡ telling (line.Start st.actor may.tree.name) (doing (task.Run st.actor) st.given) =
       st.starts.told ∙ ap (λ l. telling (line.Start st.actor l) (doing (task.Run st.actor) st.given)) named in
-      let actor : st.actor ≡ record { 0 = suc p.core.started } = ap (λ a. record { 0 = a }) en.actor in
+      let actor : st.actor ≡ actor_id (suc p.core.started) = ap actor_id en.actor in
       subst (λ z. Shown r ls x z (proc (enrol class may.tree.name (push_result i.0 (result_task i.0 h (RefValue kind.Future (suc p.core.made))) p.core)) (added p.actors (suc p.core.started) f))) (sym out)
       (subst (λ z. Shown r ls x (telling (line.Start st.actor may.tree.name) (doing (task.Run st.actor) st.given)) z) (as_enrolled p class f i.0 h may.tree.name)
       (subst (λ k. Shown r ls x (telling (line.Start st.actor may.tree.name) (doing (task.Run st.actor) st.given)) (on_core (writes (start_line (suc p.core.started) may.tree.name)) (on_core (pushed (Run (suc p.core.started))) (on_core (gives i.0 h (RefValue kind.Future k)) (with_actor class k f (on_core (new_cell (Single None [])) p)))))) en.cell

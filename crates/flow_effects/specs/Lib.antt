@@ -6,3 +6,4 @@ pub mod Calling
 pub mod Events
 pub mod Serving
 pub mod Texts
+pub mod Instructed

@@ -6,6 +6,7 @@
 pub mod calling;
 pub mod effects;
 pub mod events;
+pub mod instructed;
 pub mod numbers;
 pub mod serving;
 pub mod starting;

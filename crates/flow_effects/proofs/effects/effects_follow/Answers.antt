@@ -2,7 +2,7 @@ use Rattle.flow_effects.proofs.Effecting.{effect_step, effect_operand_step}
 use Rattle.flow_effects.proofs.effects.effects_follow.Goals as goal
 
 pub returns-clause-stored : goal.returns-clause-stored
-returns-clause-stored g c = effect_step
+returns-clause-stored c = effect_step
 
 pub returns-clause-operand : goal.returns-clause-operand
-returns-clause-operand g c = effect_operand_step
+returns-clause-operand c = effect_operand_step

@@ -2,4 +2,4 @@ use Rattle.flow_effects.proofs.Fresh.{port_free}
 use Rattle.flow_effects.proofs.numbers.numbers_are_new.Goals as goal
 
 pub returns-clause-port : goal.returns-clause-port
-returns-clause-port g c = port_free
+returns-clause-port c = port_free

@@ -2,13 +2,13 @@ use Rattle.flow_effects.proofs.Decoded.{effect_coded, operand_coded, call_coded,
 use Rattle.flow_effects.proofs.texts.texts_follow.Goals as goal
 
 pub returns-clause-effect : goal.returns-clause-effect
-returns-clause-effect g c = effect_coded
+returns-clause-effect c = effect_coded
 
 pub returns-clause-operand : goal.returns-clause-operand
-returns-clause-operand g c = operand_coded
+returns-clause-operand c = operand_coded
 
 pub returns-clause-call : goal.returns-clause-call
-returns-clause-call g c = call_coded
+returns-clause-call c = call_coded
 
 pub returns-clause-method : goal.returns-clause-method
-returns-clause-method g c = method_coded
+returns-clause-method c = method_coded
