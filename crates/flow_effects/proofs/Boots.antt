@@ -109,20 +109,17 @@ module _ (r : RawTree) (ls : List Line) (x : Scan) (m : Process) (p : Proc Frame
 
 pub main_boots : (r : RawTree) (ls : List Line) (m : Process) (p : Proc Frame) → law.MainBoots r ls m p
 main_boots r ls m p x code me n s none no_main main may called =
-    subst (λ o. Follows r ls x n (boot_with (classes r) o p)) (sym (fresh_actor r (classes r).main may.tree us may.at may.taken))
-    (subst (λ l. Follows r ls x n (proc (turn p.core (λ d. record (enrol (classes r).main l d) { main = Some (suc d.made) })) (added p.actors (suc p.core.started) (begun may.tree us)))) (sym (label_is r (classes r).main may.tree may.at))
-    (by_turn r ls x m p x n (λ d. record (enrol (classes r).main may.tree.name d) { main = Some (suc d.made) }) p.core (added p.actors (suc p.core.started) (begun may.tree us)) s refl refl
+    subst (λ o. Follows r ls x n (boot_with (classes r) o p)) (sym (fresh_actor r (classes r).main may.tree (IntValue (pos me.0) ∷ []) may.at may.taken))
+    (subst (λ l. Follows r ls x n (proc (turn p.core (λ d. record (enrol (classes r).main l d) { main = Some (suc d.made) })) (added p.actors (suc p.core.started) (begun may.tree (IntValue (pos me.0) ∷ []))))) (sym (label_is r (classes r).main may.tree may.at))
+    (by_turn r ls x m p x n (λ d. record (enrol (classes r).main may.tree.name d) { main = Some (suc d.made) }) p.core (added p.actors (suc p.core.started) (begun may.tree (IntValue (pos me.0) ∷ []))) s refl refl
     (by_none called) (by_some called)))
   where
-    us : List ValueTree
-    us = IntValue (pos me.0) ∷ []
-
     by_none : MainCalled code me m n → m.left ≡ 0 → n ≡ turned m
     by_none (main_waits t q) l = q
     by_none (main_starts t st) l = let a = none_left r ls x m p l in absurd (cc (a, t))
 
     by_some : MainCalled code me m n → (k : ℕ) → m.left ≡ suc k → Shown r ls x (turned m) (on_core (λ d. record d { left = k }) p)
-        → Follows r ls x n (proc (record (enrol (classes r).main may.tree.name (record p.core { left = k })) { main = Some (suc p.core.made) }) (added p.actors (suc p.core.started) (begun may.tree us)))
+        → Follows r ls x n (proc (record (enrol (classes r).main may.tree.name (record p.core { left = k })) { main = Some (suc p.core.made) }) (added p.actors (suc p.core.started) (begun may.tree (IntValue (pos me.0) ∷ []))))
     by_some (main_waits t q) k l now = let a = some_left r ls x m p k l in absurd (cc (a, t))
     by_some (main_starts t st) k l now =
-        shows (starts_shown r ls x (turned m) (on_core (λ d. record d { left = k }) p) code me n now (turned_asked m ∙ none) no_main main (may_turned r ls x m p k code (classes r).main us may) st)
+        shows (starts_shown r ls x (turned m) (on_core (λ d. record d { left = k }) p) code me n now (turned_asked m ∙ none) no_main main (may_turned r ls x m p k code (classes r).main (IntValue (pos me.0) ∷ []) may) st)

@@ -117,6 +117,10 @@ module _ (r : RawTree) (ls : List Line) (m : Process) (p : Proc Frame) (i : ℕ)
     sent left args (call.Disk a g d) n none is out step_is = absurd is
     sent left args (call.Unlisten k) n none is out step_is = absurd is
 
+    -- how it goes on with the arguments of a predefined call
+    abbrev onward : Predefined → List ℕ → List ValueTree → ℕ → StepOf Frame
+    onward called name vs left = evaluated f (plain_act (class_names r) (view w i p.core) (look f.mem) (Some called) name vs left) (λ a left. asking_for left a next)
+
     -- a predefined call with its arguments known
     by_called : (called : Predefined) (name : List ℕ) (args : Values) (left : ℕ) (n : Process) → m.asked ≡ None
         → PredefinedCalled (actor_id i) called args (noted (next_stand s) (with_left left m)) n
@@ -129,22 +133,19 @@ module _ (r : RawTree) (ls : List Line) (m : Process) (p : Proc Frame) (i : ℕ)
 
   pub predefined_step : law.PredefinedStep r ls m p i e f
   predefined_step x s w code name es called comes_to pace n st none there is_called same evaluates =
-      by_case (evaluation_follows r ls m p i e f x s w args_of comes_to go (IsAct code s (act.World called)) pace n st next_is evaluates)
+      by_case (evaluation_follows r ls m p i e f x s w args_of comes_to (onward x s w st called name.name) (IsAct code s (act.World called)) pace n st next_is evaluates)
     where
-      go : List ValueTree → ℕ → StepOf Frame
-      go vs left = evaluated f (plain_act (class_names r) (view w i p.core) (look f.mem) (Some called) name.name vs left) (λ a left. asking_for left a next)
-
-      next_is : next_step (class_names r) (view w i p.core) f ≡ evaluated f comes_to go
+      next_is : next_step (class_names r) (view w i p.core) f ≡ evaluated f comes_to (onward x s w st called name.name)
       next_is =
           ap (fetched (class_names r) (view w i p.core) f) there
           ∙ evaluated_then f (values (class_names r) (view w i p.core) (look f.mem) es) (λ vs left. plain_act (class_names r) (view w i p.core) (look f.mem) (named call_names name.name) name.name vs left) (λ a left. asking_for left a next)
           ∙ ap (λ o. evaluated f (values (class_names r) (view w i p.core) (look f.mem) es) (λ vs left. evaluated f (plain_act (class_names r) (view w i p.core) (look f.mem) o name.name vs left) (λ a left. asking_for left a next))) is_called
-          ∙ ap (λ k. evaluated f k go) (sym same)
+          ∙ ap (λ k. evaluated f k (onward x s w st called name.name)) (sym same)
 
       by_case : GivesValue args_of comes_to m (IsAct code s (act.World called)) pace n ⊎ StepsAs r ls x w p i e pace n → Answered r ls x w p i e pace n
       by_case (inl v) =
           subst (λ z. Answered r ls x w p i e z n) (sym v.goes.0)
           (by_called x s w st called name.name v.value v.left n none
           (subst (λ (a : ActorId). PredefinedCalled a called v.value (noted (next_stand s) (with_left v.left m)) n) st.standing.actor v.goes.1)
-          (next_is ∙ ap (λ k. evaluated f k go) v.done))
+          (next_is ∙ ap (λ k. evaluated f k (onward x s w st called name.name)) v.done))
       by_case (inr a) = by_itself a

@@ -98,14 +98,14 @@ module _ (r : RawTree) (c : Coding) (names : NamesClasses r c) where
   effect_text : (t : ExprTree) (eff : Effect) (args : Nodes) → coding.effect_in c t ≡ Some (eff, args) → EffectText r c t eff args
   effect_text (CallExpr f es) eff args e = by_name (effect_named (named call_names f.name) (c.class f.name)) refl e
     where
-      by_name : (o : Option Effect) → effect_named (named call_names f.name) (c.class f.name) ≡ o → option_map (λ k. (k, resolved_all c.names es)) o ≡ Some (eff, args) → EffectText r c (CallExpr f es) eff args
+      by_name : (o : Option Effect) → effect_named (named call_names f.name) (c.class f.name) ≡ o → option_map {U = Effect × Nodes} (λ k. (k, resolved_all c.names es)) o ≡ Some (eff, args) → EffectText r c (CallExpr f es) eff args
       by_name None h g = absurd (cc (g))
       by_name (Some k) h g =
           let pair : (k, resolved_all c.names es) ≡ (eff, args) = cc (g) in
           let of = of_call (named call_names f.name) f.name eff (h ∙ ap (λ (y : Effect × Nodes). Some y.0) pair) in record {
             called = of.called;
             exprs = es;
-            is_effect = ap (option_map (λ g. (g, es))) of.is;
+            is_effect = ap (option_map {U = Effectful × ExprTrees} (λ g. (g, es))) of.is;
             same = of.same;
             resolved = sym (ap (λ (y : Effect × Nodes). y.1) pair);
           }
@@ -131,7 +131,7 @@ data Shape : Type 0 where
   Drops : Shape
   Nothing : Shape
 
-shape : InstructionTree → Shape
+abbrev shape : InstructionTree → Shape
 shape (SetCode a e) = Sets
 shape (EffectCode a f es) = Affects
 shape (NewCode n k) = Makes
@@ -278,11 +278,12 @@ numbered_same rs at x n (RefValue kd a) e = refl
 path_same : (rs : List RecordTree) (at : Numbering) (number : List ℕ → Option ℕ) → IsNumbering rs number at → (xs : List Ident) (ns : List ℕ) (v : Option ValueTree) → fields_of number xs ≡ Some ns → field_path at ns v ≡ read_in rs v xs
 path_same rs at number is [] ns None e = let none : [] ≡ ns = cc (e) in ap (λ l. field_path at l None) (sym none)
 path_same rs at number is [] ns (Some v) e = let none : [] ≡ ns = cc (e) in ap (λ l. field_path at l (Some v)) (sym none)
-path_same rs at number is (x ∷ xs) ns v e = by_name (number x.name) refl e
+path_same rs at number is (x ∷ xs) ns v e = by_name (number x.name) refl e (path_same rs at number is xs)
   where
-    by_name : (o : Option ℕ) → number x.name ≡ o → one_more o (fields_of number xs) ≡ Some ns → field_path at ns v ≡ read_in rs v (x ∷ xs)
-    by_name None h g = absurd (cc (g))
-    by_name (Some n) h g = by_rest (fields_of number xs) refl g
+    by_name : (o : Option ℕ) → number x.name ≡ o → one_more o (fields_of number xs) ≡ Some ns
+        → ((ls : List ℕ) (u : Option ValueTree) → fields_of number xs ≡ Some ls → field_path at ls u ≡ read_in rs u xs) → field_path at ns v ≡ read_in rs v (x ∷ xs)
+    by_name None h g rest = absurd (cc (g))
+    by_name (Some n) h g rest = by_rest (fields_of number xs) refl g
       where
         by_rest : (o : Option (List ℕ)) → fields_of number xs ≡ o → option_map (λ l. n ∷ l) o ≡ Some ns → field_path at ns v ≡ read_in rs v (x ∷ xs)
         by_rest None k g = absurd (cc (g))
@@ -290,9 +291,7 @@ path_same rs at number is (x ∷ xs) ns v e = by_name (number x.name) refl e
           where
             by_value : (v : Option ValueTree) → field_path at (n ∷ l) v ≡ read_in rs v (x ∷ xs)
             by_value None = refl
-            by_value (Some u) =
-                ap (field_path at l) (numbered_same rs at x.name n u (λ r. ap (place_by at r) (sym h) ∙ is r x.name))
-                ∙ path_same rs at number is xs l (field rs u x.name) k
+            by_value (Some u) = ap (field_path at l) (numbered_same rs at x.name n u (λ r. ap (place_by at r) (sym h) ∙ is r x.name)) ∙ rest l (field rs u x.name) k
 
 pub path_seen : law.PathSeen
 path_seen r ls m p i e f x code root fields aim q number st named has at numbers is =

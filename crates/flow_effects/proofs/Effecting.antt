@@ -155,21 +155,22 @@ module _ (r : RawTree) (ls : List Line) (m : Process) (p : Proc Frame) (i : ℕ)
     by_called (World q) (effect.Actor c) args comes_to left pace n is may done next goes = absurd is
     by_called (Actor k) (effect.World c) args comes_to left pace n is may done next goes = absurd is
 
+    -- how it goes on with its arguments
+    abbrev onward : Effectful → List ValueTree → ℕ → StepOf Frame
+    onward called vs left = given f (effect_of called vs) (λ a. asking_for left (asks.Effects h a) f)
+
     pub effect_follows : (es : ExprTrees) (called : Effectful) (eff : Effect) (comes_to : Res (List ValueTree)) (pace : Pace) (n : Process)
         → MayMake r code p called comes_to → SameEffect eff called
         → next_step (class_names r) (view w i p.core) f ≡ effects (class_names r) (view w i p.core) f h (called, es)
         → comes_to ≡ values (class_names r) (view w i p.core) (look f.mem) es
         → Evaluates s args_of comes_to m (EffectDone code s g eff) pace n → Answered r ls x w p i e pace n
-    effect_follows es called eff comes_to pace n may is next same_values evaluates = by_case (evaluation_at r ls m p i e f x s w args_of comes_to go (EffectDone code s g eff) pace n st next_is evaluates)
+    effect_follows es called eff comes_to pace n may is next same_values evaluates = by_case (evaluation_at r ls m p i e f x s w args_of comes_to (onward called) (EffectDone code s g eff) pace n st next_is evaluates)
       where
-        go : List ValueTree → ℕ → StepOf Frame
-        go vs left = given f (effect_of called vs) (λ a. asking_for left (asks.Effects h a) f)
-
-        next_is : next_step (class_names r) (view w i p.core) f ≡ evaluated f comes_to go
-        next_is = next ∙ ap (λ k. evaluated f k go) (sym same_values)
+        next_is : next_step (class_names r) (view w i p.core) f ≡ evaluated f comes_to (onward called)
+        next_is = next ∙ ap (λ k. evaluated f k (onward called)) (sym same_values)
 
         by_case : GivesValue args_of comes_to m (EffectDone code s g eff) pace n ⊎ StepsAs r ls x w p i e pace n → Answered r ls x w p i e pace n
-        by_case (inl v) = by_called called eff v.value comes_to v.left pace n is may v.done (next_is ∙ ap (λ k. evaluated f k go) v.done) v.goes
+        by_case (inl v) = by_called called eff v.value comes_to v.left pace n is may v.done (next_is ∙ ap (λ k. evaluated f k (onward called)) v.done) v.goes
         by_case (inr a) = by_itself a
 
   pub effect_step : law.EffectStep r ls m p i e f

@@ -136,6 +136,11 @@ module _ (r : RawTree) (ls : List Line) (m : Process) (p : Proc Frame) (i : ℕ)
     abbrev onward : asks.Act → ℕ → StepOf Frame
     onward a left = asking_for left a (next r ls m p i e f)
 
+    -- how it goes on with the arguments of a method
+    abbrev called_on : Ident → Ident → List Ident → Method → List ValueTree → ℕ → StepOf Frame
+    called_on y z ys called vs left =
+        evaluated f (based_act (class_names r) (view w i p.core) (look f.mem) (law.based r ls m p i e f y z ys) (Some called) vs left) onward
+
     -- an outcome is sent
     by_sending : (called : Method) (kd : Kind) (k : CellId) (given : Option Value) (left : ℕ) (n : Process) → There p (kd, k.0) → AllThere p (refs_of (arg (map value_of (given_values given)) 0))
         → Sends (actor_id i) called kd k given (noted (next_stand s) (with_left left m)) n
@@ -210,22 +215,16 @@ module _ (r : RawTree) (ls : List Line) (m : Process) (p : Proc Frame) (i : ℕ)
 
   pub method_of_step : law.MethodOfStep r ls m p i e f
   method_of_step x s w code y z ys t aim called comes_to pace n st may there is aims refer same evaluates =
-      by_case (evaluation_follows r ls m p i e f x s w value_of comes_to go (IsMethodOf code s aim called) pace n st next_is evaluates)
+      by_case (evaluation_follows r ls m p i e f x s w value_of comes_to (λ v left. called_on x s w st may y z ys called (v ∷ []) left) (IsMethodOf code s aim called) pace n st next_is evaluates)
     where
-      act : List ValueTree → ℕ → StepOf Frame
-      act vs left = evaluated f (based_act (class_names r) (view w i p.core) (look f.mem) (law.based r ls m p i e f y z ys) (Some called) vs left) (onward x s w st may)
-
-      go : ValueTree → ℕ → StepOf Frame
-      go v left = act (v ∷ []) left
-
-      next_is : next_step (class_names r) (view w i p.core) f ≡ evaluated f comes_to go
+      next_is : next_step (class_names r) (view w i p.core) f ≡ evaluated f comes_to (λ v left. called_on x s w st may y z ys called (v ∷ []) left)
       next_is =
           next_by x s w st may y z ys (MoreExprs t NoExprs) called there is
-          ∙ evaluated_then f (value (class_names r) (view w i p.core) (look f.mem) t) (λ v left. Done (v ∷ []) left) act
-          ∙ ap (λ k. evaluated f k go) (sym same)
+          ∙ evaluated_then f (value (class_names r) (view w i p.core) (look f.mem) t) (λ v left. Done (v ∷ []) left) (called_on x s w st may y z ys called)
+          ∙ ap (λ k. evaluated f k (λ v left. called_on x s w st may y z ys called (v ∷ []) left)) (sym same)
 
       by_case : GivesValue value_of comes_to m (IsMethodOf code s aim called) pace n ⊎ StepsAs r ls x w p i e pace n → Answered r ls x w p i e pace n
       by_case (inl v) =
           by_aim x s w st may code called aim (law.based r ls m p i e f y z ys) (Some v.value) v.left pace n aims (refer (value_of v.value) v.left v.done) v.goes
-          (next_is ∙ ap (λ k. evaluated f k go) v.done)
+          (next_is ∙ ap (λ k. evaluated f k (λ v left. called_on x s w st may y z ys called (v ∷ []) left)) v.done)
       by_case (inr a) = by_itself a

@@ -217,14 +217,11 @@ module _ (r : RawTree) (ls : List Line) (x : Scan) (m : Process) (p : Proc Frame
 module _ (r : RawTree) (ls : List Line) (x : Scan) (m : Process) (p : Proc Frame) where
   pub call_starts : law.CallStarts r ls x m p
   call_starts code i g h class vs e f n s none acts may same called =
-      subst (λ o. Follows r ls x n (start (classes r) i.0 h class o p).0) (sym (fresh_actor r class may.tree us may.at may.taken))
-      (subst (λ l. Follows r ls x n (proc (turn p.core (λ d. enrol class l (push_result i.0 (result_task i.0 h (RefValue kind.Future (suc d.made))) d))) (added p.actors (suc p.core.started) (begun may.tree us)))) (sym (label_is r class may.tree may.at))
-      (by_turn r ls x m p x n (λ d. enrol class may.tree.name (push_result i.0 (result_task i.0 h (RefValue kind.Future (suc d.made))) d)) p.core (added p.actors (suc p.core.started) (begun may.tree us)) s refl refl
+      subst (λ o. Follows r ls x n (start (classes r) i.0 h class o p).0) (sym (fresh_actor r class may.tree (map value_of vs) may.at may.taken))
+      (subst (λ l. Follows r ls x n (proc (turn p.core (λ d. enrol class l (push_result i.0 (result_task i.0 h (RefValue kind.Future (suc d.made))) d))) (added p.actors (suc p.core.started) (begun may.tree (map value_of vs))))) (sym (label_is r class may.tree may.at))
+      (by_turn r ls x m p x n (λ d. enrol class may.tree.name (push_result i.0 (result_task i.0 h (RefValue kind.Future (suc d.made))) d)) p.core (added p.actors (suc p.core.started) (begun may.tree (map value_of vs))) s refl refl
       (by_none called) (by_some called)))
     where
-      us : List ValueTree
-      us = map value_of vs
-
       other : suc p.core.started ≡ i.0 → ⊥
       other d =
           let a = none_above p.core.entries 0 p.core.started (suc p.core.started) may.entries (omega arith) in
@@ -236,11 +233,11 @@ module _ (r : RawTree) (ls : List Line) (x : Scan) (m : Process) (p : Proc Frame
       by_none (actor_starts t st) l = let a = none_left r ls x m p l in absurd (cc (a, t))
 
       by_some : ActorCalled code i g class vs m n → (k : ℕ) → m.left ≡ suc k → Shown r ls x (turned m) (on_core (λ d. record d { left = k }) p)
-          → Follows r ls x n (proc (enrol class may.tree.name (push_result i.0 (result_task i.0 h (RefValue kind.Future (suc p.core.made))) (record p.core { left = k }))) (added p.actors (suc p.core.started) (begun may.tree us)))
+          → Follows r ls x n (proc (enrol class may.tree.name (push_result i.0 (result_task i.0 h (RefValue kind.Future (suc p.core.made))) (record p.core { left = k }))) (added p.actors (suc p.core.started) (begun may.tree (map value_of vs))))
       by_some (not_called t q) k l now = let a = some_left r ls x m p k l in absurd (cc (a, t))
       by_some (actor_starts t st) k l now =
           let q : Proc Frame = on_core (λ d. record d { left = k }) p in
-          shows (starts_shown r ls x (turned m) q code i g h class vs n now (turned_asked m ∙ none) other (may_turned r ls x m p k code class us may) (same_goal_by p q i.0 g h refl refl same) st)
+          shows (starts_shown r ls x (turned m) q code i g h class vs n now (turned_asked m ∙ none) other (may_turned r ls x m p k code class (map value_of vs) may) (same_goal_by p q i.0 g h refl refl same) st)
 
 -- what holds of a process holds when an actor of it has evaluated
 pub may_resumed : (r : RawTree) (p : Proc Frame) (code : Code) (class : ℕ) (us : List ValueTree) (i : ℕ) (f : Frame) (left : ℕ) → MayStart r p code class us → MayStart r (resumed i f left p) code class us
