@@ -1,5 +1,5 @@
 -- A method of a reference, called by an actor in memory, is a step of the class machine.
-use Rattle.std.proofs.Common.{◌≡◌, ◌⊎◌, inl, inr, ℕ, suc, ◌+◌, ◌<◌, nat_eq, Bool, true, false, List, [], ◌∷◌, map, if◌then◌else◌, refl, sym, ap, ◌∙◌, subst, arith}
+use Rattle.std.proofs.Common.{◌≡◌, ◌⊎◌, inl, inr, ℕ, suc, ◌+◌, ◌<◌, nat_eq, Bool, true, false, List, [], ◌∷◌, ◌++◌, map, if◌then◌else◌, refl, sym, ap, ◌∙◌, subst, arith}
 use Rattle.std.specs.Option.{option_map}
 use Rattle.std.specs.declared.option.Option.{Option}
 use Rattle.std.specs.declared.option.Option.TheVariants.{None, Some}
@@ -89,11 +89,11 @@ sent_there p called us o e t = absurd (cc (e))
 -- numbers rise where a thing is put
 rising_put : {A : Type 0} (above most : ℕ) (xs : stored.Numbered A) (n : ℕ) (a : A) → stored.IsRising above xs most → stored.IsRising above (stored.put xs n a) most
 rising_put above most [] n a h = h
-rising_put above most (y ∷ ys) n a h = by_test (nat_eq n y.0)
+rising_put above most (y ∷ ys) n a h = by_test (nat_eq n y.0) (rising_put y.0 most ys n a h.1)
   where
-    by_test : (b : Bool) → stored.IsRising above (if b then (y.0, a) ∷ ys else y ∷ stored.put ys n a) most
-    by_test true = (h.0, h.1)
-    by_test false = (h.0, rising_put y.0 most ys n a h.1)
+    by_test : (b : Bool) → stored.IsRising y.0 (stored.put ys n a) most → stored.IsRising above (if b then (y.0, a) ∷ ys else y ∷ stored.put ys n a) most
+    by_test true rest = (h.0, h.1)
+    by_test false rest = (h.0, rest)
 
 sorted_put : (h : HeapTree) (i : ℕ) (o : Option (FrameTree Value)) (g : FrameTree Value → FrameTree Value) → Sorted h → Sorted (reframed g i o h)
 sorted_put h i None g s = s

@@ -72,19 +72,19 @@ get_mapped g (x ∷ xs) zero = refl
 get_mapped g (x ∷ xs) (suc n) = get_mapped g xs n
 
 -- the class of the code is that of the program
-same_class : (r : RawTree) (items : List Class) (c : CodedBy r items) (class : ℕ) (of : Class) (tree : ClassTree) → slice_get items class ≡ Some of → slice_get r.classes class ≡ Some tree
+pub same_class : (r : RawTree) (items : List Class) (c : CodedBy r items) (class : ℕ) (of : Class) (tree : ClassTree) → slice_get items class ≡ Some of → slice_get r.classes class ≡ Some tree
     → code_of of ≡ coded c.names c.class tree
 same_class r items c class of tree a b =
     let x = sym (get_mapped code_of items class) ∙ ap (λ l. slice_get l class) c.are_coded ∙ get_mapped (coded c.names c.class) r.classes class in
     let y : Some (code_of of) ≡ Some (coded c.names c.class tree) = sym (ap (option_map code_of) a) ∙ x ∙ ap (option_map (coded c.names c.class)) b in cc (y)
 
 -- the actor that the class gives, and its name
-fresh_actor : (r : RawTree) (class : ℕ) (tree : ClassTree) (us : List ValueTree) → slice_get r.classes class ≡ Some tree → length us ≡ tree.params → (classes r).fresh class us ≡ Some (begun tree us)
+pub fresh_actor : (r : RawTree) (class : ℕ) (tree : ClassTree) (us : List ValueTree) → slice_get r.classes class ≡ Some tree → length us ≡ tree.params → (classes r).fresh class us ≡ Some (begun tree us)
 fresh_actor r class tree us at n =
     let t : nat_eq (length us) tree.params ≡ true = grind (arith, nat_tests, n) in
     ap (λ o. fresh_from o us) at ∙ ap (λ b. if b then Some (begun tree us) else None) t
 
-label_is : (r : RawTree) (class : ℕ) (tree : ClassTree) → slice_get r.classes class ≡ Some tree → (classes r).label class ≡ tree.name
+pub label_is : (r : RawTree) (class : ℕ) (tree : ClassTree) → slice_get r.classes class ≡ Some tree → (classes r).label class ≡ tree.name
 label_is r class tree at = ap (λ o. unwrap_or o []) (get_mapped class_name r.classes class ∙ ap (option_map class_name) at)
 
 as_many : (vs : List Value) → length (map value_of vs) ≡ length vs
@@ -194,7 +194,7 @@ module _ (r : RawTree) (ls : List Line) (x : Scan) (m : Process) (p : Proc Frame
       (subst (λ k. Shown r ls x (telling (line.Start st.actor may.tree.name) (doing (task.Run st.actor) st.given)) (on_core (writes (start_line (suc p.core.started) may.tree.name)) (on_core (pushed (Run (suc p.core.started))) (on_core (gives i.0 h (RefValue kind.Future k)) (with_actor class k f (on_core (new_cell (Single None [])) p)))))) en.cell
       (subst (λ (a : ActorId). Shown r ls x (telling (line.Start st.actor may.tree.name) (doing (task.Run st.actor) st.given)) (on_core (writes (line.Start a may.tree.name)) (on_core (pushed (Run a.0)) p4))) actor told)))
 
-  pub may_turned : (k : ℕ) (code : Code) (class : ℕ) (us : List ValueTree) → MayStart r p code class us → MayStart r (on_core (λ c. record c { left = k }) p) code class us
+  abbrev pub may_turned : (k : ℕ) (code : Code) (class : ℕ) (us : List ValueTree) → MayStart r p code class us → MayStart r (on_core (λ c. record c { left = k }) p) code class us
   may_turned k code class us may = record {
     coded = may.coded;
     cells = may.cells;
