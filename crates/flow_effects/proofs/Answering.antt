@@ -1,6 +1,5 @@
 -- What an actor in memory does with what evaluation comes to is a step of the class machine.
 use Rattle.std.proofs.Common.{◌≡◌, ◌⊎◌, inl, inr, ℕ, List, refl, sym, ap, ◌∙◌, subst, arith}
-use Rattle.std.specs.declared.option.Option.TheVariants.{Some}
 use Rattle.flow_base.specs.declared.ids.ActorId.{ActorId}
 use Rattle.flow_base.specs.declared.ids.ErrorCode.{ErrorCode}
 use Rattle.flow_eval.specs.Eval.{Res, Done, Fails, Spent, Meaningless, then}
@@ -10,10 +9,9 @@ use Rattle.flow_trace.specs.declared.line.Line.{Line}
 use Rattle.flow_cancel.specs.declared.task.Task.TheVariants as task
 use Rattle.flow_cancel.specs.Heap.{actor_id}
 use Rattle.flow_meaning.specs.Numbered.{put}
-use Rattle.flow_meaning.specs.Asks as asks
 use Rattle.flow_meaning.specs.Asks.{Throws, RunsOut, Supply}
 use Rattle.flow_meaning.specs.Evaluating.{StepOf, evaluated, asks as asking}
-use Rattle.flow_meaning.specs.Process.{Run, Throw, Spent as TurnsSpent, Entry, Proc}
+use Rattle.flow_meaning.specs.Process.{Throw, Spent as TurnsSpent, Entry, Proc}
 use Rattle.flow_meaning.specs.Occ.{Scan}
 use Rattle.flow_meaning.specs.Work.{halt, pushed}
 use Rattle.flow_meaning.specs.Step.{view, proc, on_core}

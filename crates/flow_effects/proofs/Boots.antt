@@ -1,9 +1,8 @@
 -- `main` starts in memory as in the process.
-use Rattle.std.proofs.Common.{◌≡◌, ◌≤◌, ℕ, suc, ◌+◌, List, [], ◌∷◌, map, refl, sym, ap, ◌∙◌, subst, arith}
+use Rattle.std.proofs.Common.{◌≡◌, ℕ, suc, List, [], ◌∷◌, map, refl, sym, ap, ◌∙◌, subst, arith}
 use Rattle.std.specs.Prelude.{ℤ, pos, slice_get}
 use Rattle.std.specs.declared.option.Option.TheVariants.{None, Some}
 use Rattle.flow_base.specs.declared.ids.ActorId.{ActorId}
-use Rattle.flow_base.specs.declared.ids.CellId.{CellId}
 use Rattle.flow_base.specs.declared.ids.ProcId.{ProcId}
 use Rattle.flow_value.specs.declared.value.Kind.TheVariants as kind
 use Rattle.flow_value.specs.declared.value.Value.{Value}
@@ -12,7 +11,7 @@ use Rattle.flow_value.specs.declared.value.Value.TheFolds.{fold-roll-Value}
 use Rattle.flow_value.specs.declared.value.Value.TheOpen as layer
 use Rattle.flow_value.specs.Values.{ValueTree, IntValue}
 use Rattle.flow_value.specs.View.{value_of, value_step}
-use Rattle.flow_class.specs.Classes.{ClassTree, RawTree}
+use Rattle.flow_class.specs.Classes.{RawTree}
 use Rattle.flow_code.specs.Classes.{ClassCode}
 use Rattle.flow_code.specs.declared.program.Code.{Code}
 use Rattle.flow_trace.specs.declared.line.Line.{Line}
@@ -25,7 +24,7 @@ use Rattle.flow_meaning.specs.Process.{Run, Proc}
 use Rattle.flow_meaning.specs.Occ.{Scan, count_maybe, refs_in}
 use Rattle.flow_meaning.specs.Lines.{start_line}
 use Rattle.flow_meaning.specs.Work.{turn, writes, pushed, new_cell}
-use Rattle.flow_meaning.specs.Deliver.{boot, boot_with}
+use Rattle.flow_meaning.specs.Deliver.{boot_with}
 use Rattle.flow_meaning.specs.Step.{enrol, proc, on_core}
 use Rattle.flow_meaning.specs.Class.{classes, begun}
 use Rattle.flow_meaning.specs.Frame.{Frame}

@@ -1,5 +1,5 @@
 -- What is brought to a process in memory at the begin of an event is brought to the process that it shows.
-use Rattle.std.proofs.Common.{◌≡◌, ℕ, [], ◌++◌, sym, ap, refl}
+use Rattle.std.proofs.Common.{ℕ, [], ◌++◌, sym, ap, refl}
 use Rattle.flow_value.specs.declared.value.Kind.TheVariants as kind
 use Rattle.flow_value.specs.declared.value.Outcome.TheVariants as outcome
 use Rattle.flow_class.specs.Classes.{RawTree}

@@ -1,25 +1,17 @@
 -- A call statement of an actor in memory is a step of the class machine.
-use Rattle.std.proofs.Common.{◌≡◌, ◌⊎◌, inl, inr, ℕ, suc, List, [], ◌∷◌, map, refl, sym, ap, ◌∙◌, subst, arith}
-use Rattle.std.specs.Option.{option_map}
-use Rattle.std.specs.declared.option.Option.{Option}
+use Rattle.std.proofs.Common.{◌≡◌, ◌⊎◌, inl, inr, ℕ, suc, List, refl, sym, ap, ◌∙◌, subst, arith}
 use Rattle.std.specs.declared.option.Option.TheVariants.{None, Some}
 use Rattle.flow_base.specs.declared.ids.ActorId.{ActorId}
 use Rattle.flow_ast.specs.declared.predefined.Predefined.{Predefined}
 use Rattle.flow_ast.specs.declared.predefined.Predefined.TheVariants as predefined
 use Rattle.flow_ast.specs.TypingNames.{named, call_names}
-use Rattle.flow_tree.specs.declared.ty.Ident.{Ident}
-use Rattle.flow_tree.specs.Tree.{ExprTrees}
 use Rattle.flow_value.specs.Values.{ValueTree}
 use Rattle.flow_eval.specs.Answers.{int_of, text_of, arg}
-use Rattle.flow_eval.specs.Eval.{Res, Done, Meaningless}
-use Rattle.flow_class.specs.Classes.{ActInstr, RawTree}
-use Rattle.flow_class.specs.Code.{Body, fetch}
+use Rattle.flow_class.specs.Classes.{RawTree}
 use Rattle.flow_code.specs.declared.class.Act.TheVariants as act
-use Rattle.flow_code.specs.declared.program.Code.{Code}
 use Rattle.flow_trace.specs.declared.line.Line.{Line}
 use Rattle.flow_cancel.specs.Heap.{actor_id}
 use Rattle.flow_cancel.specs.declared.task.Task.TheVariants as task
-use Rattle.flow_meaning.specs.Numbered.{thing, put}
 use Rattle.flow_meaning.specs.Asks as asks
 use Rattle.flow_meaning.specs.Asks.{Supply}
 use Rattle.flow_meaning.specs.Evaluating.{StepOf, bind, evaluated, done, plain_act, values, asks as asking_for}
@@ -35,12 +27,11 @@ use Rattle.flow_picture.specs.Acting.{put_frame}
 use Rattle.flow_steps.specs.declared.call.Call.{Call}
 use Rattle.flow_steps.specs.declared.call.Call.TheVariants as call
 use Rattle.flow_steps.specs.declared.frames.Stand.{Stand}
-use Rattle.flow_steps.specs.declared.next.Pace.{Pace}
 use Rattle.flow_steps.specs.declared.next.Pace.TheVariants.{Off}
 use Rattle.flow_steps.specs.declared.process.Process.{Process}
 use Rattle.flow_steps.specs.Doing.{doing, asking, telling}
 use Rattle.flow_steps.specs.Standing.{noted, next_stand}
-use Rattle.flow_steps.specs.Sights.{with_left, Evaluates}
+use Rattle.flow_steps.specs.Sights.{with_left}
 use Rattle.flow_steps.specs.Acting.{Values, args_of, IsMessage, PredefinedCalled}
 use Rattle.flow_steps.specs.Stepping.{IsAct}
 use Rattle.flow_follows.specs.Shown.{Shown, shows, with_task}

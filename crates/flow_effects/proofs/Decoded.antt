@@ -1,5 +1,5 @@
 -- What an effect or a call statement of the code is coded from, and what the path of a method leads to.
-use Rattle.std.proofs.Common.{◌≡◌, ◌⊎◌, inl, inr, ℕ, suc, ◌+◌, Bool, true, false, cond, ltb, List, [], ◌∷◌, length, map, position, if◌then◌else◌, refl, sym, ap, ◌∙◌, subst, arith}
+use Rattle.std.proofs.Common.{◌≡◌, ◌⊎◌, inl, inr, ℕ, suc, ◌+◌, Bool, true, false, cond, ltb, List, [], ◌∷◌, length, position, if◌then◌else◌, refl, sym, ap, ◌∙◌, subst, arith}
 use Rattle.std.specs.List.{position_or_len}
 use Rattle.std.specs.Option.{option_map}
 use Rattle.std.specs.Str.{bytes_eq}
@@ -18,8 +18,7 @@ use Rattle.flow_value.specs.Values.{ValueTree, IntValue, BoolValue, TextValue, V
 use Rattle.flow_value.specs.View.{value_of}
 use Rattle.flow_eval.specs.Records.{at_place, field_place, field}
 use Rattle.flow_eval.specs.Functions.{read_in}
-use Rattle.flow_class.specs.Classes.{InstrTree, SetInstr, EffectInstr, NewInstr, ActInstr, DropInstr, ClassTree, RawTree}
-use Rattle.flow_class.specs.Places.{place_named}
+use Rattle.flow_class.specs.Classes.{SetInstr, EffectInstr, NewInstr, ActInstr, DropInstr, RawTree}
 use Rattle.flow_resolved.specs.Named.{first_from}
 use Rattle.flow_resolved.specs.Tree.{Node, Nodes}
 use Rattle.flow_resolved.specs.Resolving.{IsNumbering, resolved, resolved_all, place_by}
@@ -29,14 +28,14 @@ use Rattle.flow_code.specs.declared.class.Act.{Act}
 use Rattle.flow_code.specs.declared.class.Act.TheVariants as act
 use Rattle.flow_code.specs.declared.class.Effect.{Effect}
 use Rattle.flow_code.specs.declared.class.Effect.TheVariants as effect
-use Rattle.flow_code.specs.Classes.{AimTree, InstructionTree, SetCode, EffectCode, NewCode, ActCode, MethodCode, DropCode, NoCode, OperandTree, ValueOperand, EffectOperand}
+use Rattle.flow_code.specs.Classes.{AimTree, InstructionTree, SetCode, EffectCode, NewCode, ActCode, MethodCode, DropCode, NoCode, EffectOperand}
 use Rattle.flow_code.specs.Coding as coding
 use Rattle.flow_code.specs.Coding.{Coding, one_more, fields_of, effect_named, effect_code, set_code, new_code, plain_code, method_code, operand_code, act_named, aimed, kind_at, coded_instruction, coded_operand}
 use Rattle.flow_code.specs.Places.{place_of}
 use Rattle.flow_meaning.specs.Evaluating.{Effectful, World, Actor, world_if, effectful_of, effectful, bind}
 use Rattle.flow_meaning.specs.Evaluating as meaning
 use Rattle.flow_meaning.specs.Class.{class_names}
-use Rattle.flow_meaning.specs.Frame.{read, look}
+use Rattle.flow_meaning.specs.Frame.{read}
 use Rattle.flow_steps.specs.Standing.{Numbering, field_path, place_held}
 use Rattle.flow_follows.proofs.Places.{place_seen}
 use Rattle.flow_effects.specs.Effects.{SameEffect}

@@ -3,13 +3,11 @@ use Rattle.std.proofs.Common.{◌≡◌, ◌⊎◌, inl, inr, ℕ, ◌++◌, Lis
 use Rattle.std.specs.declared.option.Option.{Option}
 use Rattle.std.specs.declared.option.Option.TheVariants.{None, Some}
 use Rattle.flow_base.specs.declared.ids.ActorId.{ActorId}
-use Rattle.flow_ast.specs.declared.predefined.Predefined.{Predefined}
 use Rattle.flow_tree.specs.Tree.{ExprTrees}
 use Rattle.flow_value.specs.declared.value.Kind.TheVariants as kind
 use Rattle.flow_value.specs.Values.{ValueTree}
 use Rattle.flow_eval.specs.Eval.{Res, Done}
-use Rattle.flow_class.specs.Classes.{EffectInstr, ChooseLast, RawTree}
-use Rattle.flow_class.specs.Code.{Body, Last, fetch}
+use Rattle.flow_class.specs.Classes.{RawTree}
 use Rattle.flow_code.specs.declared.class.Effect.{Effect}
 use Rattle.flow_code.specs.declared.class.Effect.TheVariants as effect
 use Rattle.flow_code.specs.declared.program.Code.{Code}

@@ -1,5 +1,5 @@
 -- A new actor in memory, with its arguments in its first places, is one in the process.
-use Rattle.std.proofs.Common.{◌≡◌, ◌≤◌, ℕ, zero, suc, ◌+◌, List, [], ◌∷◌, ◌++◌, map, length, refl, sym, ap, ◌∙◌, subst, arith}
+use Rattle.std.proofs.Common.{◌≡◌, ◌≤◌, ℕ, suc, ◌+◌, List, [], ◌∷◌, ◌++◌, map, length, refl, sym, ap, ◌∙◌, subst, arith}
 use Rattle.std.specs.Prelude.{max, slice_get, drop}
 use Rattle.std.specs.Option.{option_map}
 use Rattle.std.specs.declared.option.Option.{Option}
@@ -29,7 +29,7 @@ use Rattle.flow_meaning.proofs.Posture.{thing_added}
 use Rattle.flow_picture.specs.Shows.{Shows, OneActor, stands, here, wait_spot, spot_of_actor}
 use Rattle.flow_picture.specs.Acting.{Free, with_actor}
 use Rattle.flow_picture.specs.References.{frame_holds}
-use Rattle.flow_picture.specs.Holds.{Holds, with_refs, There, hold}
+use Rattle.flow_picture.specs.Holds.{with_refs, hold}
 use Rattle.flow_picture.proofs.Tasks.{tasks_aside}
 use Rattle.flow_picture.proofs.Waits.{cells_aside}
 use Rattle.flow_picture.proofs.Actors.{ActorsShow, actor_added}

@@ -1,23 +1,20 @@
 -- What the code has an actor do by an effect or a call statement is a step of the class machine.
-use Rattle.std.proofs.Common.{◌≡◌, ℕ, List, [], ◌∷◌, length, map, refl, sym, ap, ◌∙◌, subst}
-use Rattle.std.specs.declared.option.Option.TheVariants.{None, Some}
+use Rattle.std.proofs.Common.{◌≡◌, ℕ, List, [], ◌∷◌, length, refl, ap, ◌∙◌, subst}
+use Rattle.std.specs.declared.option.Option.TheVariants.{Some}
 use Rattle.flow_base.specs.declared.ids.ActorId.{ActorId}
-use Rattle.flow_ast.specs.declared.predefined.Method.{Method}
 use Rattle.flow_ast.specs.TypingNames.{named, method_names}
 use Rattle.flow_tree.specs.declared.ty.Ident.{Ident}
 use Rattle.flow_tree.specs.Tree.{ExprTree, ExprTrees, NoExprs, MoreExprs}
 use Rattle.flow_value.specs.Values.{ValueTree}
 use Rattle.flow_value.specs.View.{value_of}
 use Rattle.flow_eval.specs.Eval.{Res}
-use Rattle.flow_class.specs.Classes.{InstrTree, ActInstr, RawTree}
+use Rattle.flow_class.specs.Classes.{ActInstr, RawTree}
 use Rattle.flow_class.specs.Code.{Body}
 use Rattle.flow_resolved.specs.declared.expr.Resolved.{Resolved}
 use Rattle.flow_resolved.specs.Resolving.{resolved, resolved_all}
 use Rattle.flow_resolved.specs.Evaluation.{value_at, values_at}
 use Rattle.flow_resolved.specs.View.{node_of, nodes_of}
 use Rattle.flow_code.specs.declared.class.Act.TheVariants as act
-use Rattle.flow_code.specs.declared.class.Aim.{Aim}
-use Rattle.flow_code.specs.declared.class.Effect.{Effect}
 use Rattle.flow_code.specs.declared.program.Code.{Code}
 use Rattle.flow_code.specs.View.{aim_of}
 use Rattle.flow_code.specs.Coding.{Coding}
@@ -32,19 +29,16 @@ use Rattle.flow_meaning.specs.Class.{class_names}
 use Rattle.flow_meaning.specs.Frame.{Frame, look}
 use Rattle.flow_steps.specs.declared.call.Goal.TheVariants as goal
 use Rattle.flow_steps.specs.declared.frames.Stand.{Stand}
-use Rattle.flow_steps.specs.declared.next.Pace.{Pace}
 use Rattle.flow_steps.specs.declared.process.Process.{Process}
 use Rattle.flow_steps.specs.Sights.{sight_in, Evaluates}
 use Rattle.flow_steps.specs.Acting.{args_of, EffectDone}
 use Rattle.flow_steps.specs.Stepping.{MethodStep, IsAct, IsMethodOf}
-use Rattle.flow_follows.specs.Placing.{Stood}
 use Rattle.flow_follows.specs.Seeing.{IsCodeOf}
 use Rattle.flow_follows.specs.Going.{MayBeStale}
 use Rattle.flow_follows.proofs.Seen.{expr_follows}
 use Rattle.flow_follows.proofs.Arguments.{args_follow}
 use Rattle.flow_follows.proofs.Carrying.{old, seen, noted_follows}
 use Rattle.flow_effects.specs.Asking.{Answered}
-use Rattle.flow_effects.specs.Calling.{MayCall}
 use Rattle.flow_effects.specs.Instructed as law
 use Rattle.flow_effects.specs.Instructed.{Judged, MethodMay}
 use Rattle.flow_effects.proofs.Effecting.{effect_step, effect_operand_step}

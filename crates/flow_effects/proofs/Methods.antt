@@ -1,5 +1,5 @@
 -- A method of a reference, called by an actor in memory, is a step of the class machine.
-use Rattle.std.proofs.Common.{◌≡◌, ◌⊎◌, inl, inr, ℕ, suc, ◌+◌, ◌<◌, nat_eq, Bool, true, false, List, [], ◌∷◌, ◌++◌, map, if◌then◌else◌, refl, sym, ap, ◌∙◌, subst, arith}
+use Rattle.std.proofs.Common.{◌≡◌, ◌⊎◌, inl, inr, ℕ, suc, nat_eq, Bool, true, false, List, [], ◌∷◌, ◌++◌, map, if◌then◌else◌, refl, sym, ap, ◌∙◌, subst, arith}
 use Rattle.std.specs.Option.{option_map}
 use Rattle.std.specs.declared.option.Option.{Option}
 use Rattle.std.specs.declared.option.Option.TheVariants.{None, Some}
@@ -9,17 +9,14 @@ use Rattle.flow_ast.specs.declared.predefined.Method.{Method}
 use Rattle.flow_ast.specs.declared.predefined.Method.TheVariants as method
 use Rattle.flow_ast.specs.TypingNames.{named, method_names}
 use Rattle.flow_tree.specs.declared.ty.Ident.{Ident}
-use Rattle.flow_tree.specs.Tree.{ExprTree, ExprTrees, NoExprs, MoreExprs}
+use Rattle.flow_tree.specs.Tree.{ExprTrees, NoExprs, MoreExprs}
 use Rattle.flow_value.specs.declared.value.Kind.{Kind}
 use Rattle.flow_value.specs.declared.value.Kind.TheVariants as kind
-use Rattle.flow_value.specs.declared.value.Outcome.{Outcome}
-use Rattle.flow_value.specs.declared.value.Outcome.TheVariants as outcome
 use Rattle.flow_value.specs.declared.value.Value.{Value}
 use Rattle.flow_value.specs.Values.{ValueTree, RefValue, OutcomeTree, GoodOutcome, BadOutcome, refs_of}
 use Rattle.flow_value.specs.View.{value_of, outcome_of}
 use Rattle.flow_eval.specs.Answers.{arg, error_of}
-use Rattle.flow_eval.specs.Eval.{Res, Done}
-use Rattle.flow_eval.specs.Functions.{read_in}
+use Rattle.flow_eval.specs.Eval.{Done}
 use Rattle.flow_class.specs.Classes.{ActInstr, RawTree}
 use Rattle.flow_class.specs.Code.{Body, fetch}
 use Rattle.flow_code.specs.declared.class.Aim.{Aim}
@@ -30,21 +27,21 @@ use Rattle.flow_frame.specs.Frames.{FrameTree}
 use Rattle.flow_resolved.specs.View.{places_in}
 use Rattle.flow_cancel.specs.Heap.{HeapTree, actor_id}
 use Rattle.flow_cancel.specs.declared.task.Task.TheVariants as task
-use Rattle.flow_meaning.specs.Numbered.{thing, put}
+use Rattle.flow_meaning.specs.Numbered.{thing}
 use Rattle.flow_meaning.specs.Cells.{Side, PromiseSide, Ref}
 use Rattle.flow_meaning.specs.Asks as asks
 use Rattle.flow_meaning.specs.Asks.{Supply}
-use Rattle.flow_meaning.specs.Evaluating.{StepOf, evaluated, done, sent, cancelled, method_act, based_act, value, values, asks as asking_for, before_last, last_of}
+use Rattle.flow_meaning.specs.Evaluating.{StepOf, evaluated, done, sent, cancelled, method_act, based_act, value, values, asks as asking_for, last_of}
 use Rattle.flow_meaning.specs.Process.{Run, Entry, Proc}
-use Rattle.flow_meaning.specs.Occ.{Scan, refs_in, value_in, count}
+use Rattle.flow_meaning.specs.Occ.{Scan, refs_in, value_in}
 use Rattle.flow_meaning.specs.Work.{pushed, owner, cancel_owner}
 use Rattle.flow_meaning.specs.React.{send_in}
 use Rattle.flow_meaning.specs.Step.{view, on_core}
 use Rattle.flow_meaning.specs.Class.{fetched, next_step, class_names}
 use Rattle.flow_meaning.specs.Frame.{Frame, look}
 use Rattle.flow_picture.specs.Counted.{references}
-use Rattle.flow_picture.specs.Rested.{Owned, InNumbers, Sorted}
-use Rattle.flow_picture.specs.Holds.{There, AllThere, MayWait}
+use Rattle.flow_picture.specs.Rested.{Sorted}
+use Rattle.flow_picture.specs.Holds.{There, AllThere}
 use Rattle.flow_picture.proofs.Referring.{of_pushed, of_frame}
 use Rattle.flow_steps.specs.declared.frames.Stand.{Stand}
 use Rattle.flow_steps.specs.declared.next.Pace.{Pace}
@@ -54,7 +51,7 @@ use Rattle.flow_steps.specs.Doing.{doing}
 use Rattle.flow_steps.specs.Holding.{outcome_refs, owner_cancelled}
 use Rattle.flow_steps.specs.Bringing.{gone_to}
 use Rattle.flow_steps.specs.Standing.{reframed, noted, next_stand, place_held, field_path, values as given_values}
-use Rattle.flow_steps.specs.Sights.{with_left, Evaluates}
+use Rattle.flow_steps.specs.Sights.{with_left}
 use Rattle.flow_steps.specs.Acting.{Sends, MethodCalled}
 use Rattle.flow_steps.specs.Stepping.{IsMethod, IsMethodOf}
 use Rattle.flow_follows.specs.Shown.{Shown, Follows, shows, with_task, Sound}

@@ -1,6 +1,5 @@
 -- A step that asks something of the world, and its service, are a step of the class machine in its world.
-use Rattle.std.proofs.Common.{◌≡◌, ℕ, List, refl, sym, ap, ◌∙◌, subst}
-use Rattle.std.specs.declared.option.Option.TheVariants.{Some}
+use Rattle.std.proofs.Common.{◌≡◌, ℕ, List, refl, sym, subst}
 use Rattle.flow_class.specs.Classes.{RawTree}
 use Rattle.flow_trace.specs.declared.line.Line.{Line}
 use Rattle.flow_cancel.specs.Heap.{actor_id}
@@ -17,11 +16,10 @@ use Rattle.flow_steps.specs.declared.call.Call.{Call}
 use Rattle.flow_steps.specs.declared.call.Call.TheVariants as call
 use Rattle.flow_steps.specs.declared.process.Process.{Process}
 use Rattle.flow_steps.specs.Doing.{unasked}
-use Rattle.flow_machine.specs.Requests.{asked_of}
 use Rattle.flow_machine.specs.Serving.{Served, ServedIf}
 use Rattle.flow_served.specs.Serving.{Lives, Done}
 use Rattle.flow_served.proofs.Serving.{number_drawn, timer_set, disk_asked, port_heard, text_sent}
-use Rattle.flow_effects.specs.Asking.{Asks, draws, delays, listens, disks, sends, resumed, AsksAs}
+use Rattle.flow_effects.specs.Asking.{Asks, draws, delays, listens, disks, sends, resumed}
 use Rattle.flow_effects.specs.Serving as law
 use Rattle.flow_effects.proofs.Fresh.{port_free}
 

@@ -1,13 +1,11 @@
 -- An actor that is called starts in memory as in the process.
 use Rattle.std.proofs.Common.{◌≡◌, ◌≤◌, ℕ, zero, suc, ◌+◌, nat_eq, nat_lt, true, false, List, [], ◌∷◌, map, length, if◌then◌else◌, refl, sym, ap, ◌∙◌, subst, arith}
 use Rattle.std.proofs.lemmas.Bool.Decides.{nat_tests}
-use Rattle.std.specs.Prelude.{pos, slice_get, unwrap_or}
+use Rattle.std.specs.Prelude.{slice_get, unwrap_or}
 use Rattle.std.specs.Option.{option_map}
-use Rattle.std.specs.declared.option.Option.{Option}
 use Rattle.std.specs.declared.option.Option.TheVariants.{None, Some}
 use Rattle.flow_base.specs.declared.ids.ActorId.{ActorId}
 use Rattle.flow_base.specs.declared.ids.CellId.{CellId}
-use Rattle.flow_base.specs.declared.ids.ProcId.{ProcId}
 use Rattle.flow_value.specs.declared.value.Kind.TheVariants as kind
 use Rattle.flow_value.specs.declared.value.Value.{Value}
 use Rattle.flow_value.specs.declared.value.Value.TheVariants.{Ref}
@@ -21,13 +19,12 @@ use Rattle.flow_code.specs.declared.program.Code.{Code}
 use Rattle.flow_code.specs.Classes.{ClassCode}
 use Rattle.flow_code.specs.View.{code_of}
 use Rattle.flow_code.specs.Coded.{coded}
-use Rattle.flow_cancel.specs.Dropping as dropping
 use Rattle.flow_cancel.specs.Heap.{actor_id, next_cell, with_result}
 use Rattle.flow_cancel.specs.declared.task.Task.TheVariants as task
 use Rattle.flow_meaning.specs.Numbered.{thing, added}
 use Rattle.flow_meaning.specs.Asks as asks
 use Rattle.flow_meaning.specs.Cells.{Ref as Reference, Single}
-use Rattle.flow_meaning.specs.Process.{Run, Task, Entry, Core, Proc}
+use Rattle.flow_meaning.specs.Process.{Run, Proc}
 use Rattle.flow_meaning.specs.Occ.{Scan, refs_in}
 use Rattle.flow_meaning.specs.Orderly.{Rising}
 use Rattle.flow_meaning.specs.Lines.{start_line}
@@ -35,7 +32,7 @@ use Rattle.flow_meaning.specs.Work.{turn, writes, pushed, new_cell}
 use Rattle.flow_meaning.specs.Effects.{gives, result_task, push_result}
 use Rattle.flow_meaning.specs.Step.{start, enrol, entry_of, kept_by, proc, on_core}
 use Rattle.flow_meaning.specs.Views.{spot_at}
-use Rattle.flow_meaning.specs.Class.{classes, class_name, class_names, begun, fresh_from}
+use Rattle.flow_meaning.specs.Class.{classes, class_name, begun, fresh_from}
 use Rattle.flow_meaning.specs.Frame.{Frame}
 use Rattle.flow_meaning.proofs.Posture.{each_number, thing_added}
 use Rattle.flow_picture.specs.Acting.{Free, with_actor}
@@ -48,12 +45,11 @@ use Rattle.flow_steps.specs.declared.call.Goal.{Goal}
 use Rattle.flow_steps.specs.declared.call.Goal.TheVariants as goal
 use Rattle.flow_steps.specs.declared.process.Process.{Process}
 use Rattle.flow_steps.specs.Doing.{turned, doing, telling}
-use Rattle.flow_steps.specs.Holding.{on_heap, value_refs, Gives}
+use Rattle.flow_steps.specs.Holding.{on_heap, value_refs}
 use Rattle.flow_steps.specs.Bringing.{made}
-use Rattle.flow_steps.specs.Acting.{some_values, with_args, enrolled, Enrols, StartTold, Starts, ActorCalled, not_called, actor_starts}
+use Rattle.flow_steps.specs.Acting.{with_args, Enrols, Starts, ActorCalled, not_called, actor_starts}
 use Rattle.flow_follows.specs.Shown.{Shown, Follows, shows, with_task}
 use Rattle.flow_follows.specs.Working.{SameGoal}
-use Rattle.flow_follows.specs.Placing.{Acts}
 use Rattle.flow_follows.specs.Coded.{CodedBy}
 use Rattle.flow_follows.proofs.Working.{as_many_shown, by_turn, task_done, refs_held, telling_shown}
 use Rattle.flow_follows.proofs.Giving.{result_given}

@@ -1,5 +1,5 @@
 -- What is brought to a process in memory at the begin of an event is brought to the process that it shows.
-use Rattle.std.specs.Prelude.{◌≡◌, ℕ, true, List, []}
+use Rattle.std.specs.Prelude.{◌≡◌, ℕ, true, []}
 use Rattle.std.specs.declared.option.Option.TheVariants.{None}
 use Rattle.flow_value.specs.declared.value.Value.{Value}
 use Rattle.flow_value.specs.declared.value.Kind.TheVariants as kind
@@ -7,7 +7,6 @@ use Rattle.flow_value.specs.declared.value.Outcome.{Outcome}
 use Rattle.flow_value.specs.declared.value.Outcome.TheVariants as outcome
 use Rattle.flow_value.specs.View.{value_of, outcome_of}
 use Rattle.flow_class.specs.Classes.{RawTree}
-use Rattle.flow_trace.specs.declared.line.Line.{Line}
 use Rattle.flow_meaning.specs.Process.{Proc}
 use Rattle.flow_meaning.specs.Deliver.{begin, deliver, arrive, stop, vanish}
 use Rattle.flow_meaning.specs.Step.{on_core}

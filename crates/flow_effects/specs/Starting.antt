@@ -63,7 +63,6 @@ module _ (r : RawTree) (ls : List Line) (x : Scan) (m : Process) (p : Proc Frame
       → ActorCalled code i g class vs m n
       → Follows r ls x n (start (classes r) i.0 h class ((classes r).fresh class (map value_of vs)) p).0
 
-
 -- the call of `main`, whose result the process holds
 abbrev pub MainBoots : RawTree → List Line → Process → Proc Frame → Type 0
 MainBoots r ls m p =
