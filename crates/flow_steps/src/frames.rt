@@ -1,10 +1,10 @@
 // The frames of a process: places, positions, and values that leave them.
 
-ghost use Rattle.std.specs.Prelude.{◌≡◌, ◌∷◌, ◌++◌, ◌<◌, OnOk, IfOk, IfSome, IsSome, length, slice_get};
+ghost use Rattle.std.specs.Prelude.{◌≡◌, ◌∷◌, ◌++◌, ◌<◌, OnOk, IfOk, IfSome, IsSome, slice_get};
 ghost use Rattle.std.specs.Option.{option_copied};
 ghost use Rattle.std.specs.declared.option.Option.TheVariants.{Some};
 ghost use Rattle.flow_value.specs.View.{value_of, values_of};
-ghost use Rattle.flow_value.specs.Values.{ValueTree, RecordValue};
+ghost use Rattle.flow_value.specs.Values.{RecordValue};
 ghost use Rattle.flow_resolved.specs.View.{places_in};
 ghost use Rattle.flow_numbered.specs.Numbered.{thing};
 ghost use Rattle.flow_cancel.specs.Dropping.{dropping};
