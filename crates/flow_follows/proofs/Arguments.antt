@@ -2,22 +2,13 @@
 use Rattle.std.proofs.Common.{◌≡◌, ◌≤◌, ◌^◌, ℕ, pos, ◌+◌, List, length, refl, sym, ap, ◌∙◌, subst}
 use Rattle.std.proofs.Math.Path.{fun_ext}
 use Rattle.std.specs.declared.option.Option.{Option}
-<<<<<<< HEAD
-use Rattle.flow_tree.specs.Tree.{ExprTree, ExprTrees, NoExprs, MoreExprs}
-=======
 use Rattle.flow_tree.specs.Tree.{ExprTrees, NoExprs, MoreExprs}
->>>>>>> 277b7918ba5f91f427265beaa15827169b66154d
 use Rattle.flow_value.specs.Values.{ValueTree}
 use Rattle.flow_eval.specs.Eval.{Setting, more_args, eval, eval_all}
 use Rattle.flow_eval.specs.Functions.{run_function, deepest}
 use Rattle.flow_class.specs.Classes.{RawTree}
-<<<<<<< HEAD
-use Rattle.flow_resolved.specs.Resolving.{Naming, AreRecords, AreFunctions, IsNumbering, SameMeaning, resolved, resolved_all}
-use Rattle.flow_resolved.specs.Evaluation.{Sight, value_at, values_at}
-=======
 use Rattle.flow_resolved.specs.Resolving.{Naming, AreRecords, AreFunctions, IsNumbering, SameMeaning, resolved_all}
 use Rattle.flow_resolved.specs.Evaluation.{Sight, values_at}
->>>>>>> 277b7918ba5f91f427265beaa15827169b66154d
 use Rattle.flow_resolved.specs.View.{places_in}
 use Rattle.flow_resolved.proofs.Alike.{resolved_alike}
 use Rattle.flow_code.specs.Places.{place_in}
