@@ -24,3 +24,6 @@ pub mod Doing
 pub mod Carrying
 pub mod Evaluations
 pub mod Arguments
+pub mod Beside
+pub mod Partly
+pub mod Turned

@@ -1,0 +1,10 @@
+pub mod Onward
+pub mod Decisions
+pub mod Paths
+pub mod Assigns
+pub mod Calls
+pub mod Breaking
+pub mod Choices
+pub mod Gives
+pub mod Decodes
+pub mod Stays

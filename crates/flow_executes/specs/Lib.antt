@@ -1,0 +1,7 @@
+pub mod Going
+pub mod Deciding
+pub mod Assigning
+pub mod Calling
+pub mod Choosing
+pub mod Giving
+pub mod Decoding
