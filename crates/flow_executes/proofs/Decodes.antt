@@ -36,7 +36,7 @@ use Rattle.flow_executes.specs.Decoding.{InCode, AtInstruction, AtEnd, IsGroup}
 use Rattle.flow_executes.specs.Assigning.{AimsAt}
 
 -- what is mapped to the same is there on both sides
-both_there : {A B C : Type 0} (g : A → C) (h : B → C) (a : A) (o : Option B) → Some (g a) ≡ option_map h o → (b : B) × ((o ≡ Some b) × (g a ≡ h b))
+pub both_there : {A B C : Type 0} (g : A → C) (h : B → C) (a : A) (o : Option B) → Some (g a) ≡ option_map h o → (b : B) × ((o ≡ Some b) × (g a ≡ h b))
 both_there g h a None e = absurd (cc (e))
 both_there g h a (Some b) e = (b, (refl, let same : g a ≡ h b = cc (e) in same))
 
@@ -158,7 +158,7 @@ pub wait_there : (r : RawTree) (classes : List Class) (s : Stand) (i : ℕ) (f :
 wait_there r classes s i f number c at standing fetched = the_wait r classes s i f c at number standing fetched
 
 -- a place by its name
-placed : (slots : ℕ) (q : Slotted) (n : ℕ) → place_of slots q ≡ Some n → n ≡ number_in slots q
+pub placed : (slots : ℕ) (q : Slotted) (n : ℕ) → place_of slots q ≡ Some n → n ≡ number_in slots q
 placed slots (Slot k) n e = by_test (nat_lt k slots) e
   where
     by_test : (t : Bool) → (if t then Some k else None) ≡ Some n → n ≡ k

@@ -8,3 +8,9 @@ pub mod Choices
 pub mod Gives
 pub mod Decodes
 pub mod Stays
+pub mod Froms
+pub mod Named
+pub mod Executes
+pub mod Chooses
+pub mod Ends
+pub mod Refers

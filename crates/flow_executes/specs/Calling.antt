@@ -1,11 +1,10 @@
 -- A call statement of a plain function in memory is a step of the class machine.
 use Rattle.std.specs.Prelude.{◌≡◌, ◌≤◌, ℕ, ◌+◌, ◌^◌, pos, List, [], ◌∷◌, length, slice_get}
-use Rattle.std.specs.declared.option.Option.TheVariants.{None, Some}
+use Rattle.std.specs.declared.option.Option.TheVariants.{None}
 use Rattle.flow_ast.specs.Typing.{routine_named}
 use Rattle.flow_ast.specs.TypingNames.{named, call_names}
 use Rattle.flow_tree.specs.declared.ty.Ident.{Ident}
 use Rattle.flow_tree.specs.Tree.{ExprTrees}
-use Rattle.flow_tree.specs.Decls.{RoutineTree}
 use Rattle.flow_value.specs.Values.{ValueTree}
 use Rattle.flow_eval.specs.Eval.{Res}
 use Rattle.flow_resolved.specs.Resolving.{resolved_all}
@@ -36,10 +35,8 @@ use Rattle.flow_follows.specs.Carried.{StepsAs}
 
 -- a plain function of a program by its name, which no predefined one has, and by its number
 pub record CallsFunction (r : RawTree) (name : Ident) (number : ℕ) : Type 0 where
-  pub function : RoutineTree
   pub own : named call_names name.name ≡ None
-  pub by_name : routine_named r.functions name.name ≡ Some function
-  pub by_number : slice_get r.functions number ≡ Some function
+  pub same : routine_named r.functions name.name ≡ slice_get r.functions number
 
 -- Arguments of an actor's class come to the same, with as many turns, where the time is the world's and the frame has places with
 -- numbers below 2^32.

@@ -1,25 +1,38 @@
 -- What stands in the code where an actor stands is coded from what its frame has there.
 use Rattle.std.specs.Prelude.{◌≡◌, ℕ, List, [], ◌∷◌, map, length, slice_get}
+use Rattle.std.specs.Option.{option_map}
 use Rattle.std.specs.declared.option.Option.{Option}
 use Rattle.std.specs.declared.option.Option.TheVariants.{None, Some}
+use Rattle.flow_ast.specs.declared.predefined.Method.{Method}
+use Rattle.flow_ast.specs.TypingNames.{named, call_names, method_names}
 use Rattle.flow_tree.specs.declared.ty.Ident.{Ident}
+use Rattle.flow_tree.specs.Tree.{ExprTree, ExprTrees}
+use Rattle.flow_value.specs.declared.value.Kind.{Kind}
 use Rattle.flow_class.specs.declared.class.Slotted.{Slotted}
-use Rattle.flow_class.specs.Classes.{InstrTree, LastTree, ChooseLast, CallbackTree, RawTree}
+use Rattle.flow_class.specs.Classes.{InstrTree, SetInstr, EffectInstr, NewInstr, ActInstr, DropInstr, LastTree, ChooseLast, CallbackTree, ClassTree, RawTree}
 use Rattle.flow_class.specs.Code.{Body, Last, fetch, group_at, callbacks_before}
 use Rattle.flow_class.specs.Places.{place_named}
-use Rattle.flow_resolved.specs.Resolving.{IsNumbering}
+use Rattle.flow_resolved.specs.Tree.{Nodes}
+use Rattle.flow_resolved.specs.Resolving.{IsNumbering, resolved, resolved_all}
 use Rattle.flow_resolved.specs.View.{places_in}
+use Rattle.flow_code.specs.declared.class.Act.{Act}
 use Rattle.flow_code.specs.declared.class.Aim.{Aim}
+use Rattle.flow_code.specs.declared.class.Effect.{Effect}
+use Rattle.flow_code.specs.Classes.{AimTree, InstructionTree, SetCode, EffectCode, NewCode, ActCode, MethodCode, DropCode, NoCode}
+use Rattle.flow_code.specs.Places.{place_of, place_in}
+use Rattle.flow_code.specs.declared.class.Effect.TheVariants as effect
 use Rattle.flow_code.specs.declared.class.Class.{Class}
 use Rattle.flow_code.specs.declared.class.Group.{Group}
 use Rattle.flow_code.specs.declared.class.Instruction.{Instruction}
 use Rattle.flow_code.specs.declared.class.Last as code
 use Rattle.flow_code.specs.declared.program.Code.{Code}
 use Rattle.flow_code.specs.View.{code_of, aim_of, instruction_of, end_of, branch_of, group_numbered}
-use Rattle.flow_code.specs.Coding.{Coding, aimed, coded_instruction, ended, coded_branch}
-use Rattle.flow_code.specs.Coded.{coding, coded}
+use Rattle.flow_code.specs.Coding.{Coding, kind_at, act_named, last_name, before_last, effect_in, places, aimed, coded_instruction, ended, coded_branch}
+use Rattle.flow_code.specs.Coded.{coding, coded, class_named}
 use Rattle.flow_cancel.specs.Heap.{actor_id}
+use Rattle.flow_meaning.specs.Evaluating as effects
 use Rattle.flow_meaning.specs.Process.{Entry, Proc}
+use Rattle.flow_meaning.specs.Class.{class_names}
 use Rattle.flow_meaning.specs.Frame.{Frame}
 use Rattle.flow_picture.specs.Standing.{HasPlace}
 use Rattle.flow_steps.specs.declared.frames.Stand.{Stand}
@@ -47,6 +60,26 @@ pub record AtEnd (c : Coding) (f : Frame) (l : code.Last) : Type 0 where
   pub text : LastTree
   pub fetched : fetch f.code f.block f.instr ≡ Last text
   pub coded : end_of l ≡ ended c text
+
+-- what an instruction is coded from, whose parts are there
+pub data CodedFrom (c : Coding) (t : ClassTree) (text : InstrTree) (code : InstructionTree) : Type 0 where
+  from_set : (xs : List Ident) (e : ExprTree) (a : AimTree) → text ≡ SetInstr xs e → aimed c xs ≡ Some a
+      → code ≡ SetCode a (resolved c.names e) → CodedFrom c t text code
+  from_effect : (xs : List Ident) (e : ExprTree) (a : AimTree) (f : Effect × Nodes) → text ≡ EffectInstr xs e → aimed c xs ≡ Some a
+      → effect_in c e ≡ Some f → code ≡ EffectCode a f.0 f.1 → CodedFrom c t text code
+  from_new : (q : Slotted) (n : ℕ) (k : Kind) → text ≡ NewInstr q → place_of c.slots q ≡ Some n → kind_at t q ≡ Some k
+      → code ≡ NewCode n k → CodedFrom c t text code
+  from_act : (f : Ident) (es : ExprTrees) (a : Act) → text ≡ ActInstr (f ∷ []) es
+      → act_named (named call_names f.name) (c.names.function f.name) ≡ Some a
+      → code ≡ ActCode a (resolved_all c.names es) → CodedFrom c t text code
+  from_method : (x y : Ident) (ys : List Ident) (es : ExprTrees) (a : AimTree) (m : Method) → text ≡ ActInstr (x ∷ y ∷ ys) es
+      → aimed c (x ∷ before_last y ys) ≡ Some a → named method_names (last_name y ys).name ≡ Some m
+      → code ≡ MethodCode a m (resolved_all c.names es) → CodedFrom c t text code
+  from_drop : (ns : List ℕ) → text ≡ DropInstr ns → code ≡ DropCode (places c ns) → CodedFrom c t text code
+  from_none : code ≡ NoCode → CodedFrom c t text code
+
+abbrev pub InstructionFrom : Type 0
+InstructionFrom = (c : Coding) (t : ClassTree) (text : InstrTree) → CodedFrom c t text (coded_instruction c t text)
 
 -- a group of waits of the class, from 1
 pub record IsGroup (c : Coding) (f : Frame) (number : ℕ) (g : Group) : Type 0 where
@@ -104,3 +137,15 @@ AimOf =
     (r : RawTree) (classes : List Class) (code : Code) (f : Frame) (path : List Ident) (aim : Aim) → (c : CodedBy r classes)
     → IsNumbering r.records c.names.field (places_in code.fields) → Rooted f path
     → aimed (coding c.names c.class (length f.code.slots)) path ≡ Some (aim_of aim) → AimsAt r.records code f path aim
+
+-- an effect in the text is one in the code: the same predefined call, or that of the class at the same place
+abbrev pub effect_of_name : effects.Effectful → Effect
+effect_of_name (effects.World p) = effect.World p
+effect_of_name (effects.Actor k) = effect.Actor k
+
+abbrev pub EffectOf : Type 0
+EffectOf =
+    (r : RawTree) (classes : List Class) (f : Frame) (e : ExprTree) → (c : CodedBy r classes)
+    → ((x : List ℕ) → c.class x ≡ class_named r.classes x)
+    → effect_in (coding c.names c.class (length f.code.slots)) e
+    ≡ option_map (λ g. (effect_of_name g.0, resolved_all (record c.names { place = place_in (length f.code.slots) }) g.1)) (effects.effect_in (class_names r) e)

@@ -5,3 +5,5 @@ pub mod Calling
 pub mod Choosing
 pub mod Giving
 pub mod Decoding
+pub mod Executing
+pub mod Referring

@@ -8,10 +8,11 @@ ghost use Rattle.flow_steps.specs.declared.frames.Stand.{Stand};
 ghost use Rattle.flow_executes.specs.Decoding as law;
 
 /// An actor that stands in the code of its class, and goes on, stands there again; and what stands there is coded from what its frame
-/// has: the instruction, the end of the block, its waits with their groups, and where it aims.
+/// has: the instruction, the end of the block, its waits with their groups, where it aims, and its effects.
 pub fn code_is_that_of_the_frame()
     ensures begins { law.BeginsInCode }
     ensures stays { law.StaysInCode }
+    ensures from { law.InstructionFrom }
     ensures instruction { (r : RawTree) (classes : List Class) (s : Stand) (i : ℕ) (f : Frame)
         → law.InstructionAt r classes s i f }
     ensures end { (r : RawTree) (classes : List Class) (s : Stand) (i : ℕ) (f : Frame)
@@ -21,4 +22,5 @@ pub fn code_is_that_of_the_frame()
     ensures wait { (r : RawTree) (classes : List Class) (s : Stand) (i : ℕ) (f : Frame)
         → law.WaitAt r classes s i f }
     ensures aim { law.AimOf }
+    ensures effect { law.EffectOf }
 {}

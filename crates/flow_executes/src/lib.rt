@@ -8,4 +8,6 @@ pub mod calling;
 pub mod choosing;
 pub mod deciding;
 pub mod decoding;
+pub mod executing;
 pub mod giving;
+pub mod referring;

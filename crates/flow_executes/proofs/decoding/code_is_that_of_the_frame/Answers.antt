@@ -1,4 +1,6 @@
 use Rattle.flow_executes.proofs.Decodes.{begins_in_code, instruction_there, end_there, group_there, wait_there, aim_there}
+use Rattle.flow_executes.proofs.Froms.{instruction_from}
+use Rattle.flow_executes.proofs.Named.{effect_there}
 use Rattle.flow_executes.proofs.Stays.{stays_in_code}
 use Rattle.flow_executes.proofs.decoding.code_is_that_of_the_frame.Goals as goal
 
@@ -22,3 +24,9 @@ returns-clause-wait c = wait_there
 
 pub returns-clause-aim : goal.returns-clause-aim
 returns-clause-aim c = aim_there
+
+pub returns-clause-from : goal.returns-clause-from
+returns-clause-from c = instruction_from
+
+pub returns-clause-effect : goal.returns-clause-effect
+returns-clause-effect c = effect_there
