@@ -1,13 +1,14 @@
 -- What the arguments of a call in memory come to is what they come to in the frame that it shows.
 use Rattle.std.proofs.Common.{◌≡◌, ◌≤◌, ◌^◌, ℕ, pos, ◌+◌, List, length, refl, sym, ap, ◌∙◌, subst}
 use Rattle.std.proofs.Math.Path.{fun_ext}
-use Rattle.flow_tree.specs.Tree.{ExprTree, ExprTrees, NoExprs, MoreExprs}
+use Rattle.std.specs.declared.option.Option.{Option}
+use Rattle.flow_tree.specs.Tree.{ExprTrees, NoExprs, MoreExprs}
 use Rattle.flow_value.specs.Values.{ValueTree}
 use Rattle.flow_eval.specs.Eval.{Setting, more_args, eval, eval_all}
 use Rattle.flow_eval.specs.Functions.{run_function, deepest}
 use Rattle.flow_class.specs.Classes.{RawTree}
-use Rattle.flow_resolved.specs.Resolving.{Naming, AreRecords, AreFunctions, IsNumbering, SameMeaning, resolved, resolved_all}
-use Rattle.flow_resolved.specs.Evaluation.{Sight, value_at, values_at}
+use Rattle.flow_resolved.specs.Resolving.{Naming, AreRecords, AreFunctions, IsNumbering, SameMeaning, resolved_all}
+use Rattle.flow_resolved.specs.Evaluation.{Sight, values_at}
 use Rattle.flow_resolved.specs.View.{places_in}
 use Rattle.flow_resolved.proofs.Alike.{resolved_alike}
 use Rattle.flow_code.specs.Places.{place_in}
@@ -50,7 +51,7 @@ module _ (r : RawTree) (ls : List Line) (x : Scan) (m : Process) (p : Proc Frame
       ∙ ap (λ y. record { records = r.records; functions = r.functions; cells = λ k. outcome (thing p.core.cells k); now = y }) time
 
   module _ (few : length f.code.slots + length f.mem.locals ≤ 2 ^ 32) where
-    names : Naming
+    abbrev names : Naming
     names = record c.coded.names { place = place_in (length f.code.slots) }
 
     alike : SameMeaning names (sight_in code i m) (look f.mem)

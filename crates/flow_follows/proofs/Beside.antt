@@ -1,5 +1,5 @@
 -- What comes to wait at cells, beside the frames and tasks of a heap.
-use Rattle.std.proofs.Common.{◌≡◌, ℕ, zero, suc, ◌-◌, Bool, true, false, List, [], ◌∷◌, length, refl, sym, ap, ◌∙◌, subst}
+use Rattle.std.proofs.Common.{◌≡◌, ℕ, zero, suc, ◌-◌, true, false, List, [], ◌∷◌, length, refl, ap, ◌∙◌}
 use Rattle.std.specs.declared.option.Option.{Option}
 use Rattle.std.specs.declared.option.Option.TheVariants.{None, Some}
 use Rattle.flow_value.specs.declared.value.Value.{Value}
@@ -15,7 +15,7 @@ use Rattle.flow_cancel.specs.declared.task.Task.{Task}
 use Rattle.flow_cancel.specs.Heap.{HeapTree}
 use Rattle.flow_cancel.specs.Dropping.{dropping}
 use Rattle.flow_cancel.specs.Leaving.{waiter_of}
-use Rattle.flow_steps.specs.Standing.{reframed, values, place_lost, places_lost, losing_from, lost_from}
+use Rattle.flow_steps.specs.Standing.{reframed, values, places_lost, losing_from, lost_from}
 use Rattle.flow_steps.specs.Waiting.{Registered, stream_awaited, awaited, register, registered_then, register_all}
 
 abbrev pub Frames : Type 0

@@ -1,19 +1,15 @@
 -- An actor that a stream refuses leaves its wait in memory as it does by the definitions.
-use Rattle.std.proofs.Common.{◌≡◌, ℕ, ◌+◌, false, List, [], ◌++◌, length, refl, sym, ap, ◌∙◌, subst, arith}
-use Rattle.std.specs.declared.option.Option.TheVariants.{Some}
-use Rattle.flow_base.specs.declared.ids.ActorId.{ActorId}
-use Rattle.flow_value.specs.declared.value.Value.{Value}
+use Rattle.std.proofs.Common.{◌≡◌, ℕ, ◌+◌, false, List, [], ◌∷◌, ◌++◌, length, refl, sym, ap, ◌∙◌, subst, arith}
+use Rattle.std.specs.declared.option.Option.{Option}
 use Rattle.flow_class.specs.Classes.{RawTree}
 use Rattle.flow_trace.specs.declared.line.Line.{Line}
 use Rattle.flow_frame.specs.declared.held.Held.{Held}
 use Rattle.flow_cancel.specs.declared.task.Task as stack
 use Rattle.flow_cancel.specs.Heap.{HeapTree, pushed}
 use Rattle.flow_cancel.specs.Leaving.{withdrawn}
-use Rattle.flow_meaning.specs.Numbered.{Numbered, thing, put}
-use Rattle.flow_meaning.specs.Cells.{Ref, Cell}
-use Rattle.flow_meaning.specs.Process.{Task, Entry, Core, Proc}
+use Rattle.flow_meaning.specs.Numbered.{put}
+use Rattle.flow_meaning.specs.Process.{Task, Entry, Proc}
 use Rattle.flow_meaning.specs.Occ.{Scan, refs_in}
-use Rattle.flow_meaning.specs.Orderly.{Rising}
 use Rattle.flow_meaning.specs.Work as work
 use Rattle.flow_meaning.specs.Work.{running, leave_for}
 use Rattle.flow_meaning.specs.Step.{proc, on_core}
@@ -22,7 +18,7 @@ use Rattle.flow_meaning.specs.Frame.{Frame, lose}
 use Rattle.flow_meaning.proofs.Posture.{thing_put}
 use Rattle.flow_picture.specs.Shows.{Shows, spot_of_actor, wait_spot, held_from}
 use Rattle.flow_picture.specs.Changes.{SameTask}
-use Rattle.flow_picture.specs.Counted.{branches_at, waiting_of, waiting_by}
+use Rattle.flow_picture.specs.Counted.{branches_at}
 use Rattle.flow_picture.specs.Acting.{NoKeep}
 use Rattle.flow_picture.specs.Leaving.{MayLeave, first_part, left_wait}
 use Rattle.flow_picture.proofs.Left.{withdrawn_shown}
@@ -45,7 +41,7 @@ use Rattle.flow_follows.proofs.Parting.{acts_by, acts_withdrawn, frame_told, no_
 use Rattle.flow_follows.proofs.Takings.{kinds_by}
 use Rattle.flow_follows.proofs.Kept.{free_awake}
 use Rattle.flow_follows.proofs.Registering.{with_cells, none_waited}
-use Rattle.flow_follows.proofs.Beside.{aside, register_aside, Alike, lost_alike}
+use Rattle.flow_follows.proofs.Beside.{aside, register_aside, lost_alike}
 use Rattle.flow_follows.proofs.Partly.{Partly, partly}
 
 -- what came to wait in a heap comes to wait in it with other frames and tasks

@@ -21,7 +21,7 @@ use Rattle.flow_meaning.specs.Process.{Task, Throw, Entry, Proc}
 use Rattle.flow_meaning.specs.Occ.{Scan, refs_in, value_in}
 use Rattle.flow_meaning.specs.Lines.{wait_line}
 use Rattle.flow_meaning.specs.Work as work
-use Rattle.flow_meaning.specs.Work.{writes, running, leave_for, take_branch, is_ready_at, Registration, Registered, Refused, register, dropping_values}
+use Rattle.flow_meaning.specs.Work.{writes, running, leave_for, take_branch, is_ready_at, Registered, Refused, register, dropping_values}
 use Rattle.flow_meaning.specs.React.{at_spot, suspend, wait_by, wait}
 use Rattle.flow_meaning.specs.Step.{proc, on_core}
 use Rattle.flow_meaning.specs.Frame.{Frame, lose}
