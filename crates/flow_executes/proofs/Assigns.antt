@@ -1,7 +1,6 @@
 -- A step of an actor in memory by which one of its variables gets a value is a step of the class machine, or two.
 use Rattle.std.proofs.Common.{◌≡◌, ◌⊎◌, inl, inr, ℕ, suc, ◌+◌, List, [], ◌∷◌, length, map, refl, sym, ap, ◌∙◌, subst, arith}
 use Rattle.std.specs.Option.{option_map}
-use Rattle.std.specs.declared.option.Option.{Option}
 use Rattle.std.specs.declared.option.Option.TheVariants.{None, Some}
 use Rattle.flow_base.specs.declared.ids.ActorId.{ActorId}
 use Rattle.flow_base.specs.declared.ids.CellId.{CellId}
@@ -10,21 +9,20 @@ use Rattle.flow_value.specs.declared.value.Value.{Value}
 use Rattle.flow_value.specs.declared.value.Value.TheVariants.{Ref}
 use Rattle.flow_value.specs.declared.value.Kind.{Kind}
 use Rattle.flow_value.specs.declared.value.Kind.TheVariants as kind
-use Rattle.flow_value.specs.Values.{ValueTree, RefValue, refs_of}
+use Rattle.flow_value.specs.Values.{ValueTree, RefValue}
 use Rattle.flow_value.specs.View.{value_of}
-use Rattle.flow_eval.specs.Eval.{Res}
 use Rattle.flow_class.specs.declared.class.Slotted.{Slotted}
-use Rattle.flow_class.specs.Classes.{SetInstr, NewInstr, RawTree}
-use Rattle.flow_class.specs.Code.{Fetched, Body, fetch, type_at}
+use Rattle.flow_class.specs.Classes.{NewInstr, RawTree}
+use Rattle.flow_class.specs.Code.{Body, fetch, type_at}
 use Rattle.flow_code.specs.declared.class.Aim.{Aim}
 use Rattle.flow_code.specs.declared.program.Code.{Code}
 use Rattle.flow_trace.specs.declared.line.Line.{Line}
-use Rattle.flow_cancel.specs.Heap.{HeapTree, actor_id}
+use Rattle.flow_cancel.specs.Heap.{HeapTree, next_cell}
 use Rattle.flow_meaning.specs.Numbered.{thing, added, put}
 use Rattle.flow_meaning.specs.Asks.{Stored, Make, Effects, Drops, Supply}
 use Rattle.flow_meaning.specs.Evaluating.{StepOf, bind, evaluated, given, asks}
 use Rattle.flow_meaning.specs.Process.{Run, Store, Entry, Core, Proc}
-use Rattle.flow_meaning.specs.Occ.{Scan, count, refs_in}
+use Rattle.flow_meaning.specs.Occ.{Scan, refs_in}
 use Rattle.flow_meaning.specs.Orderly.{Rising}
 use Rattle.flow_meaning.specs.Work as work
 use Rattle.flow_meaning.specs.Work.{pushed, new_cell}
@@ -37,7 +35,7 @@ use Rattle.flow_meaning.proofs.Posture.{each_number, thing_put, thing_added}
 use Rattle.flow_picture.specs.Counted.{branches_of, waiters_at}
 use Rattle.flow_picture.proofs.Finds.{none_above, thing_new}
 use Rattle.flow_picture.specs.Acting.{Free, put_frame}
-use Rattle.flow_picture.specs.Standing.{number_in}
+use Rattle.flow_picture.specs.Standing.{HasPlace, number_in}
 use Rattle.flow_picture.specs.Holding.{held}
 use Rattle.flow_picture.specs.Holds.{with_refs, There, AllThere, hold, hold_all}
 use Rattle.flow_steps.specs.declared.frames.Stand.{Stand}
@@ -60,7 +58,7 @@ use Rattle.flow_follows.proofs.Emptied.{referring_refs}
 use Rattle.flow_follows.proofs.Parting.{acts_by}
 use Rattle.flow_follows.proofs.Carrying.{old, asked}
 use Rattle.flow_follows.proofs.Evaluations.{evaluation_follows}
-use Rattle.flow_executes.specs.Going.{Silent, no_more, then_on, GoesBy}
+use Rattle.flow_executes.specs.Going.{Silent, no_more, then_on}
 use Rattle.flow_executes.specs.Assigning as law
 use Rattle.flow_executes.specs.Assigning.{AimsAt, CanAssign}
 use Rattle.flow_executes.proofs.Onward.{carried, carries_over, stale_left, stale_held, with_held}
@@ -87,7 +85,7 @@ module _ (r : RawTree) (ls : List Line) (m : Process) (p : Proc Frame) (i : ℕ)
       let qs = value_refs v in
       let m2 : Process = on_heap (hold_all qs) m1 in
       let st2 = stale_held r ls m1 q i e f x s st1 qs (all_there_by p q qs refl there) in
-      let o : Frame = stale st.block st.instr st.state f in
+      let o : Frame = old r ls m2 q i e f (with_refs qs x) s st2 in
       let aims1 : AimsAt r.records code o path aim = record {
         name = aims.name;
         fields = aims.fields;
@@ -111,19 +109,19 @@ module _ (r : RawTree) (ls : List Line) (m : Process) (p : Proc Frame) (i : ℕ)
         carries = carries_over r ls m1 q i e f x s st1 put_there.memory us (referring is.old) is.between pace n put_there.stood same is.after;
       }
 
+  abbrev assigned : Supply → List Ident → ValueTree → ℕ → StepOf Frame
+  assigned w path u left = given f (assign r.records f.mem path u) (placed (class_names r) (view w i p.core) f left)
+
   pub set_step : law.SetStep r ls m p i e f
   set_step x s w code path t aim comes_to pace n st there same gives aims can evaluates =
-      by_case (evaluation_follows r ls m p i e f x s w value_of comes_to assigned (IsSet code s aim) pace n st next evaluates)
+      by_case (evaluation_follows r ls m p i e f x s w value_of comes_to (assigned w path) (IsSet code s aim) pace n st next evaluates)
     where
-      assigned : ValueTree → ℕ → StepOf Frame
-      assigned u left = given f (assign r.records f.mem path u) (placed (class_names r) (view w i p.core) f left)
-
-      next : next_step (class_names r) (view w i p.core) f ≡ evaluated f comes_to assigned
-      next = ap (fetched (class_names r) (view w i p.core) f) there ∙ ap (λ k. evaluated f k assigned) (sym same)
+      next : next_step (class_names r) (view w i p.core) f ≡ evaluated f comes_to (assigned w path)
+      next = ap (fetched (class_names r) (view w i p.core) f) there ∙ ap (λ k. evaluated f k (assigned w path)) (sym same)
 
       by_case : GivesValue value_of comes_to m (IsSet code s aim) pace n ⊎ StepsAs r ls x w p i e pace n → StepsAs r ls x w p i e pace n
       by_case (inl g) =
-          sets x s w code path aim g.value g.left pace n st (next ∙ ap (λ k. evaluated f k assigned) g.done) (gives (value_of g.value) g.left g.done) aims
+          sets x s w code path aim g.value g.left pace n st (next ∙ ap (λ k. evaluated f k (assigned w path)) g.done) (gives (value_of g.value) g.left g.done) aims
           (can (value_of g.value) g.left g.done) g.goes
       by_case (inr a) = a
 
@@ -147,7 +145,7 @@ module _ (r : RawTree) (ls : List Line) (m : Process) (p : Proc Frame) (i : ℕ)
   abbrev with_new : Proc Frame
   with_new = on_core (new_cell (empty_cell kd)) p
 
-  stale_made : MayBeStale r ls x s m p i e f → Rising 0 p.core.made p.core.cells → MayBeStale r ls x s (on_heap (made kd) m) with_new i e f
+  abbrev stale_made : MayBeStale r ls x s m p i e f → Rising 0 p.core.made p.core.cells → MayBeStale r ls x s (on_heap (made kd) m) with_new i e f
   stale_made st rising =
       let o : Frame = stale st.block st.instr st.state f in
       let fr = made_frames kd m.heap in record {
@@ -207,79 +205,77 @@ module _ (r : RawTree) (ls : List Line) (m : Process) (p : Proc Frame) (i : ℕ)
       then_on (on_core (pushed (Run i)) p) making storing (first_step goes acting there kind)
       (then_on making storing storing (second_step goes acting there) (no_more storing))
 
+module _ (r : RawTree) (ls : List Line) (m : Process) (p : Proc Frame) (i : ℕ) (e : Entry) (f : Frame) (x : Scan) (s : Stand) (q : Slotted) (kd : Kind)
+    (st : MayBeStale r ls x s m p i e f) (rising : Rising 0 p.core.made p.core.cells) (cell : CellId) (is_next : cell.0 ≡ next_cell m.heap) where
+  abbrev made_proc : Proc Frame
+  made_proc = on_core (new_cell (empty_cell kd)) p
+
+  abbrev made_heap : Process
+  made_heap = on_heap (made kd) m
+
+  abbrev over : List ValueTree
+  over = filled (read f.mem q ∷ [])
+
+  abbrev frame_before : Frame
+  frame_before = stale st.block st.instr st.state f
+
+  abbrev seen_made : Proc Frame
+  seen_made = put_frame i frame_before made_proc
+
+  abbrev held_heap : Process
+  held_heap = on_heap (hold kd cell.0) made_heap
+
+  abbrev number : ℕ
+  number = number_in (length f.code.slots) q
+
+  abbrev hand : Scan
+  hand = with_refs ((kd, cell.0) ∷ []) x
+
+  abbrev written : Memory
+  written = write f.mem q (option_map value_of (Some (Ref kd cell)))
+
+  number_is : cell.0 ≡ suc p.core.made
+  number_is = is_next ∙ st.stood.shown.holds.shows.made
+
+  pub written_is : written ≡ write f.mem q (Some (RefValue kd (suc p.core.made)))
+  written_is = ap (λ v. write f.mem q (Some v)) (ref_seen kd cell ∙ ap (RefValue kd) number_is)
+
+  -- the reference in hand
+  in_hand : Stood r ls hand held_heap seen_made i e frame_before
+  in_hand =
+      with_held r ls made_heap seen_made i e frame_before x ((kd, cell.0) ∷ []) (stale_made r ls m p i e f x s kd st rising).stood
+      (subst (λ c. There seen_made (kd, c)) (sym number_is) (new_there r ls x m (put_frame i frame_before p) kd rising), tt)
+
+  -- and in its place
+  in_place : HasPlace f q → Stood r ls (with_refs (refs_in over) x) (on_heap (place_put i number (Some (Ref kd cell))) held_heap) (put_frame i (with_memory written frame_before) seen_made) i e (with_memory written frame_before)
+  in_place has =
+      place_changed r ls held_heap seen_made i e frame_before hand (with_refs (refs_in over) x) q (Some (Ref kd cell)) in_hand has
+      (λ z j. let a = ap (λ v. held z j (Some v)) (ref_seen kd cell) in omega (arith, a))
+
+  same_over : HasPlace f q → refs_in (map value_of (referring (place_held i number held_heap.heap))) ≡ refs_in over
+  same_over has =
+      referring_refs (place_held i number held_heap.heap)
+      ∙ ap (λ v. refs_in (filled (v ∷ []))) (place_seen r ls held_heap seen_made i e frame_before hand q in_hand has)
+
+  pub new_carries : HasPlace f q → (pace : Pace) (n : Process)
+      → OnAfter (next_stand s) (referring (place_held i number held_heap.heap)) (on_heap (place_put i number (Some (Ref kd cell))) held_heap) pace n
+      → Carries r ls x i e pace n (proc (work.dropping_values over (pushed (Run i) made_proc.core)) (put p.actors i (next_instr written f)))
+  new_carries has pace n after =
+      carries_over r ls made_heap made_proc i e f x s (stale_made r ls m p i e f x s kd st rising) written over (referring (place_held i number held_heap.heap))
+      (on_heap (place_put i number (Some (Ref kd cell))) held_heap) pace n (in_place has) (same_over has) after
+
 module _ (r : RawTree) (ls : List Line) (m : Process) (p : Proc Frame) (i : ℕ) (e : Entry) (f : Frame) where
   pub new_step : law.NewStep r ls m p i e f
-  new_step x s w q kd pace n st there has kind rising is = record {
-    after = storing r ls m p i e f w q kd;
-    steps = new_steps r ls m p i e f w q kd st.stood.shown.goes st.acting there kind;
-    onward = carried r ls x w p i e pace n (storing r ls m p i e f w q kd)
-        (subst (λ xs. Carries r ls x i e pace n (proc (work.dropping_values us (pushed (Run i) p1.core)) xs)) (sym (put_over p.actors i f g)) carries);
-  }
-    where
-      us : List ValueTree
-      us = filled (read f.mem q ∷ [])
-
-      p1 : Proc Frame
-      p1 = on_core (new_cell (empty_cell kd)) p
-
-      m1 : Process
-      m1 = on_heap (made kd) m
-
-      g : Frame
-      g = next_instr (write f.mem q (Some (RefValue kd (suc p.core.made)))) f
-
-      o : Frame
-      o = stale st.block st.instr st.state f
-
-      st1 : MayBeStale r ls x s m1 p1 i e f
-      st1 = stale_made r ls m p i e f x s kd st rising
-
-      number : is.cell.0 ≡ suc p.core.made
-      number = is.number ∙ st.stood.shown.holds.shows.made
-
-      ref_is : value_of (Ref kd is.cell) ≡ RefValue kd (suc p.core.made)
-      ref_is = ref_seen kd is.cell ∙ ap (RefValue kd) number
-
-      -- the reference in hand
-      q1 : Proc Frame
-      q1 = put_frame i o p1
-
-      place_number : ℕ
-      place_number = number_in (length f.code.slots) q
-
-      m2 : Process
-      m2 = on_heap (hold kd is.cell.0) m1
-
-      st2 : Stood r ls (with_refs ((kd, is.cell.0) ∷ []) x) m2 q1 i e o
-      st2 =
-          with_held r ls m1 q1 i e o x ((kd, is.cell.0) ∷ []) st1.stood
-          (subst (λ c. There q1 (kd, c)) (sym number) (new_there r ls x m (put_frame i o p) kd rising), tt)
-
-      mem : Memory
-      mem = write f.mem q (option_map value_of (Some (Ref kd is.cell)))
-
-      mem_is : mem ≡ write f.mem q (Some (RefValue kd (suc p.core.made)))
-      mem_is = ap (λ v. write f.mem q (Some v)) ref_is
-
-      -- and in its place
-      m3 : Process
-      m3 = on_heap (place_put i place_number (Some (Ref kd is.cell))) m2
-
-      st3 : Stood r ls (with_refs (refs_in us) x) m3 (put_frame i (with_memory mem o) q1) i e (with_memory mem o)
-      st3 =
-          place_changed r ls m2 q1 i e o (with_refs ((kd, is.cell.0) ∷ []) x) (with_refs (refs_in us) x) q (Some (Ref kd is.cell)) st2 has
-          (λ z j.
-          let a = ap (λ v. held z j (Some v)) (ref_seen kd is.cell) in omega (arith, a))
-
-      same : refs_in (map value_of (referring (place_held i place_number m2.heap))) ≡ refs_in us
-      same =
-          referring_refs (place_held i place_number m2.heap)
-          ∙ ap (λ v. refs_in (filled (v ∷ []))) (place_seen r ls m2 q1 i e o (with_refs ((kd, is.cell.0) ∷ []) x) q st2 has)
-
-      carries : Carries r ls x i e pace n (proc (work.dropping_values us (pushed (Run i) p1.core)) (put p.actors i g))
-      carries =
-          subst (λ y. Carries r ls x i e pace n (proc (work.dropping_values us (pushed (Run i) p1.core)) (put p.actors i (next_instr y f)))) mem_is
-          (carries_over r ls m1 p1 i e f x s st1 mem us (referring (place_held i place_number m2.heap)) m3 pace n st3 same after)
-
-      after : OnAfter (next_stand s) (referring (place_held i place_number m2.heap)) m3 pace n
-      after = subst (λ (a : ActorId). OnAfter (next_stand s) (referring (place_held a.0 place_number m2.heap)) (on_heap (λ h. place_put a.0 place_number (Some (Ref kd is.cell)) (hold kd is.cell.0 (made kd h))) m) pace n) st.standing.actor is.after
+  new_step x s w q kd pace n st there has kind rising is =
+      let number : ℕ = number_in (length f.code.slots) q in
+      let us : List ValueTree = filled (read f.mem q ∷ []) in
+      let core : Core = work.dropping_values us (pushed (Run i) (new_cell (empty_cell kd) p.core)) in
+      let g : Frame = next_instr (write f.mem q (Some (RefValue kd (suc p.core.made)))) f in
+      let after = subst (λ (a : ActorId). OnAfter (next_stand s) (referring (place_held a.0 number (hold kd is.cell.0 (made kd m.heap)))) (on_heap (λ h. place_put a.0 number (Some (Ref kd is.cell)) (hold kd is.cell.0 (made kd h))) m) pace n) st.standing.actor is.after in
+      let carries = new_carries r ls m p i e f x s q kd st rising is.cell is.number has pace n after in
+      let there_then = subst (λ y. Carries r ls x i e pace n (proc core (put p.actors i (next_instr y f)))) (written_is r ls m p i e f x s q kd st rising is.cell is.number) carries in record {
+        after = storing r ls m p i e f w q kd;
+        steps = new_steps r ls m p i e f w q kd st.stood.shown.goes st.acting there kind;
+        onward = carried r ls x w p i e pace n (storing r ls m p i e f w q kd)
+            (subst (λ xs. Carries r ls x i e pace n (proc core xs)) (sym (put_over p.actors i f g)) there_then);
+      }

@@ -1,6 +1,5 @@
 -- Evaluation that breaks off where an actor stands whose frame says so.
 use Rattle.std.proofs.Common.{◌≡◌, ◌⊎◌, inl, inr, ℕ, true, List, refl, sym, ap, ◌∙◌, subst, arith}
-use Rattle.std.specs.declared.option.Option.TheVariants.{None, Some}
 use Rattle.flow_base.specs.declared.ids.ActorId.{ActorId}
 use Rattle.flow_base.specs.declared.ids.ErrorCode.{ErrorCode}
 use Rattle.flow_eval.specs.Eval.{Res}
@@ -15,8 +14,8 @@ use Rattle.flow_meaning.specs.Evaluating.{StepOf, evaluated, asks}
 use Rattle.flow_meaning.specs.Process.{Run, Throw, Spent, Entry, Proc}
 use Rattle.flow_meaning.specs.Occ.{Scan}
 use Rattle.flow_meaning.specs.Work.{halt, pushed}
-use Rattle.flow_meaning.specs.Step.{view, step, silent, proc, on_core}
-use Rattle.flow_meaning.specs.Class.{next_step, class_names, classes}
+use Rattle.flow_meaning.specs.Step.{view, proc, on_core}
+use Rattle.flow_meaning.specs.Class.{next_step, class_names}
 use Rattle.flow_meaning.specs.Frame.{Frame}
 use Rattle.flow_picture.proofs.Acted.{same_put}
 use Rattle.flow_steps.specs.declared.frames.Stand.{Stand}
@@ -27,12 +26,12 @@ use Rattle.flow_steps.specs.Doing.{doing}
 use Rattle.flow_steps.specs.Holding.{on_heap}
 use Rattle.flow_steps.specs.Sights.{with_left, Halted, Evaluates, gives, throws, runs_out}
 use Rattle.flow_steps.specs.Standing.{noting, noted}
-use Rattle.flow_follows.specs.Shown.{Shown, AreSpent, Follows, shows, ends, with_task}
+use Rattle.flow_follows.specs.Shown.{Shown, AreSpent, shows, ends, with_task}
 use Rattle.flow_follows.specs.Placing.{Stood}
 use Rattle.flow_follows.specs.Evaluated.{GivesValue}
 use Rattle.flow_follows.proofs.Working.{as_many_shown, task_done}
 use Rattle.flow_follows.proofs.Carrying.{with_turns, asked}
-use Rattle.flow_executes.specs.Going.{Silent, no_more, then_on, GoesBy}
+use Rattle.flow_executes.specs.Going.{no_more, then_on, GoesBy}
 
 -- a frame that says where it stands isn't told
 pub noted_same : (s : Stand) (m : Process) → s.noted ≡ true → noted s m ≡ m

@@ -1,5 +1,5 @@
 -- A call statement of a plain function in memory is a step of the class machine.
-use Rattle.std.proofs.Common.{◌≡◌, ◌⊎◌, inl, inr, ℕ, List, [], ◌∷◌, refl, sym, ap, ◌∙◌, subst, arith}
+use Rattle.std.proofs.Common.{◌≡◌, ◌⊎◌, inl, inr, ℕ, List, [], ◌∷◌, refl, sym, ap, ◌∙◌, arith}
 use Rattle.std.specs.Prelude.{slice_get}
 use Rattle.std.specs.declared.option.Option.{Option}
 use Rattle.std.specs.declared.option.Option.TheVariants.{None, Some}
@@ -7,22 +7,19 @@ use Rattle.flow_ast.specs.TypingNames.{named, call_names}
 use Rattle.flow_tree.specs.declared.limits.TheConstants.{CALL_DEPTH}
 use Rattle.flow_tree.specs.declared.ty.Ident.{Ident}
 use Rattle.flow_tree.specs.Decls.{RoutineTree}
-use Rattle.flow_value.specs.declared.value.Value.{Value}
 use Rattle.flow_value.specs.Values.{ValueTree}
 use Rattle.flow_value.specs.View.{value_of}
 use Rattle.flow_eval.specs.Eval.{Res, Done, Fails, Spent, Meaningless, Setting, then, function_called}
 use Rattle.flow_eval.specs.Functions.{Call, run_function}
-use Rattle.flow_class.specs.Classes.{ActInstr, RawTree}
-use Rattle.flow_class.specs.Code.{Body, fetch}
+use Rattle.flow_class.specs.Classes.{RawTree}
 use Rattle.flow_code.specs.declared.class.Act.TheVariants as act
 use Rattle.flow_code.specs.declared.program.Code.{Code}
 use Rattle.flow_trace.specs.declared.line.Line.{Line}
 use Rattle.flow_meaning.specs.Numbered.{put}
 use Rattle.flow_meaning.specs.Asks.{Act, Goes, Supply}
-use Rattle.flow_meaning.specs.Evaluating.{StepOf, evaluated, asks, setting, function_act, plain_act, call_act}
+use Rattle.flow_meaning.specs.Evaluating.{StepOf, evaluated, asks, setting, function_act, plain_act}
 use Rattle.flow_meaning.specs.Process.{Run, Entry, Proc}
 use Rattle.flow_meaning.specs.Occ.{Scan}
-use Rattle.flow_meaning.specs.Work as work
 use Rattle.flow_meaning.specs.Work.{pushed}
 use Rattle.flow_meaning.specs.Step.{view, proc, on_core}
 use Rattle.flow_meaning.specs.Class.{fetched, next_step, class_names}
@@ -71,7 +68,7 @@ then_evaluated f Meaningless k go = refl
 
 module _ (r : RawTree) (ls : List Line) (m : Process) (p : Proc Frame) (i : ℕ) (e : Entry) (f : Frame) where
   -- a call with its arguments known
-  called : Supply → Ident → List ValueTree → ℕ → StepOf Frame
+  abbrev called : Supply → Ident → List ValueTree → ℕ → StepOf Frame
   called w name vs left =
       evaluated f (plain_act (class_names r) (view w i p.core) (look f.mem) (named call_names name.name) name.name vs left) (λ a l. asks l a (next_instr f.mem f))
 
@@ -83,7 +80,7 @@ module _ (r : RawTree) (ls : List Line) (m : Process) (p : Proc Frame) (i : ℕ)
       let q : Proc Frame = on_core (λ c. record c { left = left }) p in
       let m1 : Process = with_left left m in
       let st1 = stale_left r ls m p i e f x s st left in
-      let o : Frame = stale st.block st.instr st.state f in
+      let o : Frame = stale st1.block st1.instr st1.state f in
       let again = unchanged r ls i e x m1 (put_frame i o q) o st1.stood in
       let held = as_many_stood r ls x (with_refs [] x) m1 (put_frame i o (put_frame i o q)) i e o (λ z j. omega arith) again in record {
         after = proc (pushed (Run i) q.core) (put p.actors i (next_instr f.mem f));
@@ -96,11 +93,11 @@ module _ (r : RawTree) (ls : List Line) (m : Process) (p : Proc Frame) (i : ℕ)
     abbrev set : Setting
     set = setting (class_names r) (view w i p.core)
 
-    go : Act → ℕ → StepOf Frame
+    abbrev go : Act → ℕ → StepOf Frame
     go a left = asks left a (next_instr f.mem f)
 
     -- the value is forgotten
-    forgotten : ValueTree → ℕ → StepOf Frame
+    abbrev forgotten : ValueTree → ℕ → StepOf Frame
     forgotten u left = asks left Goes (next_instr f.mem f)
 
     function_next : (vs : List ValueTree) (left : ℕ) → called w name vs left ≡ evaluated f (Call set function vs left) forgotten

@@ -1,15 +1,14 @@
 -- A step of an actor in memory at its wait is a step of the class machine, or two.
-use Rattle.std.proofs.Common.{◌≡◌, ◌⊎◌, inl, inr, ℕ, zero, suc, ◌+◌, Bool, true, false, List, [], ◌∷◌, ◌++◌, length, refl, sym, ap, ◌∙◌, subst, arith}
+use Rattle.std.proofs.Common.{◌≡◌, ◌⊎◌, inl, inr, ℕ, zero, suc, ◌+◌, Bool, true, false, List, [], ◌∷◌, ◌++◌, length, refl, sym, ap, ◌∙◌, subst}
 use Rattle.std.specs.declared.option.Option.{Option}
 use Rattle.std.specs.declared.option.Option.TheVariants.{None, Some}
 use Rattle.flow_base.specs.declared.ids.ActorId.{ActorId}
 use Rattle.flow_value.specs.declared.value.Value.{Value}
-use Rattle.flow_value.specs.declared.value.Kind.{Kind}
 use Rattle.flow_value.specs.Values.{ValueTree, IntValue, BoolValue, TextValue, VoidValue, ErrorValue, RecordValue, RefValue}
 use Rattle.flow_value.specs.View.{value_of}
-use Rattle.flow_eval.specs.Eval.{Res, Done}
-use Rattle.flow_class.specs.Classes.{CallbackTree, ChooseLast, RawTree}
-use Rattle.flow_class.specs.Code.{Last, callback_at}
+use Rattle.flow_eval.specs.Eval.{Done}
+use Rattle.flow_class.specs.Classes.{RawTree}
+use Rattle.flow_class.specs.Code.{callback_at}
 use Rattle.flow_trace.specs.declared.line.Line.{Line}
 use Rattle.flow_numbered.specs.Numbered as stored
 use Rattle.flow_frame.specs.declared.held.Held.{Held}
@@ -17,20 +16,20 @@ use Rattle.flow_frame.specs.Frames.{FrameTree}
 use Rattle.flow_cancel.specs.Heap.{cell_id}
 use Rattle.flow_cancel.specs.Leaving.{waits}
 use Rattle.flow_meaning.specs.Numbered.{thing, put}
-use Rattle.flow_meaning.specs.Asks.{Spot, Operand, Waits, Supply}
+use Rattle.flow_meaning.specs.Asks.{Operand, Waits, Supply}
 use Rattle.flow_meaning.specs.Cells.{Ref}
-use Rattle.flow_meaning.specs.Evaluating.{StepOf, effect_in, evaluated, asks, value}
-use Rattle.flow_meaning.specs.Process.{Task, Run, Keep, Entry, Core, Proc}
+use Rattle.flow_meaning.specs.Evaluating.{StepOf, evaluated, asks, value}
+use Rattle.flow_meaning.specs.Process.{Run, Keep, Entry, Proc}
 use Rattle.flow_meaning.specs.Occ.{Scan, refs_in, value_in}
 use Rattle.flow_meaning.specs.React.{wait}
-use Rattle.flow_meaning.specs.Work.{pushed, is_ready_at}
-use Rattle.flow_meaning.specs.Step.{Stepped, kept_by, view, Verdict, GoesOn, Cancelled, Ready, verdict, with_operand, keep_by, keep, silent, step_if, step, proc, on_core}
+use Rattle.flow_meaning.specs.Work.{pushed}
+use Rattle.flow_meaning.specs.Step.{kept_by, view, Verdict, GoesOn, Cancelled, Ready, keep_by, keep, silent, step_if, step, proc, on_core}
 use Rattle.flow_meaning.specs.Class.{operand_ref, operand_by, choose, fetched, next_step, class_names, classes}
 use Rattle.flow_meaning.specs.Frame.{Frame, look, spot_of, lose}
 use Rattle.flow_picture.specs.Shows.{Stands, spot_by, wait_spot, held_from}
 use Rattle.flow_picture.specs.Leaving.{wait_kind}
 use Rattle.flow_picture.specs.Standing.{next_callback}
-use Rattle.flow_picture.specs.Holds.{with_refs, hold}
+use Rattle.flow_picture.specs.Holds.{hold}
 use Rattle.flow_picture.proofs.Acted.{same_put}
 use Rattle.flow_picture.proofs.Finds.{stored_put}
 use Rattle.flow_steps.specs.declared.frames.Stand.{Stand}
@@ -43,21 +42,20 @@ use Rattle.flow_steps.specs.Bringing.{gone_to}
 use Rattle.flow_steps.specs.Standing.{reframed, gone, noting, noted}
 use Rattle.flow_steps.specs.Stepping.{ReferenceKept, OperandKept}
 use Rattle.flow_steps.specs.Waiting.{Keeps}
-use Rattle.flow_follows.specs.Shown.{Follows}
 use Rattle.flow_follows.specs.Placing.{Acts, Stood}
 use Rattle.flow_follows.specs.Going.{MayBeStale}
-use Rattle.flow_follows.specs.Taking.{MayGo}
 use Rattle.flow_follows.specs.Keeping.{MayKeep, with_one}
 use Rattle.flow_follows.specs.Keeping as keeping
 use Rattle.flow_follows.specs.Evaluated.{GivesValue}
 use Rattle.flow_follows.proofs.Brought.{there_by, all_there_by}
+use Rattle.flow_follows.proofs.Takings.{all_frames}
 use Rattle.flow_follows.proofs.Kept.{go_with_one, operand_follows}
 use Rattle.flow_follows.proofs.Waited.{wait_done}
 use Rattle.flow_follows.proofs.Carrying.{noted_follows, with_turns, asked}
 use Rattle.flow_executes.specs.Going.{Silent, no_more, then_on, AtOperands, chooses, GoesBy}
 use Rattle.flow_executes.specs.Choosing as law
 use Rattle.flow_executes.specs.Choosing.{CanWaitAt}
-use Rattle.flow_executes.proofs.Onward.{with_held, awake_without}
+use Rattle.flow_executes.proofs.Onward.{same_memory, with_held, awake_without}
 use Rattle.flow_executes.proofs.Breaking.{evaluation_there}
 
 -- an actor that runs with operands is in no state of a wait
@@ -193,7 +191,8 @@ module _ (r : RawTree) (ls : List Line) (m : Process) (p : Proc Frame) (i : ℕ)
         takeable = record { at = can.takeable.at; there = λ o h. all_there_by p p1 (refs_in (value_in o)) refl (can.takeable.there o h) };
         kind = can.kind;
       } in
-      let after = operand_follows r ls m2 p1 i e f x s at.group q pace n st2 at.runs none may keeps in
+      let state = ap (λ (y : FrameTree Value). y.state) (same_memory r m.heap m2.heap p p1 i e e f f (all_frames (q ∷ []) m.heap).0 at.stood.acts st2.acts) ∙ at.runs in
+      let after = operand_follows r ls m2 p1 i e f x s at.group q pace n st2 state none may keeps in
       let then_kept : Proc Frame = on_core (pushed (Keep i (wait_spot f) q)) (on_core (pushed (Run i)) p1) in
       let first : step (classes r) w (on_core (pushed (Run i)) p) ≡ Some (silent then_kept) =
       asked r ls m p i e f w (asks left (Operand (wait_spot f) q) f) at.stood.shown.goes at.stood.acts.acting next
@@ -201,29 +200,29 @@ module _ (r : RawTree) (ls : List Line) (m : Process) (p : Proc Frame) (i : ℕ)
       goes_kept r ls m2 p1 i e f x s w q at.group (on_core (pushed (Run i)) p) pace n at.stood.shown.goes st2.acts at.noted at.instruction may
       (then_on (on_core (pushed (Run i)) p) then_kept then_kept first (no_more then_kept)) after
 
+  abbrev given : Supply → ValueTree → ℕ → StepOf Frame
+  given w u left = operand_ref (class_names r) (view w i p.core) f left (wait_spot f) u
+
   pub operand_step : law.OperandStep r ls m p i e f
   operand_step x s w b comes_to pace n at none branch no_effect same gives evaluates =
-      by_case (evaluation_there r ls m p i e f x s w at.standing.actor at.noted at.stood value_of comes_to given (OperandKept s (next_callback e f)) pace n next evaluates)
+      by_case (evaluation_there r ls m p i e f x s w at.standing.actor at.noted at.stood value_of comes_to (given w) (OperandKept s (next_callback e f)) pace n next evaluates)
     where
-      given : ValueTree → ℕ → StepOf Frame
-      given u left = operand_ref (class_names r) (view w i p.core) f left (wait_spot f) u
-
       spot : spot_of f.code at.group ≡ wait_spot f
       spot = sym (ap (spot_by f.code) at.wait.fetched)
 
-      next : next_step (class_names r) (view w i p.core) f ≡ evaluated f comes_to given
+      next : next_step (class_names r) (view w i p.core) f ≡ evaluated f comes_to (given w)
       next =
           ap (fetched (class_names r) (view w i p.core) f) at.wait.fetched
           ∙ ap (λ o. choose (class_names r) (view w i p.core) f (spot_of f.code at.group) (callback_at f.code at.group (kept_by o))) at.stood.acts.entered
           ∙ ap (choose (class_names r) (view w i p.core) f (spot_of f.code at.group)) branch
           ∙ ap (operand_by (class_names r) (view w i p.core) f (spot_of f.code at.group) b.operand) no_effect
           ∙ ap (λ y. evaluated f (value (class_names r) (view w i p.core) (look f.mem) b.operand) (λ u left. operand_ref (class_names r) (view w i p.core) f left y u)) spot
-          ∙ ap (λ c. evaluated f c given) (sym same)
+          ∙ ap (λ c. evaluated f c (given w)) (sym same)
 
       by_value : (v : ValueTree) (left : ℕ) → comes_to ≡ Done v left → ReferenceKept s (next_callback e f) v (with_left left m) pace n
           → GoesBy r ls x w i (on_core (pushed (Run i)) p) pace n
       by_value (RefValue kd k) left done keeps =
-          operand_given x s w at none (kd, k) (gives kd k left done) left (next ∙ ap (λ c. evaluated f c given) done) pace n keeps
+          operand_given x s w at none (kd, k) (gives kd k left done) left (next ∙ ap (λ c. evaluated f c (given w)) done) pace n keeps
       by_value (IntValue k) left done keeps = absurd keeps
       by_value (BoolValue k) left done keeps = absurd keeps
       by_value (TextValue k) left done keeps = absurd keeps

@@ -1,13 +1,11 @@
 -- A wait in memory asks for the operand that the text has next, or waits where there is none.
-use Rattle.std.proofs.Common.{◌≡◌, ◌≤◌, ◌⊎◌, inl, inr, ℕ, zero, suc, ◌+◌, ◌^◌, pos, List, [], ◌∷◌, length, map, refl, sym, ap, ◌∙◌, subst, arith}
+use Rattle.std.proofs.Common.{◌≡◌, ◌≤◌, ◌⊎◌, inl, inr, ℕ, zero, suc, ◌+◌, ◌^◌, pos, List, [], ◌∷◌, length, refl, sym, ap, ◌∙◌, subst, arith}
 use Rattle.std.specs.Prelude.{slice_get}
 use Rattle.std.specs.Option.{option_map, option_and_then}
 use Rattle.std.specs.declared.option.Option.{Option}
 use Rattle.std.specs.declared.option.Option.TheVariants.{None, Some}
 use Rattle.flow_base.specs.declared.ids.ActorId.{ActorId}
-use Rattle.flow_tree.specs.Tree.{ExprTree}
 use Rattle.flow_value.specs.View.{value_of}
-use Rattle.flow_eval.specs.Eval.{Done}
 use Rattle.flow_resolved.specs.declared.expr.Resolved.{Resolved}
 use Rattle.flow_resolved.specs.View.{node_of}
 use Rattle.flow_resolved.specs.Tree.{Nodes}
@@ -22,7 +20,7 @@ use Rattle.flow_code.specs.declared.class.Last.TheVariants as last
 use Rattle.flow_code.specs.declared.class.Operand.{Operand}
 use Rattle.flow_code.specs.declared.class.Operand.TheVariants as operand
 use Rattle.flow_code.specs.declared.program.Code.{Code}
-use Rattle.flow_code.specs.Classes.{BranchCode, OperandTree, ValueOperand}
+use Rattle.flow_code.specs.Classes.{BranchCode}
 use Rattle.flow_code.specs.View.{operand_of, branch_of, group_numbered}
 use Rattle.flow_code.specs.Coding.{Coding, operand_code, effect_in, coded_branch}
 use Rattle.flow_code.specs.Coded.{coding}

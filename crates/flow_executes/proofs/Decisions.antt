@@ -5,26 +5,24 @@ use Rattle.std.specs.declared.option.Option.TheVariants.{None, Some}
 use Rattle.flow_base.specs.declared.ids.ActorId.{ActorId}
 use Rattle.flow_value.specs.declared.value.Outcome.TheVariants as outcome
 use Rattle.flow_value.specs.declared.value.Value.{Value}
-use Rattle.flow_value.specs.Values.{ValueTree, BoolValue, GoodOutcome, refs_of}
+use Rattle.flow_value.specs.Values.{ValueTree, BoolValue, GoodOutcome}
 use Rattle.flow_value.specs.View.{value_of}
-use Rattle.flow_tree.specs.Tree.{ExprTree}
 use Rattle.flow_eval.specs.Answers.{truth, bool_of}
 use Rattle.flow_eval.specs.Eval.{Res, Done, Fails, Spent, Meaningless, at_once, truth_of}
-use Rattle.flow_class.specs.Classes.{TestLast, ReturnLast, RawTree}
-use Rattle.flow_class.specs.Code.{Last, fetch}
+use Rattle.flow_class.specs.Classes.{RawTree}
 use Rattle.flow_trace.specs.declared.line.Line.{Line}
-use Rattle.flow_cancel.specs.Heap.{HeapTree, actor_id, pushed}
+use Rattle.flow_cancel.specs.Heap.{pushed}
 use Rattle.flow_meaning.specs.Numbered.{put}
 use Rattle.flow_meaning.specs.Asks.{Returns, Supply}
-use Rattle.flow_meaning.specs.Cells.{Side}
-use Rattle.flow_meaning.specs.Evaluating.{StepOf, evaluated, asks, value}
-use Rattle.flow_meaning.specs.Process.{Run, Close, Entry, Core, Proc}
+use Rattle.flow_meaning.specs.Evaluating.{StepOf, evaluated, asks}
+use Rattle.flow_meaning.specs.Process.{Close, Entry, Core, Proc}
 use Rattle.flow_meaning.specs.Occ.{Scan, refs_in}
 use Rattle.flow_meaning.specs.Work as work
 use Rattle.flow_meaning.specs.Step.{view, proc, on_core}
 use Rattle.flow_meaning.specs.Class.{test, fetched, next_step, class_names}
-use Rattle.flow_meaning.specs.Frame.{Frame, look, go, everything, over}
-use Rattle.flow_picture.specs.Acting.{Free, put_frame}
+use Rattle.flow_meaning.specs.Frame.{Frame, everything, over}
+use Rattle.flow_picture.specs.Changes.{SameTask}
+use Rattle.flow_picture.specs.Acting.{Free}
 use Rattle.flow_picture.specs.Holds.{with_refs, AllThere, hold_all}
 use Rattle.flow_steps.specs.declared.frames.Stand.{Stand}
 use Rattle.flow_steps.specs.declared.next.Pace.{Pace}
@@ -32,8 +30,8 @@ use Rattle.flow_steps.specs.declared.process.Process.{Process}
 use Rattle.flow_steps.specs.Holding.{on_heap, value_refs}
 use Rattle.flow_steps.specs.Standing.{noted, lost_from}
 use Rattle.flow_steps.specs.Sights.{with_left}
-use Rattle.flow_steps.specs.Stepping.{truth_value, IsTest, IsReturn, ended}
-use Rattle.flow_follows.specs.Shown.{Shown, Follows, shows, with_task}
+use Rattle.flow_steps.specs.Stepping.{truth_value, IsTest, IsReturn}
+use Rattle.flow_follows.specs.Shown.{Shown, shows, with_task}
 use Rattle.flow_follows.specs.Placing.{Stood, with_memory, nothing_in}
 use Rattle.flow_follows.specs.Going.{MayBeStale}
 use Rattle.flow_follows.specs.Carried.{StepsAs}
@@ -49,12 +47,11 @@ use Rattle.flow_follows.proofs.Thrown.{close_same}
 use Rattle.flow_follows.proofs.Carrying.{noted_follows, asked}
 use Rattle.flow_follows.proofs.Evaluations.{evaluation_follows}
 use Rattle.flow_executes.specs.Deciding as law
-use Rattle.flow_executes.specs.Deciding.{GivesThere}
 use Rattle.flow_executes.proofs.Onward.{awake_without, stale_left, stale_held, enters}
 
 module _ (r : RawTree) (ls : List Line) (m : Process) (p : Proc Frame) (i : ℕ) (e : Entry) (f : Frame) where
   -- what a test comes to, by the value or by its truth
-  by_value : Supply → (one other : ℕ) → ValueTree → ℕ → StepOf Frame
+  abbrev by_value : Supply → (one other : ℕ) → ValueTree → ℕ → StepOf Frame
   by_value w one other u left = test (class_names r) (view w i p.core) f left (bool_of u) one other
 
   tested : (w : Supply) (one other : ℕ) (c : Res ValueTree) → evaluated f c (by_value w one other) ≡ evaluated f (truth_of c) (by_value w one other)
@@ -101,7 +98,7 @@ module _ (r : RawTree) (ls : List Line) (m : Process) (p : Proc Frame) (i : ℕ)
       let st3 = noted_follows r ls m2 q i e f (with_refs qs x) s st2 in
       let u = Close i (GoodOutcome (value_of v)) in
       let actor = st.standing.actor in
-      let same = close_same q s.actor (outcome.Value v) is.task is.closes ∙ ap (λ (a : ActorId). Close a.0 (GoodOutcome (value_of v))) actor in
+      let same = subst (λ (a : ActorId). SameTask q is.task (Close a.0 (GoodOutcome (value_of v)))) actor (close_same q s.actor (outcome.Value v) is.task is.closes) in
       let q4 : Proc Frame = on_core (work.pushed u) q in
       let m4 : Process = on_heap (pushed is.task) m3 in
       let st4 : Stood r ls x m4 q4 i e f = record {
@@ -125,17 +122,17 @@ module _ (r : RawTree) (ls : List Line) (m : Process) (p : Proc Frame) (i : ℕ)
             (subst (λ (a : ActorId). Shown r ls x (on_heap (λ h. lost_from a.0 0 (pushed is.task h)) m3) (proc c5 (put p.actors i over))) (sym actor) over_there));
       })
 
+  abbrev ends_with : ValueTree → ℕ → StepOf Frame
+  ends_with u left = asks left (Returns u (everything f.mem)) over
+
   pub return_step : law.ReturnStep r ls m p i e f
   return_step x s w t comes_to pace n st there same gives evaluates =
-      by_case (evaluation_follows r ls m p i e f x s w value_of comes_to end (IsReturn s) pace n st next evaluates)
+      by_case (evaluation_follows r ls m p i e f x s w value_of comes_to ends_with (IsReturn s) pace n st next evaluates)
     where
-      end : ValueTree → ℕ → StepOf Frame
-      end u left = asks left (Returns u (everything f.mem)) over
-
-      next : next_step (class_names r) (view w i p.core) f ≡ evaluated f comes_to end
-      next = ap (fetched (class_names r) (view w i p.core) f) there ∙ ap (λ k. evaluated f k end) (sym same)
+      next : next_step (class_names r) (view w i p.core) f ≡ evaluated f comes_to ends_with
+      next = ap (fetched (class_names r) (view w i p.core) f) there ∙ ap (λ k. evaluated f k ends_with) (sym same)
 
       by_case : GivesValue value_of comes_to m (IsReturn s) pace n ⊎ StepsAs r ls x w p i e pace n → StepsAs r ls x w p i e pace n
       by_case (inl g) =
-          closes x s w g.value g.left pace n st (next ∙ ap (λ k. evaluated f k end) g.done) (gives (value_of g.value) g.left g.done) g.goes
+          closes x s w g.value g.left pace n st (next ∙ ap (λ k. evaluated f k ends_with) g.done) (gives (value_of g.value) g.left g.done) g.goes
       by_case (inr a) = a

@@ -1,39 +1,33 @@
 -- What stands in the code where an actor stands is coded from what its frame has there.
-use Rattle.std.proofs.Common.{◌≡◌, ℕ, zero, suc, ◌+◌, ◌<◌, nat_lt, ◌^◌, Bool, true, false, List, [], ◌∷◌, length, map, if◌then◌else◌, refl, sym, ap, ◌∙◌, subst, arith}
+use Rattle.std.proofs.Common.{◌≡◌, ℕ, zero, suc, ◌+◌, ◌<◌, nat_lt, ◌^◌, Bool, true, false, List, [], ◌∷◌, length, map, if◌then◌else◌, refl, sym, ap, ◌∙◌, arith}
 use Rattle.std.specs.Prelude.{slice_get}
 use Rattle.std.specs.Option.{option_map, option_and_then}
 use Rattle.std.specs.declared.option.Option.{Option}
 use Rattle.std.specs.declared.option.Option.TheVariants.{None, Some}
-use Rattle.flow_tree.specs.declared.ty.Ident.{Ident}
+use Rattle.flow_value.specs.declared.value.Value.{Value}
 use Rattle.flow_class.specs.declared.class.Slotted.{Slotted}
 use Rattle.flow_class.specs.declared.class.Slotted.TheVariants.{Slot, Local}
-use Rattle.flow_class.specs.Classes.{InstrTree, LastTree, ChooseLast, CallbackTree, BlockTree, ClassTree, RawTree}
-use Rattle.flow_class.specs.Code.{Body, Last, fetch_in, fetch_at, fetch, group_at, callbacks_before}
-use Rattle.flow_class.specs.Places.{place_named, small, small_place}
-use Rattle.flow_resolved.specs.Resolving.{IsNumbering}
-use Rattle.flow_resolved.specs.View.{places_in}
-use Rattle.flow_code.specs.declared.class.Aim.{Aim}
+use Rattle.flow_class.specs.Classes.{InstrTree, LastTree, ChooseLast, CallbackTree, BlockTree, RawTree}
+use Rattle.flow_class.specs.Code.{Body, Last, fetch_in, fetch_at, fetch}
+use Rattle.flow_class.specs.Places.{place_named, small_place}
 use Rattle.flow_code.specs.declared.class.Class.{Class}
 use Rattle.flow_code.specs.declared.class.Group.{Group}
 use Rattle.flow_code.specs.declared.class.Instruction.{Instruction}
-use Rattle.flow_code.specs.declared.program.Code.{Code}
-use Rattle.flow_code.specs.Classes.{AimTree, BlockCode, GroupCode, ClassCode, BranchCode, ChooseEnd}
+use Rattle.flow_code.specs.Classes.{AimTree, BlockCode, GroupCode, ClassCode, ChooseEnd}
 use Rattle.flow_code.specs.Places.{place_of, place_in}
-use Rattle.flow_code.specs.View.{code_of, block_of, group_of, aim_of, instruction_of, end_of, branch_of, group_numbered}
-use Rattle.flow_code.specs.Coding.{Coding, homes_of, fields_of, aim_at, aimed, coded_instruction, ended, coded_block, coded_branch, coded_groups}
+use Rattle.flow_code.specs.View.{code_of, block_of, group_of, aim_of, instruction_of, end_of, group_numbered}
+use Rattle.flow_code.specs.Coding.{Coding, homes_of, fields_of, aim_at, coded_instruction, ended, coded_block, coded_branch, coded_groups}
 use Rattle.flow_code.specs.Coded.{coding, coded}
 use Rattle.flow_frame.specs.Frames.{FrameTree}
-use Rattle.flow_cancel.specs.Heap.{actor_id}
 use Rattle.flow_meaning.specs.Frame.{Frame}
 use Rattle.flow_picture.specs.Shows.{spot_by, wait_spot}
-use Rattle.flow_picture.specs.Standing.{HasPlace, number_in}
+use Rattle.flow_picture.specs.Standing.{number_in}
 use Rattle.flow_steps.specs.declared.frames.Stand.{Stand}
 use Rattle.flow_follows.specs.Taking.{Standing, AtWait}
 use Rattle.flow_follows.specs.Coded.{CodedBy}
 use Rattle.flow_follows.proofs.Stands.{get_mapped, as_many, both_mapped, at_end, group_coded, choose_is}
 use Rattle.flow_executes.specs.Decoding as law
-use Rattle.flow_executes.specs.Decoding.{InCode, AtInstruction, AtEnd, IsGroup}
-use Rattle.flow_executes.specs.Assigning.{AimsAt}
+use Rattle.flow_executes.specs.Decoding.{InCode, AtInstruction, AtEnd}
 
 -- what is mapped to the same is there on both sides
 pub both_there : {A B C : Type 0} (g : A → C) (h : B → C) (a : A) (o : Option B) → Some (g a) ≡ option_map h o → (b : B) × ((o ≡ Some b) × (g a ≡ h b))

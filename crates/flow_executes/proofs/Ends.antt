@@ -1,7 +1,6 @@
 -- A step of an actor in memory by the end of its block is a row of steps of the class machine.
-use Rattle.std.proofs.Common.{◌≡◌, ◌⊎◌, inl, inr, ℕ, true, pos, List, length, refl, sym, ap, ◌∙◌, subst}
+use Rattle.std.proofs.Common.{◌≡◌, ◌⊎◌, inl, ℕ, pos, List, refl, sym, ap, ◌∙◌, subst}
 use Rattle.std.specs.declared.option.Option.TheVariants.{None}
-use Rattle.flow_eval.specs.Eval.{Done, truth_of}
 use Rattle.flow_resolved.specs.declared.expr.Resolved.{Resolved}
 use Rattle.flow_resolved.specs.View.{node_of}
 use Rattle.flow_resolved.specs.Resolving.{resolved}
@@ -32,7 +31,7 @@ use Rattle.flow_follows.specs.Going.{MayBeStale}
 use Rattle.flow_follows.specs.Carried.{StepsAs}
 use Rattle.flow_follows.proofs.Carrying.{goto_step, pass_step}
 use Rattle.flow_follows.proofs.Evaluations.{throw_step}
-use Rattle.flow_executes.specs.Going.{AtOperands, MayStep, moves, chooses, GoesBy}
+use Rattle.flow_executes.specs.Going.{AtOperands, moves, chooses, GoesBy}
 use Rattle.flow_executes.specs.Executing as law
 use Rattle.flow_executes.specs.Executing.{MayDoNext, MayChoose, coded_by, InProgram, Asks}
 use Rattle.flow_executes.proofs.Onward.{one_step}

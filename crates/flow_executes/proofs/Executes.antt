@@ -1,7 +1,7 @@
 -- A step of an actor in memory by an instruction that asks nothing of the world is a row of steps of the class machine.
-use Rattle.std.proofs.Common.{◌≡◌, ◌≤◌, ◌⊎◌, inl, inr, ℕ, zero, suc, ◌+◌, ◌^◌, pos, Bool, true, false, List, [], ◌∷◌, length, map, refl, sym, ap, ◌∙◌, subst, arith}
+use Rattle.std.proofs.Common.{◌≡◌, ◌≤◌, ◌⊎◌, inl, inr, ℕ, ◌+◌, ◌^◌, pos, List, [], ◌∷◌, length, map, refl, sym, ap, ◌∙◌, subst}
 use Rattle.std.specs.Prelude.{slice_get}
-use Rattle.std.specs.Option.{option_map, option_and_then}
+use Rattle.std.specs.Option.{option_and_then}
 use Rattle.std.specs.declared.option.Option.{Option}
 use Rattle.std.specs.declared.option.Option.TheVariants.{None, Some}
 use Rattle.flow_base.specs.declared.ids.ActorId.{ActorId}
@@ -9,30 +9,22 @@ use Rattle.flow_ast.specs.declared.predefined.Predefined.{Predefined}
 use Rattle.flow_ast.specs.TypingNames.{named, call_names}
 use Rattle.flow_tree.specs.Tree.{TypeTree, IntType, BoolType, StringType, VoidType, ErrorType, NamedType, FutureType, FutureStreamType, PromiseType, PromiseStreamType, ExprTree, ExprTrees}
 use Rattle.flow_value.specs.declared.value.Kind.{Kind}
-use Rattle.flow_value.specs.Values.{ValueTree, refs_of}
-use Rattle.flow_value.specs.View.{value_of}
-use Rattle.flow_eval.specs.Eval.{Res, Done, truth_of}
 use Rattle.flow_eval.specs.Functions.{routine_at}
 use Rattle.flow_resolved.specs.declared.expr.Resolved.{Resolved}
 use Rattle.flow_resolved.specs.View.{node_of, nodes_of}
 use Rattle.flow_resolved.specs.Evaluation.{value_at, values_at}
-use Rattle.flow_resolved.specs.Resolving.{Naming, resolved, resolved_all}
-use Rattle.flow_class.specs.declared.class.Slotted.{Slotted}
-use Rattle.flow_class.specs.Classes.{InstrTree, SetInstr, EffectInstr, NewInstr, ActInstr, DropInstr, LastTree, GotoLast, PassLast, TestLast, ChooseLast, ReturnLast, ThrowLast, CallbackTree, RawTree}
-use Rattle.flow_class.specs.Code.{Fetched, Body, Last, fetch, type_at}
-use Rattle.flow_code.specs.declared.class.Act.{Act}
+use Rattle.flow_resolved.specs.Resolving.{resolved, resolved_all}
+use Rattle.flow_class.specs.Classes.{InstrTree, SetInstr, NewInstr, ActInstr, DropInstr, RawTree}
+use Rattle.flow_class.specs.Code.{Body, fetch, type_at}
 use Rattle.flow_code.specs.declared.class.Act.TheVariants as act
 use Rattle.flow_code.specs.declared.class.Aim.{Aim}
 use Rattle.flow_code.specs.declared.class.Instruction.{Instruction}
 use Rattle.flow_code.specs.declared.class.Instruction.TheVariants as instruction
-use Rattle.flow_code.specs.declared.class.Last as code_last
-use Rattle.flow_code.specs.declared.class.Last.TheVariants as last
 use Rattle.flow_code.specs.declared.program.Code.{Code}
-use Rattle.flow_code.specs.Classes.{AimTree, InstructionTree, SetCode, NewCode, ActCode, DropCode, EndTree, GotoEnd, PassEnd, TestEnd, ChooseEnd, ReturnEnd, ThrowEnd}
-use Rattle.flow_code.specs.Places.{place_of, place_in}
-use Rattle.flow_code.specs.View.{aim_of, instruction_of, end_of}
+use Rattle.flow_code.specs.Classes.{SetCode, NewCode, ActCode, DropCode}
+use Rattle.flow_code.specs.View.{aim_of}
 use Rattle.flow_code.specs.Coding as coding_of
-use Rattle.flow_code.specs.Coding.{Coding, act_named, aimed, coded_instruction, ended}
+use Rattle.flow_code.specs.Coding.{Coding, act_named}
 use Rattle.flow_code.specs.Coded.{coding}
 use Rattle.flow_trace.specs.declared.line.Line.{Line}
 use Rattle.flow_meaning.specs.Asks.{Supply}
@@ -52,19 +44,17 @@ use Rattle.flow_steps.specs.Holding.{on_heap}
 use Rattle.flow_steps.specs.Acting.{args_of}
 use Rattle.flow_steps.specs.Sights.{sight_in, program_time, Evaluates}
 use Rattle.flow_steps.specs.Standing.{next_stand, places_taken, places_emptied}
-use Rattle.flow_steps.specs.Stepping.{OnAfter, value_for, values_for, IsAct, IsNew, Does, Ends, StepsOn, by_instruction, by_last}
+use Rattle.flow_steps.specs.Stepping.{OnAfter, value_for, values_for, IsAct, IsNew, Does}
 use Rattle.flow_follows.specs.Going.{stale, MayBeStale}
 use Rattle.flow_follows.specs.Carried.{StepsAs}
 use Rattle.flow_follows.specs.Coded.{CodedBy}
 use Rattle.flow_follows.proofs.Seen.{expr_follows}
 use Rattle.flow_follows.proofs.Arguments.{same_setting, args_follow}
-use Rattle.flow_follows.proofs.Carrying.{drop_step, goto_step, pass_step}
-use Rattle.flow_follows.proofs.Evaluations.{throw_step}
+use Rattle.flow_follows.proofs.Carrying.{drop_step}
 use Rattle.flow_executes.specs.Going.{GoesBy}
-use Rattle.flow_executes.specs.Decoding.{AtInstruction, AtEnd, CodedFrom, from_set, from_effect, from_new, from_act, from_method, from_drop, from_none}
+use Rattle.flow_executes.specs.Decoding.{AtInstruction, CodedFrom, from_set, from_effect, from_new, from_act, from_method, from_drop, from_none}
 use Rattle.flow_executes.specs.Executing.{MayDoNext, coded_by, InProgram, Asks, by_effect, by_act, by_method}
 use Rattle.flow_executes.proofs.Onward.{one_step}
-use Rattle.flow_executes.proofs.Decisions.{test_step, return_step}
 use Rattle.flow_executes.proofs.Assigns.{set_step, new_step}
 use Rattle.flow_executes.proofs.Calls.{function_step}
 use Rattle.flow_executes.proofs.Decodes.{placed, the_instruction, aim_there}
@@ -102,7 +92,7 @@ module _ (r : RawTree) (ls : List Line) (m : Process) (p : Proc Frame) (i : ℕ)
   row pace n = GoesBy r ls x w i (on_core (pushed (Run i)) p) pace n
 
   -- an expression in memory, and arguments
-  value_is : (t : ExprTree) (res : Resolved) → node_of res ≡ resolved coding_now.names t → value_for code s.actor.0 res m ≡ value (class_names r) (view w i p.core) (look f.mem) t
+  pub value_is : (t : ExprTree) (res : Resolved) → node_of res ≡ resolved coding_now.names t → value_for code s.actor.0 res m ≡ value (class_names r) (view w i p.core) (look f.mem) t
   value_is t res same =
       ap (λ (a : ActorId). value_at (sight_in code a.0 m) (node_of res) m.left) st.standing.actor
       ∙ ap (λ k. value_at (sight_in code i m) k m.left) same

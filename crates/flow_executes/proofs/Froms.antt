@@ -1,5 +1,5 @@
 -- What an instruction is coded from.
-use Rattle.std.proofs.Common.{◌≡◌, ℕ, List, [], ◌∷◌, refl, sym, ap, ◌∙◌}
+use Rattle.std.proofs.Common.{◌≡◌, ℕ, List, [], ◌∷◌, refl, ◌∙◌}
 use Rattle.std.specs.declared.option.Option.{Option}
 use Rattle.std.specs.declared.option.Option.TheVariants.{None, Some}
 use Rattle.flow_ast.specs.declared.predefined.Method.{Method}
@@ -8,14 +8,14 @@ use Rattle.flow_tree.specs.declared.ty.Ident.{Ident}
 use Rattle.flow_tree.specs.Tree.{ExprTree, ExprTrees}
 use Rattle.flow_value.specs.declared.value.Kind.{Kind}
 use Rattle.flow_class.specs.declared.class.Slotted.{Slotted}
-use Rattle.flow_class.specs.Classes.{InstrTree, SetInstr, EffectInstr, NewInstr, ActInstr, DropInstr, ClassTree}
+use Rattle.flow_class.specs.Classes.{SetInstr, EffectInstr, NewInstr, ActInstr, DropInstr, ClassTree}
 use Rattle.flow_resolved.specs.Tree.{Nodes}
 use Rattle.flow_resolved.specs.Resolving.{resolved, resolved_all}
 use Rattle.flow_code.specs.declared.class.Act.{Act}
 use Rattle.flow_code.specs.declared.class.Effect.{Effect}
-use Rattle.flow_code.specs.Classes.{AimTree, InstructionTree}
+use Rattle.flow_code.specs.Classes.{AimTree}
 use Rattle.flow_code.specs.Places.{place_of}
-use Rattle.flow_code.specs.Coding.{Coding, kind_at, set_code, effect_code, new_code, plain_code, method_code, act_named, last_name, before_last, effect_in, aimed, coded_instruction}
+use Rattle.flow_code.specs.Coding.{Coding, kind_at, set_code, effect_code, new_code, plain_code, method_code, act_named, last_name, before_last, effect_in, aimed}
 use Rattle.flow_executes.specs.Decoding as law
 use Rattle.flow_executes.specs.Decoding.{CodedFrom, from_set, from_effect, from_new, from_act, from_method, from_drop, from_none}
 

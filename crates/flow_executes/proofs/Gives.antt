@@ -1,6 +1,5 @@
 -- The tasks by which an actor goes on are steps of the class machine.
-use Rattle.std.proofs.Common.{◌≡◌, ℕ, suc, ◌+◌, List, [], ◌∷◌, length, refl, sym, ap, ◌∙◌, subst, arith}
-use Rattle.std.specs.Option.{option_map}
+use Rattle.std.proofs.Common.{◌≡◌, ℕ, suc, ◌+◌, List, [], ◌∷◌, refl, sym, ap, ◌∙◌, subst, arith}
 use Rattle.std.specs.declared.option.Option.{Option}
 use Rattle.std.specs.declared.option.Option.TheVariants.{None, Some}
 use Rattle.flow_base.specs.declared.ids.ActorId.{ActorId}
@@ -9,39 +8,34 @@ use Rattle.flow_value.specs.Values.{ValueTree, GoodOutcome, BadOutcome}
 use Rattle.flow_value.specs.View.{value_of}
 use Rattle.flow_class.specs.declared.class.Slotted.{Slotted}
 use Rattle.flow_class.specs.Classes.{CallbackTree, RawTree}
-use Rattle.flow_class.specs.Code.{Fetched}
 use Rattle.flow_code.specs.declared.program.Code.{Code}
 use Rattle.flow_trace.specs.declared.line.Line.{Line}
 use Rattle.flow_frame.specs.Frames.{FrameTree}
 use Rattle.flow_cancel.specs.declared.task.Task.TheVariants as task
-use Rattle.flow_cancel.specs.Heap.{HeapTree, actor_id}
+use Rattle.flow_cancel.specs.Heap.{actor_id}
 use Rattle.flow_cancel.specs.Dropping.{dropping}
-use Rattle.flow_meaning.specs.Numbered.{thing, put}
-use Rattle.flow_meaning.specs.Asks.{Supply}
+use Rattle.flow_meaning.specs.Numbered.{put}
 use Rattle.flow_meaning.specs.Cells.{Ref}
-use Rattle.flow_meaning.specs.Process.{Task, Run, Give, Throw, Store, Keep, Entry, Core, Proc}
+use Rattle.flow_meaning.specs.Process.{Run, Give, Throw, Store, Keep, Entry, Proc}
 use Rattle.flow_meaning.specs.Occ.{Scan, refs_in, in_task}
 use Rattle.flow_meaning.specs.Work as work
 use Rattle.flow_meaning.specs.Work.{pushed}
 use Rattle.flow_meaning.specs.Step.{silent, replaced, give, store, popped, step_if, step, proc, on_core}
-use Rattle.flow_meaning.specs.Variables.{filled}
 use Rattle.flow_meaning.specs.Class.{stored, store_at, take_callback, take_at, class_names, classes}
-use Rattle.flow_meaning.specs.Frame.{Memory, Frame, go, next_instr}
+use Rattle.flow_meaning.specs.Frame.{Frame, go, next_instr}
 use Rattle.flow_picture.specs.Shows.{Position, here, at_wait, wait_spot}
 use Rattle.flow_picture.specs.Acting.{put_frame}
 use Rattle.flow_picture.specs.Holds.{with_refs}
-use Rattle.flow_picture.proofs.Acted.{same_put}
 use Rattle.flow_picture.proofs.Shown.{popped_shown}
 use Rattle.flow_picture.proofs.Referring.{of_popped}
 use Rattle.flow_steps.specs.declared.frames.Stand.{Stand}
 use Rattle.flow_steps.specs.declared.next.Pace.{Pace}
 use Rattle.flow_steps.specs.declared.next.Pace.TheVariants.{On, Off}
 use Rattle.flow_steps.specs.declared.process.Process.{Process}
-use Rattle.flow_steps.specs.Doing.{doing}
-use Rattle.flow_steps.specs.Holding.{on_heap, value_refs, refs_dropped}
+use Rattle.flow_steps.specs.Holding.{on_heap, refs_dropped}
 use Rattle.flow_steps.specs.Standing.{StandsNow, next_stand, noted, gone, values}
 use Rattle.flow_steps.specs.Tasks.{TopTaken}
-use Rattle.flow_follows.specs.Shown.{Shown, Follows, shows, with_task}
+use Rattle.flow_follows.specs.Shown.{Shown, shows, with_task}
 use Rattle.flow_follows.specs.Placing.{Acts, Stood, with_memory}
 use Rattle.flow_follows.specs.Going.{MayMove}
 use Rattle.flow_follows.specs.Going as going
@@ -52,9 +46,9 @@ use Rattle.flow_follows.proofs.Parting.{acts_by, no_keep_under}
 use Rattle.flow_follows.proofs.Kept.{operand_follows}
 use Rattle.flow_follows.proofs.Moving.{goes_in}
 use Rattle.flow_follows.proofs.Gone.{value_bound}
-use Rattle.flow_executes.specs.Going.{Silent, no_more, then_on, moves, chooses, Onward, GoesBy}
+use Rattle.flow_executes.specs.Going.{no_more, then_on, moves, chooses, Onward}
 use Rattle.flow_executes.specs.Giving as law
-use Rattle.flow_executes.specs.Giving.{MayBranch, MayStore}
+use Rattle.flow_executes.proofs.Onward.{same_memory}
 use Rattle.flow_executes.proofs.Paths.{path_put}
 use Rattle.flow_executes.proofs.Choices.{goes_kept}
 
@@ -230,11 +224,12 @@ module _ (r : RawTree) (ls : List Line) (m : Process) (p : Proc Frame) (i : ℕ)
       } in
       let may = mays is.stand start is.stands in
       let asks_none : start.asked ≡ None = ap (λ (y : Process). y.asked) is.next.rest ∙ none in
-      let after = operand_follows r ls start p i e f x is.stand group q is.pace is.between st1 zero_state asks_none may is.keeps in
+      let state = ap (λ (y : FrameTree Value). y.state) (same_memory r m.heap start.heap ran p i e e f f frames st.acts st1.acts) ∙ zero_state in
+      let after = operand_follows r ls start p i e f x is.stand group q is.pace is.between st1 state asks_none may is.keeps in
       let first : Proc Frame = on_core (pushed (Keep i (wait_spot f) q)) ran in record {
         pace = is.pace;
         between = is.between;
         goes = goes_kept r ls start p i e f x is.stand w q group first is.pace is.between st1.shown.goes st1.acts is.stands.stands.noted
-            (stands_here r start p i e f code is.stand st1.acts zero_state is.stands) may (no_more first) after;
+            (stands_here r start p i e f code is.stand st1.acts state is.stands) may (no_more first) after;
         further = is.further;
       }

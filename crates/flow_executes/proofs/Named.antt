@@ -1,5 +1,5 @@
 -- The effects of class text by their names are those of the code.
-use Rattle.std.proofs.Common.{◌≡◌, ℕ, zero, suc, ◌+◌, Bool, true, false, cond, ltb, List, [], ◌∷◌, length, map, position, if◌then◌else◌, refl, sym, ap, ◌∙◌, arith}
+use Rattle.std.proofs.Common.{◌≡◌, ℕ, suc, ◌+◌, Bool, true, false, cond, ltb, List, [], ◌∷◌, length, map, position, if◌then◌else◌, refl, sym, ap, ◌∙◌, arith}
 use Rattle.std.specs.List.{position_or_len}
 use Rattle.std.specs.Str.{bytes_eq}
 use Rattle.std.specs.Option.{option_map}
@@ -9,16 +9,15 @@ use Rattle.flow_ast.specs.declared.predefined.Predefined.{Predefined}
 use Rattle.flow_ast.specs.declared.predefined.Predefined.TheVariants as predefined
 use Rattle.flow_ast.specs.Typing as typing
 use Rattle.flow_ast.specs.TypingNames.{named, call_names}
-use Rattle.flow_tree.specs.declared.ty.Ident.{Ident}
-use Rattle.flow_tree.specs.Tree.{ExprTree, ExprTrees, IntExpr, TextExpr, BoolExpr, VoidExpr, VarExpr, CallExpr, FieldExpr, MethodExpr, NotExpr, NegExpr, BinaryExpr, ParenExpr}
-use Rattle.flow_class.specs.Classes.{ClassTree, RawTree}
+use Rattle.flow_tree.specs.Tree.{ExprTrees, IntExpr, TextExpr, BoolExpr, VoidExpr, VarExpr, CallExpr, FieldExpr, MethodExpr, NotExpr, NegExpr, BinaryExpr, ParenExpr}
+use Rattle.flow_class.specs.Classes.{ClassTree}
 use Rattle.flow_resolved.specs.Named.{first_from}
 use Rattle.flow_resolved.specs.Tree.{Nodes}
 use Rattle.flow_resolved.specs.Resolving.{Naming, resolved_all}
 use Rattle.flow_code.specs.declared.class.Effect.{Effect}
 use Rattle.flow_code.specs.declared.class.Effect.TheVariants as effect
-use Rattle.flow_code.specs.Coding.{is_effect, effect_named, effect_in}
-use Rattle.flow_code.specs.Coded.{coding, class_named}
+use Rattle.flow_code.specs.Coding.{is_effect, effect_named}
+use Rattle.flow_code.specs.Coded.{class_named}
 use Rattle.flow_code.specs.Places.{place_in}
 use Rattle.flow_meaning.specs.Evaluating as effects
 use Rattle.flow_meaning.specs.Class.{class_name, class_names}

@@ -1,13 +1,15 @@
 -- An actor goes on with the turns that evaluation left.
 use Rattle.std.proofs.Common.{◌≡◌, ℕ, zero, suc, false, List, [], ◌∷◌, map, refl, sym, ap, ◌∙◌, subst}
-use Rattle.std.specs.declared.option.Option.TheVariants.{Some}
 use Rattle.flow_value.specs.declared.value.Value.{Value}
 use Rattle.flow_value.specs.Values.{ValueTree}
 use Rattle.flow_value.specs.View.{value_of}
+use Rattle.std.specs.declared.option.Option.TheVariants.{Some}
 use Rattle.flow_class.specs.Classes.{RawTree}
 use Rattle.flow_trace.specs.declared.line.Line.{Line}
+use Rattle.flow_numbered.specs.Numbered as stored
 use Rattle.flow_frame.specs.declared.held.Held.{Held}
 use Rattle.flow_frame.specs.Frames.{FrameTree}
+use Rattle.flow_cancel.specs.Heap.{HeapTree}
 use Rattle.flow_cancel.specs.Leaving.{waits}
 use Rattle.flow_meaning.specs.Asks.{Goes, Supply}
 use Rattle.flow_meaning.specs.Cells.{Ref}
@@ -17,8 +19,8 @@ use Rattle.flow_meaning.specs.Numbered.{put}
 use Rattle.flow_meaning.specs.Occ.{Scan, refs_in}
 use Rattle.flow_meaning.specs.Work as work
 use Rattle.flow_meaning.specs.Work.{pushed}
-use Rattle.flow_meaning.specs.Step.{view, silent, step, proc, on_core}
-use Rattle.flow_meaning.specs.Class.{next_step, class_names, classes}
+use Rattle.flow_meaning.specs.Step.{view, proc, on_core}
+use Rattle.flow_meaning.specs.Class.{next_step, class_names}
 use Rattle.flow_meaning.specs.Frame.{Memory, Frame, go, next_instr}
 use Rattle.flow_picture.specs.Shows.{Stands, wait_spot, held_from}
 use Rattle.flow_picture.specs.Acting.{put_frame}
@@ -31,7 +33,7 @@ use Rattle.flow_steps.specs.Holding.{on_heap}
 use Rattle.flow_steps.specs.Sights.{with_left}
 use Rattle.flow_steps.specs.Standing.{next_stand}
 use Rattle.flow_steps.specs.Stepping.{OnAfter, GoesOnAt}
-use Rattle.flow_follows.specs.Placing.{Stood, with_memory}
+use Rattle.flow_follows.specs.Placing.{Acts, Stood, with_memory}
 use Rattle.flow_follows.specs.Going.{MayBeStale, MayMove}
 use Rattle.flow_follows.specs.Carried.{Carries, StepsAs}
 use Rattle.flow_follows.proofs.Working.{refs_held}
@@ -41,7 +43,13 @@ use Rattle.flow_follows.proofs.Takings.{all_frames}
 use Rattle.flow_follows.proofs.Gone as gone
 use Rattle.flow_follows.proofs.Gone.{went_to, left_over, over_after}
 use Rattle.flow_follows.proofs.Carrying.{old, may, after_values, at_block, with_turns, asked}
-use Rattle.flow_executes.specs.Going.{Silent, no_more, then_on, GoesBy, GoesAtOnce, moves, Onward}
+use Rattle.flow_executes.specs.Going.{no_more, then_on, GoesBy, moves, Onward}
+
+-- the same frame in memory
+pub same_memory : (r : RawTree) (h g : HeapTree) (p q : Proc Frame) (i : ℕ) (d e : Entry) (f k : Frame) → g.frames ≡ h.frames → (a : Acts r h p i d f) → (b : Acts r g q i e k) → b.memory ≡ a.memory
+same_memory r h g p q i d e f k same a b =
+    let x : stored.thing h.frames.things i ≡ Some b.memory = ap (λ (ms : stored.Store (FrameTree Value)). stored.thing ms.things i) (sym same) ∙ b.framed in
+    let y = a.framed in cc (x, y)
 
 -- an actor without operands is not suspended
 nothing_waits : (n : ℕ) (xs : List Held) → xs ≡ [] → waits n xs ≡ false
@@ -63,7 +71,7 @@ module _ (r : RawTree) (ls : List Line) (m : Process) (p : Proc Frame) (i : ℕ)
 
   module _ (s : Stand) (st : MayBeStale r ls x s m p i e f) where
     -- with other turns
-    pub stale_left : (n : ℕ) → MayBeStale r ls x s (with_left n m) (on_core (λ c. record c { left = n }) p) i e f
+    abbrev pub stale_left : (n : ℕ) → MayBeStale r ls x s (with_left n m) (on_core (λ c. record c { left = n }) p) i e f
     stale_left n = record {
       block = st.block;
       instr = st.instr;
@@ -78,7 +86,7 @@ module _ (r : RawTree) (ls : List Line) (m : Process) (p : Proc Frame) (i : ℕ)
     }
 
     -- with references that come to hand
-    pub stale_held : (qs : List Ref) → AllThere p qs → MayBeStale r ls (with_refs qs x) s (on_heap (hold_all qs) m) p i e f
+    abbrev pub stale_held : (qs : List Ref) → AllThere p qs → MayBeStale r ls (with_refs qs x) s (on_heap (hold_all qs) m) p i e f
     stale_held qs there = record {
       block = st.block;
       instr = st.instr;

@@ -6,7 +6,6 @@ use Rattle.std.specs.declared.option.Option.TheVariants.{None, Some}
 use Rattle.flow_tree.specs.declared.ty.Ident.{Ident}
 use Rattle.flow_tree.specs.Decls.{RecordTree}
 use Rattle.flow_value.specs.declared.value.RecordId.{RecordId}
-use Rattle.flow_value.specs.declared.value.Value.{Value}
 use Rattle.flow_value.specs.Values.{ValueTree, ValueTrees, IntValue, BoolValue, TextValue, VoidValue, ErrorValue, RecordValue, RefValue}
 use Rattle.flow_value.specs.View.{value_of}
 use Rattle.flow_eval.specs.Records.{value_at, value_put, at_place, field_place}
@@ -17,17 +16,19 @@ use Rattle.flow_resolved.specs.View.{places_in}
 use Rattle.flow_class.specs.declared.class.Slotted.{Slotted}
 use Rattle.flow_class.specs.Classes.{RawTree}
 use Rattle.flow_code.specs.Coding.{one_more, fields_of}
+use Rattle.flow_code.specs.declared.program.Code.{Code}
+use Rattle.flow_code.specs.declared.class.Aim.{Aim}
+use Rattle.flow_value.specs.declared.value.Value.{Value}
 use Rattle.flow_trace.specs.declared.line.Line.{Line}
 use Rattle.flow_frame.specs.Frames.{with_place}
-use Rattle.flow_cancel.specs.Heap.{HeapTree, actor_id}
+use Rattle.flow_cancel.specs.Heap.{actor_id}
 use Rattle.flow_meaning.specs.Evaluating.{bind}
-use Rattle.flow_meaning.specs.Occ.{Scan, count, refs_in}
+use Rattle.flow_meaning.specs.Occ.{Scan, refs_in}
 use Rattle.flow_meaning.specs.Process.{Entry, Proc}
 use Rattle.flow_meaning.specs.Variables.{filled}
 use Rattle.flow_meaning.specs.Frame.{Memory, Frame, read, write, put_root, put_at, assign, occ_memory}
 use Rattle.flow_picture.specs.Acting.{put_frame}
-use Rattle.flow_picture.specs.Standing.{HasPlace, number_in}
-use Rattle.flow_picture.specs.Holding.{held}
+use Rattle.flow_picture.specs.Standing.{number_in}
 use Rattle.flow_picture.specs.Holds.{with_refs}
 use Rattle.flow_picture.proofs.Holding.{of_path}
 use Rattle.flow_picture.proofs.Standing.{place_written}
@@ -38,12 +39,15 @@ use Rattle.flow_follows.specs.Placing.{Stood, with_memory}
 use Rattle.flow_follows.proofs.Places.{framed_anew, in_memory, place_seen}
 use Rattle.flow_follows.proofs.Gone.{appended}
 use Rattle.flow_executes.specs.Assigning as law
-use Rattle.flow_executes.specs.Assigning.{AimsAt}
+use Rattle.flow_executes.specs.Assigning.{AimsAt, CanAssign}
 
 -- what is exchanged, where a value can be put
 record Exchanges (rs : List RecordTree) (xs : List Ident) (o : Option ValueTree) (t : ValueTree) (a b : Option ValueTree) : Type 0 where
   new : b ≡ Some t
   old : read_in rs o xs ≡ a
+
+some_is : {A : Type 0} (x y : A) → Some x ≡ Some y → x ≡ y
+some_is x y e = cc (e)
 
 one_more_is : (o : Option ℕ) (fs : Option (List ℕ)) (gs : List ℕ) → one_more o fs ≡ Some gs
     → (g : ℕ) × ((hs : List ℕ) × ((o ≡ Some g) × (fs ≡ Some hs) × (gs ≡ g ∷ hs)))
@@ -78,16 +82,17 @@ module _ (rs : List RecordTree) (field : List ℕ → Option ℕ) (at : Numberin
           by_exchange (Some (old, Some new)) g z =
               let inner = rest (value_at vs j) w old (Some new) g e in
               let is : Some new ≡ Some w = inner.new in
-              let one : Some (RecordValue r (value_put vs j new)) ≡ b = cc (z) in
-              let two : RecordValue r (value_put vs j w) ≡ t = cc (f) in
-              let three : old ≡ a = cc (z) in
-              let four : new ≡ w = cc (is) in
+              let pair = some_is {A = Exchange} (old, Some (RecordValue r (value_put vs j new))) (a, b) z in
+              let one : Some (RecordValue r (value_put vs j new)) ≡ b = ap (λ (y : Exchange). y.1) pair in
+              let two : RecordValue r (value_put vs j w) ≡ t = some_is (RecordValue r (value_put vs j w)) t f in
+              let three : old ≡ a = ap (λ (y : Exchange). y.0) pair in
+              let four : new ≡ w = some_is new w is in
               (sym one ∙ ap (λ y. Some (RecordValue r (value_put vs j y))) four ∙ ap (λ y. Some y) two, inner.old ∙ three)
 
   exchange_is : (xs : List Ident) (fs : List ℕ) → fields_of field xs ≡ Some fs → (u : ValueTree) (o : Option ValueTree) (t : ValueTree) (a b : Option ValueTree)
       → exchanged at fs u o ≡ Some (a, b) → put_in rs o xs u ≡ Some t → Exchanges rs xs o t a b
   exchange_is xs fs n u None t a b h k = absurd (cc (k))
-  exchange_is [] [] n u (Some v) t a b h k = let same : u ≡ t = cc (k) in let old : Some v ≡ a = cc (h) in let new : Some u ≡ b = cc (h) in
+  exchange_is [] [] n u (Some v) t a b h k = let same : u ≡ t = some_is u t k in let pair = some_is {A = Exchange} (Some v, Some u) (a, b) h in let old : Some v ≡ a = ap (λ (y : Exchange). y.0) pair in let new : Some u ≡ b = ap (λ (y : Exchange). y.1) pair in
       record { new = sym new ∙ ap (λ y. Some y) same; old = old }
   exchange_is [] (f ∷ fs) n u (Some v) t a b h k = absurd (cc (n))
   exchange_is (y ∷ ys) [] n u (Some v) t a b h k = let m = one_more_is (field y.name) (fields_of field ys) [] n in absurd (let c = m.1.1.2 in cc (c))
@@ -118,10 +123,12 @@ module _ (rs : List RecordTree) (field : List ℕ → Option ℕ) (at : Numberin
       → exchanged at fs u (read m q) ≡ Some (a, b) → (vs : List ValueTree) (n : Memory) → put_at rs m q xs u ≡ Some (vs, n)
       → Puts rs m q u a b vs n
   puts m q [] [] e u a b h vs n p =
-      let old : read m q ≡ a = cc (h) in
-      let new : Some u ≡ b = cc (h) in
-      let one : filled (read m q ∷ []) ≡ vs = cc (p) in
-      let two : write m q (Some u) ≡ n = cc (p) in
+      let pair = some_is {A = Exchange} (read m q, Some u) (a, b) h in
+      let old : read m q ≡ a = ap (λ (y : Exchange). y.0) pair in
+      let new : Some u ≡ b = ap (λ (y : Exchange). y.1) pair in
+      let put_pair = some_is {A = List ValueTree × Memory} (filled (read m q ∷ []), write m q (Some u)) (vs, n) p in
+      let one : filled (read m q ∷ []) ≡ vs = ap (λ (y : List ValueTree × Memory). y.0) put_pair in
+      let two : write m q (Some u) ≡ n = ap (λ (y : List ValueTree × Memory). y.1) put_pair in
       record { memory = sym two ∙ ap (write m q) new; values = sym one ∙ ap (λ o. filled (o ∷ [])) old }
   puts m q [] (f ∷ fs) e u a b h vs n p = absurd (cc (e))
   puts m q (y ∷ ys) fs e u a b h vs n p = by_root (put_in rs (read m q) (y ∷ ys) u) refl p
@@ -130,57 +137,57 @@ module _ (rs : List RecordTree) (field : List ℕ → Option ℕ) (at : Numberin
       by_root None g z = absurd (cc (z))
       by_root (Some t) g z =
           let x = exchange_is rs field at numbering (y ∷ ys) fs e u (read m q) t a b h g in
-          let one : filled (read_in rs (read m q) (y ∷ ys) ∷ []) ≡ vs = cc (z) in
-          let two : write m q (Some t) ≡ n = cc (z) in
+          let put_pair = some_is {A = List ValueTree × Memory} (filled (read_in rs (read m q) (y ∷ ys) ∷ []), write m q (Some t)) (vs, n) z in
+          let one : filled (read_in rs (read m q) (y ∷ ys) ∷ []) ≡ vs = ap (λ (y : List ValueTree × Memory). y.0) put_pair in
+          let two : write m q (Some t) ≡ n = ap (λ (y : List ValueTree × Memory). y.1) put_pair in
           record { memory = sym two ∙ ap (write m q) (sym x.new); values = sym one ∙ ap (λ o. filled (o ∷ [])) x.old }
 
-module _ (r : RawTree) (ls : List Line) (m : Process) (p : Proc Frame) (i : ℕ) (e : Entry) (f : Frame) where
-  pub path_put : law.PathPut r ls m p i e f
-  path_put x code path aim v old n st aims can as = by_put (put_at rs f.mem q aims.fields u) refl
-    where
-      rs : List RecordTree
-      rs = r.records
+module _ (r : RawTree) (ls : List Line) (m : Process) (p : Proc Frame) (i : ℕ) (e : Entry) (f : Frame) (x : Scan) (code : Code) (path : List Ident) (aim : Aim) (v : Value) (old : Option Value) (n : Process)
+    (st : Stood r ls (with_refs (value_refs v) x) m p i e f) (aims : AimsAt r.records code f path aim) (is : Assigns code.fields (actor_id i) aim v m old n) where
+  abbrev at_place_of : Slotted
+  at_place_of = aims.place
 
-      q : Slotted
-      q = aims.place
+  abbrev number : ℕ
+  number = number_in (length f.code.slots) at_place_of
 
-      u : ValueTree
-      u = value_of v
+  -- what is assigned by the path is what is put at its place
+  assigns : assign r.records f.mem path (value_of v) ≡ put_at r.records f.mem at_place_of aims.fields (value_of v)
+  assigns = ap (λ xs. assign r.records f.mem xs (value_of v)) aims.names ∙ ap (λ o. bind o (λ y. put_at r.records f.mem y aims.fields (value_of v))) aims.named
 
-      number : ℕ
-      number = number_in (length f.code.slots) q
+  seen : option_map value_of (place_held i aim.place m.heap) ≡ read f.mem at_place_of
+  seen = ap (λ k. option_map value_of (place_held i k m.heap)) aims.number ∙ place_seen r ls m p i e f (with_refs (value_refs v) x) at_place_of st aims.has
 
-      -- what is assigned by the path is what is put at its place
-      assigns : assign rs f.mem path u ≡ put_at rs f.mem q aims.fields u
-      assigns = ap (λ xs. assign rs f.mem xs u) aims.names ∙ ap (λ o. bind o (λ y. put_at rs f.mem y aims.fields u)) aims.named
+  parts : exchanged (places_in code.fields) aim.path.items (value_of v) (read f.mem at_place_of) ≡ Some (option_map value_of old, option_map value_of is.root)
+  parts = ap (exchanged (places_in code.fields) aim.path.items (value_of v)) (sym seen) ∙ is.parts
 
-      seen : option_map value_of (place_held i aim.place m.heap) ≡ read f.mem q
-      seen = ap (λ k. option_map value_of (place_held i k m.heap)) aims.number ∙ place_seen r ls m p i e f (with_refs (value_refs v) x) q st aims.has
+  by_put : (vs : List ValueTree) (mem : Memory) → put_at r.records f.mem at_place_of aims.fields (value_of v) ≡ Some (vs, mem) → law.Assigned r ls m p i e f x path v old n
+  by_put vs mem g =
+      let w = puts r.records aims.field (places_in code.fields) aims.numbering f.mem at_place_of aims.fields aim.path.items aims.numbers (value_of v) (option_map value_of old) (option_map value_of is.root) parts vs mem g in
+      let k : Frame = with_memory (write f.mem at_place_of (option_map value_of is.root)) f in
+      let same : with_memory mem f ≡ k = ap (λ y. with_memory y f) w.memory in
+      let h = with_place st.acts.memory number is.root in
+      let anew = framed_anew r ls (with_refs (value_refs v) x) (with_refs (refs_in vs) x) m p i e f st h k
+      (place_written r st.acts.memory e f at_place_of is.root st.acts.stands aims.has) refl refl
+      (λ z j.
+      let a = of_path z j f.mem r.records at_place_of aims.fields (value_of v) vs mem (in_memory f at_place_of aims.has) g in
+      let b = ap (λ y. occ_memory z j y) w.memory in
+      let c = appended z j (value_refs v) in omega (arith, a, b, c)) in
+      let there : Stood r ls (with_refs (refs_in vs) x) (on_heap (place_put i number is.root) m) (put_frame i k p) i e k =
+      subst (λ o. Stood r ls (with_refs (refs_in vs) x) (on_heap (reframed (λ y. with_place y number is.root) i o) m) (put_frame i k p) i e k) (sym st.acts.framed) anew in
+      record {
+        values = vs;
+        memory = mem;
+        assigned = assigns ∙ g;
+        same = w.values;
+        stood = subst (λ y. Stood r ls (with_refs (refs_in vs) x) n (put_frame i y p) i e y) (sym same)
+            (subst (λ z. Stood r ls (with_refs (refs_in vs) x) z (put_frame i k p) i e k) (sym is.put)
+            (subst (λ y. Stood r ls (with_refs (refs_in vs) x) (on_heap (place_put i y is.root) m) (put_frame i k p) i e k) (sym aims.number) there));
+      }
 
-      parts : exchanged (places_in code.fields) aim.path.items u (read f.mem q) ≡ Some (option_map value_of old, option_map value_of as.root)
-      parts = ap (exchanged (places_in code.fields) aim.path.items u) (sym seen) ∙ as.parts
+  by_option : CanAssign r.records f path (value_of v) → (o : Option (List ValueTree × Memory)) → put_at r.records f.mem at_place_of aims.fields (value_of v) ≡ o → law.Assigned r ls m p i e f x path v old n
+  by_option can None g = absurd (can (assigns ∙ g))
+  by_option can (Some y) g = by_put y.0 y.1 g
 
-      by_put : (o : Option (List ValueTree × Memory)) → put_at rs f.mem q aims.fields u ≡ o → law.Assigned r ls m p i e f x path v old n
-      by_put None g = absurd (can (assigns ∙ g))
-      by_put (Some (vs, mem)) g =
-          let w = puts rs aims.field (places_in code.fields) aims.numbering f.mem q aims.fields aim.path.items aims.numbers u (option_map value_of old) (option_map value_of as.root) parts vs mem g in
-          let k : Frame = with_memory (write f.mem q (option_map value_of as.root)) f in
-          let same : with_memory mem f ≡ k = ap (λ y. with_memory y f) w.memory in
-          let h = with_place st.acts.memory number as.root in
-          let anew = framed_anew r ls (with_refs (value_refs v) x) (with_refs (refs_in vs) x) m p i e f st h k
-          (place_written r st.acts.memory e f q as.root st.acts.stands aims.has) refl refl
-          (λ z j.
-          let a = of_path z j f.mem rs q aims.fields u vs mem (in_memory f q aims.has) g in
-          let b = ap (λ y. occ_memory z j y) w.memory in
-          let c = appended z j (value_refs v) in omega (arith, a, b, c)) in
-          let put : Stood r ls (with_refs (refs_in vs) x) (on_heap (place_put i number as.root) m) (put_frame i k p) i e k =
-          subst (λ o. Stood r ls (with_refs (refs_in vs) x) (on_heap (reframed (λ y. with_place y number as.root) i o) m) (put_frame i k p) i e k) (sym st.acts.framed) anew in
-          record {
-            values = vs;
-            memory = mem;
-            assigned = assigns ∙ g;
-            same = w.values;
-            stood = subst (λ y. Stood r ls (with_refs (refs_in vs) x) n (put_frame i y p) i e y) (sym same)
-                (subst (λ z. Stood r ls (with_refs (refs_in vs) x) z (put_frame i k p) i e k) (sym as.put)
-                (subst (λ y. Stood r ls (with_refs (refs_in vs) x) (on_heap (place_put i y as.root) m) (put_frame i k p) i e k) (sym aims.number) put));
-          }
+pub path_put : (r : RawTree) (ls : List Line) (m : Process) (p : Proc Frame) (i : ℕ) (e : Entry) (f : Frame) → law.PathPut r ls m p i e f
+path_put r ls m p i e f x code path aim v old n st aims can is =
+    by_option r ls m p i e f x code path aim v old n st aims is can (put_at r.records f.mem aims.place aims.fields (value_of v)) refl

@@ -1,19 +1,17 @@
 -- What an actor evaluates refers to what is there.
-use Rattle.std.proofs.Common.{◌≡◌, ℕ, Bool, true, false, List, [], ◌∷◌, ◌++◌, refl, sym, ap, ◌∙◌, subst}
+use Rattle.std.proofs.Common.{◌≡◌, ℕ, Bool, true, false, List, [], ◌∷◌, ◌++◌, refl, ap, ◌∙◌, subst}
 use Rattle.std.specs.declared.option.Option.{Option}
 use Rattle.std.specs.declared.option.Option.TheVariants.{None, Some}
-use Rattle.flow_tree.specs.Tree.{ExprTree, ExprTrees}
 use Rattle.flow_value.specs.declared.value.Kind.{Kind}
 use Rattle.flow_value.specs.declared.value.Kind.TheVariants as kind
-use Rattle.flow_value.specs.Values.{ValueTree, ValueTrees, IntValue, BoolValue, TextValue, VoidValue, ErrorValue, RecordValue, RefValue, NoValues, MoreValues, GoodOutcome, refs_of, refs_of_all}
+use Rattle.flow_value.specs.Values.{ValueTree, ValueTrees, IntValue, BoolValue, TextValue, VoidValue, ErrorValue, RecordValue, RefValue, NoValues, MoreValues, refs_of, refs_of_all}
 use Rattle.flow_eval.specs.Eval.{Res, Done}
 use Rattle.flow_class.specs.declared.class.Slotted.{Slotted}
 use Rattle.flow_class.specs.Places.{place_named}
-use Rattle.flow_references.specs.Named.{Rule, GivesFutures, Named, FieldsNamed, AllNamed, MaybeNamed, ResNamed, AllResNamed, CellsNamed, LookNamed}
+use Rattle.flow_references.specs.Named.{Rule, GivesFutures, Named, FieldsNamed, AllNamed, MaybeNamed, ResNamed, AllResNamed, LookNamed}
 use Rattle.flow_references.proofs.Names.{eval_names, all_names}
 use Rattle.flow_meaning.specs.Numbered.{thing}
-use Rattle.flow_meaning.specs.Cells.{Ref, Cell, Single, Stream, outcome}
-use Rattle.flow_meaning.specs.Asks.{Supply}
+use Rattle.flow_meaning.specs.Cells.{Ref, Cell, Single, Stream}
 use Rattle.flow_meaning.specs.Evaluating.{bind, setting}
 use Rattle.flow_meaning.specs.Process.{Proc}
 use Rattle.flow_meaning.specs.Occ.{refs_in}
@@ -23,10 +21,10 @@ use Rattle.flow_meaning.specs.Frame.{Frame, read, look}
 use Rattle.flow_picture.specs.Losing.{RightCell}
 use Rattle.flow_picture.specs.Holds.{There, AllThere}
 use Rattle.flow_executes.specs.Referring as law
-use Rattle.flow_executes.specs.Referring.{HoldsThere, SetThere}
+use Rattle.flow_executes.specs.Referring.{HoldsThere}
 
 -- whether a reference of a kind leads to a cell of that kind
-right : Kind → Option Cell → Bool
+abbrev right : Kind → Option Cell → Bool
 right kind.Promise (Some (Single o ws)) = true
 right kind.Future (Some (Single o ws)) = true
 right kind.PromiseStream (Some (Stream q d w)) = true

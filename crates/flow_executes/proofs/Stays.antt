@@ -1,25 +1,21 @@
 -- An actor that goes on stands in the code of its class.
 use Rattle.std.proofs.Common.{◌≡◌, Bool, true, false, List, [], ◌∷◌, refl, sym, ap, ◌∙◌, subst}
 use Rattle.std.specs.Prelude.{ℕ, slice_get}
-use Rattle.std.specs.declared.option.Option.{Option}
-use Rattle.std.specs.declared.option.Option.TheVariants.{None, Some}
+use Rattle.std.specs.declared.option.Option.TheVariants.{Some}
 use Rattle.flow_ast.specs.declared.predefined.Method.{Method}
 use Rattle.flow_value.specs.declared.value.Value.{Value}
 use Rattle.flow_value.specs.Values.{ValueTree, IntValue, BoolValue, TextValue, VoidValue, ErrorValue, RecordValue, RefValue}
 use Rattle.flow_value.specs.View.{value_of}
 use Rattle.flow_eval.specs.Eval.{Res}
 use Rattle.flow_resolved.specs.declared.expr.Resolved.{Resolved}
-use Rattle.flow_class.specs.Classes.{ClassTree, RawTree}
 use Rattle.flow_code.specs.declared.class.Aim.{Aim}
 use Rattle.flow_code.specs.declared.class.Act.{Act}
 use Rattle.flow_code.specs.declared.class.Act.TheVariants as act
-use Rattle.flow_code.specs.declared.class.Class.{Class}
 use Rattle.flow_code.specs.declared.class.Effect.{Effect}
-use Rattle.flow_code.specs.declared.class.Effect.TheVariants as effect
 use Rattle.flow_code.specs.declared.class.Group.{Group}
 use Rattle.flow_code.specs.declared.class.Instruction.{Instruction}
 use Rattle.flow_code.specs.declared.class.Instruction.TheVariants as instruction
-use Rattle.flow_code.specs.declared.class.Last as code
+use Rattle.flow_code.specs.declared.class.Last as code_last
 use Rattle.flow_code.specs.declared.class.Last.TheVariants as last
 use Rattle.flow_code.specs.declared.class.Operand.{Operand}
 use Rattle.flow_code.specs.declared.class.Operand.TheVariants as operand
@@ -27,7 +23,6 @@ use Rattle.flow_code.specs.declared.program.Code.{Code}
 use Rattle.flow_code.specs.View.{code_of}
 use Rattle.flow_code.specs.Coded.{coded}
 use Rattle.flow_frame.specs.declared.held.Held.{Held}
-use Rattle.flow_meaning.specs.Frame.{Frame}
 use Rattle.flow_steps.specs.declared.call.Goal.{Goal}
 use Rattle.flow_steps.specs.declared.frames.Stand.{Stand}
 use Rattle.flow_steps.specs.declared.next.Pace.{Pace}
@@ -36,11 +31,9 @@ use Rattle.flow_steps.specs.declared.process.Process.{Process}
 use Rattle.flow_steps.specs.Acting.{Values, IsEffect}
 use Rattle.flow_steps.specs.Sights.{Evaluates, gives, throws, runs_out, with_left}
 use Rattle.flow_steps.specs.Standing.{GoesTo, next_stand, noted_stand}
-use Rattle.flow_steps.specs.Stepping.{OnAfter, IsAct, MethodStep, Does, GoesOnAt, Passes, no_pass, pass_begins, IsTest, OperandKept, ReferenceKept, OperandStep, Chooses, asks_operand, all_kept, IsChoose, IsThrow, ErrorThrown, Ends, StepsOn, by_instruction, by_last}
+use Rattle.flow_steps.specs.Stepping.{OnAfter, IsAct, MethodStep, Does, GoesOnAt, Passes, no_pass, pass_begins, IsTest, ReferenceKept, OperandStep, Chooses, asks_operand, all_kept, ErrorThrown, Ends, StepsOn, by_instruction, by_last}
 use Rattle.flow_steps.specs.Waiting.{Keeps, kept_marked, kept_unready, kept_ready}
-use Rattle.flow_follows.specs.Coded.{CodedBy}
 use Rattle.flow_executes.specs.Decoding as law
-use Rattle.flow_executes.specs.Decoding.{InCode}
 
 -- a stand of the same class, at a block of it
 record SameClass (s t : Stand) : Type 0 where
@@ -142,7 +135,7 @@ module _ (code : Code) (s : Stand) (here : slice_get s.class.now.blocks.items s.
   by_test t one other true p n pace on to = at_block t one p n pace on to
   by_test t one other false p n pace on to = at_block t other p n pace on to
 
-  by_end : (t : Stand) (l : code.Last) (p n : Process) (pace : Pace) → pace ≡ On t → Ends code s l p pace n → SameClass s t
+  by_end : (t : Stand) (l : code_last.Last) (p n : Process) (pace : Pace) → pace ≡ On t → Ends code s l p pace n → SameClass s t
   by_end t (last.Goto b) p n pace on does = at_block t b p n pace on does
   by_end t (last.Pass b) p n pace on does = by_pass t b p n pace on does
   by_end t (last.Test e one other) p n pace on does = let a = evaluated_on s _ _ p _ t pace n on does in by_test t one other a.0 _ n pace on a.1.1

@@ -1,9 +1,8 @@
 -- The tasks by which an actor goes on are steps of the class machine.
-use Rattle.std.specs.Prelude.{◌≡◌, ℕ, List, [], ◌∷◌, length, slice_get}
+use Rattle.std.specs.Prelude.{◌≡◌, ℕ, List, [], ◌∷◌, slice_get}
 use Rattle.std.specs.declared.option.Option.TheVariants.{None, Some}
 use Rattle.std.specs.declared.vec.Vec.{Vec}
 use Rattle.std.specs.declared.alloc.Global.{Global}
-use Rattle.flow_base.specs.declared.ids.ActorId.{ActorId}
 use Rattle.flow_base.specs.declared.ids.CellId.{CellId}
 use Rattle.flow_base.specs.declared.ids.ErrorCode.{ErrorCode}
 use Rattle.flow_tree.specs.declared.ty.Ident.{Ident}
@@ -22,9 +21,8 @@ use Rattle.flow_code.specs.declared.class.Instruction.TheVariants as instruction
 use Rattle.flow_code.specs.declared.program.Code.{Code}
 use Rattle.flow_trace.specs.declared.line.Line.{Line}
 use Rattle.flow_cancel.specs.declared.task.Task.TheVariants as task
-use Rattle.flow_cancel.specs.Heap.{actor_id, cell_id}
+use Rattle.flow_cancel.specs.Heap.{actor_id}
 use Rattle.flow_meaning.specs.Asks.{Supply}
-use Rattle.flow_meaning.specs.Cells.{Ref}
 use Rattle.flow_meaning.specs.Process.{Run, Give, Store, Keep, Entry, Proc}
 use Rattle.flow_meaning.specs.Occ.{Scan}
 use Rattle.flow_meaning.specs.Work.{pushed}
@@ -42,9 +40,9 @@ use Rattle.flow_steps.specs.Holding.{value_refs}
 use Rattle.flow_steps.specs.Standing.{StandsNow}
 use Rattle.flow_steps.specs.Stepping.{Runs}
 use Rattle.flow_steps.specs.Tasks.{RunsNow, BranchAt, ValueGiven, Stored, IsKept}
-use Rattle.flow_follows.specs.Shown.{Shown, Follows}
-use Rattle.flow_follows.specs.Placing.{Acts, Stood}
-use Rattle.flow_follows.specs.Taking.{Standing, AtWait}
+use Rattle.flow_follows.specs.Shown.{Follows}
+use Rattle.flow_follows.specs.Placing.{Stood}
+use Rattle.flow_follows.specs.Taking.{Standing}
 use Rattle.flow_follows.specs.Going.{SameInto}
 use Rattle.flow_follows.specs.Keeping.{MayKeep}
 use Rattle.flow_executes.specs.Going.{MayStep, AtOperands, GoesFurther}
