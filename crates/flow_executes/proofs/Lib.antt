@@ -14,3 +14,4 @@ pub mod Executes
 pub mod Chooses
 pub mod Ends
 pub mod Refers
+pub mod Tasks

@@ -7,3 +7,4 @@ pub mod Giving
 pub mod Decoding
 pub mod Executing
 pub mod Referring
+pub mod Tasking

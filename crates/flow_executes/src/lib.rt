@@ -11,3 +11,4 @@ pub mod decoding;
 pub mod executing;
 pub mod giving;
 pub mod referring;
+pub mod tasking;
