@@ -61,7 +61,7 @@ use Rattle.flow_follows.proofs.Evaluations.{evaluation_follows}
 use Rattle.flow_executes.specs.Going.{Silent, no_more, then_on}
 use Rattle.flow_executes.specs.Assigning as law
 use Rattle.flow_executes.specs.Assigning.{AimsAt, CanAssign}
-use Rattle.flow_executes.proofs.Onward.{carried, carries_over, stale_left, stale_held, with_held}
+use Rattle.flow_executes.proofs.Onward.{carried, later_after, carries_over, stale_left, stale_held, with_held}
 use Rattle.flow_executes.proofs.Paths.{path_put}
 
 -- a new cell changes no frame
@@ -276,6 +276,6 @@ module _ (r : RawTree) (ls : List Line) (m : Process) (p : Proc Frame) (i : ℕ)
       let there_then = subst (λ y. Carries r ls x i e pace n (proc core (put p.actors i (next_instr y f)))) (written_is r ls m p i e f x s q kd st rising is.cell is.number) carries in record {
         after = storing r ls m p i e f w q kd;
         steps = new_steps r ls m p i e f w q kd st.stood.shown.goes st.acting there kind;
-        onward = carried r ls x w p i e pace n (storing r ls m p i e f w q kd)
+        onward = carried r ls x w p i e pace n (storing r ls m p i e f w q kd) (λ t on. later_after s t _ _ n pace after on)
             (subst (λ xs. Carries r ls x i e pace n (proc core xs)) (sym (put_over p.actors i f g)) there_then);
       }

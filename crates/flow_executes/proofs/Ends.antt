@@ -1,5 +1,5 @@
 -- A step of an actor in memory by the end of its block is a row of steps of the class machine.
-use Rattle.std.proofs.Common.{◌≡◌, ◌⊎◌, inl, ℕ, pos, List, refl, sym, ap, ◌∙◌, subst}
+use Rattle.std.proofs.Common.{◌≡◌, ◌⊎◌, inl, ℕ, pos, true, false, List, refl, sym, ap, ◌∙◌, subst}
 use Rattle.std.specs.declared.option.Option.TheVariants.{None}
 use Rattle.flow_resolved.specs.declared.expr.Resolved.{Resolved}
 use Rattle.flow_resolved.specs.View.{node_of}
@@ -22,6 +22,7 @@ use Rattle.flow_meaning.specs.Class.{class_names}
 use Rattle.flow_meaning.specs.Frame.{Frame, look}
 use Rattle.flow_steps.specs.declared.frames.Stand.{Stand}
 use Rattle.flow_steps.specs.declared.next.Pace.{Pace}
+use Rattle.flow_steps.specs.declared.next.Pace.TheVariants.{On}
 use Rattle.flow_steps.specs.declared.process.Process.{Process}
 use Rattle.flow_steps.specs.Holding.{on_heap}
 use Rattle.flow_steps.specs.Sights.{program_time}
@@ -37,6 +38,7 @@ use Rattle.flow_executes.specs.Executing.{MayDoNext, MayChoose, coded_by, InProg
 use Rattle.flow_executes.proofs.Onward.{one_step}
 use Rattle.flow_executes.proofs.Decisions.{test_step, return_step}
 use Rattle.flow_executes.proofs.Decodes.{the_instruction, the_end, the_wait}
+use Rattle.flow_executes.proofs.Stays.{instruction_later, end_later}
 use Rattle.flow_executes.proofs.Choices.{choice_begins}
 use Rattle.flow_executes.proofs.Chooses.{choice_follows}
 use Rattle.flow_executes.proofs.Executes.{by, coding_now, value_is, does_follows}
@@ -49,41 +51,42 @@ module _ (r : RawTree) (ls : List Line) (m : Process) (p : Proc Frame) (i : ℕ)
   abbrev either : Type 0
   either = row ⊎ Asks code s m pace n
 
-  one : StepsAs r ls x w p i e pace n → either
-  one steps = inl (one_step r ls x w p i e pace n steps)
+  -- a step after which its frame isn't told
+  one : ((t : Stand) → pace ≡ On t → t.noted ≡ false) → StepsAs r ls x w p i e pace n → either
+  one later steps = inl (one_step r ls x w p i e pace n later steps)
 
-  module _ (st : MayBeStale r ls x s m p i e f) (zero_state : law.InNoState r ls m p i e f x s) (may : MayDoNext r w p i e f (fetch f.code f.block f.instr)) where
+  module _ (st : MayBeStale r ls x s m p i e f) (zero_state : s.noted ≡ true → st.stood.acts.memory.state ≡ 0) (may : MayDoNext r w p i e f (fetch f.code f.block f.instr)) where
     value_now : (t : _) (res : Resolved) → node_of res ≡ resolved (coding_now r ls m p i e f x s w code st inp time).names t → value_for code s.actor.0 res m ≡ value (class_names r) (view w i p.core) (look f.mem) t
     value_now t res same = value_is r ls m p i e f x s w code st inp time t res same
 
     by_end : (l : code_last.Last) (text : LastTree) → s.block.now.last ≡ l → fetch f.code f.block f.instr ≡ Last text → end_of l ≡ ended (coding_now r ls m p i e f x s w code st inp time) text → Ends code s l m pace n → either
     by_end (last.Goto b) (GotoLast d) is there same does =
         let block : d ≡ b = cc (same) in
-        one (goto_step r ls m p i e f x s w b pace n st (there ∙ ap (λ y. Last (GotoLast y)) block) does)
+        one (λ t on. end_later code s inp.standing.block t (last.Goto b) m n pace on does) (goto_step r ls m p i e f x s w b pace n st (there ∙ ap (λ y. Last (GotoLast y)) block) does)
     by_end (last.Pass b) (PassLast d) is there same does =
         let block : d ≡ b = cc (same) in
-        one (pass_step r ls m p i e f x s w b pace n st (there ∙ ap (λ y. Last (PassLast y)) block) does)
+        one (λ t on. end_later code s inp.standing.block t (last.Pass b) m n pace on does) (pass_step r ls m p i e f x s w b pace n st (there ∙ ap (λ y. Last (PassLast y)) block) does)
     by_end (last.Test res b c) (TestLast t d k) is there same does =
         let node : node_of res ≡ resolved (coding_now r ls m p i e f x s w code st inp time).names t = cc (same) in
         let first : d ≡ b = cc (same) in
         let second : k ≡ c = cc (same) in
-        one (test_step r ls m p i e f x s w t b c (value_for code s.actor.0 res m) pace n st
+        one (λ t on. end_later code s inp.standing.block t (last.Test res b c) m n pace on does) (test_step r ls m p i e f x s w t b c (value_for code s.actor.0 res m) pace n st
         (there ∙ ap (λ y. Last (TestLast t y k)) first ∙ ap (λ y. Last (TestLast t b y)) second) (value_now t res node) does)
     by_end (last.Choose g) (ChooseLast d) is there same does =
         let number : d ≡ g = cc (same) in
         let fetched : fetch f.code f.block f.instr ≡ Last (ChooseLast g) = there ∙ ap (λ y. Last (ChooseLast y)) number in
         let fits : MayChoose r w p i e f g = subst (MayDoNext r w p i e f) fetched may in
         let wait = the_wait r code.classes.items s i f (by r ls m p i e f x s w code st inp time) inp.standing g st.standing fetched in
-        let at = choice_begins r ls m p i e f x s g st wait fits.go (zero_state st) in
+        let at = choice_begins r ls m p i e f x s g st wait fits.go zero_state in
         choice_follows r ls m p i e f x s w code inp time none at g fetched is fits pace n does
     by_end (last.Return res) (ReturnLast t) is there same does =
         let node : node_of res ≡ resolved (coding_now r ls m p i e f x s w code st inp time).names t = cc (same) in
         let v = value_now t res node in
         let fits = subst (MayDoNext r w p i e f) there may in
-        one (return_step r ls m p i e f x s w t (value_for code s.actor.0 res m) pace n st there v (λ u left done. fits u left (sym v ∙ done)) does)
+        one (λ t on. end_later code s inp.standing.block t (last.Return res) m n pace on does) (return_step r ls m p i e f x s w t (value_for code s.actor.0 res m) pace n st there v (λ u left done. fits u left (sym v ∙ done)) does)
     by_end (last.Throw res) (ThrowLast t) is there same does =
         let node : node_of res ≡ resolved (coding_now r ls m p i e f x s w code st inp time).names t = cc (same) in
-        one (throw_step r ls m p i e f x s w t (value_for code s.actor.0 res m) pace n st there (value_now t res node) does)
+        one (λ t on. end_later code s inp.standing.block t (last.Throw res) m n pace on does) (throw_step r ls m p i e f x s w t (value_for code s.actor.0 res m) pace n st there (value_now t res node) does)
     by_end (last.Goto b) (PassLast d) is there same does = absurd (cc (same))
     by_end (last.Goto b) (TestLast t d k) is there same does = absurd (cc (same))
     by_end (last.Goto b) (ChooseLast d) is there same does = absurd (cc (same))
@@ -116,7 +119,7 @@ module _ (r : RawTree) (ls : List Line) (m : Process) (p : Proc Frame) (i : ℕ)
     by_end (last.Throw res) (ReturnLast t) is there same does = absurd (cc (same))
 
     moves_follow : StepsOn code s m pace n → either
-    moves_follow (by_instruction y at does) = does_follows r ls m p i e f x s w code st inp time pace n y at may does
+    moves_follow (by_instruction y at does) = does_follows r ls m p i e f x s w code st inp time pace n (λ t on. instruction_later code s inp.standing.block t y m n pace on does) y at may does
     moves_follow (by_last at does) =
         let a = the_end r code.classes.items s i f (by r ls m p i e f x s w code st inp time) inp.standing st.standing st.instruction at in
         by_end s.block.now.last a.text refl a.fetched a.coded does
@@ -144,5 +147,5 @@ module _ (r : RawTree) (ls : List Line) (m : Process) (p : Proc Frame) (i : ℕ)
         (subst (λ l. Ends code s l m pace n) at.wait.last does)
 
 pub step_follows : (r : RawTree) (ls : List Line) (m : Process) (p : Proc Frame) (i : ℕ) (e : Entry) (f : Frame) → law.StepFollows r ls m p i e f
-step_follows r ls m p i e f x s w code pace n (moves st) inp none time zero_state may steps = moves_follow r ls m p i e f x s w code inp time none pace n st zero_state may steps
-step_follows r ls m p i e f x s w code pace n (chooses at) inp none time zero_state may steps = chooses_follow r ls m p i e f x s w code inp time none pace n at may steps
+step_follows r ls m p i e f x s w code pace n (moves st zero_state) inp none time may steps = moves_follow r ls m p i e f x s w code inp time none pace n st zero_state may steps
+step_follows r ls m p i e f x s w code pace n (chooses at) inp none time may steps = chooses_follow r ls m p i e f x s w code inp time none pace n at may steps

@@ -1,5 +1,5 @@
 -- A step of an actor in memory by an instruction that asks nothing of the world is a row of steps of the class machine.
-use Rattle.std.proofs.Common.{◌≡◌, ◌≤◌, ◌⊎◌, inl, inr, ℕ, ◌+◌, ◌^◌, pos, List, [], ◌∷◌, length, map, refl, sym, ap, ◌∙◌, subst}
+use Rattle.std.proofs.Common.{◌≡◌, ◌≤◌, ◌⊎◌, inl, inr, ℕ, ◌+◌, ◌^◌, pos, false, List, [], ◌∷◌, length, map, refl, sym, ap, ◌∙◌, subst}
 use Rattle.std.specs.Prelude.{slice_get}
 use Rattle.std.specs.Option.{option_and_then}
 use Rattle.std.specs.declared.option.Option.{Option}
@@ -39,6 +39,7 @@ use Rattle.flow_picture.specs.Acting.{put_frame}
 use Rattle.flow_picture.specs.Standing.{number_in}
 use Rattle.flow_steps.specs.declared.frames.Stand.{Stand}
 use Rattle.flow_steps.specs.declared.next.Pace.{Pace}
+use Rattle.flow_steps.specs.declared.next.Pace.TheVariants.{On}
 use Rattle.flow_steps.specs.declared.process.Process.{Process}
 use Rattle.flow_steps.specs.Holding.{on_heap}
 use Rattle.flow_steps.specs.Acting.{args_of}
@@ -104,9 +105,9 @@ module _ (r : RawTree) (ls : List Line) (m : Process) (p : Proc Frame) (i : ℕ)
       ∙ ap (λ k. values_at (sight_in code i m) k m.left) same
       ∙ args_follow r ls x m (put_frame i (stale st.block st.instr st.state f) p) i e (stale st.block st.instr st.state f) code w st.stood inp.program time inp.few es
 
-  module _ (pace : Pace) (n : Process) where
+  module _ (pace : Pace) (n : Process) (later : (t : Stand) → pace ≡ On t → t.noted ≡ false) where
     one : StepsAs r ls x w p i e pace n → row pace n
-    one steps = one_step r ls x w p i e pace n steps
+    one steps = one_step r ls x w p i e pace n later steps
 
     -- by what it is coded from
     sets : (aim : Aim) (res : Resolved) (text : InstrTree) → fetch f.code f.block f.instr ≡ Body text → MayDoNext r w p i e f (fetch f.code f.block f.instr) → CodedFrom coding_now f.code text (SetCode (aim_of aim) (node_of res))

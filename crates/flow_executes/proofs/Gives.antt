@@ -1,5 +1,5 @@
 -- The tasks by which an actor goes on are steps of the class machine.
-use Rattle.std.proofs.Common.{◌≡◌, ℕ, suc, ◌+◌, List, [], ◌∷◌, refl, sym, ap, ◌∙◌, subst, arith}
+use Rattle.std.proofs.Common.{◌≡◌, ℕ, suc, false, ◌+◌, List, [], ◌∷◌, refl, sym, ap, ◌∙◌, subst, arith}
 use Rattle.std.specs.declared.option.Option.{Option}
 use Rattle.std.specs.declared.option.Option.TheVariants.{None, Some}
 use Rattle.flow_base.specs.declared.ids.ActorId.{ActorId}
@@ -53,8 +53,12 @@ use Rattle.flow_executes.proofs.Paths.{path_put}
 use Rattle.flow_executes.proofs.Choices.{goes_kept}
 
 module _ (r : RawTree) (ls : List Line) (m : Process) (p : Proc Frame) (i : ℕ) (e : Entry) (f : Frame) where
+  -- in the same state
+  same_state : (q : Proc Frame) (g : Frame) → (a : Acts r m.heap q i e g) → (b : Acts r m.heap p i e f) → a.memory.state ≡ b.memory.state
+  same_state q g a b = ap (λ (y : FrameTree Value). y.state) (same_memory r m.heap m.heap p q i e e f g refl b a)
+
   pub run_begins : law.RunBegins r ls m p i e f
-  run_begins x code n st may runs = (
+  run_begins x code n st zero_state may runs = (
     runs.stand,
     (
       moves (record {
@@ -68,7 +72,7 @@ module _ (r : RawTree) (ls : List Line) (m : Process) (p : Proc Frame) (i : ℕ)
         instruction = (may.stands runs.stand runs.stands).1;
         free = record { waits = may.free.waits; keeps = may.free.keeps };
         operands = may.operands;
-      }),
+      }) (λ h. same_state (proc p.core (put p.actors i f)) f (unchanged r ls i e x m p f st).acts st.acts ∙ zero_state),
       runs.runs,
     ),
   )
@@ -77,16 +81,16 @@ module _ (r : RawTree) (ls : List Line) (m : Process) (p : Proc Frame) (i : ℕ)
   run_at_wait x code n at runs = (runs.stand, (chooses (at runs.stand runs.stands), runs.runs))
 
   -- values are left over at a task
-  after_task : (x : Scan) (t : Stand) (rs : List Ref) (g : Frame) (pace : Pace) (n : Process) → going.AfterValues r ls m p i e f x t rs g pace n
+  after_task : (x : Scan) (t : Stand) (rs : List Ref) (g : Frame) (pace : Pace) (n : Process) → t.noted ≡ false → going.AfterValues r ls m p i e f x t rs g pace n
       → Onward r ls x i pace n (proc (work.dropping rs (pushed (Run i) p.core)) (put p.actors i g))
-  after_task x t rs g (On u) n a = record {
+  after_task x t rs g (On u) n later a = record {
     process = put_frame i g p;
     entry = e;
     frame = g;
     runs = ap (λ us. proc (work.dropping us (pushed (Run i) p.core)) (put p.actors i g)) a.1;
-    next = moves (subst (λ (y : Stand). going.Goes r ls x y n p i e g) (sym a.0) a.2);
+    next = moves (subst (λ (y : Stand). going.Goes r ls x y n p i e g) (sym a.0) a.2) (λ h. let b = ap (λ (y : Stand). y.noted) a.0 ∙ later in absurd (cc (b, h)));
   }
-  after_task x t rs g Off n a = shows a
+  after_task x t rs g Off n later a = shows a
 
   -- what a branch gets in the class machine
   taken_by : (callback : CallbackTree) (u : ValueTree)
@@ -128,7 +132,7 @@ module _ (r : RawTree) (ls : List Line) (m : Process) (p : Proc Frame) (i : ℕ)
         goes = record {
           after = after;
           steps = then_on start after after one (no_more after);
-          onward = after_task x is.goes (refs_in over) g is.pace is.between there;
+          onward = after_task x is.goes (refs_in over) g is.pace is.between (ap (λ (y : Stand). y.noted) is.to.same) there;
         };
         further = is.further;
       }

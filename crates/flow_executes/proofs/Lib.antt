@@ -15,3 +15,4 @@ pub mod Chooses
 pub mod Ends
 pub mod Refers
 pub mod Tasks
+pub mod Matches

@@ -57,13 +57,13 @@ module _ (r : RawTree) (ls : List Line) (p : Proc Frame) (code : Code) (w : Supp
   -- the actor takes its steps
   run_follows : (i : ActorId) (below : List Task) → p.core.tasks ≡ Run i.0 ∷ below → Shown r ls (with_task (Run i.0) nothing_in_hand) start (popped below p) → MayGo code r ls start (popped below p) i.0
       → IsDone code (task.Run i) start n → TaskGoes code r ls w p n
-  run_follows i below h shown (is_free e f acts may) is =
+  run_follows i below h shown (is_free e f acts zero_state may) is =
       let q : Proc Frame = popped below p in
       let st : Stood r ls nothing_in_hand start q i.0 e f = record {
         shown = as_many_shown r ls (with_task (Run i.0) nothing_in_hand) nothing_in_hand start q (λ z j. omega arith) shown;
         acts = acts;
       } in
-      let a = run_begins r ls start q i.0 e f nothing_in_hand code n st may is in
+      let a = run_begins r ls start q i.0 e f nothing_in_hand code n st zero_state may is in
       runs i.0 a.0 start q e f (sym (whole (Run i.0) below h)) a.1.0 a.1.1
   run_follows i below h shown (has_operands e f at) is =
       let q : Proc Frame = popped below p in

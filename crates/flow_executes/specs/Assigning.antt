@@ -1,4 +1,5 @@
--- A step of an actor in memory by which one of its variables gets a value is a step of the class machine, or two.
+-- A step of an actor in memory by which one of its variables gets a value is a step of the class machine,
+-- or two.
 use Rattle.std.specs.Prelude.{◌≡◌, ℕ, List, [], ◌∷◌, length}
 use Rattle.std.specs.Option.{option_map}
 use Rattle.std.specs.declared.option.Option.{Option}
@@ -48,8 +49,10 @@ use Rattle.flow_follows.specs.Carried.{StepsAs}
 use Rattle.flow_executes.specs.Going.{GoesBy}
 use Rattle.flow_executes.specs.Deciding.{GivesThere}
 
--- An aim in memory is that of a path: its place is that of the first name, which the frame has; its numbers are those of the fields.
-pub record AimsAt (rs : List RecordTree) (code : Code) (f : Frame) (path : List Ident) (aim : Aim) : Type 0 where
+-- An aim in memory is that of a path: its place is that of the first name, which the frame has; its
+-- numbers are those of the fields.
+pub record AimsAt (rs : List RecordTree) (code : Code) (f : Frame) (path : List Ident) (aim : Aim)
+    : Type 0 where
   pub name : Ident
   pub fields : List Ident
   pub place : Slotted
@@ -70,7 +73,8 @@ CanAssignAll rs f path comes_to = (v : ValueTree) (left : ℕ) → comes_to ≡ 
 
 module _ (r : RawTree) (ls : List Line) (m : Process) (p : Proc Frame) (i : ℕ) (e : Entry) (f : Frame) where
   -- A value in hand goes where a path leads, and what stood there comes to hand.
-  pub record Assigned (x : Scan) (path : List Ident) (v : Value) (old : Option Value) (n : Process) : Type 0 where
+  pub record Assigned (x : Scan) (path : List Ident) (v : Value) (old : Option Value) (n : Process)
+      : Type 0 where
     pub values : List ValueTree
     pub memory : Memory
     pub assigned : assign r.records f.mem path (value_of v) ≡ Some (values, memory)
@@ -80,13 +84,15 @@ module _ (r : RawTree) (ls : List Line) (m : Process) (p : Proc Frame) (i : ℕ)
   abbrev pub PathPut : Type 0
   PathPut =
       (x : Scan) (code : Code) (path : List Ident) (aim : Aim) (v : Value) (old : Option Value) (n : Process)
-      → Stood r ls (with_refs (value_refs v) x) m p i e f → AimsAt r.records code f path aim → CanAssign r.records f path (value_of v)
+      → Stood r ls (with_refs (value_refs v) x) m p i e f → AimsAt r.records code f path aim
+      → CanAssign r.records f path (value_of v)
       → Assigns code.fields (actor_id i) aim v m old n → Assigned x path v old n
 
   -- an assignment of a value
   abbrev pub SetStep : Type 0
   SetStep =
-      (x : Scan) (s : Stand) (w : Supply) (code : Code) (path : List Ident) (t : ExprTree) (aim : Aim) (comes_to : Res ValueTree) (pace : Pace)
+      (x : Scan) (s : Stand) (w : Supply) (code : Code) (path : List Ident) (t : ExprTree) (aim : Aim)
+      (comes_to : Res ValueTree) (pace : Pace)
       (n : Process) → MayBeStale r ls x s m p i e f → fetch f.code f.block f.instr ≡ Body (SetInstr path t)
       → comes_to ≡ value (class_names r) (view w i p.core) (look f.mem) t → GivesThere p comes_to
       → AimsAt r.records code f path aim → CanAssignAll r.records f path comes_to

@@ -38,22 +38,26 @@ pub record CallsFunction (r : RawTree) (name : Ident) (number : ℕ) : Type 0 wh
   pub own : named call_names name.name ≡ None
   pub same : routine_named r.functions name.name ≡ slice_get r.functions number
 
--- Arguments of an actor's class come to the same, with as many turns, where the time is the world's and the frame has places with
--- numbers below 2^32.
+-- Arguments of an actor's class come to the same, with as many turns, where the time is the world's and
+-- the frame has places with numbers below 2^32.
 abbrev pub ArgumentsFollow : Type 0
 ArgumentsFollow =
-    (r : RawTree) (ls : List Line) (x : Scan) (m : Process) (p : Proc Frame) (i : ℕ) (e : Entry) (f : Frame) (code : Code) (s : Supply)
+    (r : RawTree) (ls : List Line) (x : Scan) (m : Process) (p : Proc Frame) (i : ℕ) (e : Entry) (f : Frame)
+    (code : Code) (s : Supply)
     (es : ExprTrees) → Stood r ls x m p i e f → (c : IsCodeOf r code) → program_time m.time ≡ pos s.now
     → length f.code.slots + length f.mem.locals ≤ 2 ^ 32
-    → values_at (sight_in code i m) (resolved_all (record c.coded.names { place = place_in (length f.code.slots) }) es) m.left
+    → values_at (sight_in code i m)
+    (resolved_all (record c.coded.names { place = place_in (length f.code.slots) }) es) m.left
     ≡ values (class_names r) (view s i p.core) (look f.mem) es
 
 module _ (r : RawTree) (ls : List Line) (m : Process) (p : Proc Frame) (i : ℕ) (e : Entry) (f : Frame) where
   -- its value is forgotten
   abbrev pub FunctionStep : Type 0
   FunctionStep =
-      (x : Scan) (s : Stand) (w : Supply) (code : Code) (name : Ident) (es : ExprTrees) (k : ℕ) (comes_to : Res (List ValueTree)) (pace : Pace)
-      (n : Process) → MayBeStale r ls x s m p i e f → fetch f.code f.block f.instr ≡ Body (ActInstr (name ∷ []) es)
+      (x : Scan) (s : Stand) (w : Supply) (code : Code) (name : Ident) (es : ExprTrees) (k : ℕ)
+      (comes_to : Res (List ValueTree)) (pace : Pace)
+      (n : Process) → MayBeStale r ls x s m p i e f → fetch f.code f.block f.instr
+      ≡ Body (ActInstr (name ∷ []) es)
       → CallsFunction r name k → setting_in code m ≡ setting (class_names r) (view w i p.core)
       → comes_to ≡ values (class_names r) (view w i p.core) (look f.mem) es
       → Evaluates s args_of comes_to m (IsAct code s (act.Function k)) pace n → StepsAs r ls x w p i e pace n

@@ -42,20 +42,25 @@ pub record CanWaitAt (p : Proc Frame) (q : Ref) : Type 0 where
   pub there : There p q
 
 abbrev pub GivesOperand : Proc Frame → Res ValueTree → Type 0
-GivesOperand p comes_to = (kd : Kind) (k left : ℕ) → comes_to ≡ Done (RefValue kd k) left → CanWaitAt p (kd, k)
+GivesOperand p comes_to = (kd : Kind) (k left : ℕ) → comes_to ≡ Done (RefValue kd k) left
+    → CanWaitAt p (kd, k)
 
 module _ (r : RawTree) (ls : List Line) (m : Process) (p : Proc Frame) (i : ℕ) (e : Entry) (f : Frame) where
   -- an actor comes to its wait: its frame is told
   abbrev pub ChoiceBegins : Type 0
   ChoiceBegins =
-      (x : Scan) (s : Stand) (group : ℕ) → (st : MayBeStale r ls x s m p i e f) → AtWait s f group → MayGo i e p.core
-      → (s.noted ≡ true → st.stood.acts.memory.state ≡ 0) → AtOperands r ls x (noted_stand s) (noted s m) p i e f
+      (x : Scan) (s : Stand) (group : ℕ) → (st : MayBeStale r ls x s m p i e f) → AtWait s f group
+      → MayGo i e p.core
+      → (s.noted ≡ true → st.stood.acts.memory.state ≡ 0) → AtOperands r ls x (noted_stand s)
+      (noted s m) p i e f
 
   -- The next operand by its value: in the class machine it is asked for by one step, and kept by the next.
   abbrev pub OperandStep : Type 0
   OperandStep =
-      (x : Scan) (s : Stand) (w : Supply) (b : CallbackTree) (comes_to : Res ValueTree) (pace : Pace) (n : Process)
-      → (at : AtOperands r ls x s m p i e f) → m.asked ≡ None → callback_at f.code at.group (length e.operands) ≡ Some b
+      (x : Scan) (s : Stand) (w : Supply) (b : CallbackTree) (comes_to : Res ValueTree) (pace : Pace)
+      (n : Process)
+      → (at : AtOperands r ls x s m p i e f) → m.asked ≡ None
+      → callback_at f.code at.group (length e.operands) ≡ Some b
       → effect_in (class_names r) b.operand ≡ None
       → comes_to ≡ value (class_names r) (view w i p.core) (look f.mem) b.operand → GivesOperand p comes_to
       → Evaluates s value_of comes_to m (OperandKept s (next_callback e f)) pace n
@@ -65,5 +70,6 @@ module _ (r : RawTree) (ls : List Line) (m : Process) (p : Proc Frame) (i : ℕ)
   abbrev pub WaitStep : Type 0
   WaitStep =
       (x : Scan) (s : Stand) (w : Supply) (group : ℕ) (n : Process) → Stood r ls x m p i e f → m.asked ≡ None
-      → MayAwait s p i group e f → callback_at f.code (suc group) (length e.operands) ≡ None → Waits s (suc group) m n
+      → MayAwait s p i group e f → callback_at f.code (suc group) (length e.operands) ≡ None
+      → Waits s (suc group) m n
       → GoesBy r ls x w i (on_core (pushed (Run i)) p) Off n

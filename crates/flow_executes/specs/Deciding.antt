@@ -31,15 +31,18 @@ module _ (r : RawTree) (ls : List Line) (m : Process) (p : Proc Frame) (i : ℕ)
   -- one of two blocks, by a truth value
   abbrev pub TestStep : Type 0
   TestStep =
-      (x : Scan) (s : Stand) (w : Supply) (t : ExprTree) (one other : ℕ) (comes_to : Res ValueTree) (pace : Pace) (n : Process)
+      (x : Scan) (s : Stand) (w : Supply) (t : ExprTree) (one other : ℕ) (comes_to : Res ValueTree)
+      (pace : Pace) (n : Process)
       → MayBeStale r ls x s m p i e f → fetch f.code f.block f.instr ≡ Last (TestLast t one other)
       → comes_to ≡ value (class_names r) (view w i p.core) (look f.mem) t
-      → Evaluates s truth_value (truth_of comes_to) m (IsTest s one other) pace n → StepsAs r ls x w p i e pace n
+      → Evaluates s truth_value (truth_of comes_to) m (IsTest s one other) pace n
+      → StepsAs r ls x w p i e pace n
 
   -- the actor ends with a value, which refers to what is there
   abbrev pub ReturnStep : Type 0
   ReturnStep =
-      (x : Scan) (s : Stand) (w : Supply) (t : ExprTree) (comes_to : Res ValueTree) (pace : Pace) (n : Process)
+      (x : Scan) (s : Stand) (w : Supply) (t : ExprTree) (comes_to : Res ValueTree) (pace : Pace)
+      (n : Process)
       → MayBeStale r ls x s m p i e f → fetch f.code f.block f.instr ≡ Last (ReturnLast t)
       → comes_to ≡ value (class_names r) (view w i p.core) (look f.mem) t → GivesThere p comes_to
       → Evaluates s value_of comes_to m (IsReturn s) pace n → StepsAs r ls x w p i e pace n

@@ -46,7 +46,8 @@ use Rattle.flow_follows.specs.Coded.{CodedBy}
 use Rattle.flow_executes.specs.Assigning.{AimsAt}
 
 -- An actor stands in a block of the class that is coded from that of its frame.
-pub record InCode {r : RawTree} {classes : List Class} (c : CodedBy r classes) (s : Stand) (f : Frame) : Type 0 where
+pub record InCode {r : RawTree} {classes : List Class} (c : CodedBy r classes) (s : Stand) (f : Frame)
+    : Type 0 where
   pub class : code_of s.class.now ≡ coded c.names c.class f.code
   pub block : slice_get s.class.now.blocks.items s.place ≡ Some s.block.now
 
@@ -65,21 +66,25 @@ pub record AtEnd (c : Coding) (f : Frame) (l : code.Last) : Type 0 where
 pub data CodedFrom (c : Coding) (t : ClassTree) (text : InstrTree) (code : InstructionTree) : Type 0 where
   from_set : (xs : List Ident) (e : ExprTree) (a : AimTree) → text ≡ SetInstr xs e → aimed c xs ≡ Some a
       → code ≡ SetCode a (resolved c.names e) → CodedFrom c t text code
-  from_effect : (xs : List Ident) (e : ExprTree) (a : AimTree) (f : Effect × Nodes) → text ≡ EffectInstr xs e → aimed c xs ≡ Some a
+  from_effect : (xs : List Ident) (e : ExprTree) (a : AimTree) (f : Effect × Nodes) → text
+      ≡ EffectInstr xs e → aimed c xs ≡ Some a
       → effect_in c e ≡ Some f → code ≡ EffectCode a f.0 f.1 → CodedFrom c t text code
-  from_new : (q : Slotted) (n : ℕ) (k : Kind) → text ≡ NewInstr q → place_of c.slots q ≡ Some n → kind_at t q ≡ Some k
+  from_new : (q : Slotted) (n : ℕ) (k : Kind) → text ≡ NewInstr q → place_of c.slots q ≡ Some n
+      → kind_at t q ≡ Some k
       → code ≡ NewCode n k → CodedFrom c t text code
   from_act : (f : Ident) (es : ExprTrees) (a : Act) → text ≡ ActInstr (f ∷ []) es
       → act_named (named call_names f.name) (c.names.function f.name) ≡ Some a
       → code ≡ ActCode a (resolved_all c.names es) → CodedFrom c t text code
-  from_method : (x y : Ident) (ys : List Ident) (es : ExprTrees) (a : AimTree) (m : Method) → text ≡ ActInstr (x ∷ y ∷ ys) es
+  from_method : (x y : Ident) (ys : List Ident) (es : ExprTrees) (a : AimTree) (m : Method) → text
+      ≡ ActInstr (x ∷ y ∷ ys) es
       → aimed c (x ∷ before_last y ys) ≡ Some a → named method_names (last_name y ys).name ≡ Some m
       → code ≡ MethodCode a m (resolved_all c.names es) → CodedFrom c t text code
   from_drop : (ns : List ℕ) → text ≡ DropInstr ns → code ≡ DropCode (places c ns) → CodedFrom c t text code
   from_none : code ≡ NoCode → CodedFrom c t text code
 
 abbrev pub InstructionFrom : Type 0
-InstructionFrom = (c : Coding) (t : ClassTree) (text : InstrTree) → CodedFrom c t text (coded_instruction c t text)
+InstructionFrom = (c : Coding) (t : ClassTree) (text : InstrTree)
+    → CodedFrom c t text (coded_instruction c t text)
 
 -- a group of waits of the class, from 1
 pub record IsGroup (c : Coding) (f : Frame) (number : ℕ) (g : Group) : Type 0 where
@@ -99,12 +104,14 @@ Rooted f path = (q : Slotted) → root_of path ≡ Some q → HasPlace f q
 -- where an actor stands by its frame; and where it goes on
 abbrev pub BeginsInCode : Type 0
 BeginsInCode =
-    (r : RawTree) (classes : List Class) (m : Process) (p : Proc Frame) (i : ℕ) (e : Entry) (f : Frame) (s : Stand)
+    (r : RawTree) (classes : List Class) (m : Process) (p : Proc Frame) (i : ℕ) (e : Entry) (f : Frame)
+    (s : Stand)
     → (c : CodedBy r classes) → Acts r m.heap p i e f → StandsNow classes (actor_id i) m s → InCode c s f
 
 abbrev pub StaysInCode : Type 0
 StaysInCode =
-    (r : RawTree) (classes : List Class) (code : Code) (s t : Stand) (f g : Frame) (m n : Process) → (c : CodedBy r classes)
+    (r : RawTree) (classes : List Class) (code : Code) (s t : Stand) (f g : Frame) (m n : Process)
+    → (c : CodedBy r classes)
     → InCode c s f → g.code ≡ f.code → StepsOn code s m (On t) n → InCode c t g
 
 module _ (r : RawTree) (classes : List Class) (s : Stand) (i : ℕ) (f : Frame) where
@@ -134,9 +141,11 @@ module _ (r : RawTree) (classes : List Class) (s : Stand) (i : ℕ) (f : Frame) 
 -- where an actor aims by what its code is coded from
 abbrev pub AimOf : Type 0
 AimOf =
-    (r : RawTree) (classes : List Class) (code : Code) (f : Frame) (path : List Ident) (aim : Aim) → (c : CodedBy r classes)
+    (r : RawTree) (classes : List Class) (code : Code) (f : Frame) (path : List Ident) (aim : Aim)
+    → (c : CodedBy r classes)
     → IsNumbering r.records c.names.field (places_in code.fields) → Rooted f path
-    → aimed (coding c.names c.class (length f.code.slots)) path ≡ Some (aim_of aim) → AimsAt r.records code f path aim
+    → aimed (coding c.names c.class (length f.code.slots)) path ≡ Some (aim_of aim)
+    → AimsAt r.records code f path aim
 
 -- an effect in the text is one in the code: the same predefined call, or that of the class at the same place
 abbrev pub effect_of_name : effects.Effectful → Effect

@@ -1,5 +1,6 @@
--- A step of an actor in memory by an instruction that asks nothing of the world is a row of steps of the class machine.
-use Rattle.std.specs.Prelude.{◌≡◌, ◌≤◌, ◌⊎◌, ℕ, ◌+◌, ◌^◌, pos, true, List, [], ◌∷◌, length, slice_get}
+-- A step of an actor in memory by an instruction that asks nothing of the world is a row of steps of the
+-- class machine.
+use Rattle.std.specs.Prelude.{◌≡◌, ◌≤◌, ◌⊎◌, ℕ, ◌+◌, ◌^◌, pos, List, [], ◌∷◌, length, slice_get}
 use Rattle.std.specs.declared.option.Option.TheVariants.{None, Some}
 use Rattle.std.specs.declared.vec.Vec.{Vec}
 use Rattle.std.specs.declared.alloc.Global.{Global}
@@ -47,7 +48,6 @@ use Rattle.flow_steps.specs.Stepping.{Does, StepsOn, kept_by}
 use Rattle.flow_follows.specs.Placing.{HasLocals}
 use Rattle.flow_follows.specs.Taking.{MayGo}
 use Rattle.flow_follows.specs.Seeing.{IsCodeOf}
-use Rattle.flow_follows.specs.Going.{MayBeStale}
 use Rattle.flow_follows.specs.Coded.{CodedBy}
 use Rattle.flow_follows.specs.Waiting.{Waitable}
 use Rattle.flow_executes.specs.Going.{MayStep, GoesBy}
@@ -67,7 +67,8 @@ module _ (r : RawTree) (w : Supply) (p : Proc Frame) (i : ℕ) (e : Entry) (f : 
     pub rooted : Rooted f path
     pub can : CanAssignAll r.records f path (value_now t)
 
-  -- some operands are kept, each of which may wait at its cell, and what stands in cells refers to what is there
+  -- some operands are kept, each of which may wait at its cell, and what stands in cells refers to what
+  -- is there
   pub record AllKept : Type 0 where
     pub first : Ref
     pub others : List Ref
@@ -99,7 +100,8 @@ pub record InProgram (r : RawTree) (code : Code) (s : Stand) (f : Frame) : Type 
   pub standing : InCode (coded_by program) s f
   pub few : length f.code.slots + length f.mem.locals ≤ 2 ^ 32
 
--- A step that asks something of the process or of the world: an effect, a call statement, a method, or an operand by an effect.
+-- A step that asks something of the process or of the world: an effect, a call statement, a method, or an
+-- operand by an effect.
 pub data Asks (code : Code) (s : Stand) (m : Process) (pace : Pace) (n : Process) : Type 0 where
   by_effect : (aim : Aim) (effect : Effect) (args : Vec Resolved Global)
       → slice_get s.block.now.body.items s.instruction ≡ Some (instruction.Effect aim effect args)
@@ -112,18 +114,17 @@ pub data Asks (code : Code) (s : Stand) (m : Process) (pace : Pace) (n : Process
       → Does code s (instruction.Method aim method args) m pace n → Asks code s m pace n
   by_operand : (number : ℕ) (group : Group) (b : Branch) (effect : Effect) (args : Vec Resolved Global)
       → s.block.now.last ≡ last.Choose number → group_numbered number s.class.now.groups.items ≡ Some group
-      → slice_get group.branches.items (kept_by (noted_stand s) (noted s m)) ≡ Some b → b.operand ≡ operand.Effect effect args
-      → IsEffect code (noted_stand s) (goal.Kept (group.first + kept_by (noted_stand s) (noted s m))) effect args.items (noted s m) pace n
+      → slice_get group.branches.items (kept_by (noted_stand s) (noted s m)) ≡ Some b → b.operand
+      ≡ operand.Effect effect args
+      → IsEffect code (noted_stand s)
+      (goal.Kept (group.first + kept_by (noted_stand s) (noted s m))) effect args.items (noted s m) pace n
       → Asks code s m pace n
 
 module _ (r : RawTree) (ls : List Line) (m : Process) (p : Proc Frame) (i : ℕ) (e : Entry) (f : Frame) where
-  -- where its frame says where it stands it is in no state of a wait
-  abbrev pub InNoState : Scan → Stand → Type 0
-  InNoState x s = (st : MayBeStale r ls x s m p i e f) → s.noted ≡ true → st.stood.acts.memory.state ≡ 0
-
   abbrev pub StepFollows : Type 0
   StepFollows =
-      (x : Scan) (s : Stand) (w : Supply) (code : Code) (pace : Pace) (n : Process) → MayStep r ls x s m p i e f
-      → InProgram r code s f → m.asked ≡ None → program_time m.time ≡ pos w.now → InNoState x s
+      (x : Scan) (s : Stand) (w : Supply) (code : Code) (pace : Pace) (n : Process)
+      → MayStep r ls x s m p i e f
+      → InProgram r code s f → m.asked ≡ None → program_time m.time ≡ pos w.now
       → MayDoNext r w p i e f (fetch f.code f.block f.instr) → StepsOn code s m pace n
       → GoesBy r ls x w i (on_core (pushed (Run i)) p) pace n ⊎ Asks code s m pace n

@@ -48,14 +48,17 @@ use Rattle.flow_follows.specs.Keeping.{MayKeep}
 use Rattle.flow_executes.specs.Going.{MayStep, AtOperands, GoesFurther}
 use Rattle.flow_executes.specs.Assigning.{AimsAt, CanAssign}
 
--- An actor whose task is next, without operands: where the code has it stand is where its frame does.
+-- An actor whose task is next, without operands and in no state of a wait: where the code has it stand is
+-- where its frame does.
 pub record MayRun (code : Code) (m : Process) (p : Proc Frame) (i : ℕ) (e : Entry) (f : Frame) : Type 0 where
   pub free : Free i p.core
   pub operands : e.operands ≡ []
-  pub stands : (s : Stand) → StandsNow code.classes.items (actor_id i) m s → Standing s i f × (s.instruction ≡ f.instr)
+  pub stands : (s : Stand) → StandsNow code.classes.items (actor_id i) m s
+      → Standing s i f × (s.instruction ≡ f.instr)
 
 -- An actor that goes on at a branch of its wait, without operands; the branch is coded from a callback.
-pub record MayBranch (code : Code) (r : RawTree) (ls : List Line) (m : Process) (p : Proc Frame) (i number : ℕ) (e : Entry) (f : Frame)
+pub record MayBranch (code : Code) (r : RawTree) (ls : List Line) (m : Process) (p : Proc Frame)
+    (i number : ℕ) (e : Entry) (f : Frame)
     : Type 0 where
   pub free : Free i p.core
   pub operands : e.operands ≡ []
@@ -68,7 +71,8 @@ pub record MayBranch (code : Code) (r : RawTree) (ls : List Line) (m : Process) 
       → (b.block ≡ callback.block) × SameInto r ls m p i e f b.into callback.into
 
 -- the result of an effect comes to where the instruction of an actor aims, that has no operand
-pub record MayStore (code : Code) (r : RawTree) (m : Process) (p : Proc Frame) (i : ℕ) (v : ValueTree) (e : Entry) (f : Frame)
+pub record MayStore (code : Code) (r : RawTree) (m : Process) (p : Proc Frame) (i : ℕ) (v : ValueTree)
+    (e : Entry) (f : Frame)
     : Type 0 where
   pub free : Free i p.core
   pub operands : e.operands ≡ []
@@ -76,13 +80,16 @@ pub record MayStore (code : Code) (r : RawTree) (m : Process) (p : Proc Frame) (
   pub from : ExprTree
   pub fetched : fetch f.code f.block f.instr ≡ Body (EffectInstr path from)
   pub can : CanAssign r.records f path v
-  pub stands : (s : Stand) → StandsNow code.classes.items (actor_id i) m s → Standing s i f × (s.instruction ≡ f.instr)
-  pub aims : (s : Stand) (aim : Aim) (eff : Effect) (args : Vec Resolved Global) → StandsNow code.classes.items (actor_id i) m s
+  pub stands : (s : Stand) → StandsNow code.classes.items (actor_id i) m s
+      → Standing s i f × (s.instruction ≡ f.instr)
+  pub aims : (s : Stand) (aim : Aim) (eff : Effect) (args : Vec Resolved Global)
+      → StandsNow code.classes.items (actor_id i) m s
       → slice_get s.block.now.body.items s.instruction ≡ Some (instruction.Effect aim eff args)
       → AimsAt r.records code f path aim
 
 -- a step by a task, after which other tasks come first
-pub record TaskSteps (r : RawTree) (ls : List Line) (x : Scan) (w : Supply) (start : Proc Frame) (n : Process) : Type 0 where
+pub record TaskSteps (r : RawTree) (ls : List Line) (x : Scan) (w : Supply) (start : Proc Frame)
+    (n : Process) : Type 0 where
   pub after : Proc Frame
   pub steps : step (classes r) w start ≡ Some (silent after)
   pub follows : Follows r ls x n after
@@ -91,18 +98,22 @@ module _ (r : RawTree) (ls : List Line) (m : Process) (p : Proc Frame) (i : ℕ)
   -- an actor takes its next step, by its task, which is off
   abbrev pub RunBegins : Type 0
   RunBegins =
-      (x : Scan) (code : Code) (n : Process) → Stood r ls x m p i e f → MayRun code m p i e f → RunsNow code (actor_id i) m n
+      (x : Scan) (code : Code) (n : Process) → (st : Stood r ls x m p i e f) → st.acts.memory.state ≡ 0
+      → MayRun code m p i e f
+      → RunsNow code (actor_id i) m n
       → (s : Stand) × (MayStep r ls x s m p i e f × Runs code s m n)
 
   abbrev pub RunAtWait : Type 0
   RunAtWait =
-      (x : Scan) (code : Code) (n : Process) → ((s : Stand) → StandsNow code.classes.items (actor_id i) m s → AtOperands r ls x s m p i e f)
+      (x : Scan) (code : Code) (n : Process)
+      → ((s : Stand) → StandsNow code.classes.items (actor_id i) m s → AtOperands r ls x s m p i e f)
       → RunsNow code (actor_id i) m n → (s : Stand) × (MayStep r ls x s m p i e f × Runs code s m n)
 
   -- it goes on at a branch that was taken, with its value in hand
   abbrev pub GiveGoes : Type 0
   GiveGoes =
-      (x : Scan) (code : Code) (w : Supply) (number : ℕ) (v : Value) (n : Process) → Stood r ls (with_refs (value_refs v) x) m p i e f
+      (x : Scan) (code : Code) (w : Supply) (number : ℕ) (v : Value) (n : Process)
+      → Stood r ls (with_refs (value_refs v) x) m p i e f
       → MayBranch code r ls m p i number e f → ValueGiven code (actor_id i) number v m n
       → GoesFurther code r ls x w i (on_core (pushed (Give i number (GoodOutcome (value_of v)))) p) n
 
@@ -110,12 +121,14 @@ module _ (r : RawTree) (ls : List Line) (m : Process) (p : Proc Frame) (i : ℕ)
   abbrev pub GiveThrows : Type 0
   GiveThrows =
       (x : Scan) (w : Supply) (number : ℕ) (err : ErrorCode) → Stood r ls x m p i e f
-      → TaskSteps r ls x w (on_core (pushed (Give i number (BadOutcome err.0))) p) (doing (task.Throw (actor_id i) err) m)
+      → TaskSteps r ls x w (on_core (pushed (Give i number (BadOutcome err.0))) p)
+      (doing (task.Throw (actor_id i) err) m)
 
   -- the result of an effect is stored
   abbrev pub StoreDone : Type 0
   StoreDone =
-      (x : Scan) (code : Code) (w : Supply) (v : Value) (n : Process) → Stood r ls (with_refs (value_refs v) x) m p i e f
+      (x : Scan) (code : Code) (w : Supply) (v : Value) (n : Process)
+      → Stood r ls (with_refs (value_refs v) x) m p i e f
       → MayStore code r m p i (value_of v) e f → Stored code (actor_id i) v m n
       → TaskSteps r ls x w (on_core (pushed (Store i (value_of v))) p) n
 
@@ -123,7 +136,8 @@ module _ (r : RawTree) (ls : List Line) (m : Process) (p : Proc Frame) (i : ℕ)
   abbrev pub KeepGoes : Type 0
   KeepGoes =
       (x : Scan) (code : Code) (w : Supply) (group : ℕ) (kd : Kind) (k : CellId) (n : Process)
-      → (st : Stood r ls (with_refs ((kd, k.0) ∷ []) x) m (on_core (pushed (Run i)) p) i e f) → st.acts.memory.state ≡ 0 → m.asked ≡ None
+      → (st : Stood r ls (with_refs ((kd, k.0) ∷ []) x) m (on_core (pushed (Run i)) p) i e f)
+      → st.acts.memory.state ≡ 0 → m.asked ≡ None
       → ((s : Stand) (start : Process) → StandsNow code.classes.items (actor_id i) start s → MayKeep s p i group (kd, k.0) e f)
       → IsKept code (actor_id i) (record { callback = next_callback e f; cell = k }) m n
       → GoesFurther code r ls x w i (on_core (pushed (Keep i (wait_spot f) (kd, k.0))) (on_core (pushed (Run i)) p)) n

@@ -28,7 +28,8 @@ pub data Silent (r : RawTree) (w : Supply) : Proc Frame → Proc Frame → Type 
       → Silent r w p q
 
 -- An actor that runs at its wait, with the operands kept so far: its frame in memory says so.
-pub record AtOperands (r : RawTree) (ls : List Line) (x : Scan) (s : Stand) (m : Process) (p : Proc Frame) (i : ℕ) (e : Entry) (f : Frame)
+pub record AtOperands (r : RawTree) (ls : List Line) (x : Scan) (s : Stand) (m : Process) (p : Proc Frame)
+    (i : ℕ) (e : Entry) (f : Frame)
     : Type 0 where
   pub group : ℕ
   pub stood : Stood r ls x m p i e f
@@ -40,14 +41,19 @@ pub record AtOperands (r : RawTree) (ls : List Line) (x : Scan) (s : Stand) (m :
   pub go : MayGo i e p.core
   pub awake : e.suspended ≡ false
 
--- An actor that takes its next step, with its own task off: where it has no operand its frame in memory may be stale.
-pub data MayStep (r : RawTree) (ls : List Line) (x : Scan) (s : Stand) (m : Process) (p : Proc Frame) (i : ℕ) (e : Entry) (f : Frame)
+-- An actor that takes its next step, with its own task off: where it has no operand its frame in memory
+-- may be stale; where that isn't, it is in no state of a wait.
+pub data MayStep (r : RawTree) (ls : List Line) (x : Scan) (s : Stand) (m : Process) (p : Proc Frame)
+    (i : ℕ) (e : Entry) (f : Frame)
     : Type 0 where
-  moves : MayBeStale r ls x s m p i e f → MayStep r ls x s m p i e f
+  moves : (st : MayBeStale r ls x s m p i e f) → (s.noted ≡ true → st.stood.acts.memory.state ≡ 0)
+      → MayStep r ls x s m p i e f
   chooses : AtOperands r ls x s m p i e f → MayStep r ls x s m p i e f
 
--- After it the actor goes on at once, where its own task is the newest of the process; or other tasks come first.
-pub record GoesAtOnce (r : RawTree) (ls : List Line) (x : Scan) (i : ℕ) (t : Stand) (n : Process) (q : Proc Frame) : Type 0 where
+-- After it the actor goes on at once, where its own task is the newest of the process; or other tasks
+-- come first.
+pub record GoesAtOnce (r : RawTree) (ls : List Line) (x : Scan) (i : ℕ) (t : Stand) (n : Process)
+    (q : Proc Frame) : Type 0 where
   pub process : Proc Frame
   pub entry : Entry
   pub frame : Frame
@@ -59,14 +65,16 @@ Onward r ls x i (On t) n q = GoesAtOnce r ls x i t n q
 Onward r ls x i Off n q = Follows r ls x n q
 
 -- From a process of the definitions a row of its steps leads to one that memory shows.
-pub record GoesBy (r : RawTree) (ls : List Line) (x : Scan) (w : Supply) (i : ℕ) (start : Proc Frame) (pace : Pace) (n : Process)
+pub record GoesBy (r : RawTree) (ls : List Line) (x : Scan) (w : Supply) (i : ℕ) (start : Proc Frame)
+    (pace : Pace) (n : Process)
     : Type 0 where
   pub after : Proc Frame
   pub steps : Silent r w start after
   pub onward : Onward r ls x i pace n after
 
 -- and the actor's further steps in memory follow
-pub record GoesFurther (code : Code) (r : RawTree) (ls : List Line) (x : Scan) (w : Supply) (i : ℕ) (start : Proc Frame) (n : Process)
+pub record GoesFurther (code : Code) (r : RawTree) (ls : List Line) (x : Scan) (w : Supply) (i : ℕ)
+    (start : Proc Frame) (n : Process)
     : Type 0 where
   pub pace : Pace
   pub between : Process

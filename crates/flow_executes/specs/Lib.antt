@@ -8,3 +8,4 @@ pub mod Decoding
 pub mod Executing
 pub mod Referring
 pub mod Tasking
+pub mod Matching

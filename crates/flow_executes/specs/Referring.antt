@@ -23,17 +23,20 @@ abbrev pub HoldsThere : Proc Frame → Frame → Type 0
 HoldsThere p f = (q : Slotted) (v : ValueTree) → read f.mem q ≡ Some v → AllThere p (refs_of v)
 
 abbrev pub SetThere : Proc Frame → Type 0
-SetThere p = (k : ℕ) (v : ValueTree) → outcome (thing p.core.cells k) ≡ Some (GoodOutcome v) → AllThere p (refs_of v)
+SetThere p = (k : ℕ) (v : ValueTree) → outcome (thing p.core.cells k) ≡ Some (GoodOutcome v)
+    → AllThere p (refs_of v)
 
 abbrev pub AllGiveThere : Proc Frame → Res (List ValueTree) → Type 0
 AllGiveThere p comes_to = (vs : List ValueTree) (left : ℕ) → comes_to ≡ Done vs left → AllThere p (refs_in vs)
 
 abbrev pub ValueThere : Type 0
 ValueThere =
-    (r : RawTree) (p : Proc Frame) (f : Frame) (w : Supply) (i : ℕ) (t : ExprTree) → HoldsThere p f → SetThere p
+    (r : RawTree) (p : Proc Frame) (f : Frame) (w : Supply) (i : ℕ) (t : ExprTree) → HoldsThere p f
+    → SetThere p
     → GivesThere p (value (class_names r) (view w i p.core) (look f.mem) t)
 
 abbrev pub ArgumentsThere : Type 0
 ArgumentsThere =
-    (r : RawTree) (p : Proc Frame) (f : Frame) (w : Supply) (i : ℕ) (es : ExprTrees) → HoldsThere p f → SetThere p
+    (r : RawTree) (p : Proc Frame) (f : Frame) (w : Supply) (i : ℕ) (es : ExprTrees) → HoldsThere p f
+    → SetThere p
     → AllGiveThere p (values (class_names r) (view w i p.core) (look f.mem) es)

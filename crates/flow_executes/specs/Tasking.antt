@@ -31,15 +31,19 @@ use Rattle.flow_executes.specs.Going.{AtOperands, MayStep, GoesFurther}
 use Rattle.flow_executes.specs.Giving.{MayRun, MayBranch, MayStore}
 
 -- what a task that was the newest leads to
-pub data TaskGoes (code : Code) (r : RawTree) (ls : List Line) (w : Supply) (p : Proc Frame) (n : Process) : Type 0 where
+pub data TaskGoes (code : Code) (r : RawTree) (ls : List Line) (w : Supply) (p : Proc Frame) (n : Process)
+    : Type 0 where
   is_step : Steps r ls w p n → TaskGoes code r ls w p n
   goes_further : (i : ℕ) → GoesFurther code r ls nothing_in_hand w i p n → TaskGoes code r ls w p n
-  runs : (i : ℕ) (s : Stand) (start : Process) (q : Proc Frame) (e : Entry) (f : Frame) → p ≡ on_core (pushed (Run i)) q
+  runs : (i : ℕ) (s : Stand) (start : Process) (q : Proc Frame) (e : Entry) (f : Frame) → p
+      ≡ on_core (pushed (Run i)) q
       → MayStep r ls nothing_in_hand s start q i e f → Runs code s start n → TaskGoes code r ls w p n
 
 -- an actor that takes its next step: it is free to go on, or it is at its wait with operands
-pub data MayGo (code : Code) (r : RawTree) (ls : List Line) (m : Process) (p : Proc Frame) (i : ℕ) : Type 0 where
-  is_free : (e : Entry) (f : Frame) → Acts r m.heap p i e f → MayRun code m p i e f → MayGo code r ls m p i
+pub data MayGo (code : Code) (r : RawTree) (ls : List Line) (m : Process) (p : Proc Frame) (i : ℕ)
+    : Type 0 where
+  is_free : (e : Entry) (f : Frame) → (a : Acts r m.heap p i e f) → a.memory.state ≡ 0 → MayRun code m p i e f
+      → MayGo code r ls m p i
   has_operands : (e : Entry) (f : Frame)
       → ((s : Stand) → StandsNow code.classes.items (actor_id i) m s → AtOperands r ls nothing_in_hand s m p i e f)
       → MayGo code r ls m p i
@@ -51,7 +55,8 @@ MayGet code r ls m p i b (outcome.Value v) =
 MayGet code r ls m p i b (outcome.Error err) = (e : Entry) × ((f : Frame) × Acts r m.heap p i e f)
 
 -- an operand is kept by an actor whose task is next, and is in no state of a wait
-pub record MayKeepOne (code : Code) (r : RawTree) (m : Process) (p : Proc Frame) (i cell : ℕ) (u : Task) : Type 0 where
+pub record MayKeepOne (code : Code) (r : RawTree) (m : Process) (p : Proc Frame) (i cell : ℕ) (u : Task)
+    : Type 0 where
   pub rest : Proc Frame
   pub next : p ≡ on_core (pushed (Run i)) rest
   pub entry : Entry
@@ -71,14 +76,16 @@ MayGoOn code r ls m p (task.Store i v) u =
 MayGoOn code r ls m p (task.Keep i n k) u = MayKeepOne code r m p i.0 k.0 u
 MayGoOn code r ls m p t u = MayDo code r m p t
 
-pub record MayBeDone (code : Code) (r : RawTree) (ls : List Line) (m : Process) (p : Proc Frame) (t : stack.Task) (u : Task) : Type 0 where
+pub record MayBeDone (code : Code) (r : RawTree) (ls : List Line) (m : Process) (p : Proc Frame)
+    (t : stack.Task) (u : Task) : Type 0 where
   pub sound : Sound p
   pub sorted : Sorted m.heap
   pub may : MayGoOn code r ls m p t u
 
 abbrev pub TaskFollows : RawTree → List Line → Process → Proc Frame → Type 0
 TaskFollows r ls m p =
-    (code : Code) (w : Supply) (t : stack.Task) (start n : Process) → Shown r ls nothing_in_hand m p → m.asked ≡ None
+    (code : Code) (w : Supply) (t : stack.Task) (start n : Process) → Shown r ls nothing_in_hand m p
+    → m.asked ≡ None
     → TopTaken t m start
     → ((below : List Task) (u : Task) → p.core.tasks ≡ u ∷ below → MayBeDone code r ls start (popped below p) t u)
     → IsDone code t start n → TaskGoes code r ls w p n

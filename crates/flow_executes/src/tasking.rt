@@ -8,8 +8,8 @@ ghost use Rattle.flow_meaning.specs.Frame.{Frame};
 ghost use Rattle.flow_steps.specs.declared.process.Process.{Process};
 ghost use Rattle.flow_executes.specs.Tasking.{TaskFollows};
 
-/// Each task, done in memory, is a step of the class machine, or a row of steps after which its actor goes on; or its actor takes
-/// its steps.
+/// Each task, done in memory, is a step of the class machine, or a row of steps after which its actor
+/// goes on; or its actor takes its steps.
 pub fn each_task_follows()
     ensures { (r : RawTree) (ls : List Line) (m : Process) (p : Proc Frame) → TaskFollows r ls m p }
 {}

@@ -1,6 +1,7 @@
 use Rattle.flow_executes.proofs.Decodes.{begins_in_code, instruction_there, end_there, group_there, wait_there, aim_there}
 use Rattle.flow_executes.proofs.Froms.{instruction_from}
 use Rattle.flow_executes.proofs.Named.{effect_there}
+use Rattle.flow_executes.proofs.Matches.{effect_aims, branch_coded}
 use Rattle.flow_executes.proofs.Stays.{stays_in_code}
 use Rattle.flow_executes.proofs.decoding.code_is_that_of_the_frame.Goals as goal
 
@@ -30,3 +31,9 @@ returns-clause-from c = instruction_from
 
 pub returns-clause-effect : goal.returns-clause-effect
 returns-clause-effect c = effect_there
+
+pub returns-clause-stored : goal.returns-clause-stored
+returns-clause-stored c = effect_aims
+
+pub returns-clause-branch : goal.returns-clause-branch
+returns-clause-branch c = branch_coded
