@@ -1,4 +1,4 @@
-use Rattle.flow_kept.proofs.Kept.{step_keeps, lines_keep, among_kept}
+use Rattle.flow_kept.proofs.Keeping.{step_keeps, lines_keep, among_kept}
 use Rattle.flow_kept.proofs.kept.steps_kept.Goals as goal
 
 pub returns-clause-steps : goal.returns-clause-steps
