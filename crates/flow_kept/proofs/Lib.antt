@@ -3,4 +3,8 @@ pub mod Homes
 pub mod Theres
 pub mod Off
 pub mod Acting
-pub mod Allowed
+pub mod MayDo
+pub mod Tasks
+pub mod Rising
+pub mod Quiet
+pub mod Stays

@@ -2,4 +2,6 @@
 //! stand in `specs/`; the functions of this crate have empty bodies: each contract is a law.
 #![tactic(auto)]
 
+pub mod allowed;
 pub mod kept;
+pub mod staying;

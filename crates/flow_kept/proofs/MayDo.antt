@@ -1,16 +1,18 @@
 -- What the tasks of a process ask of it holds, by what it keeps.
-use Rattle.std.proofs.Common.{◌≡◌, ◌⊎◌, inl, inr, ℕ, suc, ◌+◌, ◌<◌, Bool, true, false, List, [], ◌∷◌, ◌++◌, length, refl, sym, ap, subst, ◌∙◌, arith}
+use Rattle.std.proofs.Common.{◌≡◌, ◌⊎◌, inl, inr, ℕ, zero, suc, ◌+◌, ◌<◌, Bool, true, false, List, [], ◌∷◌, ◌++◌, length, refl, sym, ap, subst, ◌∙◌, arith}
 use Rattle.std.specs.Prelude.{map, slice_get, list_all, ◌&&◌}
 use Rattle.std.specs.Option.{option_map}
 use Rattle.std.specs.declared.option.Option.{Option}
 use Rattle.std.specs.declared.option.Option.TheVariants.{None, Some}
 use Rattle.flow_tree.specs.Tree.{TypeTree, ErrorType}
-use Rattle.flow_tree.specs.Decls.{RoutineTree}
+use Rattle.flow_tree.specs.Decls.{RecordTree}
 use Rattle.flow_value.specs.Values.{ValueTree, IntValue, BoolValue, TextValue, VoidValue, ErrorValue, RecordValue, RefValue, OutcomeTree}
-use Rattle.flow_value.specs.declared.value.Kind.{Kind}
+use Rattle.flow_value.specs.declared.value.Outcome.{Outcome}
+use Rattle.flow_value.specs.View.{outcome_of}
 use Rattle.flow_value.specs.declared.value.Kind.TheVariants as kind
 use Rattle.flow_ast.specs.Typing.{is_there}
 use Rattle.flow_eval.specs.Typed.{HasType}
+use Rattle.flow_class.specs.declared.class.Slotted.{Slotted}
 use Rattle.flow_class.specs.declared.class.Slotted.TheVariants.{Local}
 use Rattle.flow_class.specs.Classes.{CatcherTree, ClassTree, RawTree}
 use Rattle.flow_class.specs.Places.{type_at}
@@ -24,7 +26,7 @@ use Rattle.flow_meaning.specs.Process.{Task, Throw, Close, Fire, Entry, Proc}
 use Rattle.flow_meaning.specs.Occ.{count, refs_in, value_in}
 use Rattle.flow_meaning.specs.Orderly.{is_suspended, AllWait, tasks_of}
 use Rattle.flow_meaning.specs.Step.{popped}
-use Rattle.flow_meaning.specs.Variables.{filled}
+use Rattle.flow_meaning.specs.Variables.{flat, filled}
 use Rattle.flow_meaning.specs.Frame.{Frame, Memory, read, reversed, blanks, emptied, all_emptied, lose, over}
 use Rattle.flow_meaning.proofs.Posture.{awake_entry}
 use Rattle.flow_meaning.proofs.Shifts.{throw_of, close_of, cell_waits}
@@ -34,9 +36,9 @@ use Rattle.flow_picture.specs.References.{frame_holds}
 use Rattle.flow_picture.specs.Holding.{held}
 use Rattle.flow_picture.specs.Shows.{Shows}
 use Rattle.flow_picture.proofs.Referring.{of_popped}
-use Rattle.flow_unstuck.specs.Places.{HoldsTypes}
+use Rattle.flow_unstuck.specs.Places.{class_vars, HoldsTypes}
 use Rattle.flow_unstuck.specs.Rules.{KeepsRules, ClassRules}
-use Rattle.flow_unstuck.specs.Fitting.{typed_by, Standing, Waiting, TasksFit}
+use Rattle.flow_unstuck.specs.Fitting.{typed_by, Standing, Waiting, PostureFits, TasksFit}
 use Rattle.flow_unstuck.specs.Written.{heads}
 use Rattle.flow_unstuck.proofs.Aparts.{ends_apart}
 use Rattle.flow_unstuck.proofs.CellStates.{cell_there}
@@ -59,7 +61,7 @@ use Rattle.flow_follows.specs.Throwing.{SameCatcher, CatcherFits, MayThrow}
 use Rattle.flow_kept.specs.Kept.{Kept}
 use Rattle.flow_kept.proofs.Homes.{all_at, catcher_there}
 use Rattle.flow_kept.proofs.Theres.{content_there}
-use Rattle.flow_kept.proofs.Off.{no_tasks_keep, tasks_rest, unfinished, kinds_right, idle, free_off}
+use Rattle.flow_kept.proofs.Off.{no_tasks_keep, tasks_rest, unfinished, kinds_right, idle, tied_off, alone_off, free_off}
 use Rattle.flow_kept.proofs.Acting.{actor_at, acts_at, stands_by, waiting_there, either_there}
 
 -- an entry by whether it is suspended
@@ -73,20 +75,20 @@ filled_more [] = refl
 filled_more (None ∷ os) = filled_more os
 filled_more (Some v ∷ os) = ap (λ vs. v ∷ vs) (filled_more os)
 
-empty_at : (o : Option ValueTree) (os : List (Option ValueTree)) → ((n : ℕ) → Rattle.flow_meaning.specs.Variables.flat (slice_get (o ∷ os) n) ≡ None) → o ≡ None
+empty_at : (o : Option ValueTree) (os : List (Option ValueTree)) → ((n : ℕ) → flat (slice_get (o ∷ os) n) ≡ None) → o ≡ None
 empty_at o os h = let a = h 0 in by_value o a
   where
-    by_value : (x : Option ValueTree) → Rattle.flow_meaning.specs.Variables.flat (Some x) ≡ None → x ≡ None
+    by_value : (x : Option ValueTree) → flat (Some x) ≡ None → x ≡ None
     by_value None e = refl
     by_value (Some v) e = e
 
-none_filled : (os : List (Option ValueTree)) → ((n : ℕ) → Rattle.flow_meaning.specs.Variables.flat (slice_get os n) ≡ None) → filled (reversed os) ≡ []
+none_filled : (os : List (Option ValueTree)) → ((n : ℕ) → flat (slice_get os n) ≡ None) → filled (reversed os) ≡ []
 none_filled [] h = refl
 none_filled (o ∷ os) h =
     let e = empty_at o os h in
     ap (λ x. filled (reversed os ++ x ∷ [])) e ∙ filled_more (reversed os) ∙ none_filled os (λ n. h (suc n))
 
-none_blank : (os : List (Option ValueTree)) → ((n : ℕ) → Rattle.flow_meaning.specs.Variables.flat (slice_get os n) ≡ None) → blanks os ≡ os
+none_blank : (os : List (Option ValueTree)) → ((n : ℕ) → flat (slice_get os n) ≡ None) → blanks os ≡ os
 none_blank [] h = refl
 none_blank (o ∷ os) h = ap (λ x. x ∷ blanks os) (sym (empty_at o os h)) ∙ ap (λ xs. o ∷ xs) (none_blank os (λ n. h (suc n)))
 
@@ -95,7 +97,7 @@ loses_nothing f h =
     ap (λ vs. (vs, record f { mem = all_emptied f.mem })) (none_filled f.mem.locals h) ∙ ap (λ ls. ([], record f { mem = record f.mem { locals = ls } })) (none_blank f.mem.locals h)
 
 -- an error holds no references
-error_holds : (rs : List _) (typed : ℕ → TypeTree → Type 0) (o : Option ValueTree) → ((v : ValueTree) → o ≡ Some v → HasType rs typed v ErrorType) → (s : Side) (j : ℕ) → held s j o ≡ 0
+error_holds : (rs : List RecordTree) (typed : ℕ → TypeTree → Type 0) (o : Option ValueTree) → ((v : ValueTree) → o ≡ Some v → HasType rs typed v ErrorType) → (s : Side) (j : ℕ) → held s j o ≡ 0
 error_holds rs typed None h s j = refl
 error_holds rs typed (Some v) h s j = by_value v (h v refl)
   where
@@ -124,7 +126,7 @@ locals_there c f (n ∷ ns) long h =
     below (x ∷ xs) zero h = omega arith
     below (x ∷ xs) (suc n) h = let a = below xs n h in omega (arith, a)
 
-both_parts : (p : _ → Bool) (xs ys : List _) → list_all p (xs ++ ys) ≡ true → (list_all p xs ≡ true) × (list_all p ys ≡ true)
+both_parts : (p : Slotted → Bool) (xs ys : List Slotted) → list_all p (xs ++ ys) ≡ true → (list_all p xs ≡ true) × (list_all p ys ≡ true)
 both_parts p [] ys h = (refl, h)
 both_parts p (x ∷ xs) ys h =
     let a = both_parts p xs ys (second_true (p x) (list_all p (xs ++ ys)) h) in (ap (λ b. b && list_all p xs) (first_true (p x) (list_all p (xs ++ ys)) h) ∙ a.0, a.1)
@@ -146,7 +148,7 @@ module _ (r : RawTree) (code : Code) (valid : AreValid r) (coded : IsCodeOf r co
       let all : AllWait p.core.entries (w ∷ ws) = subst (AllWait p.core.entries) is (cell_waits p.core.entries p.core.cells j cell k.orderly.waiting at) in
       let en = suspended_entry (thing p.core.entries w.actor) all.0 in
       let x = unfinished r p k w.actor en.0 en.1 in
-      let parked = subst (λ b. Rattle.flow_unstuck.specs.Fitting.PostureFits r k.types b x.fits.class en.0 x.frame (tasks_of w.actor p.core.tasks)) en.2 x.fits.posture in
+      let parked = subst (λ b. PostureFits r k.types b x.fits.class en.0 x.frame (tasks_of w.actor p.core.tasks)) en.2 x.fits.posture in
       let waits = parked.1 in
       let acts = acts_at r start.heap q w.actor en.0 x.frame s en.1 x.acting (waiting_there r k.types x.frame waits) in
       record {
@@ -171,7 +173,7 @@ module _ (r : RawTree) (code : Code) (valid : AreValid r) (coded : IsCodeOf r co
       }
 
   -- the catch part of a frame fits
-  catcher_fits : (class : ClassTree) (key : ℕ) (f : Frame) → slice_get r.classes key ≡ Some class → f.code ≡ class → HoldsTypes r.records (typed_by k.types) f.code f.mem → KeepsRules r (heads r) f.code (Rattle.flow_unstuck.specs.Places.class_vars f.code)
+  catcher_fits : (class : ClassTree) (key : ℕ) (f : Frame) → slice_get r.classes key ≡ Some class → f.code ≡ class → HoldsTypes r.records (typed_by k.types) f.code f.mem → KeepsRules r (heads r) f.code (class_vars f.code)
       → (t : CatcherTree) → catcher_at f.code f.block ≡ Some t → CatcherFits f t
   catcher_fits class key f is code_is holds keeps t e =
       let names = both_parts (has_place f.code) (listed (option_map Local t.error)) (map Local t.drops) (catcher_there r valid.valid key f.code (is ∙ ap (λ c. Some c) (sym code_is)) f.block t e) in
@@ -207,9 +209,9 @@ module _ (r : RawTree) (code : Code) (valid : AreValid r) (coded : IsCodeOf r co
   over_empty : (f : Frame) → f ≡ over → (s : Side) (j : ℕ) → frame_holds s j f ≡ 0
   over_empty f e s j = ap (frame_holds s j) e
 
-  pub may_close : (start : Process) (i : ℕ) (o : _) → Shows r start.heap q → u ≡ Close i (Rattle.flow_value.specs.View.outcome_of o) → MayClose r start.heap q i o
+  pub may_close : (start : Process) (i : ℕ) (o : Outcome) → Shows r start.heap q → u ≡ Close i (outcome_of o) → MayClose r start.heap q i o
   may_close start i o s is =
-      let v = Rattle.flow_value.specs.View.outcome_of o in
+      let v = outcome_of o in
       let t = top ∙ ap (λ t. t ∷ below) is in
       let a = actor_here r k.types i (Close i v) below p.core p.actors k.orderly t (close_of i v) k.fits in
       let rest = (popped_at i p.core.left (Close i v) below p.core k.orderly t (close_of i v)).rest in
@@ -232,10 +234,10 @@ module _ (r : RawTree) (code : Code) (valid : AreValid r) (coded : IsCodeOf r co
       same_frame : {x y : Frame} → Some x ≡ Some y → x ≡ y
       same_frame h = cc
 
-      by_side : (a : Actor r k.types i (Close i (Rattle.flow_value.specs.View.outcome_of o)) below p.core p.actors) (v : OutcomeTree) → p.core.tasks ≡ Close i v ∷ below → (z : Side) (j : ℕ) → a.entry.result ≡ Some j → count z j (refs_in (value_in v)) ≡ 0
+      by_side : (a : Actor r k.types i (Close i (outcome_of o)) below p.core p.actors) (v : OutcomeTree) → p.core.tasks ≡ Close i v ∷ below → (z : Side) (j : ℕ) → a.entry.result ≡ Some j → count z j (refs_in (value_in v)) ≡ 0
       by_side a v t FutureSide j own = ends_apart r valid.valid k.types p.core p.actors k.fits k.orderly i j a.entry v below t a.at own
       by_side a v t PromiseSide j own =
           let one = results_alone p.core p.actors k.tied k.alone i j a.entry a.at own in
-          let two = results_alone q.core q.actors (Rattle.flow_kept.proofs.Off.tied_off r p k u below top) (Rattle.flow_kept.proofs.Off.alone_off r p k u below top) i j a.entry a.at own in
+          let two = results_alone q.core q.actors (tied_off r p k u below top) (alone_off r p k u below top) i j a.entry a.at own in
           let three = of_popped p PromiseSide j (Close i v) below t in
           omega (arith, one, two, three)
