@@ -8,3 +8,4 @@ pub mod Tasks
 pub mod Rising
 pub mod Quiet
 pub mod Stays
+pub mod Once

@@ -7,6 +7,7 @@ use Rattle.flow_numbered.specs.Numbered.{IsRising}
 use Rattle.flow_code.specs.declared.program.Code.{Code}
 use Rattle.flow_cancel.specs.declared.task.Task.{Task}
 use Rattle.flow_cancel.specs.Heap.{HeapTree, without_number}
+use Rattle.flow_picture.specs.Rested.{Sorted}
 use Rattle.flow_steps.specs.declared.call.Call.{Call}
 use Rattle.flow_steps.specs.declared.call.Call.TheVariants as call
 use Rattle.flow_steps.specs.declared.frames.Stand.{Stand}
@@ -43,3 +44,7 @@ RunsStay = (code : Code) (s : Stand) (m n : Process) → m.asked ≡ None → Ru
 abbrev pub TaskStays : Type 0
 TaskStays =
     (code : Code) (t : Task) (m start n : Process) → m.asked ≡ None → TopTaken t m start → IsDone code t start n → Stays m n
+
+-- So the order of a heap stays.
+abbrev pub SortedStays : Type 0
+SortedStays = (m n : Process) → Stays m n → Sorted m.heap → Sorted n.heap
