@@ -1,18 +1,14 @@
 -- Where actors of a process in memory stand, by what the process keeps.
-use Rattle.std.proofs.Common.{◌≡◌, ◌⊎◌, inl, inr, ℕ, true, false, List, [], ◌∷◌, refl, sym, ap, subst, ◌∙◌}
-use Rattle.std.specs.declared.option.Option.{Option}
-use Rattle.std.specs.declared.option.Option.TheVariants.{None, Some}
-use Rattle.flow_value.specs.declared.value.Value.{Value}
+use Rattle.std.proofs.Common.{◌≡◌, ◌⊎◌, inl, inr, ℕ, sym, ap, subst, ◌∙◌}
+use Rattle.std.specs.declared.option.Option.TheVariants.{Some}
 use Rattle.flow_class.specs.Classes.{ChooseLast, RawTree}
 use Rattle.flow_class.specs.Code.{Fetched, Nothing, Last, fetch}
 use Rattle.flow_code.specs.declared.program.Code.{Code}
 use Rattle.flow_numbered.specs.Numbered as stored
-use Rattle.flow_frame.specs.Frames.{FrameTree}
-use Rattle.flow_cancel.specs.declared.actors.Note.{Note}
 use Rattle.flow_cancel.specs.Heap.{HeapTree, actor_id}
 use Rattle.flow_meaning.specs.Numbered.{thing}
 use Rattle.flow_meaning.specs.Process.{Entry, Proc}
-use Rattle.flow_meaning.specs.Frame.{Frame, over}
+use Rattle.flow_meaning.specs.Frame.{Frame}
 use Rattle.flow_meaning.proofs.Shifts.{same_of}
 use Rattle.flow_meaning.proofs.InOrder.{no_thing}
 use Rattle.flow_picture.specs.Shows.{FrameShows, stands, ended, ActorShows, nobody, somebody, Shows}

@@ -1,18 +1,16 @@
 -- In a valid class each group has as its home the one block that ends in its wait; and what a catch part names is there.
-use Rattle.std.proofs.Common.{◌≡◌, ℕ, zero, suc, ◌+◌, ◌<◌, nat_eq, Bool, true, false, List, [], ◌∷◌, length, if◌then◌else◌, refl, sym, ap, subst, ◌∙◌, arith}
-use Rattle.std.specs.Prelude.{◌&&◌, map, slice_get, slice_set, list_all, replicate}
-use Rattle.std.specs.Option.{option_map}
+use Rattle.std.proofs.Common.{◌≡◌, ℕ, zero, suc, ◌+◌, ◌<◌, nat_eq, Bool, true, false, List, [], ◌∷◌, length, if◌then◌else◌, refl, ap, subst, ◌∙◌, arith}
+use Rattle.std.specs.Prelude.{◌&&◌, slice_get, slice_set, replicate}
+use Rattle.std.specs.List.{list_all}
 use Rattle.std.specs.declared.option.Option.{Option}
 use Rattle.std.specs.declared.option.Option.TheVariants.{None, Some}
-use Rattle.flow_class.specs.declared.class.Slotted.{Slotted}
-use Rattle.flow_class.specs.declared.class.Slotted.TheVariants.{Local}
 use Rattle.flow_class.specs.Classes.{GotoLast, PassLast, TestLast, ChooseLast, ReturnLast, ThrowLast, LastTree, CallbackTree, CatcherTree, BlockTree, ClassTree, RawTree}
-use Rattle.flow_class.specs.Places.{type_at}
 use Rattle.flow_class.specs.Code.{catcher_in, catcher_at}
 use Rattle.flow_ast.specs.Typing.{is_there}
 use Rattle.flow_valid.specs.Named.{has_place, has_block, has_catcher, has_group, has_last, has_named, has_operand, instr_places, catcher_places}
 use Rattle.flow_valid.specs.Validity.{chooses, times_chosen, each_once, IsValid}
 use Rattle.flow_code.specs.Coding.{home_noted, homes_from, homes_of}
+use Rattle.flow_meaning.proofs.Posture.{same_number}
 use Rattle.flow_unstuck.proofs.Tops.{first_true, second_true}
 use Rattle.flow_unstuck.proofs.Valid.{sound_of}
 use Rattle.flow_follows.specs.Coded.{AtHome}
@@ -66,9 +64,9 @@ chosen g l = if chooses (suc g) l then 1 else 0
 -- where it doesn't, it is no home of the group
 noted_other : (l : LastTree) (k g : ℕ) (hs : List ℕ) → chosen g l ≡ 0 → slice_get (home_noted l k hs) g ≡ slice_get hs g
 noted_other (ChooseLast zero) k g hs h = refl
-noted_other (ChooseLast (suc n)) k g hs h = get_other hs n g k (differ (nat_eq g n) refl h)
+noted_other (ChooseLast (suc n)) k g hs h = get_other hs n g k (differ (nat_eq (suc g) (suc n)) refl h)
   where
-    differ : (b : Bool) → nat_eq g n ≡ b → (if b then 1 else 0) ≡ 0 → n ≡ g → ⊥
+    differ : (b : Bool) → nat_eq (suc g) (suc n) ≡ b → ◌≡◌ {A = ℕ} (if b then 1 else 0) 0 → n ≡ g → ⊥
     differ true q h e = cc
     differ false q h e = let f : ⊥ = grind (arith, q, e) in f
 noted_other (GotoLast b) k g hs h = refl
@@ -82,12 +80,12 @@ homes_other [] k g hs h = refl
 homes_other (b ∷ bs) k g hs h =
     homes_other bs (suc k) g (home_noted b.last k hs) (omega (arith, h)) ∙ noted_other b.last k g hs (omega (arith, h))
 
+one_if : (b : Bool) → b ≡ true → ◌≡◌ {A = ℕ} (if b then 1 else 0) 1
+one_if true e = refl
+one_if false e = cc
+
 here_chosen : (g : ℕ) (l : LastTree) → l ≡ ChooseLast (suc g) → chosen g l ≡ 1
-here_chosen g l e = ap (chosen g) e ∙ ap (λ (b : Bool). if b then 1 else 0) (same g)
-  where
-    same : (n : ℕ) → nat_eq n n ≡ true
-    same zero = refl
-    same (suc n) = same n
+here_chosen g l e = ap (chosen g) e ∙ one_if (nat_eq (suc g) (suc g)) (same_number (suc g))
 
 counted_at : (bs : List BlockTree) (g b : ℕ) (block : BlockTree) → slice_get bs b ≡ Some block → block.last ≡ ChooseLast (suc g) → 0 < times_chosen (suc g) bs
 counted_at [] g b block at e = cc
@@ -104,9 +102,9 @@ home_at (x ∷ bs) k g zero block hs at e once l =
     let a = here_chosen g x.last last in
     let z : k ≡ k + 0 = omega arith in
     homes_other bs (suc k) g (home_noted x.last k hs) (omega (arith, once, a))
-        ∙ ap (λ y. slice_get (home_noted y k hs) g) last
-        ∙ get_set hs g k l
-        ∙ ap (λ n. Some n) z
+    ∙ ap (λ y. slice_get (home_noted y k hs) g) last
+    ∙ get_set hs g k l
+    ∙ ap (λ n. Some n) z
 home_at (x ∷ bs) k g (suc b) block hs at e once l =
     let n = counted_at bs g b block at e in
     let long = noted_long x.last k hs in
@@ -136,8 +134,9 @@ module _ (r : RawTree) (valid : IsValid r) (k : ℕ) (c : ClassTree) (at : slice
       let named = second_true (has_catcher c block.catcher && list_all (λ i. list_all (has_place c) (instr_places i)) block.body) (has_last c block.last) (named_block b block is) in
       let group = first_true (has_group c (ChooseLast (suc g))) (list_all (has_block c) []) (first_true (has_group c (ChooseLast (suc g)) && list_all (has_block c) []) (list_all (has_place c) []) (subst (λ l. has_last c l ≡ true) e named)) in
       let below = there_below c.groups g group in
-      let long = as_long (length c.groups) 0 in
-      home_at c.blocks 0 g b block (replicate (length c.groups) 0) is e (once_at c.blocks c.groups 1 g sound.groups below) (omega (arith, below, long))
+      let long = as_long {A = ℕ} (length c.groups) 0 in
+      let zero_plus : 0 + b ≡ b = omega arith in
+      subst (λ n. slice_get (homes_of c) g ≡ Some n) zero_plus (home_at c.blocks 0 g b block (replicate (length c.groups) 0) is e (let z : 1 + g ≡ suc g = omega arith in subst (λ n. times_chosen n c.blocks ≡ 1) z (once_at c.blocks c.groups 1 g sound.groups below)) (omega (arith, below, long)))
 
   -- the places that the catch part of a block names
   pub catcher_there : (b : ℕ) (t : CatcherTree) → catcher_at c b ≡ Some t → list_all (has_place c) (catcher_places t) ≡ true

@@ -1,12 +1,12 @@
 -- Each step keeps what a process has to keep.
-use Rattle.std.proofs.Common.{◌≡◌, List, [], ◌++◌, ap, subst}
+use Rattle.std.proofs.Common.{◌≡◌, [], ap, subst}
 use Rattle.std.specs.declared.option.Option.{Option}
 use Rattle.std.specs.declared.option.Option.TheVariants.{None, Some}
 use Rattle.flow_class.specs.Classes.{RawTree}
 use Rattle.flow_meaning.specs.Asks.{Supply, Request}
 use Rattle.flow_meaning.specs.Process.{Halt, Proc}
 use Rattle.flow_meaning.specs.Orderly.{Orderly, UnlessStopped}
-use Rattle.flow_meaning.specs.Burst.{Host, Live, live, add_lines, serve, advanced}
+use Rattle.flow_meaning.specs.Burst.{Host, live, add_lines, serve, advanced}
 use Rattle.flow_meaning.specs.Step.{Stepped, step}
 use Rattle.flow_meaning.specs.Class.{classes}
 use Rattle.flow_meaning.specs.Frame.{Frame}
@@ -21,7 +21,6 @@ use Rattle.flow_unstuck.specs.Written.{heads}
 use Rattle.flow_unstuck.proofs.Functions.{functions_kept}
 use Rattle.flow_unstuck.proofs.KeptClasses.{class_rules}
 use Rattle.flow_unstuck.proofs.StepsKept.{steps_keep}
-use Rattle.flow_runs.specs.Laws.{AreValid}
 use Rattle.flow_runs.proofs.Owned.{ports_alone, results_alone}
 use Rattle.flow_owned.specs.Unset.{Unset}
 use Rattle.flow_owned.proofs.Brought.{steps_unset}
@@ -29,7 +28,7 @@ use Rattle.flow_kept.specs.Kept as law
 use Rattle.flow_kept.specs.Kept.{Kept}
 
 -- a step as one in a world that stays as it is
-still : Supply → Host (Unit {0})
+abbrev still : Supply → Host (Unit {0})
 still s = record { supply = λ w. s; serve = λ q w. ([], w) }
 
 step_in_order : (r : RawTree) (s : Supply) (p : Proc Frame) (q : Stepped Frame) → Orderly p.core → step (classes r) s p ≡ Some q → UnlessStopped q.0.core.halted (Orderly q.0.core)

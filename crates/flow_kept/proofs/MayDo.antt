@@ -1,6 +1,7 @@
 -- What the tasks of a process ask of it holds, by what it keeps.
-use Rattle.std.proofs.Common.{◌≡◌, ◌⊎◌, inl, inr, ℕ, zero, suc, ◌+◌, ◌<◌, Bool, true, false, List, [], ◌∷◌, ◌++◌, length, refl, sym, ap, subst, ◌∙◌, arith}
-use Rattle.std.specs.Prelude.{map, slice_get, list_all, ◌&&◌}
+use Rattle.std.proofs.Common.{◌≡◌, ◌⊎◌, inl, inr, ℕ, zero, suc, ◌<◌, Bool, true, List, [], ◌∷◌, ◌++◌, length, refl, sym, ap, subst, ◌∙◌, arith}
+use Rattle.std.specs.Prelude.{map, slice_get, ◌&&◌}
+use Rattle.std.specs.List.{list_all}
 use Rattle.std.specs.Option.{option_map}
 use Rattle.std.specs.declared.option.Option.{Option}
 use Rattle.std.specs.declared.option.Option.TheVariants.{None, Some}
@@ -15,23 +16,20 @@ use Rattle.flow_eval.specs.Typed.{HasType}
 use Rattle.flow_class.specs.declared.class.Slotted.{Slotted}
 use Rattle.flow_class.specs.declared.class.Slotted.TheVariants.{Local}
 use Rattle.flow_class.specs.Classes.{CatcherTree, ClassTree, RawTree}
-use Rattle.flow_class.specs.Places.{type_at}
 use Rattle.flow_class.specs.Code.{catcher_at}
 use Rattle.flow_code.specs.declared.program.Code.{Code}
-use Rattle.flow_valid.specs.Named.{has_place, listed, catcher_places}
-use Rattle.flow_cancel.specs.Heap.{HeapTree, actor_id}
-use Rattle.flow_meaning.specs.Numbered.{Numbered, thing}
-use Rattle.flow_meaning.specs.Cells.{Side, PromiseSide, FutureSide, Ref, Waiter, Cell, waiters}
+use Rattle.flow_valid.specs.Named.{has_place, listed}
+use Rattle.flow_cancel.specs.Heap.{actor_id}
+use Rattle.flow_meaning.specs.Numbered.{thing}
+use Rattle.flow_meaning.specs.Cells.{Side, PromiseSide, FutureSide, Waiter, Cell, waiters}
 use Rattle.flow_meaning.specs.Process.{Task, Throw, Close, Fire, Entry, Proc}
 use Rattle.flow_meaning.specs.Occ.{count, refs_in, value_in}
 use Rattle.flow_meaning.specs.Orderly.{is_suspended, AllWait, tasks_of}
 use Rattle.flow_meaning.specs.Step.{popped}
 use Rattle.flow_meaning.specs.Variables.{flat, filled}
-use Rattle.flow_meaning.specs.Frame.{Frame, Memory, read, reversed, blanks, emptied, all_emptied, lose, over}
-use Rattle.flow_meaning.proofs.Posture.{awake_entry}
+use Rattle.flow_meaning.specs.Frame.{Frame, read, reversed, blanks, emptied, all_emptied, lose, over}
 use Rattle.flow_meaning.proofs.Shifts.{throw_of, close_of, cell_waits}
 use Rattle.flow_meaning.proofs.TaskShifts.{popped_at}
-use Rattle.flow_picture.specs.Counted.{references}
 use Rattle.flow_picture.specs.References.{frame_holds}
 use Rattle.flow_picture.specs.Holding.{held}
 use Rattle.flow_picture.specs.Shows.{Shows}
@@ -49,17 +47,15 @@ use Rattle.flow_unstuck.proofs.StepFits.{Actor, actor_here, frame_rules}
 use Rattle.flow_runs.specs.Laws.{AreValid}
 use Rattle.flow_runs.proofs.Owned.{results_alone}
 use Rattle.flow_unstuck.proofs.Tops.{first_true, second_true}
-use Rattle.flow_steps.specs.declared.frames.Stand.{Stand}
 use Rattle.flow_steps.specs.declared.process.Process.{Process}
-use Rattle.flow_steps.specs.Standing.{StandsNow}
 use Rattle.flow_follows.specs.Placing.{Acts, HasLocals}
 use Rattle.flow_follows.specs.Seeing.{IsCodeOf}
-use Rattle.flow_follows.specs.Taking.{Standing as StandsAt, AtWait, MayGo, Takeable}
+use Rattle.flow_follows.specs.Taking.{MayGo}
 use Rattle.flow_follows.specs.Closing.{MayClose}
 use Rattle.flow_follows.specs.Tasking.{Suspended, MayFire}
-use Rattle.flow_follows.specs.Throwing.{SameCatcher, CatcherFits, MayThrow}
+use Rattle.flow_follows.specs.Throwing.{CatcherFits, MayThrow}
 use Rattle.flow_kept.specs.Kept.{Kept}
-use Rattle.flow_kept.proofs.Homes.{all_at, catcher_there}
+use Rattle.flow_kept.proofs.Homes.{catcher_there}
 use Rattle.flow_kept.proofs.Theres.{content_there}
 use Rattle.flow_kept.proofs.Off.{no_tasks_keep, tasks_rest, unfinished, kinds_right, idle, tied_off, alone_off, free_off}
 use Rattle.flow_kept.proofs.Acting.{actor_at, acts_at, stands_by, waiting_there, either_there}
@@ -67,7 +63,7 @@ use Rattle.flow_kept.proofs.Acting.{actor_at, acts_at, stands_by, waiting_there,
 -- an entry by whether it is suspended
 suspended_entry : (o : Option Entry) → is_suspended o ≡ Some true → (e : Entry) × ((o ≡ Some e) × (e.suspended ≡ true))
 suspended_entry None h = cc
-suspended_entry (Some e) h = (e, refl, let a : e.suspended ≡ true = cc in a)
+suspended_entry (Some e) h = (e, (refl, let a : e.suspended ≡ true = cc in a))
 
 -- locals that are all empty
 filled_more : (os : List (Option ValueTree)) → filled (os ++ None ∷ []) ≡ filled os
@@ -147,17 +143,17 @@ module _ (r : RawTree) (code : Code) (valid : AreValid r) (coded : IsCodeOf r co
   waiter_suspended start s j cell w ws at is =
       let all : AllWait p.core.entries (w ∷ ws) = subst (AllWait p.core.entries) is (cell_waits p.core.entries p.core.cells j cell k.orderly.waiting at) in
       let en = suspended_entry (thing p.core.entries w.actor) all.0 in
-      let x = unfinished r p k w.actor en.0 en.1 in
-      let parked = subst (λ b. PostureFits r k.types b x.fits.class en.0 x.frame (tasks_of w.actor p.core.tasks)) en.2 x.fits.posture in
+      let x = unfinished r p k w.actor en.0 en.1.0 in
+      let parked = subst (λ b. PostureFits r k.types b x.fits.class en.0 x.frame (tasks_of w.actor p.core.tasks)) en.1.1 x.fits.posture in
       let waits = parked.1 in
-      let acts = acts_at r start.heap q w.actor en.0 x.frame s en.1 x.acting (waiting_there r k.types x.frame waits) in
+      let acts = acts_at r start.heap q w.actor en.0 x.frame s en.1.0 x.acting (waiting_there r k.types x.frame waits) in
       record {
         entry = en.0;
         frame = x.frame;
         acts = acts;
-        suspended = en.2;
+        suspended = en.1.1;
         emptied = loses_nothing x.frame waits.lost;
-        go = go_off w.actor en.0 en.1 (tasks_rest w.actor u below (ap (tasks_of w.actor) (sym top) ∙ idle r p k w.actor en.0 en.1 en.2));
+        go = go_off w.actor en.0 en.1.0 (tasks_rest w.actor u below (ap (tasks_of w.actor) (sym top) ∙ idle r p k w.actor en.0 en.1.0 en.1.1));
         group = waits.group;
         stands = λ st now. let b = stands_by r code valid coded start q w.actor en.0 x.frame st acts now in (b.standing, b.waits waits.group waits.there);
       }
@@ -180,8 +176,8 @@ module _ (r : RawTree) (code : Code) (valid : AreValid r) (coded : IsCodeOf r co
       record {
         drops = locals_there f.code f t.drops holds.locals names.1;
         error = λ n q.
-        let one : HasLocals f (n ∷ []) = locals_there f.code f (n ∷ []) holds.locals (subst (λ o. list_all (has_place f.code) (listed (option_map Local o)) ≡ true) q names.0) in
-        (one.0, error_holds r.records (typed_by k.types) (read (emptied t.drops f.mem) (Local n)) (λ v z. (emptied_holds r.records (typed_by k.types) f.code t.drops f.mem holds).types (Local n) ErrorType v ((keeps.catchers f.block t e).1 n q) z));
+            let one : HasLocals f (n ∷ []) = locals_there f.code f (n ∷ []) holds.locals (subst (λ o. list_all (has_place f.code) (listed (option_map Local o)) ≡ true) q names.0) in
+            (one.0, error_holds r.records (typed_by k.types) (read (emptied t.drops f.mem) (Local n)) (λ v z. (emptied_holds r.records (typed_by k.types) f.code t.drops f.mem holds).types (Local n) ErrorType v ((keeps.catchers f.block t e).1 n q) z));
       }
 
   pub may_throw : (start : Process) (i err : ℕ) → Shows r start.heap q → u ≡ Throw i err → (e : Entry) × ((f : Frame) × (Acts r start.heap q i e f × MayThrow code start q (actor_id i) e f))
@@ -189,16 +185,19 @@ module _ (r : RawTree) (code : Code) (valid : AreValid r) (coded : IsCodeOf r co
       let t = top ∙ ap (λ t. t ∷ below) is in
       let a = actor_here r k.types i (Throw i err) below p.core p.actors k.orderly t (throw_of i err) k.fits in
       let rest = (popped_at i p.core.left (Throw i err) below p.core k.orderly t (throw_of i err)).rest in
-      let acts = acts_at r start.heap q i a.entry a.frame s a.at a.stands (either_there r k.types a.frame a.doing.1) in
-      (
+      let acts = acts_at r start.heap q i a.entry a.frame s a.at a.stands (either_there r k.types a.frame a.doing.1) in (
         a.entry,
-        a.frame,
-        acts,
-        record {
-          go = go_off i a.entry a.at rest;
-          stands = λ st now. let b = stands_by r code valid coded start q i a.entry a.frame st acts now in (b.standing, b.catcher);
-          fits = catcher_fits a.class a.entry.class a.frame a.owner.is a.doing.0 (holds_either a.frame a.doing.1) (frame_rules r (heads r) rules (record { word = 0; now = 0; processes = 0 }) k.types a.entry a.class a.frame a.owner a.doing.0);
-        },
+        (
+          a.frame,
+          (
+            acts,
+            record {
+              go = go_off i a.entry a.at rest;
+              stands = λ st now. let b = stands_by r code valid coded start q i a.entry a.frame st acts now in (b.standing, b.catcher);
+              fits = catcher_fits a.class a.entry.class a.frame a.owner.is a.doing.0 (holds_either a.frame a.doing.1) (frame_rules r (heads r) rules (record { word = 0; now = 0; processes = 0 }) k.types a.entry a.class a.frame a.owner a.doing.0);
+            },
+          ),
+        ),
       )
     where
       holds_either : (f : Frame) → Standing r k.types f ⊎ Waiting r k.types f → HoldsTypes r.records (typed_by k.types) f.code f.mem

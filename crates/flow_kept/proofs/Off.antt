@@ -1,5 +1,5 @@
 -- What holds of a process that keeps what it has to, once its newest task is off.
-use Rattle.std.proofs.Common.{◌≡◌, ◌⊎◌, inl, inr, ℕ, ◌+◌, ◌<◌, nat_eq, Bool, true, false, List, [], ◌∷◌, ◌++◌, if◌then◌else◌, refl, sym, ap, subst, ◌∙◌, arith}
+use Rattle.std.proofs.Common.{◌≡◌, inl, ℕ, ◌+◌, ◌<◌, nat_eq, Bool, true, false, List, [], ◌∷◌, ◌++◌, if◌then◌else◌, refl, sym, ap, subst, ◌∙◌, arith}
 use Rattle.std.specs.Prelude.{codes}
 use Rattle.std.specs.declared.option.Option.{Option}
 use Rattle.std.specs.declared.option.Option.TheVariants.{None, Some}
@@ -10,15 +10,15 @@ use Rattle.flow_meaning.specs.Cells.{Ref, PromiseSide, Cell, Single, Stream}
 use Rattle.flow_meaning.specs.Process.{Task, Run, Give, Throw, Catch, Store, Keep, Close, Fire, Drop, Entry, Core, Proc}
 use Rattle.flow_meaning.specs.Occ.{one, count_maybe, in_requests}
 use Rattle.flow_meaning.specs.Dropping.{port_of}
-use Rattle.flow_meaning.specs.Orderly.{is_of, tasks_of, is_suspended, Stands, Orderly}
+use Rattle.flow_meaning.specs.Orderly.{is_of, tasks_of, is_suspended, Stands}
 use Rattle.flow_meaning.specs.Step.{popped}
 use Rattle.flow_meaning.specs.Frame.{Frame}
-use Rattle.flow_meaning.proofs.Posture.{same_number, IsOf}
+use Rattle.flow_meaning.proofs.Posture.{same_number}
 use Rattle.flow_meaning.proofs.Shifts.{same_of}
 use Rattle.flow_meaning.proofs.InOrder.{no_thing}
 use Rattle.flow_picture.specs.Counted.{branches_of, waiters_at, waiting_by, waiting_of, branches_at}
-use Rattle.flow_picture.specs.Rested.{has, IsUnset, IsStream, Owned}
-use Rattle.flow_picture.specs.Naming.{TaskNamed, TasksNamed}
+use Rattle.flow_picture.specs.Rested.{has, IsStream, Owned}
+use Rattle.flow_picture.specs.Naming.{TasksNamed}
 use Rattle.flow_picture.specs.Alone.{spares, Alone, results_at, owners_of}
 use Rattle.flow_picture.specs.Keeps.{Tied}
 use Rattle.flow_picture.specs.Lonely.{OwnedAlone}
@@ -27,7 +27,7 @@ use Rattle.flow_picture.specs.Leaving.{RightKinds}
 use Rattle.flow_picture.specs.Holds.{MayWait}
 use Rattle.flow_picture.proofs.Beside.{one_each}
 use Rattle.flow_picture.proofs.Once.{one_reference}
-use Rattle.flow_unstuck.specs.Fitting.{CellTypes, CellFits, DoingFits, PostureFits, ActorAt, ActorFits, ProcessFits}
+use Rattle.flow_unstuck.specs.Fitting.{CellTypes, CellFits, DoingFits, PostureFits, ActorAt, ActorFits}
 use Rattle.flow_unstuck.proofs.CellStates.{cell_there}
 use Rattle.flow_runs.proofs.Owned.{ports_alone, results_alone}
 use Rattle.flow_owned.specs.Unset.{awaited}
@@ -54,57 +54,39 @@ request_counts k (x ∷ ks) h = by_test (nat_eq k x) refl h (request_counts k ks
     by_test true q f rest = let a : one PromiseSide k PromiseSide x ≡ 1 = ap (λ (b : Bool). if b then 1 else 0) q in omega (arith, a)
     by_test false q f rest = let a = rest f in omega (arith, a)
 
--- an actor without tasks has no operand to keep; and one has none whose tasks are no such
+-- a task that isn't of an actor keeps nothing for it
+other_keep : (i : ℕ) (u : Task) (ts : List Task) → is_of i u ≡ false → NoKeep i ts → NoKeep i (u ∷ ts)
+other_keep i (Run j) ts q rest = rest
+other_keep i (Give j b o) ts q rest = rest
+other_keep i (Throw j e) ts q rest = rest
+other_keep i (Catch j e) ts q rest = rest
+other_keep i (Store j v) ts q rest = rest
+other_keep i (Keep j spot r) ts q rest = ((λ e. let f : ⊥ = grind (arith, q, e) in f), rest)
+other_keep i (Close j o) ts q rest = rest
+other_keep i (Fire k) ts q rest = rest
+other_keep i (Drop kd k) ts q rest = rest
+
+-- an actor without tasks has no operand to keep, nor one that is to take its next step
 pub no_tasks_keep : (i : ℕ) (ts : List Task) → tasks_of i ts ≡ [] → NoKeep i ts
 no_tasks_keep i [] h = tt
 no_tasks_keep i (t ∷ ts) h = by_test (is_of i t) refl h (no_tasks_keep i ts)
   where
-    with_first : (u : Task) → is_of i u ≡ false → NoKeep i ts → NoKeep i (u ∷ ts)
-    with_first (Run j) q rest = rest
-    with_first (Give j b o) q rest = rest
-    with_first (Throw j e) q rest = rest
-    with_first (Catch j e) q rest = rest
-    with_first (Store j v) q rest = rest
-    with_first (Keep j spot r) q rest = ((λ e. let f : ⊥ = grind (arith, q, e) in f), rest)
-    with_first (Close j o) q rest = rest
-    with_first (Fire k) q rest = rest
-    with_first (Drop kd k) q rest = rest
-
     by_test : (b : Bool) → is_of i t ≡ b → (if b then t ∷ tasks_of i ts else tasks_of i ts) ≡ [] → (tasks_of i ts ≡ [] → NoKeep i ts) → NoKeep i (t ∷ ts)
     by_test true q e rest = absurd (cc (e))
-    by_test false q e rest = with_first t q (rest e)
+    by_test false q e rest = other_keep i t ts q (rest e)
 
 pub no_run_keep : (i : ℕ) (ts : List Task) → tasks_of i ts ≡ Run i ∷ [] → NoKeep i ts
 no_run_keep i [] h = cc
-no_run_keep i (t ∷ ts) h = by_test (is_of i t) refl h
+no_run_keep i (t ∷ ts) h = by_test (is_of i t) refl h (no_run_keep i ts)
   where
-    others : (u : Task) → (u ≡ Run i) → NoKeep i ts → NoKeep i (u ∷ ts)
-    others (Run j) q rest = rest
-    others (Give j b o) q rest = rest
-    others (Throw j e) q rest = rest
-    others (Catch j e) q rest = rest
-    others (Store j v) q rest = rest
-    others (Keep j spot r) q rest = absurd (cc (q))
-    others (Close j o) q rest = rest
-    others (Fire k) q rest = rest
-    others (Drop kd k) q rest = rest
+    by_run : Run i ≡ t → NoKeep i ts → NoKeep i (t ∷ ts)
+    by_run q rest = subst (λ u. NoKeep i (u ∷ ts)) q rest
 
-    with_first : (u : Task) → is_of i u ≡ false → NoKeep i ts → NoKeep i (u ∷ ts)
-    with_first (Run j) q rest = rest
-    with_first (Give j b o) q rest = rest
-    with_first (Throw j e) q rest = rest
-    with_first (Catch j e) q rest = rest
-    with_first (Store j v) q rest = rest
-    with_first (Keep j spot r) q rest = ((λ e. let f : ⊥ = grind (arith, q, e) in f), rest)
-    with_first (Close j o) q rest = rest
-    with_first (Fire k) q rest = rest
-    with_first (Drop kd k) q rest = rest
+    by_test : (b : Bool) → is_of i t ≡ b → (if b then t ∷ tasks_of i ts else tasks_of i ts) ≡ Run i ∷ [] → (tasks_of i ts ≡ Run i ∷ [] → NoKeep i ts) → NoKeep i (t ∷ ts)
+    by_test true q e rest = by_run (let a : t ≡ Run i = cc in sym a) (no_tasks_keep i ts (let a : tasks_of i ts ≡ [] = cc in a))
+    by_test false q e rest = other_keep i t ts q (rest e)
 
-    by_test : (b : Bool) → is_of i t ≡ b → (if b then t ∷ tasks_of i ts else tasks_of i ts) ≡ Run i ∷ [] → NoKeep i (t ∷ ts)
-    by_test true q e = others t (let a : t ≡ Run i = cc in a) (no_tasks_keep i ts (let a : tasks_of i ts ≡ [] = cc in a))
-    by_test false q e = with_first t q (no_run_keep i ts e)
-
-tasks_rest : (i : ℕ) (t : Task) (ts : List Task) → tasks_of i (t ∷ ts) ≡ [] → tasks_of i ts ≡ []
+pub tasks_rest : (i : ℕ) (t : Task) (ts : List Task) → tasks_of i (t ∷ ts) ≡ [] → tasks_of i ts ≡ []
 tasks_rest i t ts h = by_test (is_of i t) h
   where
     by_test : (b : Bool) → (if b then t ∷ tasks_of i ts else tasks_of i ts) ≡ [] → tasks_of i ts ≡ []

@@ -1,12 +1,11 @@
 -- Numbers that stand once in a list do so after one is taken out, and after a new one is put in.
 use Rattle.std.proofs.Common.{◌≡◌, ℕ, nat_eq, Bool, true, false, List, [], ◌∷◌, refl, sym, ap, subst, ◌∙◌, arith}
 use Rattle.std.proofs.lemmas.Bool.Decides.{nat_tests}
-use Rattle.std.specs.Prelude.{nat_lt, cond, ◌||◌}
+use Rattle.std.specs.Prelude.{cond, ◌||◌}
 use Rattle.std.specs.declared.option.Option.{Option}
 use Rattle.std.specs.declared.option.Option.TheVariants.{None, Some}
-use Rattle.flow_cancel.specs.Heap.{has_number, with_number, without_number}
+use Rattle.flow_cancel.specs.Heap.{has_number, without_number}
 use Rattle.flow_cancel.proofs.Noted.{at_number}
-use Rattle.flow_picture.specs.Rested.{Sorted}
 use Rattle.flow_steps.specs.declared.call.Call.{Call}
 use Rattle.flow_steps.specs.declared.call.Call.TheVariants as call
 use Rattle.flow_kept.specs.Staying as law

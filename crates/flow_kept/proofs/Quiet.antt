@@ -1,6 +1,6 @@
 -- What the steps of an actor in memory keep.
-use Rattle.std.proofs.Common.{◌≡◌, ℕ, zero, suc, Bool, true, false, List, [], ◌∷◌, length, if◌then◌else◌, refl, sym, ap, subst, ◌∙◌}
-use Rattle.std.specs.Prelude.{nat_lt}
+use Rattle.std.proofs.Common.{◌≡◌, ℕ, Bool, true, false, List, [], ◌∷◌, if◌then◌else◌, refl, sym, ap, subst, ◌∙◌}
+use Rattle.std.specs.Prelude.{nat_lt, ◌-◌}
 use Rattle.std.specs.declared.option.Option.{Option}
 use Rattle.std.specs.declared.option.Option.TheVariants.{None, Some}
 use Rattle.flow_ast.specs.declared.predefined.Method.{Method}
@@ -36,10 +36,11 @@ use Rattle.flow_frame.specs.declared.held.Held.{Held}
 use Rattle.flow_trace.specs.declared.line.Line.{Line}
 use Rattle.flow_cancel.specs.declared.task.Task.{Task}
 use Rattle.flow_cancel.specs.Heap.{HeapTree, pushed}
-use Rattle.flow_cancel.specs.Dropping.{dropping}
-use Rattle.flow_cancel.specs.Leaving.{withdrawn}
+use Rattle.flow_cancel.specs.Dropping.{refs_in, dropping}
+use Rattle.flow_cell.specs.declared.waiter.Waiter.{Waiter}
+use Rattle.flow_cancel.specs.Leaving.{waiter_of, withdrawn}
 use Rattle.flow_meaning.specs.Asks as asks
-use Rattle.flow_picture.specs.Changes.{cell_put, stream_put}
+use Rattle.flow_picture.specs.Changes.{stream_put}
 use Rattle.flow_picture.specs.Holds.{hold, hold_all, filled_in, given}
 use Rattle.flow_steps.specs.declared.call.Call.{Call}
 use Rattle.flow_steps.specs.declared.call.Call.TheVariants as call
@@ -49,13 +50,15 @@ use Rattle.flow_steps.specs.declared.next.Pace.{Pace}
 use Rattle.flow_steps.specs.declared.next.Pace.TheVariants.{On, Off}
 use Rattle.flow_steps.specs.declared.process.Process.{Process}
 use Rattle.flow_steps.specs.Doing.{turned, doing, asking, telling, stopped}
-use Rattle.flow_steps.specs.Holding.{on_heap, with_heap, Gives, cancelled_if, owner_cancelled, outcome_refs, value_refs}
-use Rattle.flow_steps.specs.Bringing.{made, sent_into, sending, gone_to}
-use Rattle.flow_steps.specs.Standing.{with_frame, noted, gone, place_put, places_emptied, lost_from, Assigns}
-use Rattle.flow_steps.specs.Waiting.{operand_kept, Registered, stream_awaited, awaited, register, register_all, registered_then, suspended_at, left_for, Takes, copied, popped, BranchTaken, TakesBranch, no_turn, takes_branch, Keeps, kept_marked, kept_unready, kept_ready, Waits, waits_ready, waits_refused, waits_suspended}
+use Rattle.flow_steps.specs.Holding.{on_heap, with_heap, Gives, cancelled_if, outcome_refs, value_refs}
+use Rattle.flow_base.specs.ErrorNumbers.{already_set}
+use Rattle.flow_cancel.specs.declared.task.Task.TheVariants as task
+use Rattle.flow_steps.specs.Bringing.{made, complete_at, sent_into, sending}
+use Rattle.flow_steps.specs.Standing.{next_stand, noted, place_put, places_emptied, lost_from}
+use Rattle.flow_steps.specs.Waiting.{operand_kept, Registered, stream_awaited, awaited, register, register_all, registered_then, left_for, Takes, copied, popped, TakesBranch, no_turn, takes_branch, Keeps, kept_marked, kept_unready, kept_ready, Waits, waits_ready, waits_refused, waits_suspended}
 use Rattle.flow_steps.specs.Sights.{with_left, Evaluates, gives, throws, runs_out}
-use Rattle.flow_steps.specs.Acting.{Values, args_of, enrolled, with_args, EffectAsked, WorldAsked, NewGiven, DiskAsked, ActorCalled, not_called, actor_starts, EffectMade, EffectDone, PredefinedCalled, Printed, MessageAsked, IsMessage, MethodCalled, Sends}
-use Rattle.flow_steps.specs.Stepping.{OnAfter, IsSet, made_in_place, IsNew, GoesNext, IsAct, IsMethod, MethodStep, Does, GoesOnAt, Passes, no_pass, pass_begins, IsTest, ReferenceKept, OperandStep, Chooses, asks_operand, all_kept, ended, IsReturn, ErrorThrown, Ends, StepsOn, by_instruction, by_last, Runs, runs_on, runs_off, GoesOn}
+use Rattle.flow_steps.specs.Acting.{Values, args_of, enrolled, with_args, EffectAsked, ActorCalled, not_called, actor_starts, EffectMade, EffectDone, PredefinedCalled, IsMessage, MethodCalled}
+use Rattle.flow_steps.specs.Stepping.{OnAfter, IsSet, made_in_place, IsNew, IsAct, IsMethod, MethodStep, Does, GoesOnAt, Passes, no_pass, pass_begins, IsTest, ReferenceKept, OperandStep, Chooses, asks_operand, all_kept, ended, IsReturn, ErrorThrown, Ends, StepsOn, by_instruction, by_last, Runs, runs_on, runs_off, GoesOn}
 use Rattle.flow_kept.specs.Staying.{ports_after, Stays}
 use Rattle.flow_kept.proofs.Rising.{HeapStays, still, and_then, other_tasks, push_stays, cell_put_stays, stream_put_stays, made_stays, started_stays, hold_stays, hold_all_stays, filled_stays, frame_stays, noting_stays, emptied_stays, lost_from_stays, withdrawn_stays, cancelled_stays}
 
@@ -190,7 +193,7 @@ actor_called code i g class vs m n none (actor_starts t h) =
     let a = turned m in
     let f = enrolled class h.enrols.of.places vs h.cell in
     let made_one = made_stays kind.Future a.heap in
-    let held = hold_all_stays _ _ in
+    let held = hold_all_stays (refs_in vs) (made kind.Future a.heap) in
     let enrols : Quiet a h.enrolled =
     quiet_is a h.enrolled (on_heap f a) h.enrols.made
     (on_heap_quiet f a (and_then a.heap (with_args vs a.heap) _ (and_then a.heap (made kind.Future a.heap) (with_args vs a.heap) made_one held) (started_stays class h.enrols.of.places _ (Some h.cell) (with_args vs a.heap)))) in
@@ -223,9 +226,9 @@ predefined_called i predefined.SendTo args m n h = speaks_is m n _ h.asks (by_ca
 predefined_called i _ args m n h = absurd h
 
 sending_quiet : (i : ActorId) (kd : Kind) (k : ℕ) (o : Outcome) (m : Process) → Quiet m (sending i kd k o m)
-sending_quiet i kd k o m = by_test _ (nat_lt 0 m.left)
+sending_quiet i kd k o m = by_test (complete_at kd k m.heap) (nat_lt 0 m.left)
   where
-    by_test : (b c : Bool) → Quiet m (if b then doing _ m else if c then on_heap (sent_into i kd k o) (turned m) else turned m)
+    by_test : (b c : Bool) → Quiet m (if b then doing (task.Throw i (record { 0 = already_set })) m else if c then on_heap (sent_into i kd k o) (turned m) else turned m)
     by_test true c = doing_quiet _ m
     by_test false false = turned_quiet m
     by_test false true =
@@ -250,7 +253,7 @@ method_called i called kind.FutureStream k arg m n none h = absurd h
 
 method_is : (code : Code) (s : Stand) (aim : Aim) (called : Method) (sent : Option Value) (m n : Process) (pace : Pace) → m.asked ≡ None → IsMethod code s aim called sent m pace n → After pace m n
 method_is code s aim called sent m n pace none h =
-    off_is pace m n h.off (then_speaks m (noted _ m) n (noted_quiet _ m).calm (method_called s.actor called h.kind h.cell sent (noted _ m) n none h.calls))
+    off_is pace m n h.off (then_speaks m (noted (next_stand s) m) n (noted_quiet (next_stand s) m).calm (method_called s.actor called h.kind h.cell sent (noted (next_stand s) m) n none h.calls))
 
 method_step : (code : Code) (s : Stand) (aim : Aim) (called : Method) (es : List Resolved) (m n : Process) (pace : Pace) → m.asked ≡ None → MethodStep code s aim called es m pace n → After pace m n
 method_step code s aim called [] m n pace none h = method_is code s aim called None m n pace none h
@@ -260,7 +263,7 @@ method_step code s aim called (e ∷ f ∷ es) m n pace none h = absurd h
 
 act_is : (code : Code) (s : Stand) (a : Act) (args : Values) (m n : Process) (pace : Pace) → m.asked ≡ None → IsAct code s a args m pace n → After pace m n
 act_is code s (act.World called) args m n pace none h =
-    off_is pace m n h.0 (then_speaks m (noted _ m) n (noted_quiet _ m).calm (predefined_called s.actor called args (noted _ m) n h.1))
+    off_is pace m n h.0 (then_speaks m (noted (next_stand s) m) n (noted_quiet (next_stand s) m).calm (predefined_called s.actor called args (noted (next_stand s) m) n h.1))
 act_is code s (act.Function f) args m n pace none h =
     evaluates s value_of _ m n _ pace none (λ v k n pace none h. on_is pace _ k n h.0 (quiet_is k n k h.1 (quiet_still k))) h
 
@@ -331,22 +334,22 @@ keeps_after s x m n pace none (kept_ready _ b marked ready of h) =
 register_stays : (i : ℕ) (x : Held) (h : HeapTree) → HeapStays h (register i x h).1
 register_stays i x h = by_cell (thing h.cells.things x.cell.0) (thing h.streams.things x.cell.0)
   where
-    by_waiter : (s : StreamTree Value) (w : Option _) → HeapStays h (stream_awaited x.cell.0 _ s w h).1
+    by_waiter : (s : StreamTree Value) (w : Option Waiter) → HeapStays h (stream_awaited x.cell.0 (waiter_of i x) s w h).1
     by_waiter s None = stream_put_stays x.cell.0 _ h
     by_waiter s (Some old) = still h
 
-    by_cell : (c : Option (CellTree Outcome)) (s : Option (StreamTree Value)) → HeapStays h (awaited x.cell.0 _ c s h).1
+    by_cell : (c : Option (CellTree Outcome)) (s : Option (StreamTree Value)) → HeapStays h (awaited x.cell.0 (waiter_of i x) c s h).1
     by_cell (Some c) s = cell_put_stays x.cell.0 _ h
     by_cell None (Some s) = by_waiter s s.waiter
     by_cell None None = still h
 
 register_all_stays : (i : ℕ) (xs : List Held) (h : HeapTree) → HeapStays h (register_all i xs h).1
 register_all_stays i [] h = still h
-register_all_stays i (x ∷ xs) h = by_first (register i x h) (register_stays i x h)
+register_all_stays i (x ∷ xs) h = by_first (register i x h) (register_stays i x h) (λ g. register_all_stays i xs g)
   where
-    by_first : (r : Registered) → HeapStays h r.1 → HeapStays h (registered_then (register_all i xs) r).1
-    by_first (true, g) a = and_then h g (register_all i xs g).1 a (register_all_stays i xs g)
-    by_first (false, g) a = a
+    by_first : (r : Registered) → HeapStays h r.1 → ((g : HeapTree) → HeapStays g (register_all i xs g).1) → HeapStays h (registered_then (register_all i xs) r).1
+    by_first (true, g) a rest = and_then h g (register_all i xs g).1 a (rest g)
+    by_first (false, g) a rest = a
 
 pub waits_speak : (s : Stand) (group : ℕ) (m n : Process) → m.asked ≡ None → Waits s group m n → Speaks m n
 waits_speak s group m n none (waits_ready x b first of h) = branch_speaks s b x.cell m n none h

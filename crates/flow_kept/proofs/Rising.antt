@@ -1,11 +1,10 @@
 -- What is done to a heap keeps that numbers rise in its stores, and which cells are streams of ports.
-use Rattle.std.proofs.Common.{◌≡◌, ℕ, zero, suc, ◌+◌, ◌<◌, ◌≤◌, ◌-◌, nat_eq, Bool, true, false, List, [], ◌∷◌, ◌++◌, length, if◌then◌else◌, refl, sym, ap, subst, ◌∙◌, arith}
-use Rattle.std.specs.Prelude.{max, nat_lt}
+use Rattle.std.proofs.Common.{◌≡◌, ℕ, zero, suc, ◌<◌, ◌≤◌, ◌-◌, nat_eq, Bool, true, false, List, [], ◌∷◌, length, if◌then◌else◌, refl, ◌∙◌, arith}
+use Rattle.std.specs.Prelude.{max}
 use Rattle.std.specs.declared.option.Option.{Option}
 use Rattle.std.specs.declared.option.Option.TheVariants.{None, Some}
 use Rattle.flow_value.specs.declared.value.Value.{Value}
 use Rattle.flow_value.specs.declared.value.Outcome.{Outcome}
-use Rattle.flow_value.specs.declared.value.Outcome.TheVariants as outcome
 use Rattle.flow_value.specs.declared.value.Kind.{Kind}
 use Rattle.flow_value.specs.declared.value.Kind.TheVariants as kind
 use Rattle.flow_numbered.specs.Numbered.{Numbered, Store, thing, added, put, removed, with_thing, IsRising}
@@ -19,14 +18,14 @@ use Rattle.flow_frame.specs.Frames.{FrameTree}
 use Rattle.flow_frame.specs.declared.held.Held.{Held}
 use Rattle.flow_cancel.specs.declared.actors.Note.{Note}
 use Rattle.flow_cancel.specs.declared.task.Task.{Task}
-use Rattle.flow_cancel.specs.Heap.{HeapTree, with_new, without, next_cell, next_actor, pushed, with_result, with_stream, promised_at, promised_in, started_holding, finished}
-use Rattle.flow_cancel.specs.Leaving.{is_waiter, leave_stream_at, left_cells, leave_cell_at, waiter_of, leave_one, leave_all, withdrawn_from, withdrawn, marked_in, marked, cancelled_by, cancelled, suspended}
+use Rattle.flow_cancel.specs.Heap.{HeapTree, without, next_cell, next_actor, pushed, with_result, with_stream, promised_at, promised_in, started_holding, finished}
+use Rattle.flow_cancel.specs.Leaving.{is_waiter, leave_stream_at, leave_cell_at, waiter_of, leave_one, leave_all, withdrawn_from, withdrawn, marked_in, marked, cancelled_by, cancelled, suspended}
 use Rattle.flow_meaning.specs.Cells.{Ref}
 use Rattle.flow_picture.specs.Changes.{cell_put, stream_put}
 use Rattle.flow_picture.specs.Acting.{frame_put}
 use Rattle.flow_picture.specs.Holds.{held_cell, held_stream, hold, hold_all, set_cell, send_stream, filled_in}
 use Rattle.flow_steps.specs.Bringing.{made, promise_ended, without_promise}
-use Rattle.flow_steps.specs.Standing.{reframed, with_frame, places_emptied, place_put, place_held, values, place_lost, places_lost, losing_from, lost_from, noting, gone}
+use Rattle.flow_steps.specs.Standing.{reframed, with_frame, places_emptied, place_put, place_lost, places_lost, losing_from, lost_from, noting}
 use Rattle.flow_steps.specs.Bringing.{gone_to}
 use Rattle.flow_kept.specs.Staying.{StoresRise}
 

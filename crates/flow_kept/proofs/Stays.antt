@@ -1,6 +1,6 @@
 -- What each task that is done in memory keeps.
-use Rattle.std.proofs.Common.{◌≡◌, ℕ, Bool, true, false, List, [], ◌∷◌, if◌then◌else◌, refl, sym, ap, subst, ◌∙◌}
-use Rattle.std.specs.Prelude.{nat_lt, is_some}
+use Rattle.std.proofs.Common.{◌≡◌, ℕ, Bool, true, false, if◌then◌else◌, refl, sym, subst, ◌∙◌}
+use Rattle.std.specs.Prelude.{nat_lt}
 use Rattle.std.specs.declared.option.Option.{Option}
 use Rattle.std.specs.declared.option.Option.TheVariants.{None, Some}
 use Rattle.flow_base.specs.declared.ids.ActorId.{ActorId}
@@ -25,23 +25,21 @@ use Rattle.flow_stream.specs.Streams.{StreamTree}
 use Rattle.flow_cancel.specs.declared.actors.Note.{Note}
 use Rattle.flow_cancel.specs.declared.task.Task as stack
 use Rattle.flow_cancel.specs.declared.task.Task.TheVariants as task
-use Rattle.flow_cancel.specs.declared.task.Dropped.{Dropped}
 use Rattle.flow_cancel.specs.declared.task.Dropped.TheVariants as after
 use Rattle.flow_cancel.specs.Heap.{HeapTree, has_number, owner, pushed, finished}
-use Rattle.flow_cancel.specs.Dropping.{broken_if_not, cancel_if_not, cancel_owner, Lost, put_cell, freed_cell, cell_lost, cell_less, drop_cell, put_stream, freed_stream, without_port, unheard, stream_lost, stream_less, drop_stream, dropped, dropping}
+use Rattle.flow_cancel.specs.Dropping.{broken_if_not, cancel_if_not, cancel_owner, freed_cell, cell_lost, cell_less, drop_cell, freed_stream, unheard, stream_lost, stream_less, drop_stream, dropping}
 use Rattle.flow_cancel.specs.Leaving.{withdrawn}
 use Rattle.flow_picture.specs.Holds.{filled_in}
 use Rattle.flow_steps.specs.declared.process.Process.{Process}
 use Rattle.flow_steps.specs.Doing.{turned, doing, telling}
 use Rattle.flow_steps.specs.Holding.{on_heap, with_heap, broken, filled_broken, lost_by, lost, refs_dropped, outcome_refs, futures_of}
 use Rattle.flow_steps.specs.Bringing.{without_promise, result_set, ended_in, ended_with, closing, closed}
-use Rattle.flow_steps.specs.Standing.{noted, place_put, places_emptied, lost_from, gone}
-use Rattle.flow_steps.specs.Tasks.{RunsNow, bound, ValueGiven, Given, Stored, TopTaken, IsKept, with_error, dropped_places, caught, failed, FailsBy, Raises, Raised, WaiterTakes, FiresAt, Fires, Closes, drops_one, IsDone}
-use Rattle.flow_steps.specs.Tasks as tasks
+use Rattle.flow_steps.specs.Standing.{values, next_stand, place_put, places_emptied, lost_from}
+use Rattle.flow_steps.specs.Tasks.{bound, Given, TopTaken, with_error, dropped_places, caught, failed, Raises, FiresAt, IsDone}
 use Rattle.flow_kept.specs.Staying as law
 use Rattle.flow_kept.specs.Staying.{Stays}
 use Rattle.flow_kept.proofs.Rising.{HeapStays, still, and_then, other_tasks, push_stays, cell_put_stays, stream_put_stays, cell_gone_stays, stream_gone_stays, finished_stays, filled_stays, without_promise_stays, frame_stays, emptied_stays, lost_from_stays, withdrawn_stays}
-use Rattle.flow_kept.proofs.Quiet.{Calm, Quiet, Speaks, calm_then, quiet_still, quiet_then, then_speaks, quiet_speaks, tells, speaks_stay, after_calm, quiet_is, speaks_is, on_heap_quiet, turned_quiet, doing_quiet, noted_quiet, left_over, stopped_speaks, branch_speaks, keeps_after, After, step_after, runs_speak, goes_on_speak}
+use Rattle.flow_kept.proofs.Quiet.{Calm, Quiet, Speaks, calm_then, quiet_then, then_speaks, quiet_speaks, tells, speaks_stay, after_calm, quiet_is, speaks_is, on_heap_quiet, turned_quiet, doing_quiet, noted_quiet, left_over, stopped_speaks, branch_speaks, keeps_after, After, step_after, runs_speak, goes_on_speak}
 
 -- a cell is broken
 broken_speaks : (kd : Kind) (k : ℕ) (m : Process) → m.asked ≡ None → Speaks m (broken kd k m)
@@ -103,7 +101,7 @@ module _ (kd : Kind) (k : ℕ) (m : Process) (none : m.asked ≡ None) where
   unheard_stays s false = speaks_stay m _ (nothing_lost _ (stream_put_stays k s m.heap))
   unheard_stays s true = record {
     time = refl;
-    rise = λ r. (stream_gone_stays k (without_port k m.heap)).rise (record { cells = r.cells; streams = r.streams; actors = r.actors; frames = r.frames });
+    rise = λ r. let q = (stream_gone_stays k m.heap).rise r in record { cells = q.cells; streams = q.streams; actors = q.actors; frames = q.frames };
     ports = refl;
   }
 
@@ -190,7 +188,7 @@ given_speaks code i b (outcome.Value v) m n none h =
     then_speaks m a n quiet.calm (goes_on_speak code h.pace a h.between n (quiet.asked ∙ none) (left_over _ _ a h.between h.pace none h.after) h.further)
 
 popped_quiet : (t : stack.Task) (m start : Process) → TopTaken t m start → Quiet m start
-popped_quiet t m start taken = quiet_is m start _ taken.rest (on_heap_quiet _ m (other_tasks m.heap taken.tasks))
+popped_quiet t m start taken = quiet_is m start _ taken.rest (on_heap_quiet (λ (h : HeapTree). record h { tasks = taken.tasks }) m (other_tasks m.heap taken.tasks))
 
 fires_stay : (code : Code) (kd : Kind) (k : CellId) (w : Option Waiter) (m n : Process) → m.asked ≡ None → FiresAt code kd k w m n → Stays m n
 fires_stay code kd k None m n none h = subst (Stays m) (sym h) (lost_stays kd k.0 m none)
@@ -210,9 +208,9 @@ done_stays code (task.Drop kd k) m n none h = subst (Stays m) (sym h) (by_turn (
     by_turn false = speaks_stay m _ (quiet_speaks m (turned m) none (turned_quiet m))
 done_stays code (task.Store i v) m n none h =
     let put = quiet_is m h.between _ h.assigns.put (on_heap_quiet (place_put i.0 h.aim.place h.assigns.root) m (frame_stays _ i.0 m.heap)) in
-    let f = dropping _ in
+    let f = dropping (values h.old) in
     let a = on_heap f h.between in
-    speaks_stay m n (quiet_speaks m n none (quiet_is m n _ h.goes (quiet_then m a _ (quiet_then m h.between a put (on_heap_quiet f h.between (other_tasks h.between.heap _))) (noted_quiet _ a))))
+    speaks_stay m n (quiet_speaks m n none (quiet_is m n _ h.goes (quiet_then m a _ (quiet_then m h.between a put (on_heap_quiet f h.between (other_tasks h.between.heap _))) (noted_quiet (next_stand h.stand) a))))
 done_stays code (task.Keep i b k) m n none h =
     let start = popped_quiet (task.Run i) m h.start h.next in
     let one = start.asked ∙ none in

@@ -1,6 +1,5 @@
 -- In a process that fits, references lead to cells of their kinds.
 use Rattle.std.proofs.Common.{◌≡◌, ℕ, suc, false, true, List, [], ◌∷◌, ◌++◌, refl, sym, ap, subst, ◌∙◌}
-use Rattle.std.specs.declared.option.Option.{Option}
 use Rattle.std.specs.declared.option.Option.TheVariants.{None, Some}
 use Rattle.flow_tree.specs.Tree.{TypeTree, FutureType, FutureStreamType}
 use Rattle.flow_value.specs.declared.value.Kind.{Kind}

@@ -1,5 +1,5 @@
 -- What a process of valid classes keeps from step to step: all that the laws of single steps ask of it.
-use Rattle.std.specs.Prelude.{◌≡◌, List, ◌++◌}
+use Rattle.std.specs.Prelude.{◌≡◌, List}
 use Rattle.std.specs.declared.option.Option.TheVariants.{None, Some}
 use Rattle.flow_timers.specs.Pending.{Pending}
 use Rattle.flow_trace.specs.declared.line.Line.{Line}
