@@ -52,7 +52,8 @@ pub(crate) fn join(
 ) -> Result<usize, NoMemory>
     ensures vacant { IfOk result (λ key. get links.old key ≡ None) }
     ensures links { IfOk result (λ key. (k : ℕ) → get links.new k
-        ≡ pushed (get links.old) ends.old.last key (record { spot = spot; older = hash.get same_spot newest.old spot }) k) }
+        ≡ pushed (get links.old) ends.old.last key
+        (record { spot = spot; older = hash.get same_spot newest.old spot }) k) }
     ensures ends { IfOk result (λ key. ends.new ≡ longer ends.old key) }
     ensures newest { IfOk result (λ key. (s : Spot) → hash.get same_spot newest.new s
         ≡ (if same_spot spot s then Some key else hash.get same_spot newest.old s)) }
@@ -98,12 +99,14 @@ pub(crate) fn leave(
     requires there { IsSome (hash.get same_spot newest.old spot) }
     requires link { ForSome (hash.get same_spot newest.old spot)
         (λ key. ContainsKey links.old key) }
-    ensures links { ForSome (hash.get same_spot newest.old spot) (λ key. ForSome (get links.old key) (λ l. (k : ℕ)
+    ensures links { ForSome (hash.get same_spot newest.old spot)
+        (λ key. ForSome (get links.old key) (λ l. (k : ℕ)
         → get links.new k ≡ unlinked (get links.old) l key k)) }
     ensures ends { ForSome (hash.get same_spot newest.old spot)
         (λ key. ForSome (get links.old key) (λ l. ends.new ≡ shorter ends.old l)) }
-    ensures newest { ForSome (hash.get same_spot newest.old spot) (λ key. ForSome (get links.old key) (λ l. (s : Spot)
-        → hash.get same_spot newest.new s ≡ (if same_spot spot s then l.item.older else hash.get same_spot newest.old s))) }
+    ensures newest { ForSome (hash.get same_spot newest.old spot)
+        (λ key. ForSome (get links.old key) (λ l. (s : Spot) → hash.get same_spot newest.new s
+        ≡ (if same_spot spot s then l.item.older else hash.get same_spot newest.old s))) }
 {
     let key = *newest.get(&spot).unwrap();
     let waiting = unlink(links, ends, key);

@@ -20,7 +20,8 @@ fn put_block_begin(
     number: usize,
     catcher: &Option<Catcher>,
 ) -> Result<(), NoMemory>
-    ensures { IfOk result (λ _. out.new ≡ out.old ++ line 1 (codes "block " ++ decimal number ++ catch_text (option_map catcher_of catcher.now) ++ codes " {")) }
+    ensures { IfOk result (λ _. out.new ≡ out.old ++ line 1 (codes "block " ++ decimal number
+        ++ catch_text (option_map catcher_of catcher.now) ++ codes " {")) }
 {
     out.put_indent(1)?;
     out.put(b"block ")?;

@@ -104,7 +104,9 @@ fn put_groups(out: &mut Source, groups: &[Group]) -> Result<(), NoMemory>
 
 // Adds the line with which a class begins.
 fn put_class_begin(out: &mut Source, class: &Class) -> Result<(), NoMemory>
-    ensures { IfOk result (λ _. out.new ≡ out.old ++ line 0 (codes "class " ++ class.now.name ++ codes " returns " ++ type_text (type_of class.now.returns) ++ codes " params " ++ decimal class.now.params ++ codes " {")) }
+    ensures { IfOk result (λ _. out.new ≡ out.old ++ line 0 (codes "class " ++ class.now.name
+        ++ codes " returns " ++ type_text (type_of class.now.returns) ++ codes " params "
+        ++ decimal class.now.params ++ codes " {")) }
 {
     out.put(b"class ")?;
     out.put(class.name.bytes())?;

@@ -33,7 +33,8 @@ impl Model for Draws {
 
     ghost view = { λ d. record { seed = d.seed; listed = d.listed.items; used = d.used } };
 
-    ghost invariant = { λ d. d.generator ≡ advance 64 multiplier_64 (d.used - length d.listed.items) (generator_of d.seed) };
+    ghost invariant = { λ d. d.generator
+        ≡ advance 64 multiplier_64 (d.used - length d.listed.items) (generator_of d.seed) };
 }
 
 impl Draws {

@@ -194,7 +194,8 @@ impl<T> Frames<T> {
 
     /// The least number above this one that a frame has, in constant time where a frame has this one.
     pub fn next_actor(&self, after: ActorId) -> Option<ActorId>
-        ensures { option_map (λ a. a.0) result ≡ next_above self.now.things after.0 }
+        ensures value { option_map (λ a. a.0) result ≡ next_above self.now.things after.0 }
+        ensures rising { IsRising 0 self.now.things self.now.greatest }
     {
         self.frames.next_above(after.0).map(ActorId)
     }

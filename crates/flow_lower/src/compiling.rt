@@ -106,7 +106,8 @@ fn push_function(
     decl: &Decl,
 ) -> Result<(), NoMemory>
     ensures { let olds = map function_of functions.old.items in
-        IfOk result (λ _. map function_of functions.new.items ≡ olds ++ functions_in (decl_of decl.now ∷ [])) }
+        IfOk result (λ _. map function_of functions.new.items
+        ≡ olds ++ functions_in (decl_of decl.now ∷ [])) }
 {
     match decl {
         Decl::Struct(_) => Ok(()),

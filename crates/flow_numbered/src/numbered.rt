@@ -114,7 +114,8 @@ impl<V> Numbered<V> {
 
     /// The least number above this one that a thing has.
     pub fn next_above(&self, number: u64) -> Option<u64>
-        ensures { result ≡ next_above self.now.things number }
+        ensures value { result ≡ next_above self.now.things number }
+        ensures rising { IsRising 0 self.now.things self.now.greatest }
     {
         let from = match place_of(&self.rows, self.recent, number) {
             Some(place) => place + 1,

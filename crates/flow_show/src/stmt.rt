@@ -206,7 +206,8 @@ impl Source {
 
     // The line of a `when`.
     fn put_when_line(&mut self, level: usize, waiting: &Waiting) -> Result<(), NoMemory>
-        ensures { IfOk result (λ _. self.new ≡ self.old ++ line level (codes "when (" ++ waiting_text (waiting_of waiting.now) ++ codes ") {")) }
+        ensures { IfOk result (λ _. self.new ≡ self.old ++ line level
+            (codes "when (" ++ waiting_text (waiting_of waiting.now) ++ codes ") {")) }
     {
         self.put_indent(level)?;
         self.put(b"when (")?;
@@ -224,7 +225,10 @@ impl Source {
         test: &Option<Expr>,
         step: &Option<Box<Stmt>>,
     ) -> Result<(), NoMemory>
-        ensures { IfOk result (λ _. self.new ≡ self.old ++ line level (codes "for (" ++ part_text (simple_of init.now) ++ codes "; " ++ maybe_text [] (option_map expr_of test.now) ++ codes "; " ++ part_text (simple_of step.now) ++ codes ") {")) }
+        ensures { IfOk result (λ _. self.new ≡ self.old ++ line level (codes "for ("
+            ++ part_text (simple_of init.now) ++ codes "; "
+            ++ maybe_text [] (option_map expr_of test.now) ++ codes "; "
+            ++ part_text (simple_of step.now) ++ codes ") {")) }
     {
         self.put_indent(level)?;
         self.put(b"for (")?;
@@ -460,7 +464,8 @@ impl Source {
     // A body, one level further in, and the line that closes it.
     #[cycle(stmt)]
     fn put_inner(&mut self, level: usize, body: &[Stmt]) -> Result<(), NoMemory>
-        ensures { IfOk result (λ _. self.new ≡ self.old ++ (body_text (suc level) (body_of body.now) ++ line level (codes "}"))) }
+        ensures { IfOk result (λ _. self.new ≡ self.old
+            ++ (body_text (suc level) (body_of body.now) ++ line level (codes "}"))) }
     {
         self.put_deeper(level, body)?;
         self.put_line(level, b"}")?;
@@ -500,7 +505,8 @@ impl Source {
     // The branches of a `choose`, one level further in, and a closing line.
     #[cycle(stmt)]
     fn put_branches(&mut self, level: usize, branches: &[When]) -> Result<(), NoMemory>
-        ensures { IfOk result (λ _. self.new ≡ self.old ++ (branches_text (suc level) (branches_of branches.now) ++ line level (codes "}"))) }
+        ensures { IfOk result (λ _. self.new ≡ self.old
+            ++ (branches_text (suc level) (branches_of branches.now) ++ line level (codes "}"))) }
     {
         self.put_whens(inner(level)?, branches)?;
         self.put_line(level, b"}")?;

@@ -94,7 +94,8 @@ fn first_wait(
 ) -> Result<usize, NoMemory>
     requires { is_lost_with (params_of params.now) (body_of body.now) number waits ≡ true }
     ensures { IfOk result (λ w. (places : List Place) → length places ≡ waits
-        → slice_get places w ≡ first_with (is_lost_with (params_of params.now) (body_of body.now) number) 0 places) }
+        → slice_get places w
+        ≡ first_with (is_lost_with (params_of params.now) (body_of body.now) number) 0 places) }
 {
     if waits == 0 {
         return Ok(0);

@@ -8,3 +8,4 @@ pub mod Waits
 pub mod Acts
 pub mod Stepped
 pub mod Done
+pub mod Listing

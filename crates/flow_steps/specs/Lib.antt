@@ -9,3 +9,4 @@ pub mod Sights
 pub mod Acting
 pub mod Stepping
 pub mod Tasks
+pub mod Views

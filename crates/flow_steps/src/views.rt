@@ -1,6 +1,9 @@
 // What is told of a process between bursts.
 
-ghost use Rattle.std.specs.Prelude.{◌<◌, IfSome};
+ghost use Rattle.std.specs.Prelude.{◌≡◌, ◌++◌, map, length, IsSome, IfOk, OnOk};
+ghost use Rattle.flow_numbered.specs.Numbered.{thing};
+ghost use Rattle.std.specs.Option.{ForSome};
+ghost use Rattle.flow_steps.specs.Views.{frame_view, callback_view, frames_in, callbacks_in};
 
 use crate::process::Process;
 use flow_base::ids::{ActorId, CellId};
@@ -28,7 +31,10 @@ fn add_callbacks(
     views: &mut Vec<CallbackView>,
     actor: ActorId,
     callbacks: &[Held],
-) -> Result<(), NoMemory> {
+) -> Result<(), NoMemory>
+    ensures { OnOk result
+        (views.new.items ≡ views.old.items ++ map (callback_view actor.0) callbacks.now) }
+{
     for held in callbacks {
         views.push(CallbackView {
             actor,
@@ -40,56 +46,54 @@ fn add_callbacks(
 }
 
 impl Process {
-    // The first frame of an actor above this one.
-    fn frame_above(&self, last: ActorId) -> Option<FrameView>
-        ensures { IfSome result (λ v. last.0 < v.actor.0) }
+    // The frame of an actor, as it is told.
+    fn frame_view(&self, actor: ActorId) -> FrameView
+        requires { IsSome (thing self.now.heap.frames.things actor.0) }
+        ensures { ForSome (thing self.now.heap.frames.things actor.0)
+            (λ f. result ≡ frame_view (actor.0, f)) }
     {
-        let actor = self.heap.frames().next_actor(last)?;
-        if actor.0 <= last.0 || !self.heap.frames().contains(actor) {
-            return None;
-        }
-        Some(FrameView {
+        FrameView {
             actor,
             class: self.heap.frames().class(actor),
             state: self.heap.frames().state(actor),
-        })
+        }
     }
 
     /// The frames of unfinished actors, by rising number.
-    pub fn frames(&self) -> Result<Vec<FrameView>, NoMemory> {
+    pub fn frames(&self) -> Result<Vec<FrameView>, NoMemory>
+        ensures { IfOk result (λ views. views.items ≡ frames_in self.now.heap) }
+    {
         let mut views = Vec::new(self.alloc);
         let mut last = ActorId(0);
-        while let Some(view) = self.frame_above(last) {
-            views.push(view)?;
-            last = view.actor;
+        while let Some(actor) = self.heap.frames().next_actor(last) {
+            views.push(self.frame_view(actor))?;
+            last = actor;
         }
         Ok(views)
     }
 
-    // Tells the callbacks of an actor.
-    fn add_callbacks(&self, views: &mut Vec<CallbackView>, actor: ActorId) -> Result<(), NoMemory> {
-        if !self.heap.frames().contains(actor) {
-            return Ok(());
-        }
-        add_callbacks(views, actor, self.heap.frames().callbacks(actor))
-    }
-
     /// The callbacks of unfinished actors, by rising number of the actor, and those of an actor in order.
-    pub fn callbacks(&self) -> Result<Vec<CallbackView>, NoMemory> {
+    pub fn callbacks(&self) -> Result<Vec<CallbackView>, NoMemory>
+        ensures { IfOk result (λ views. views.items ≡ callbacks_in self.now.heap) }
+    {
         let mut views = Vec::new(self.alloc);
-        for frame in self.frames()? {
-            self.add_callbacks(&mut views, frame.actor)?;
+        let mut last = ActorId(0);
+        while let Some(actor) = self.heap.frames().next_actor(last) {
+            add_callbacks(&mut views, actor, self.heap.frames().callbacks(actor))?;
+            last = actor;
         }
         Ok(views)
     }
 
     /// How many actors are unfinished.
-    pub fn live(&self) -> u64 {
+    pub fn live(&self) -> u64
+        ensures { result ≡ length self.now.heap.frames.things }
+    {
         let mut count: u64 = 0;
         let mut last = ActorId(0);
-        while let Some(view) = self.frame_above(last) {
-            count = count.saturating_add(1);
-            last = view.actor;
+        while let Some(actor) = self.heap.frames().next_actor(last) {
+            count += 1;
+            last = actor;
         }
         count
     }

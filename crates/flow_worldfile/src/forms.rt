@@ -19,7 +19,8 @@ fn is_end(rest: &[u8]) -> bool
 /// The number that is the next field, and what stands after it.
 #[tactic(auto, using(crate::proofs::FieldLemmas::no_number))]
 fn next_number(rest: &[u8]) -> Option<(u128, &[u8])>
-    ensures { MatchOption result ((n : ℕ) (more : List Field) → fields rest.now ≢ number n ∷ more)
+    ensures { MatchOption result ((n : ℕ) (more : List Field)
+        → fields rest.now ≢ number n ∷ more)
         (λ next. fields rest.now ≡ number next.0 ∷ fields next.1.now) }
 {
     let Some((piece, more)) = first_piece(rest) else {
@@ -62,7 +63,8 @@ fn two_numbers(rest: &[u8]) -> Option<(u128, u128)>
 /// The order of a word and one number.
 #[tactic(auto, using(crate::proofs::FieldLemmas::no_short_order))]
 fn short_order(word: &[u8], n: u128) -> Option<Order>
-    ensures { MatchOption result ((order : Order) → field_of word.now ∷ number n ∷ [] ≢ order_form order)
+    ensures { MatchOption result ((order : Order)
+        → field_of word.now ∷ number n ∷ [] ≢ order_form order)
         (λ order. field_of word.now ∷ number n ∷ [] ≡ order_form order) }
 {
     if word == b"kill".as_slice() {
@@ -80,7 +82,8 @@ fn short_order(word: &[u8], n: u128) -> Option<Order>
 /// The order of a word and two numbers.
 #[tactic(auto, using(crate::proofs::FieldLemmas::no_long_order))]
 fn long_order(word: &[u8], m: u128, n: u128) -> Option<Order>
-    ensures { MatchOption result ((order : Order) → field_of word.now ∷ number m ∷ number n ∷ [] ≢ order_form order)
+    ensures { MatchOption result ((order : Order)
+        → field_of word.now ∷ number m ∷ number n ∷ [] ≢ order_form order)
         (λ order. field_of word.now ∷ number m ∷ number n ∷ [] ≡ order_form order) }
 {
     if word == b"cut".as_slice() {
@@ -115,7 +118,8 @@ fn order(rest: &[u8]) -> Option<Order>
 
 /// What an `at` line says, of which this is left behind its first word.
 fn at_line(rest: &[u8]) -> Option<Directive>
-    ensures { MatchOption result ((time : ℕ) (order : Order) → fields rest.now ≢ number time ∷ order_form order)
+    ensures { MatchOption result ((time : ℕ) (order : Order)
+        → fields rest.now ≢ number time ∷ order_form order)
         (λ d. text (codes "at") ∷ fields rest.now ≡ form d) }
 {
     let Some((time, more)) = next_number(rest) else {
@@ -157,7 +161,8 @@ fn short_line(word: &[u8], n: u128) -> Option<Directive>
 /// What a line of a word and two numbers says.
 #[tactic(auto, using(crate::proofs::FieldLemmas::no_long_line))]
 fn long_line(word: &[u8], lo: u128, hi: u128) -> Option<Directive>
-    ensures { MatchOption result ((d : Directive) → field_of word.now ∷ number lo ∷ number hi ∷ [] ≢ form d)
+    ensures { MatchOption result ((d : Directive)
+        → field_of word.now ∷ number lo ∷ number hi ∷ [] ≢ form d)
         (λ d. field_of word.now ∷ number lo ∷ number hi ∷ [] ≡ form d) }
 {
     if word == b"latency".as_slice() {

@@ -1,5 +1,14 @@
-use Rattle.std.proofs.Common.{◌-◌, ◌^◌}
+use Rattle.std.proofs.Common.{◌≡◌, ◌+◌, ◌≤◌, ℕ, length}
+use Rattle.flow_numbered.specs.Numbered.{IsRising}
+use Rattle.flow_steps.proofs.Listing.{things_above}
 use Rattle.flow_steps.proofs.process.Process.live.Given as goal
 
-abbrev pub decreases-loop-view : goal.decreases-loop-view
-decreases-loop-view l = 2 ^ 64 - l.last.0
+abbrev pub invariant-loop-actor : goal.invariant-loop-actor
+invariant-loop-actor l = record {
+  counted : (most : ℕ) → IsRising 0 l.self.heap.frames.things most
+      → l.count + length (things_above l.last.0 l.self.heap.frames.things) ≡ length l.self.heap.frames.things;
+  within : l.count ≤ l.last.0;
+}
+
+abbrev pub decreases-loop-actor : goal.decreases-loop-actor
+decreases-loop-actor l = length (things_above l.last.0 l.self.heap.frames.things)
