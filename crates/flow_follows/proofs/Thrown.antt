@@ -92,7 +92,7 @@ module _ (r : RawTree) (ls : List Line) (x : Scan) (i : ℕ) (e : Entry) (f : Fr
 
 module _ (r : RawTree) (ls : List Line) (x : Scan) (i : ℕ) (e : Entry) (f : Frame) where
   -- the error goes into its local
-  error_put : (m : Process) (p : Proc Frame) (err : ErrorCode) (o : Option ℕ) → Stood r ls x m p i e f → ((n : ℕ) → o ≡ Some n → (n < length f.mem.locals) × (read f.mem (Local n) ≡ None))
+  error_put : (m : Process) (p : Proc Frame) (err : ErrorCode) (o : Option ℕ) → Stood r ls x m p i e f → ((n : ℕ) → o ≡ Some n → (n < length f.mem.locals) × ((z : Side) (j : ℕ) → held z j (read f.mem (Local n)) ≡ 0))
       → Stood r ls x (on_heap (tasks.with_error i (option_map (λ n. length f.code.slots + n) o) err) m)
       (proc p.core (put p.actors i (with_memory (with_error o err.0 f.mem) f))) i e (with_memory (with_error o err.0 f.mem) f)
   error_put m p err None s there = unchanged r ls i e x m p f s
@@ -100,7 +100,7 @@ module _ (r : RawTree) (ls : List Line) (x : Scan) (i : ℕ) (e : Entry) (f : Fr
       let a = there n refl in
       subst (λ v. Stood r ls x (on_heap (place_put i (length f.code.slots + n) (Some (Error err))) m) (proc p.core (put p.actors i (with_memory (write f.mem (Local n) (Some v)) f))) i e (with_memory (write f.mem (Local n) (Some v)) f)) (error_seen err)
       (place_changed r ls m p i e f x x (Local n) (Some (Error err)) s a.0 (λ z j.
-      let b = ap (λ o. held z j o) a.1 in
+      let b = a.1 z j in
       let c = ap (λ v. held z j (Some v)) (error_seen err) in omega (arith, b, c)))
 
 -- the handler begins

@@ -1,0 +1,4 @@
+pub mod Ports
+pub mod Service
+pub mod Reached
+pub mod Rows
