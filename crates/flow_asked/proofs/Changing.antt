@@ -23,8 +23,8 @@ use Rattle.flow_meaning.specs.React.{send_by, send_in, print, at_spot, suspend, 
 use Rattle.flow_meaning.specs.Step.{Stepped, proc, view, enrol, start, start_core, answer, run_next, run, give, store, throw_core, throw, Verdict, GoesOn, Cancelled, Ready, verdict, with_operand, below, keep_by, keep, close_actor, scanned, do_task, popped, step_if, step_tasks, step}
 use Rattle.flow_meaning.specs.Class.{classes}
 use Rattle.flow_meaning.specs.Frame.{Frame}
-use Rattle.flow_told.specs.Ports as law
-use Rattle.flow_told.specs.Ports.{PortsChange, same, more}
+use Rattle.flow_asked.specs.Ports as law
+use Rattle.flow_asked.specs.Ports.{PortsChange, same, more}
 
 -- nothing changes, and no fewer cells are made
 pub record Stays (c d : Core) : Type 0 where

@@ -1,6 +1,6 @@
-use Rattle.flow_told.proofs.Changing.{step_ports}
-use Rattle.flow_told.proofs.Remaining.{ports_left}
-use Rattle.flow_told.proofs.ports.ports_follow.Goals as goal
+use Rattle.flow_asked.proofs.Changing.{step_ports}
+use Rattle.flow_asked.proofs.Remaining.{ports_left}
+use Rattle.flow_asked.proofs.ports.ports_follow.Goals as goal
 
 pub returns-clause-step : goal.returns-clause-step
 returns-clause-step c = step_ports

@@ -21,10 +21,12 @@ use Rattle.flow_picture.proofs.Beside.{one_each, port_gone}
 use Rattle.flow_steps.specs.declared.call.Call.{Call}
 use Rattle.flow_steps.specs.declared.call.Call.TheVariants as call
 use Rattle.flow_machine.specs.Hosting.{unheard_at, unheard}
-use Rattle.flow_effects.specs.Asking.{IsTold}
-use Rattle.flow_told.specs.Ports as law
-use Rattle.flow_told.specs.Ports.{PortsChange, same, more, Quietly, stops, goes_on, streams_after, ports_after}
-use Rattle.flow_told.proofs.Changing.{step_ports}
+use Rattle.flow_kept.specs.Staying.{ports_after}
+use Rattle.flow_bursts.specs.Bursting.{IsTold, ports_left}
+use Rattle.flow_executes.specs.Going.{Silent, no_more, then_on}
+use Rattle.flow_asked.specs.Ports as law
+use Rattle.flow_asked.specs.Ports.{PortsChange, same, more}
+use Rattle.flow_asked.proofs.Changing.{step_ports}
 
 -- streams with numbers above n
 abbrev Above : ℕ → Numbered ℕ → Type 0
@@ -166,9 +168,9 @@ step_thins n ps c d (same e m) l t = (omega (arith, l, m), subst (Thinned n ps) 
 step_thins n ps c d (law.lost port e m) l t = (omega (arith, l, m), subst (Thinned n ps) (sym e) (thinned_removed n port ps c.ports t))
 step_thins n ps c d (more port e m) l t = (omega (arith, l, m), subst (Thinned n ps) (sym e) (thinned_added n port (suc c.made) ps c.ports (omega (arith, l)) t))
 
-steps_thin : (r : RawTree) (s : Supply) (n : ℕ) (ps : Numbered ℕ) (p q : Proc Frame) → n ≤ p.core.made → Thinned n ps p.core.ports → Quietly r s p q → Thinned n ps q.core.ports
-steps_thin r s n ps p q l t (stops _) = t
-steps_thin r s n ps p q l t (goes_on _ b _ h rest) = let a = step_thins n ps p.core b.core (step_ports r s p (silent b) h) l t in steps_thin r s n ps b q a.0 a.1 rest
+steps_thin : (r : RawTree) (s : Supply) (n : ℕ) (ps : Numbered ℕ) (p q : Proc Frame) → n ≤ p.core.made → Thinned n ps p.core.ports → Silent r s p q → Thinned n ps q.core.ports
+steps_thin r s n ps p q l t (no_more _) = t
+steps_thin r s n ps p q l t (then_on _ b _ h rest) = let a = step_thins n ps p.core b.core (step_ports r s p (silent b) h) l t in steps_thin r s n ps b q a.0 a.1 rest
 
 pub ports_left : law.PortsLeft
 ports_left r s h g p q told sh sg numbers once steps is_told streams = by_told told is_told streams
@@ -195,7 +197,7 @@ ports_left r s h g p q told sh sg numbers once steps is_told streams = by_told t
             (λ j l. none_removed j port p.core.ports (none_over 0 p.core.made j p.core.ports l numbers.ports))
             (λ j. sym (sg.ports j) ∙ ap (λ ns. has_number ns j) e ∙ gone.ports j)
 
-    by_told : (told : Option Call) → IsTold told → g.ports ≡ streams_after told h.ports → q.core.ports ≡ ports_after told p.core.ports
+    by_told : (told : Option Call) → IsTold told → g.ports ≡ ports_after told h.ports → q.core.ports ≡ ports_left told p.core.ports
     by_told None t e = all_left e
     by_told (Some (call.Line l)) t e = all_left e
     by_told (Some (call.Unlisten k)) t e = one_gone k.0 e

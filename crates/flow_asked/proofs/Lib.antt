@@ -1,0 +1,5 @@
+pub mod Changing
+pub mod Remaining
+pub mod Telling
+pub mod Worlds
+pub mod Answers
