@@ -1,19 +1,15 @@
 -- A step of an actor in memory that asks something is a step of the class machine.
-use Rattle.std.proofs.Common.{◌≡◌, ℕ, suc, ◌+◌, true, List, [], ◌∷◌, length, map, refl, sym, ap, ◌∙◌, subst, arith}
+use Rattle.std.proofs.Common.{◌≡◌, ℕ, suc, ◌+◌, true, List, [], ◌∷◌, length, refl, sym, ap, ◌∙◌, subst}
 use Rattle.std.specs.Prelude.{pos, slice_get}
 use Rattle.std.specs.Option.{option_map, option_and_then}
-use Rattle.std.specs.declared.option.Option.{Option}
-use Rattle.std.specs.declared.option.Option.TheVariants.{None, Some}
+use Rattle.std.specs.declared.option.Option.TheVariants.{Some}
 use Rattle.std.specs.declared.vec.Vec.{Vec}
 use Rattle.std.specs.declared.alloc.Global.{Global}
 use Rattle.flow_base.specs.declared.ids.ActorId.{ActorId}
-use Rattle.flow_ast.specs.declared.predefined.Predefined.{Predefined}
-use Rattle.flow_ast.specs.declared.predefined.Method.{Method}
 use Rattle.flow_tree.specs.declared.ty.Ident.{Ident}
-use Rattle.flow_tree.specs.Tree.{ExprTree, ExprTrees, NoExprs, MoreExprs}
-use Rattle.flow_value.specs.Values.{ValueTree}
+use Rattle.flow_tree.specs.Tree.{ExprTrees, NoExprs, MoreExprs}
 use Rattle.flow_eval.specs.Functions.{read_in}
-use Rattle.flow_class.specs.Classes.{InstrTree, EffectInstr, ActInstr, LastTree, GotoLast, PassLast, TestLast, ChooseLast, ReturnLast, ThrowLast, RawTree}
+use Rattle.flow_class.specs.Classes.{InstrTree, ActInstr, LastTree, GotoLast, PassLast, TestLast, ChooseLast, ReturnLast, ThrowLast, RawTree}
 use Rattle.flow_class.specs.Code.{Body, Last, fetch, callback_at}
 use Rattle.flow_resolved.specs.declared.expr.Resolved.{Resolved}
 use Rattle.flow_value.specs.View.{value_of}
@@ -25,7 +21,6 @@ use Rattle.flow_code.specs.declared.class.Effect.{Effect}
 use Rattle.flow_code.specs.declared.class.Group.{Group}
 use Rattle.flow_code.specs.declared.class.Instruction.{Instruction}
 use Rattle.flow_code.specs.declared.class.Instruction.TheVariants as instruction
-use Rattle.flow_code.specs.declared.class.Last.TheVariants as last
 use Rattle.flow_code.specs.declared.class.Operand.TheVariants as operand
 use Rattle.flow_code.specs.declared.program.Code.{Code}
 use Rattle.flow_code.specs.Classes.{ChooseEnd, BranchCode}
@@ -41,7 +36,7 @@ use Rattle.flow_meaning.specs.Process.{Entry, Proc}
 use Rattle.flow_meaning.specs.Occ.{Scan}
 use Rattle.flow_meaning.specs.Step as machine
 use Rattle.flow_meaning.specs.Frame.{Frame, look, spot_of}
-use Rattle.flow_picture.specs.Shows.{wait_spot, held_from, spot_by}
+use Rattle.flow_picture.specs.Shows.{wait_spot, held_from}
 use Rattle.flow_steps.specs.declared.frames.Stand.{Stand}
 use Rattle.flow_steps.specs.declared.next.Pace.{Pace}
 use Rattle.flow_steps.specs.declared.process.Process.{Process}
@@ -50,18 +45,16 @@ use Rattle.flow_steps.specs.Standing.{noting, noted, noted_stand, place_held, fi
 use Rattle.flow_steps.specs.Waiting.{callbacks_in, callbacks_of}
 use Rattle.flow_steps.specs.Sights.{program_time}
 use Rattle.flow_steps.specs.Stepping.{OperandStep, kept_by}
-use Rattle.flow_follows.specs.Placing.{Stood}
-use Rattle.flow_follows.specs.Taking.{AtWait}
-use Rattle.flow_follows.specs.Going.{stale, MayBeStale}
+use Rattle.flow_follows.specs.Going.{MayBeStale}
 use Rattle.flow_follows.proofs.Stands.{both_mapped}
 use Rattle.flow_follows.proofs.Carrying.{old, seen}
-use Rattle.flow_executes.specs.Going.{AtOperands, MayStep, moves, chooses}
+use Rattle.flow_executes.specs.Going.{AtOperands, moves, chooses}
 use Rattle.flow_executes.specs.Assigning.{AimsAt}
 use Rattle.flow_executes.specs.Decoding.{AtInstruction}
 use Rattle.flow_executes.specs.Executing.{coded_by, InProgram, Asks, by_effect, by_act, by_method, by_operand}
 use Rattle.flow_executes.proofs.Decodes.{both_there, the_instruction, the_end, the_wait, group_there, aim_there}
 use Rattle.flow_executes.proofs.Choices.{choice_begins}
-use Rattle.flow_effects.specs.Asking.{MayAsk, Answered}
+use Rattle.flow_effects.specs.Asking.{Answered}
 use Rattle.flow_effects.specs.Calling.{AimsAtRef, MayCall}
 use Rattle.flow_effects.specs.Instructed.{Judged, MethodMay}
 use Rattle.flow_effects.proofs.Decoded.{method_coded, path_seen}
@@ -88,7 +81,7 @@ module _ (r : RawTree) (ls : List Line) (m : Process) (p : Proc Frame) (i : ℕ)
   abbrev by : Coding
   by = coding inp.program.coded.names inp.program.coded.class (length f.code.slots)
 
-  judged : Judged r code m w f
+  abbrev judged : Judged r code m w f
   judged = record { is = inp.program; time = time; few = inp.few }
 
   abbrev out : Type 0

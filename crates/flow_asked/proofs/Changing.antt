@@ -1,5 +1,5 @@
 -- What each thing that a process does makes of its ports.
-use Rattle.std.proofs.Common.{◌≡◌, ◌≤◌, ◌^◌, ℕ, zero, suc, ◌+◌, nat_lt, Bool, true, false, List, [], ◌∷◌, ◌++◌, length, if◌then◌else◌, refl, sym, ap, ◌∙◌, subst, arith}
+use Rattle.std.proofs.Common.{◌≡◌, ◌≤◌, ◌^◌, ℕ, zero, suc, ◌+◌, nat_lt, Bool, true, false, List, [], ◌∷◌, ◌++◌, length, if◌then◌else◌, refl, ◌∙◌, subst, arith}
 use Rattle.std.specs.Prelude.{pos, ◌-ℤ◌, int_le, nat_le, ◌&&◌}
 use Rattle.std.specs.declared.option.Option.{Option}
 use Rattle.std.specs.declared.option.Option.TheVariants.{None, Some}
@@ -9,10 +9,10 @@ use Rattle.flow_eval.specs.Predefined.{natural}
 use Rattle.flow_value.specs.declared.value.Kind.{Kind}
 use Rattle.flow_value.specs.declared.value.Kind.TheVariants as kind
 use Rattle.flow_value.specs.Values.{ValueTree, IntValue, RefValue, OutcomeTree, GoodOutcome, BadOutcome}
-use Rattle.flow_meaning.specs.Numbered.{Numbered, thing, added, put, removed}
-use Rattle.flow_meaning.specs.Cells.{Side, PromiseSide, FutureSide, side_of, Ref, Waiter, Cell, Single, Stream, is_complete, is_ready, waiters, taken, after_taking, held}
+use Rattle.flow_meaning.specs.Numbered.{thing, added, put, removed}
+use Rattle.flow_meaning.specs.Cells.{Side, PromiseSide, FutureSide, side_of, Ref, Waiter, Cell, Single, Stream, is_complete, is_ready, waiters, taken, after_taking}
 use Rattle.flow_meaning.specs.Asks.{Spot, DiskCall, Effect, Make, Start, Draw, Delay, Never, Listen, Disk, Goal, Act, Goes, Pass, Drops, Effects, Operand, Waits, Sends, Cancels, Prints, SendsTo, Returns, Throws, RunsOut, Stuck, Ask, Drew, Timer, Packet, Supply}
-use Rattle.flow_meaning.specs.Process.{Task, Run, Give, Throw, Catch, Store, Keep, Close, Fire, Drop, Entry, Halt, Core, Proc, Raised, Engine}
+use Rattle.flow_meaning.specs.Process.{Task, Run, Give, Throw, Catch, Store, Keep, Close, Fire, Drop, Entry, Halt, Core, Proc, Engine}
 use Rattle.flow_meaning.specs.Lines.{take_line, cancel_line, broken_line, end_line, print_line}
 use Rattle.flow_meaning.specs.Occ.{Scan, Occ, scan_of}
 use Rattle.flow_meaning.specs.Work as work
@@ -22,7 +22,6 @@ use Rattle.flow_meaning.specs.Effects.{Reaction, result_task, push_result, gives
 use Rattle.flow_meaning.specs.React.{send_by, send_in, print, at_spot, suspend, wait_by, wait, react}
 use Rattle.flow_meaning.specs.Step.{Stepped, proc, view, enrol, start, start_core, answer, run_next, run, give, store, throw_core, throw, Verdict, GoesOn, Cancelled, Ready, verdict, with_operand, below, keep_by, keep, close_actor, scanned, do_task, popped, step_if, step_tasks, step}
 use Rattle.flow_meaning.specs.Class.{classes}
-use Rattle.flow_meaning.specs.Frame.{Frame}
 use Rattle.flow_asked.specs.Ports as law
 use Rattle.flow_asked.specs.Ports.{PortsChange, same, more}
 

@@ -1,5 +1,5 @@
 -- Which ports are left after steps, by what memory shows before and after them.
-use Rattle.std.proofs.Common.{◌≡◌, ◌⊎◌, inl, inr, ◌≤◌, ◌<◌, ℕ, suc, nat_eq, Bool, true, false, List, [], ◌∷◌, ◌++◌, if◌then◌else◌, refl, sym, ap, ◌∙◌, subst, arith}
+use Rattle.std.proofs.Common.{◌≡◌, ◌⊎◌, inl, inr, ◌≤◌, ◌<◌, ℕ, suc, nat_eq, Bool, true, false, List, [], ◌∷◌, if◌then◌else◌, refl, sym, ap, ◌∙◌, subst, arith}
 use Rattle.std.proofs.lemmas.Bool.Decides.{nat_tests}
 use Rattle.std.specs.Prelude.{cond, ◌||◌, is_some}
 use Rattle.std.specs.Ordering.{nat_cmp}
@@ -7,7 +7,7 @@ use Rattle.std.specs.BTreeMap.{is_at}
 use Rattle.std.specs.declared.option.Option.{Option}
 use Rattle.std.specs.declared.option.Option.TheVariants.{None, Some}
 use Rattle.flow_class.specs.Classes.{RawTree}
-use Rattle.flow_cancel.specs.Heap.{HeapTree, has_number, without_number}
+use Rattle.flow_cancel.specs.Heap.{has_number, without_number}
 use Rattle.flow_cancel.proofs.Noted.{at_number}
 use Rattle.flow_meaning.specs.Numbered.{Numbered, added, removed}
 use Rattle.flow_meaning.specs.Asks.{Supply}
@@ -15,8 +15,7 @@ use Rattle.flow_meaning.specs.Process.{Core, Proc}
 use Rattle.flow_meaning.specs.Dropping.{port_of}
 use Rattle.flow_meaning.specs.Step.{silent}
 use Rattle.flow_meaning.specs.Frame.{Frame}
-use Rattle.flow_picture.specs.Shows.{Shows}
-use Rattle.flow_picture.specs.Rested.{PortsRise, InNumbers}
+use Rattle.flow_picture.specs.Rested.{PortsRise}
 use Rattle.flow_picture.proofs.Beside.{one_each, port_gone}
 use Rattle.flow_steps.specs.declared.call.Call.{Call}
 use Rattle.flow_steps.specs.declared.call.Call.TheVariants as call
@@ -172,8 +171,8 @@ steps_thin : (r : RawTree) (s : Supply) (n : ℕ) (ps : Numbered ℕ) (p q : Pro
 steps_thin r s n ps p q l t (no_more _) = t
 steps_thin r s n ps p q l t (then_on _ b _ h rest) = let a = step_thins n ps p.core b.core (step_ports r s p (silent b) h) l t in steps_thin r s n ps b q a.0 a.1 rest
 
-pub ports_left : law.PortsLeft
-ports_left r s h g p q told sh sg numbers once steps is_told streams = by_told told is_told streams
+pub ports_remain : law.PortsLeft
+ports_remain r s h g p q told sh sg numbers once steps is_told streams = by_told told is_told streams
   where
     thin : Thinned p.core.made p.core.ports q.core.ports
     thin = steps_thin r s p.core.made p.core.ports p q (omega arith) (whole p.core.made p.core.ports) steps

@@ -1,5 +1,5 @@
 -- What steps and tasks in memory ask that ask nothing of an actor's.
-use Rattle.std.proofs.Common.{◌≡◌, ◌⊎◌, inl, inr, ℕ, ◌+◌, nat_lt, Bool, true, false, List, [], ◌∷◌, if◌then◌else◌, refl, sym, ap, ◌∙◌, subst}
+use Rattle.std.proofs.Common.{◌≡◌, ◌⊎◌, inl, inr, ℕ, ◌+◌, nat_lt, Bool, true, false, List, [], ◌∷◌, length, if◌then◌else◌, refl, sym, ap, ◌∙◌, subst}
 use Rattle.std.specs.Prelude.{slice_get}
 use Rattle.std.specs.declared.option.Option.{Option}
 use Rattle.std.specs.declared.option.Option.TheVariants.{None, Some}
@@ -11,13 +11,11 @@ use Rattle.flow_value.specs.declared.value.Value.{Value}
 use Rattle.flow_value.specs.Values.{ValueTree, IntValue, BoolValue, TextValue, VoidValue, ErrorValue, RecordValue, RefValue}
 use Rattle.flow_value.specs.View.{value_of}
 use Rattle.flow_eval.specs.Eval.{Res}
-use Rattle.flow_trace.specs.declared.line.Line.{Line}
 use Rattle.flow_frame.specs.declared.held.Held.{Held}
 use Rattle.flow_cell.specs.declared.waiter.Waiter.{Waiter}
 use Rattle.flow_code.specs.declared.class.Act.TheVariants as act
 use Rattle.flow_code.specs.declared.class.Aim.{Aim}
 use Rattle.flow_code.specs.declared.class.Branch.{Branch}
-use Rattle.flow_code.specs.declared.class.Catcher.{Catcher}
 use Rattle.flow_code.specs.declared.class.Group.{Group}
 use Rattle.flow_code.specs.declared.class.Instruction.{Instruction}
 use Rattle.flow_code.specs.declared.class.Instruction.TheVariants as instruction
@@ -27,25 +25,22 @@ use Rattle.flow_code.specs.declared.class.Operand.{Operand}
 use Rattle.flow_code.specs.declared.class.Operand.TheVariants as operand
 use Rattle.flow_code.specs.declared.program.Code.{Code}
 use Rattle.flow_code.specs.View.{group_numbered}
+use Rattle.flow_cancel.specs.Heap.{finished}
 use Rattle.flow_cancel.specs.Dropping.{Lost, dropped}
 use Rattle.flow_cancel.specs.declared.task.Dropped.TheVariants as after
-use Rattle.flow_cancel.specs.declared.task.Task as stack
 use Rattle.flow_cancel.specs.declared.task.Task.TheVariants as task
-use Rattle.flow_steps.specs.declared.call.Call.{Call}
-use Rattle.flow_steps.specs.declared.call.Call.TheVariants as call
 use Rattle.flow_steps.specs.declared.frames.Stand.{Stand}
 use Rattle.flow_steps.specs.declared.next.Pace.{Pace}
 use Rattle.flow_steps.specs.declared.process.Process.{Process}
-use Rattle.flow_steps.specs.Doing.{turned, doing, telling}
+use Rattle.flow_steps.specs.Doing.{turned, telling}
 use Rattle.flow_steps.specs.Holding.{on_heap, with_heap, filled_broken, broken, lost_by, lost}
-use Rattle.flow_steps.specs.Bringing.{end_line, ended_with, closing, closed}
+use Rattle.flow_steps.specs.Bringing.{end_line, ended_with, closing}
 use Rattle.flow_steps.specs.Standing.{noted, noted_stand}
-use Rattle.flow_steps.specs.Waiting.{TakesBranch, no_turn, takes_branch, Keeps, kept_marked, kept_unready, kept_ready, Waits, waits_ready, waits_refused, waits_suspended, Takes, copied, popped}
+use Rattle.flow_steps.specs.Waiting.{TakesBranch, no_turn, takes_branch, Keeps, kept_marked, kept_unready, kept_ready, Waits, waits_ready, waits_refused, waits_suspended}
 use Rattle.flow_steps.specs.Sights.{Evaluates, gives, throws, runs_out}
-use Rattle.flow_steps.specs.Stepping.{OnAfter, IsSet, IsNew, IsAct, Does, GoesOnAt, Passes, no_pass, pass_begins, IsTest, ReferenceKept, OperandStep, Chooses, asks_operand, all_kept, IsReturn, ErrorThrown, Ends, StepsOn, by_instruction, by_last, kept_by}
-use Rattle.flow_steps.specs.Tasks.{Stored, FiresAt, drops_one, IsDone, Raises}
+use Rattle.flow_steps.specs.Stepping.{OnAfter, IsSet, Does, Passes, no_pass, pass_begins, IsTest, ReferenceKept, OperandStep, Chooses, asks_operand, all_kept, ErrorThrown, Ends, by_instruction, by_last, kept_by}
+use Rattle.flow_steps.specs.Tasks.{FiresAt, drops_one}
 use Rattle.flow_follows.proofs.Takings.{turned_asked}
-use Rattle.flow_kept.specs.Allowed.{IsPlain}
 use Rattle.flow_bursts.specs.Bursting.{IsTold}
 use Rattle.flow_executes.specs.Executing.{Asks, by_effect, by_act, by_method, by_operand}
 use Rattle.flow_asked.specs.Told as law
@@ -134,30 +129,30 @@ module _ (code : Code) (s : Stand) (m n : Process) (pace : Pace) (none : m.asked
   by_instruction_told instruction.Invalid at h = absurd h
 
   -- a wait
-  by_operand_told : (number : ℕ) (group : Group) (b : Branch) (o : Operand) → b.operand ≡ o → s.block.now.last ≡ last.Choose number → group_numbered number s.class.now.groups.items ≡ Some group
+  by_operand_told : (number : ℕ) (group : Group) (b : Branch) (o : Operand) → b.operand ≡ o → s.instruction ≡ length s.block.now.body.items → s.block.now.last ≡ last.Choose number → group_numbered number s.class.now.groups.items ≡ Some group
       → slice_get group.branches.items (kept_by (noted_stand s) (noted s m)) ≡ Some b
       → OperandStep code (noted_stand s) (group.first + kept_by (noted_stand s) (noted s m)) o (noted s m) pace n → IsTold n.asked ⊎ Asks code s m pace n
-  by_operand_told number group b (operand.Value e) is ends of at h =
+  by_operand_told number group b (operand.Value e) is end ends of at h =
       inl (evaluates_told (noted_stand s) value_of _ (noted s m) n _ pace none (λ v k n pace none h. reference_told (noted_stand s) _ (value_of v) k n pace none h) h)
-  by_operand_told number group b (operand.Effect e args) is ends of at h = inr (by_operand number group b e args ends of at is h)
+  by_operand_told number group b (operand.Effect e args) is end ends of at h = inr (by_operand number group b e args end ends of at is h)
 
-  by_choice_told : (number : ℕ) (group : Group) → s.block.now.last ≡ last.Choose number → group_numbered number s.class.now.groups.items ≡ Some group
+  by_choice_told : (number : ℕ) (group : Group) → s.instruction ≡ length s.block.now.body.items → s.block.now.last ≡ last.Choose number → group_numbered number s.class.now.groups.items ≡ Some group
       → Chooses code (noted_stand s) number group (noted s m) pace n → IsTold n.asked ⊎ Asks code s m pace n
-  by_choice_told number group ends of (asks_operand b at h) = by_operand_told number group b b.operand refl ends of at h
-  by_choice_told number group ends of (all_kept at off h) = inl (waits_told (noted_stand s) number (noted s m) n none h)
+  by_choice_told number group end ends of (asks_operand b at h) = by_operand_told number group b b.operand refl end ends of at h
+  by_choice_told number group end ends of (all_kept at off h) = inl (waits_told (noted_stand s) number (noted s m) n none h)
 
   -- the end of a block
-  by_end_told : (x : Last) → s.block.now.last ≡ x → Ends code s x m pace n → IsTold n.asked ⊎ Asks code s m pace n
-  by_end_told (last.Goto b) is h = inl (quiet n (ap (λ (z : Process). z.asked) h.3 ∙ none))
-  by_end_told (last.Pass b) is h = inl (passes_told s b m n pace none h)
-  by_end_told (last.Test e one other) is h = inl (evaluates_told s _ _ m n _ pace none (λ v k n pace none h. test_told s one other v k n pace none h) h)
-  by_end_told (last.Choose g) is h = by_choice_told g h.group is h.of_number h.chooses
-  by_end_told (last.Return e) is h = inl (evaluates_told s value_of _ m n _ pace none (λ v k n pace none h. quiet n (ap (λ (z : Process). z.asked) h.ends ∙ none)) h)
-  by_end_told (last.Throw e) is h = inl (evaluates_told s value_of _ m n _ pace none (λ v k n pace none h. thrown_told s (value_of v) k n pace none h) h)
+  by_end_told : s.instruction ≡ length s.block.now.body.items → (x : Last) → s.block.now.last ≡ x → Ends code s x m pace n → IsTold n.asked ⊎ Asks code s m pace n
+  by_end_told end (last.Goto b) is h = inl (quiet n (ap (λ (z : Process). z.asked) h.3 ∙ none))
+  by_end_told end (last.Pass b) is h = inl (passes_told s b m n pace none h)
+  by_end_told end (last.Test e one other) is h = inl (evaluates_told s _ _ m n _ pace none (λ v k n pace none h. test_told s one other v k n pace none h) h)
+  by_end_told end (last.Choose g) is h = by_choice_told g h.group end is h.of_number h.chooses
+  by_end_told end (last.Return e) is h = inl (evaluates_told s value_of _ m n _ pace none (λ v k n pace none h. quiet n (ap (λ (z : Process). z.asked) h.ends ∙ none)) h)
+  by_end_told end (last.Throw e) is h = inl (evaluates_told s value_of _ m n _ pace none (λ v k n pace none h. thrown_told s (value_of v) k n pace none h) h)
 
 pub step_told : law.StepTold
 step_told code s m n pace none (by_instruction x at h) = by_instruction_told code s m n pace none x at h
-step_told code s m n pace none (by_last end h) = by_end_told code s m n pace none s.block.now.last refl h
+step_told code s m n pace none (by_last end h) = by_end_told code s m n pace none end s.block.now.last refl h
 
 -- a reference is lost
 broken_told : (kd : Kind) (k : ℕ) (m : Process) → m.asked ≡ None → IsTold (broken kd k m).asked
@@ -200,7 +195,7 @@ plain_told code (task.Throw i e) m n none is h = told_is n _ h.told tt
 plain_told code (task.Catch i e) m n none is h = told_is n _ h tt
 plain_told code (task.Fire k) m n none is h = fires_told code h.kind k _ m n none h.fires
 plain_told code (task.Drop kd k) m n none is h = told_is n (drops_one kd k m) h (drops_told kd k m none)
-plain_told code (task.Close i o) m n none is h = told_is n _ h.closes (closed_told i o.value h.note.result _ none)
+plain_told code (task.Close i o) m n none is h = told_is n _ h.closes (closed_told i o.value h.note.result (on_heap (finished i.0) m) none)
 plain_told code (task.Run i) m n none is h = absurd is
 plain_told code (task.Give i b o) m n none is h = absurd is
 plain_told code (task.Store i v) m n none is h = absurd is
