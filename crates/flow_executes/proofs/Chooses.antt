@@ -75,7 +75,7 @@ module _ (r : RawTree) (ls : List Line) (m : Process) (p : Proc Frame) (i : ℕ)
   coding_now = coding by.names by.class (length f.code.slots)
 
   abbrev row : Pace → Process → Type 0
-  row pace n = GoesBy r ls x w i (on_core (pushed (Run i)) p) pace n
+  row pace n = GoesBy r ls x w i e.class (on_core (pushed (Run i)) p) pace n
 
   abbrev told : Process
   told = noted s m

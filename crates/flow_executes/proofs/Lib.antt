@@ -16,3 +16,5 @@ pub mod Ends
 pub mod Refers
 pub mod Tasks
 pub mod Matches
+pub mod Quiet
+pub mod Rows

@@ -51,8 +51,8 @@ module _ (r : RawTree) (ls : List Line) (p : Proc Frame) (code : Code) (w : Supp
   from_step u below h s =
       let t = subst (λ q. TaskSteps r ls nothing_in_hand w q n) (whole u below h) s in is_step (record { after = t.after; steps = t.steps; follows = t.follows })
 
-  from_row : (i : ℕ) (u : Task) (below : List Task) → p.core.tasks ≡ u ∷ below → GoesFurther code r ls nothing_in_hand w i (on_core (pushed u) (popped below p)) n → TaskGoes code r ls w p n
-  from_row i u below h g = goes_further i (subst (λ q. GoesFurther code r ls nothing_in_hand w i q n) (whole u below h) g)
+  from_row : (i k : ℕ) (u : Task) (below : List Task) → p.core.tasks ≡ u ∷ below → GoesFurther code r ls nothing_in_hand w i k (on_core (pushed u) (popped below p)) n → TaskGoes code r ls w p n
+  from_row i k u below h g = goes_further i k (subst (λ q. GoesFurther code r ls nothing_in_hand w i k q n) (whole u below h) g)
 
   -- the actor takes its steps
   run_follows : (i : ActorId) (below : List Task) → p.core.tasks ≡ Run i.0 ∷ below → Shown r ls (with_task (Run i.0) nothing_in_hand) start (popped below p) → MayGo code r ls start (popped below p) i.0
@@ -64,11 +64,11 @@ module _ (r : RawTree) (ls : List Line) (p : Proc Frame) (code : Code) (w : Supp
         acts = acts;
       } in
       let a = run_begins r ls start q i.0 e f nothing_in_hand code n st zero_state may is in
-      runs i.0 a.0 start q e f (sym (whole (Run i.0) below h)) a.1.0 a.1.1
+      runs i.0 start q e f (sym (whole (Run i.0) below h)) a
   run_follows i below h shown (has_operands e f at) is =
       let q : Proc Frame = popped below p in
       let a = run_at_wait r ls start q i.0 e f nothing_in_hand code n at is in
-      runs i.0 a.0 start q e f (sym (whole (Run i.0) below h)) a.1.0 a.1.1
+      runs i.0 start q e f (sym (whole (Run i.0) below h)) a
 
   -- a branch gets what it took
   give_follows : (i : ActorId) (b : ℕ) (o : Outcome) (below : List Task) → p.core.tasks ≡ Give i.0 b (outcome_of o) ∷ below
@@ -81,7 +81,7 @@ module _ (r : RawTree) (ls : List Line) (p : Proc Frame) (code : Code) (w : Supp
         shown = as_many_shown r ls (with_task u nothing_in_hand) (with_refs (value_refs v) nothing_in_hand) start q (λ z j. let a = appended z j (value_refs v) in omega (arith, a)) shown;
         acts = may.1.1.0;
       } in
-      from_row i.0 u below h (give_goes r ls start q i.0 may.0 may.1.0 nothing_in_hand code w b v n st may.1.1.1 is)
+      from_row i.0 may.0.class u below h (give_goes r ls start q i.0 may.0 may.1.0 nothing_in_hand code w b v n st may.1.1.1 is)
   give_follows i b (outcome.Error err) below h shown may is =
       let q : Proc Frame = popped below p in
       let u = Give i.0 b (BadOutcome err.0) in
@@ -108,9 +108,9 @@ module _ (r : RawTree) (ls : List Line) (p : Proc Frame) (code : Code) (w : Supp
       let kept = subst (λ y. IsKept code i (record { callback = y; cell = record { 0 = k } }) start n) number is in
       let goes = keep_goes r ls start may.rest i.0 may.entry may.frame nothing_in_hand code w may.group kd (record { 0 = k }) n st may.state none
       (λ s before now. may.may kd (wait_spot may.frame) s before is_keep now) kept in
-      from_row i.0 u below h
-      (subst (λ y. GoesFurther code r ls nothing_in_hand w i.0 (on_core (pushed y) q) n) (sym is_keep)
-      (subst (λ y. GoesFurther code r ls nothing_in_hand w i.0 (on_core (pushed v) y) n) (sym may.next) goes))
+      from_row i.0 may.entry.class u below h
+      (subst (λ y. GoesFurther code r ls nothing_in_hand w i.0 may.entry.class (on_core (pushed y) q) n) (sym is_keep)
+      (subst (λ y. GoesFurther code r ls nothing_in_hand w i.0 may.entry.class (on_core (pushed v) y) n) (sym may.next) goes))
 
   keep_task : (i : ActorId) (m : ℕ) (k : CellId) (below : List Task) (u : Task) → p.core.tasks ≡ u ∷ below → SameTask p (task.Keep i m k) u → MayKeepOne code r start (popped below p) i.0 k.0 u
       → Shown r ls (with_task u nothing_in_hand) start (popped below p) → start.asked ≡ None → IsKept code i (record { callback = m; cell = k }) start n → TaskGoes code r ls w p n

@@ -127,4 +127,4 @@ module _ (r : RawTree) (ls : List Line) (m : Process) (p : Proc Frame) (i : ℕ)
       → MayStep r ls x s m p i e f
       → InProgram r code s f → m.asked ≡ None → program_time m.time ≡ pos w.now
       → MayDoNext r w p i e f (fetch f.code f.block f.instr) → StepsOn code s m pace n
-      → GoesBy r ls x w i (on_core (pushed (Run i)) p) pace n ⊎ Asks code s m pace n
+      → GoesBy r ls x w i e.class (on_core (pushed (Run i)) p) pace n ⊎ Asks code s m pace n
