@@ -60,11 +60,11 @@ pub(crate) fn lose(heap: &mut Heap, kind: Kind, cell: CellId) -> Result<Option<D
 }
 
 // An actor with two places starts, where the cell may be its result.
-fn start(heap: &mut Heap, result: CellId) -> Result<Option<ActorId>, NoMemory> {
-    if !heap.may_start(Some(result)) {
+fn start(heap: &mut Heap, cell: CellId) -> Result<Option<ActorId>, NoMemory> {
+    if !heap.may_start(Some(cell)) {
         return Ok(None);
     }
-    Ok(Some(heap.start(4, 2, Some(result))?))
+    Ok(Some(heap.start(4, 2, Some(cell))?))
 }
 
 // An unfinished actor ends, where it may.
