@@ -1,4 +1,5 @@
--- A step of an actor in memory that asks something is a step of the class machine; what it asks of the world is asked there.
+-- A step of an actor in memory that asks something is a step of the class machine; what it asks of the world
+-- is asked there.
 use Rattle.std.specs.Prelude.{◌≡◌, ℕ, pos, List, ◌∷◌, length}
 use Rattle.std.specs.declared.option.Option.TheVariants.{Some}
 use Rattle.flow_tree.specs.declared.ty.Ident.{Ident}
@@ -45,17 +46,20 @@ module _ (r : RawTree) (code : Code) (w : Supply) (p : Proc Frame) (i : ℕ) (e 
       (called : Effectful) (es : ExprTrees) → effect_in (class_names r) t ≡ Some (called, es)
       → MayMake r code p called (values (class_names r) (view w i p.core) (look f.mem) es)
 
-  -- a method: its path begins with a place of the frame, and leads to a reference that is there; so are those of the argument
+  -- a method: its path begins with a place of the frame, and leads to a reference that is there; so are those of
+  -- the argument
   pub record MayCallOn (y z : Ident) (ys : List Ident) (es : ExprTrees) : Type 0 where
     pub rooted : Rooted f (y ∷ before_last z ys)
-    pub there : (kd : Kind) (k : ℕ) → read_in r.records (look f.mem y.name) (before_last z ys) ≡ Some (RefValue kd k) → There p (kd, k)
+    pub there : (kd : Kind) (k : ℕ)
+        → read_in r.records (look f.mem y.name) (before_last z ys) ≡ Some (RefValue kd k) → There p (kd, k)
     pub sent : (t : ExprTree) (v : ValueTree) (left : ℕ) → es ≡ MoreExprs t NoExprs
         → value (class_names r) (view w i p.core) (look f.mem) t ≡ Done v left → AllThere p (refs_of v)
 
   -- an operand by an effect
   pub record MayChooseBy (group : ℕ) : Type 0 where
     pub go : MayGo i e p.core
-    pub operand : (b : CallbackTree) → callback_at f.code group (length e.operands) ≡ Some b → MayAffect b.operand
+    pub operand : (b : CallbackTree) → callback_at f.code group (length e.operands) ≡ Some b
+        → MayAffect b.operand
 
   abbrev pub MayAskNext : Fetched → Type 0
   MayAskNext (Body (EffectInstr path t)) = MayAffect t
@@ -66,15 +70,17 @@ module _ (r : RawTree) (code : Code) (w : Supply) (p : Proc Frame) (i : ℕ) (e 
 module _ (r : RawTree) (ls : List Line) (m : Process) (p : Proc Frame) (i : ℕ) (e : Entry) (f : Frame) where
   abbrev pub AskFollows : Type 0
   AskFollows =
-      (x : Scan) (s : Stand) (w : Supply) (code : Code) (pace : Pace) (n : Process) → MayStep r ls x s m p i e f
-      → InProgram r code s f → MayCall m p → program_time m.time ≡ pos w.now
+      (x : Scan) (s : Stand) (w : Supply) (code : Code) (pace : Pace) (n : Process)
+      → MayStep r ls x s m p i e f → InProgram r code s f → MayCall m p → program_time m.time ≡ pos w.now
       → MayAskNext r code w p i e f (fetch f.code f.block f.instr) → Asks code s m pace n
       → Answered r ls x w p i e pace n
 
 -- what is asked of the world, at the world's time and among as many processes
-module _ {A W : Type 0} (serves : Host W) (shows : A → Numbered ℕ → W → Type 0) (wrote : A → List Line → A → Type 0) (code : Code) (processes : ℕ) (r : RawTree) where
+module _ {A W : Type 0} (serves : Host W) (shows : A → Numbered ℕ → W → Type 0)
+    (wrote : A → List Line → A → Type 0) (code : Code) (processes : ℕ) (r : RawTree) where
   abbrev pub WorldAsked : Type 0
   WorldAsked =
-      (ls : List Line) (n : Process) (a : A) (p : Proc Frame) (i : ℕ) (w : W) → AsksAs r ls nothing_in_hand (serves.supply w) p i n
-      → InNumbers p.core → n.time ≡ (serves.supply w).now → processes ≡ (serves.supply w).processes → shows a p.core.ports w
+      (ls : List Line) (n : Process) (a : A) (p : Proc Frame) (i : ℕ) (w : W)
+      → AsksAs r ls nothing_in_hand (serves.supply w) p i n → InNumbers p.core
+      → n.time ≡ (serves.supply w).now → processes ≡ (serves.supply w).processes → shows a p.core.ports w
       → AsksWorld serves shows wrote code processes r ls n a (on_core (pushed (Run i)) p) w
