@@ -1,11 +1,12 @@
 // One process.
 
-ghost use Rattle.std.specs.Prelude.{◌≡◌, ◌<◌, ◌≤◌, ◌^◌, is_some, IfOk};
+ghost use Rattle.std.specs.Prelude.{◌≡◌, ◌<◌, ◌≤◌, ◌^◌, is_some, length, IfOk};
 ghost use Rattle.flow_value.specs.declared.value.Kind.TheVariants as kind;
 ghost use Rattle.flow_value.specs.declared.value.Outcome.TheVariants as outcome;
-ghost use Rattle.flow_steps.specs.Doing.{begun, vanished};
+ghost use Rattle.flow_steps.specs.Doing.{never_ran, begun, vanished};
 ghost use Rattle.flow_steps.specs.Holding.{on_heap};
 ghost use Rattle.flow_steps.specs.Bringing.{brought, answered, main_dropped};
+ghost use Rattle.flow_steps.specs.Views.{frames_in, callbacks_in};
 ghost use Rattle.flow_machine.specs.Bursts.{Bursts, MainBursts};
 ghost use Rattle.flow_machine.specs.Cause.{RunCause};
 
@@ -34,6 +35,7 @@ impl Machine {
         requires few { processes ≤ 64 }
         ensures processes { IfOk result (λ m. m.processes ≡ processes) }
         ensures me { IfOk result (λ m. m.me ≡ me) }
+        ensures fresh { IfOk result (λ m. m.process ≡ never_ran alloc) }
     {
         Ok(Machine {
             me,
@@ -165,17 +167,23 @@ impl Machine {
     }
 
     /// The frames of unfinished actors, by rising number.
-    pub fn frames(&self) -> Result<Vec<FrameView>, NoMemory> {
+    pub fn frames(&self) -> Result<Vec<FrameView>, NoMemory>
+        ensures { IfOk result (λ views. views.items ≡ frames_in self.now.process.heap) }
+    {
         self.process.frames()
     }
 
     /// The callbacks of unfinished actors, by rising number of the actor, and those of an actor in order.
-    pub fn callbacks(&self) -> Result<Vec<CallbackView>, NoMemory> {
+    pub fn callbacks(&self) -> Result<Vec<CallbackView>, NoMemory>
+        ensures { IfOk result (λ views. views.items ≡ callbacks_in self.now.process.heap) }
+    {
         self.process.callbacks()
     }
 
     /// How many actors are unfinished.
-    pub fn live(&self) -> u64 {
+    pub fn live(&self) -> u64
+        ensures { result ≡ length self.now.process.heap.frames.things }
+    {
         self.process.live()
     }
 }
