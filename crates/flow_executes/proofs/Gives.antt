@@ -259,7 +259,7 @@ module _ (r : RawTree) (ls : List Line) (m : Process) (p : Proc Frame) (i : ℕ)
         shown = run_off r ls m start p i (with_refs (q ∷ []) x) st.shown is.next;
         acts = acts_by r m.heap start.heap ran p i e f frames actors refl refl st.acts;
       } in
-      let may = mays is.stand start is.stands in
+      let may = mays is.stand start frames is.stands in
       let asks_none : start.asked ≡ None = ap (λ (y : Process). y.asked) is.next.rest ∙ none in
       let state = ap (λ (y : FrameTree Value). y.state) (same_memory r m.heap start.heap ran p i e e f f frames st.acts st1.acts) ∙ zero_state in
       let after = operand_follows r ls start p i e f x is.stand group q is.pace is.between st1 state asks_none may is.keeps in

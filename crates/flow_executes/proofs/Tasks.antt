@@ -107,7 +107,7 @@ module _ (r : RawTree) (ls : List Line) (p : Proc Frame) (code : Code) (w : Supp
       } in
       let kept = subst (λ y. IsKept code i (record { callback = y; cell = record { 0 = k } }) start n) number is in
       let goes = keep_goes r ls start may.rest i.0 may.entry may.frame nothing_in_hand code w may.group kd (record { 0 = k }) n st may.state none
-      (λ s before now. may.may kd (wait_spot may.frame) s before is_keep now) kept in
+      (λ s before same now. may.may kd (wait_spot may.frame) s before is_keep same now) kept in
       from_row i.0 may.entry.class u below h
       (subst (λ y. GoesFurther code r ls nothing_in_hand w i.0 may.entry.class (on_core (pushed y) q) n) (sym is_keep)
       (subst (λ y. GoesFurther code r ls nothing_in_hand w i.0 may.entry.class (on_core (pushed v) y) n) (sym may.next) goes))

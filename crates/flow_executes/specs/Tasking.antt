@@ -64,7 +64,8 @@ pub record MayKeepOne (code : Code) (r : RawTree) (m : Process) (p : Proc Frame)
   pub state : acts.memory.state ≡ 0
   pub group : ℕ
   pub may : (kd : Kind) (spot : Spot) (s : Stand) (start : Process) → u ≡ Keep i spot (kd, cell)
-      → StandsNow code.classes.items (actor_id i) start s → MayKeep s rest i group (kd, cell) entry frame
+      → start.heap.frames ≡ m.heap.frames → StandsNow code.classes.items (actor_id i) start s
+      → MayKeep s rest i group (kd, cell) entry frame
 
 -- What has to hold of a task, and of that of the process, when it is off.
 abbrev pub MayGoOn : Code → RawTree → List Line → Process → Proc Frame → stack.Task → Task → Type 0
