@@ -4,9 +4,9 @@ use Rattle.std.proofs.lemmas.Bool.Decides.{nat_tests}
 use Rattle.std.specs.Prelude.{nat_lt, ◌||◌, is_some}
 use Rattle.std.specs.declared.option.Option.TheVariants.{None, Some}
 use Rattle.flow_class.specs.Classes.{RawTree}
-use Rattle.flow_cancel.specs.Heap.{HeapTree, has_number, with_number, without_number, next_cell}
-use Rattle.flow_cancel.proofs.Noted.{at_number, has_with}
-use Rattle.flow_meaning.specs.Numbered.{Numbered, thing}
+use Rattle.flow_cancel.specs.Heap.{HeapTree, has_number, with_number, next_cell}
+use Rattle.flow_cancel.proofs.Noted.{has_with}
+use Rattle.flow_meaning.specs.Numbered.{Numbered}
 use Rattle.flow_meaning.specs.Process.{Proc}
 use Rattle.flow_meaning.specs.Dropping.{port_of}
 use Rattle.flow_meaning.specs.Frame.{Frame}
@@ -31,7 +31,7 @@ pub once_more : (n : ℕ) (ns : List ℕ) → has_number ns n ≡ false → Once
 once_more n [] none h = with_first n [] refl h
 once_more n (x ∷ xs) none h =
     let e = sym (has_first n x xs) ∙ none in
-    by_order (nat_lt n x) (nat_eq n x) (not_either (nat_eq n x) (has_number xs n) e)
+    by_order (nat_lt n x) refl (not_either (nat_eq n x) (has_number xs n) e)
     (once_more n xs (nor_second (nat_eq n x) (has_number xs n) e) (others_once x xs h))
   where
     apart : nat_eq n x ≡ false → has_number (with_number xs n) x ≡ false
@@ -39,15 +39,12 @@ once_more n (x ∷ xs) none h =
         let f : nat_eq x n ≡ false = grind (arith, nat_tests, e) in
         has_with x n xs ∙ ap (λ b. b || has_number xs x) f ∙ first_alone x xs h
 
-    by_order : (t u : Bool) → nat_eq n x ≡ false → Once (with_number xs n) → Once (with_number (x ∷ xs) n)
-    by_order t u e rest = by_parts (nat_lt n x) refl
-      where
-        by_parts : (t : Bool) → nat_lt n x ≡ t → Once (with_number (x ∷ xs) n)
-        by_parts true q = subst Once (sym (front q)) (with_first n (x ∷ xs) none h)
-        by_parts false q = subst Once (sym (behind q e)) (with_first x (with_number xs n) (apart e) rest)
+    front : nat_lt n x ≡ true → with_number (x ∷ xs) n ≡ n ∷ x ∷ xs
+    front q = rw q refl
 
-        front : nat_lt n x ≡ true → with_number (x ∷ xs) n ≡ n ∷ x ∷ xs
-        front q = rw q refl
+    behind : nat_lt n x ≡ false → nat_eq n x ≡ false → with_number (x ∷ xs) n ≡ x ∷ with_number xs n
+    behind q e = rw (q, e) refl
 
-        behind : nat_lt n x ≡ false → nat_eq n x ≡ false → with_number (x ∷ xs) n ≡ x ∷ with_number xs n
-        behind q e = rw (q, e) refl
+    by_order : (t : Bool) → nat_lt n x ≡ t → nat_eq n x ≡ false → Once (with_number xs n) → Once (with_number (x ∷ xs) n)
+    by_order true q e rest = subst Once (sym (front q)) (with_first n (x ∷ xs) none h)
+    by_order false q e rest = subst Once (sym (behind q e)) (with_first x (with_number xs n) (apart e) rest)

@@ -1,16 +1,16 @@
 -- Steps of a process in its world, one after another.
-use Rattle.std.proofs.Common.{◌≡◌, List, [], ◌∷◌, refl, sym, ap, subst, ◌∙◌}
+use Rattle.std.proofs.Common.{◌≡◌, [], refl, sym, ap, subst, ◌∙◌}
 use Rattle.std.specs.declared.option.Option.{Option}
 use Rattle.std.specs.declared.option.Option.TheVariants.{None, Some}
 use Rattle.flow_class.specs.Classes.{RawTree}
 use Rattle.flow_meaning.specs.Asks.{Request}
-use Rattle.flow_meaning.specs.Process.{Task, Halt, Proc}
+use Rattle.flow_meaning.specs.Process.{Halt, Proc}
 use Rattle.flow_meaning.specs.Orderly.{UnlessStopped}
-use Rattle.flow_meaning.specs.Burst.{Host, Live, live, add_lines, serve, advanced, advance, Burst, rests, steps}
-use Rattle.flow_meaning.specs.Step.{Stepped, step_tasks, step_if, step, on_core}
+use Rattle.flow_meaning.specs.Burst.{Host, Live, live, serve, advanced, advance, Burst, rests, steps}
+use Rattle.flow_meaning.specs.Step.{Stepped, step_tasks, step_if, step}
 use Rattle.flow_meaning.specs.Class.{classes}
 use Rattle.flow_meaning.specs.Frame.{Frame}
-use Rattle.flow_meaning.proofs.Posture.{unless, unless_map}
+use Rattle.flow_meaning.proofs.Posture.{unless_map}
 use Rattle.flow_meaning.proofs.Shifts.{same_of}
 use Rattle.flow_meaning.proofs.InOrder.{no_thing}
 use Rattle.flow_unstuck.specs.Ending.{Reaches, here, onward}

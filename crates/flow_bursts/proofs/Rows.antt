@@ -6,15 +6,13 @@ use Rattle.std.specs.declared.option.Option.TheVariants.{None, Some}
 use Rattle.flow_class.specs.Classes.{RawTree}
 use Rattle.flow_code.specs.declared.program.Code.{Code}
 use Rattle.flow_trace.specs.declared.line.Line.{Line}
-use Rattle.flow_cancel.specs.declared.task.Task as stack
 use Rattle.flow_cancel.specs.Heap.{has_number, next_cell}
 use Rattle.flow_meaning.specs.Numbered.{Numbered}
 use Rattle.flow_meaning.specs.Asks.{Request}
 use Rattle.flow_meaning.specs.Process.{Spent, Proc}
 use Rattle.flow_meaning.specs.Orderly.{UnlessStopped}
-use Rattle.flow_meaning.specs.Burst as machine
 use Rattle.flow_meaning.specs.Burst.{Host, live, serve, advanced}
-use Rattle.flow_meaning.specs.Step.{Stepped, step}
+use Rattle.flow_meaning.specs.Step.{step}
 use Rattle.flow_meaning.specs.Class.{classes}
 use Rattle.flow_meaning.specs.Frame.{Frame}
 use Rattle.flow_meaning.proofs.InOrder.{no_thing}
@@ -27,10 +25,9 @@ use Rattle.flow_steps.specs.declared.process.Next.{Next}
 use Rattle.flow_steps.specs.declared.process.Next.TheVariants as next
 use Rattle.flow_steps.specs.declared.process.Process.{Process}
 use Rattle.flow_steps.specs.Doing.{unasked}
-use Rattle.flow_steps.specs.Tasks.{TopTaken, IsDone, Tasks, all_spent, no_task, task_asks, task_done}
+use Rattle.flow_steps.specs.Tasks.{Tasks, all_spent, no_task, task_asks, task_done}
 use Rattle.flow_machine.specs.declared.host.Burst.{Burst}
 use Rattle.flow_machine.specs.declared.host.Burst.TheVariants as burst
-use Rattle.flow_machine.specs.Hosting.{unheard}
 use Rattle.flow_machine.specs.Serving.{Served, ServedIf}
 use Rattle.flow_machine.specs.Bursts.{Bursts, rests, runs_out, asks}
 use Rattle.flow_follows.specs.Shown.{told, Shown, AreSpent, shows, ends}
@@ -40,7 +37,7 @@ use Rattle.flow_served.specs.Serving.{Told}
 use Rattle.flow_served.proofs.Serving.{line_written, port_unheard}
 use Rattle.flow_kept.specs.Kept.{Kept}
 use Rattle.flow_kept.specs.Staying.{Stays}
-use Rattle.flow_kept.specs.Allowed.{IsRun, BetweenTasks}
+use Rattle.flow_kept.specs.Allowed.{IsRun}
 use Rattle.flow_kept.proofs.Once.{sorted_stays}
 use Rattle.flow_kept.proofs.Stays.{task_stays}
 use Rattle.flow_bursts.specs.Bursting as law
@@ -121,31 +118,31 @@ module _ {A W : Type 0} (serves : Host W) (shown_by : A → Numbered ℕ → W �
       by_goes (by_itself q reach s is ports) = told_last n m p q here now (task_stays code t m start n now.asked taken done) reach s is ports some
       by_goes (by_the_world q reach world) = asked_last n m p q here now (task_stays code t m start n now.asked taken done) reach world
   tasks_end ls m n e a p w now (task_done _ start between _ t _ un taken done quiet more) =
-      by_goes (go ls m start between a p w t now taken done)
+      by_goes (go ls m start between a p w t now taken done) (λ q here_now. tasks_end ls between n e a q w here_now more)
     where
       none : between.asked ≡ None
       none = some_none between.asked quiet
 
-      by_goes : TaskGoes serves shown_by wrote code processes r ls between a p w → TasksEnd ls m a p w e n
-      by_goes (by_itself q reach (shows s) is ports) =
+      by_goes : TaskGoes serves shown_by wrote code processes r ls between a p w → ((q : Proc Frame) → In ls between a q w → TasksEnd ls between a q w e n) → TasksEnd ls m a p w e n
+      by_goes (by_itself q reach (shows s) is ports) further =
           onward_end ls m between a p q w e n reach
-          (tasks_end ls between n e a q w (in_then ls m between a p q w now (task_stays code t m start between now.asked taken done) reach s none ports) more)
-      by_goes (by_itself q reach (ends s) is ports) =
+          (further q (in_then ls m between a p q w now (task_stays code t m start between now.asked taken done) reach s none ports))
+      by_goes (by_itself q reach (ends s) is ports) further =
           let last = spent_tasks between n e s.spent more in
           subst (λ z. TasksEnd ls m a p w z n) (sym last.0) (subst (TasksEnd ls m a p w next.Spent) (sym last.1) (spent between q reach s none))
-      by_goes (by_the_world q reach world) = absurd (no_thing (sym none ∙ world.asked))
+      by_goes (by_the_world q reach world) further = absurd (no_thing (sym none ∙ world.asked))
 
   abbrev Goes : List Line → A → Proc Frame → W → Burst → Process → A → Type 0
   Goes ls a p w e n b = Follows serves shown_by wrote code processes r ls a p w e n b
 
   -- steps before a burst, with their lines
-  before : (ls more : List Line) (a b c : A) (p q : Proc Frame) (w u : W) (e : Burst) (n : Process) → To p w q u → Told wrote a more b → Goes (ls ++ more) b q u e n c → Goes ls a p w e n c
-  before ls more a b c p q w u e n reach told f = record {
+  before : (ls more : List Line) (a b c : A) (p q : Proc Frame) (w u : W) (e : Burst) (n : Process) → To p w q u → Told serves shown_by wrote r nothing_in_hand a more b → Goes (ls ++ more) b q u e n c → Goes ls a p w e n c
+  before ls more a b c p q w u e n reach said f = record {
     after = f.after;
     out = f.out;
     lines = more ++ f.lines;
     bursts = then_burst serves r (live p w) (live q u) (live f.after f.out) reach f.bursts;
-    wrote = and_more a b c more f.lines told f.wrote;
+    written = and_more a b c more f.lines said f.written;
     ends = subst (λ k. EndsAs serves shown_by wrote code processes r k e n c f.after f.out) (three ls more f.lines) f.ends;
   }
 
@@ -155,7 +152,7 @@ module _ {A W : Type 0} (serves : Host W) (shown_by : A → Numbered ℕ → W �
     out = f.out;
     lines = f.lines;
     bursts = then_burst serves r (live p w) (live q w) (live f.after f.out) reach f.bursts;
-    wrote = f.wrote;
+    written = f.written;
     ends = f.ends;
   }
 
@@ -176,7 +173,7 @@ module _ {A W : Type 0} (serves : Host W) (shown_by : A → Numbered ℕ → W �
     out = w;
     lines = [];
     bursts = stopped_rests serves r p w Spent halted;
-    wrote = no_line a;
+    written = no_line a;
     ends = (s, halted, lines ∙ sym (no_more ls));
   }
 
@@ -199,10 +196,10 @@ module _ {A W : Type 0} (serves : Host W) (shown_by : A → Numbered ℕ → W �
     free s = no_port r n.heap q s.holds.shows (kept_then o q w w now.between.kept now.between.shown.goes s.goes reach).tied.numbers
 
     -- the event is spent
-    spent_after : (more : List Line) → Told wrote a more b → j.spent ≡ true → q.core.halted ≡ Some Spent → q.core.lines ≡ ls ++ more → Bursts serves shown_by wrote code processes j b e m c → Goes ls a o w e m c
-    spent_after more told s halted lines bursts =
+    spent_after : (more : List Line) → Told serves shown_by wrote r nothing_in_hand a more b → j.spent ≡ true → q.core.halted ≡ Some Spent → q.core.lines ≡ ls ++ more → Bursts serves shown_by wrote code processes j b e m c → Goes ls a o w e m c
+    spent_after more said s halted lines bursts =
         let x = spent_burst j m b c e s bursts in
-        before ls more a b c o q w w e m reach told
+        before ls more a b c o q w w e m reach said
         (subst (λ z. Goes (ls ++ more) b q w z m c) (sym x.how)
         (subst (λ z. Goes (ls ++ more) b q w burst.Spent z c) (sym x.same) (subst (Goes (ls ++ more) b q w burst.Spent j) (sym x.host) (spent_goes (ls ++ more) b q w j s halted lines))))
 
@@ -263,7 +260,7 @@ module _ {A W : Type 0} (serves : Host W) (shown_by : A → Numbered ℕ → W �
         out = w;
         lines = [];
         bursts = then_burst serves r (live p w) (live q w) (live q w) reach (no_task_rests serves r q w last.between.shown.goes none);
-        wrote = no_line a;
+        written = no_line a;
         ends = subst (λ ks. EndsAs serves shown_by wrote code processes r ks burst.Rested n a q w) (sym (no_more ls)) (last, none);
       }
   burst_goes ls m n a b p w _ now (runs_out _ _ _ tasks) = by_end (tasks_end ls m n next.Spent a p w now tasks)
@@ -274,7 +271,7 @@ module _ {A W : Type 0} (serves : Host W) (shown_by : A → Numbered ℕ → W �
         out = w;
         lines = [];
         bursts = then_burst serves r (live p w) (live q w) (live q w) reach (stopped_rests serves r q w Spent are.halted);
-        wrote = no_line a;
+        written = no_line a;
         ends = (are.spent, are.halted, are.lines ∙ ap (λ z. ls ++ told z) none);
       }
   burst_goes ls m n a b p w e now (asks _ k j _ _ d _ _ tasks served more) =

@@ -1,6 +1,6 @@
 -- What a process in memory keeps while the world serves what it asked.
 use Rattle.std.proofs.Common.{◌≡◌, ℕ, Bool, true, false, refl, sym, ap, subst, ◌∙◌}
-use Rattle.std.specs.Prelude.{List, [], ◌∷◌}
+use Rattle.std.specs.Prelude.{List}
 use Rattle.std.specs.declared.option.Option.{Option}
 use Rattle.std.specs.declared.option.Option.TheVariants.{None, Some}
 use Rattle.flow_base.specs.declared.ids.ActorId.{ActorId}
@@ -17,11 +17,10 @@ use Rattle.flow_steps.specs.declared.call.Call.TheVariants as call
 use Rattle.flow_steps.specs.declared.call.Goal.{Goal}
 use Rattle.flow_steps.specs.declared.process.Process.{Process}
 use Rattle.flow_steps.specs.Holding.{on_heap}
-use Rattle.flow_steps.specs.Bringing.{made, requested, heard, OpenGiven, PortGiven}
+use Rattle.flow_steps.specs.Bringing.{made, requested, OpenGiven, PortGiven}
 use Rattle.flow_machine.specs.Serving.{Thrown, DrawServed, DelayServed, DiskServed, PortOpened, ListenServed, SendServed, Served}
-use Rattle.flow_kept.specs.Staying.{StoresRise}
 use Rattle.flow_kept.proofs.Once.{Once}
-use Rattle.flow_kept.proofs.Rising.{HeapStays, still, and_then, made_stays, hold_stays, push_stays}
+use Rattle.flow_kept.proofs.Rising.{HeapStays, made_stays, hold_stays}
 use Rattle.flow_kept.proofs.Quiet.{Quiet, quiet_still, quiet_then, quiet_is, on_heap_quiet, doing_quiet, gives_quiet}
 use Rattle.flow_bursts.proofs.Ports.{once_more}
 

@@ -88,7 +88,7 @@ module _ {A W : Type 0} (serves : Host W) (shows : A → Numbered ℕ → W → 
   -- lines that were written one after another, and nothing else
   pub data Wrote : A → List Line → A → Type 0 where
     no_line : (a : A) → Wrote a [] a
-    and_more : (a b c : A) (ls more : List Line) → Told wrote a ls b → Wrote b more c → Wrote a (ls ++ more) c
+    and_more : (a b c : A) (ls more : List Line) → Told serves shows wrote r nothing_in_hand a ls b → Wrote b more c → Wrote a (ls ++ more) c
 
   -- the end of a burst: the process rests, or the event is spent
   abbrev pub EndsAs : List Line → Burst → Process → A → Proc Frame → W → Type 0
@@ -101,7 +101,7 @@ module _ {A W : Type 0} (serves : Host W) (shows : A → Numbered ℕ → W → 
     pub out : W
     pub lines : List Line
     pub bursts : machine.Burst (classes r) serves (live p w) (live after out)
-    pub wrote : Wrote a lines b
+    pub written : Wrote a lines b
     pub ends : EndsAs (ls ++ lines) e n b after out
 
   abbrev pub BurstFollows : Type 0

@@ -1,5 +1,7 @@
 -- What an actor in memory does with what evaluation comes to is a step of the class machine.
 use Rattle.std.proofs.Common.{◌≡◌, ◌⊎◌, inl, inr, ℕ, List, refl, sym, ap, ◌∙◌, subst, arith}
+use Rattle.std.specs.declared.option.Option.{Option}
+use Rattle.std.specs.declared.option.Option.TheVariants.{None, Some}
 use Rattle.flow_base.specs.declared.ids.ActorId.{ActorId}
 use Rattle.flow_base.specs.declared.ids.ErrorCode.{ErrorCode}
 use Rattle.flow_eval.specs.Eval.{Res, Done, Fails, Spent, Meaningless, then}
@@ -18,6 +20,8 @@ use Rattle.flow_meaning.specs.Step.{view, proc, on_core}
 use Rattle.flow_meaning.specs.Class.{next_step, class_names}
 use Rattle.flow_meaning.specs.Frame.{Frame}
 use Rattle.flow_picture.proofs.Acted.{same_put}
+use Rattle.flow_steps.specs.declared.call.Call.{Call}
+use Rattle.flow_steps.specs.declared.call.Call.TheVariants as call
 use Rattle.flow_steps.specs.declared.frames.Stand.{Stand}
 use Rattle.flow_steps.specs.declared.next.Pace.{Pace}
 use Rattle.flow_steps.specs.declared.next.Pace.TheVariants.{Off}
@@ -31,7 +35,14 @@ use Rattle.flow_follows.specs.Carried.{StepsAs}
 use Rattle.flow_follows.specs.Evaluated.{GivesValue}
 use Rattle.flow_follows.proofs.Working.{as_many_shown, task_done}
 use Rattle.flow_follows.proofs.Carrying.{with_turns, asked}
-use Rattle.flow_effects.specs.Asking.{resumed, MayAsk}
+use Rattle.flow_effects.specs.Asking.{resumed, IsTold, Answered, by_itself, MayAsk}
+
+-- nothing is asked, or a line is told
+pub nothing_told : (o : Option Call) → o ≡ None → IsTold o
+nothing_told o e = subst IsTold (sym e) tt
+
+pub line_told : (o : Option Call) (l : Line) → o ≡ Some (call.Line l) → IsTold o
+line_told o l e = subst IsTold (sym e) tt
 
 -- one evaluation after another
 pub evaluated_then : {A B C : Type 0} (a : A) (o : Res B) (go : B → ℕ → Res C) (on : C → ℕ → StepOf A)
@@ -79,9 +90,9 @@ module _ (r : RawTree) (ls : List Line) (m : Process) (p : Proc Frame) (i : ℕ)
   pub evaluation_at : {A B : Type 0} (x : Scan) (s : Stand) (w : Supply) (seen : B → A) (comes_to : Res A) (go : A → ℕ → StepOf Frame)
       (goal : B → Process → Pace → Process → Type 0) (pace : Pace) (n : Process) → MayAsk r ls x s m p i e f
       → next_step (class_names r) (view w i p.core) f ≡ evaluated f comes_to go → Evaluates s seen comes_to m goal pace n
-      → GivesValue seen comes_to m goal pace n ⊎ StepsAs r ls x w p i e pace n
+      → GivesValue seen comes_to m goal pace n ⊎ Answered r ls x w p i e pace n
   evaluation_at x s w seen comes_to go goal pace n st next (gives b left a q done goes) = inl (record { value = b; left = left; done = done; goes = goes })
   evaluation_at x s w seen comes_to go goal pace n st next (throws err left q fails halted) =
-      inr (error_at x s w err left n st halted (next ∙ ap (λ k. evaluated f k go) fails))
+      inr (by_itself (error_at x s w err left n st halted (next ∙ ap (λ k. evaluated f k go) fails)) (nothing_told n.asked (ap (λ (k : Process). k.asked) halted ∙ st.asked)))
   evaluation_at x s w seen comes_to go goal pace n st next (runs_out q spent halted) =
-      inr (out_at x s w n st halted (next ∙ ap (λ k. evaluated f k go) spent))
+      inr (by_itself (out_at x s w n st halted (next ∙ ap (λ k. evaluated f k go) spent)) (nothing_told n.asked (ap (λ (k : Process). k.asked) halted ∙ st.asked)))

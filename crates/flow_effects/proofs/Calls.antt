@@ -42,12 +42,15 @@ use Rattle.flow_follows.specs.Evaluated.{GivesValue}
 use Rattle.flow_follows.proofs.Working.{as_many_shown, task_done, telling_shown}
 use Rattle.flow_follows.proofs.Lost.{put_over}
 use Rattle.flow_follows.proofs.Gone.{told_there, Stands}
-use Rattle.flow_follows.proofs.Carrying.{old, seen, may, with_turns, asked}
-use Rattle.flow_follows.proofs.Evaluations.{evaluation_follows}
-use Rattle.flow_effects.specs.Asking.{sends, resumed, Answered, by_itself, by_the_world}
+use Rattle.flow_follows.proofs.Carrying.{old, seen, may, noted_follows, with_turns, asked}
+use Rattle.flow_effects.specs.Asking.{sends, resumed, Answered, by_itself, by_the_world, MayAsk}
 use Rattle.flow_effects.specs.Calling as law
-use Rattle.flow_effects.proofs.Answering.{evaluated_then}
+use Rattle.flow_effects.proofs.Answering.{line_told, evaluated_then, evaluation_at}
 use Rattle.flow_effects.proofs.Effecting.{asks_the_world}
+
+-- an actor whose frame may be stale may ask
+pub may_ask : (r : RawTree) (ls : List Line) (m : Process) (p : Proc Frame) (i : ℕ) (e : Entry) (f : Frame) (x : Scan) (s : Stand) → MayBeStale r ls x s m p i e f → m.asked ≡ None → MayAsk r ls x s m p i e f
+may_ask r ls m p i e f x s st none = record { actor = st.standing.actor; stood = noted_follows r ls m p i e f x s st; asked = none }
 
 module _ (r : RawTree) (ls : List Line) (m : Process) (p : Proc Frame) (i : ℕ) (e : Entry) (f : Frame) where
   -- the frame at the next instruction
@@ -118,13 +121,14 @@ module _ (r : RawTree) (ls : List Line) (m : Process) (p : Proc Frame) (i : ℕ)
         → next_step (class_names r) (view w i p.core) f
         ≡ evaluated f (plain_act (class_names r) (view w i p.core) (look f.mem) (Some called) name (args_of args) left) (λ a left. asking_for left a next)
         → Answered r ls x w p i e Off n
-    by_called predefined.Trace name args left n none t is = by_itself (printed left (arg (args_of args) 0) t.line n none t.prints t.told is)
+    by_called predefined.Trace name args left n none t is =
+        by_itself (printed left (arg (args_of args) 0) t.line n none t.prints t.told is) (line_told n.asked t.line (ap (λ (k : Process). k.asked) t.told))
     by_called predefined.SendTo name args left n none t is = sent left (args_of args) t.message n none t.is_message t.asks is
     by_called called name args left n none t is = absurd t
 
   pub predefined_step : law.PredefinedStep r ls m p i e f
   predefined_step x s w code name es called comes_to pace n st none there is_called same evaluates =
-      by_case (evaluation_follows r ls m p i e f x s w args_of comes_to (onward x s w st called name.name) (IsAct code s (act.World called)) pace n st next_is evaluates)
+      by_case (evaluation_at r ls m p i e f x s w args_of comes_to (onward x s w st called name.name) (IsAct code s (act.World called)) pace n (may_ask r ls m p i e f x s st none) next_is evaluates)
     where
       next_is : next_step (class_names r) (view w i p.core) f ≡ evaluated f comes_to (onward x s w st called name.name)
       next_is =
@@ -133,10 +137,10 @@ module _ (r : RawTree) (ls : List Line) (m : Process) (p : Proc Frame) (i : ℕ)
           ∙ ap (λ o. evaluated f (values (class_names r) (view w i p.core) (look f.mem) es) (λ vs left. evaluated f (plain_act (class_names r) (view w i p.core) (look f.mem) o name.name vs left) (λ a left. asking_for left a next))) is_called
           ∙ ap (λ k. evaluated f k (onward x s w st called name.name)) (sym same)
 
-      by_case : GivesValue args_of comes_to m (IsAct code s (act.World called)) pace n ⊎ StepsAs r ls x w p i e pace n → Answered r ls x w p i e pace n
+      by_case : GivesValue args_of comes_to m (IsAct code s (act.World called)) pace n ⊎ Answered r ls x w p i e pace n → Answered r ls x w p i e pace n
       by_case (inl v) =
           subst (λ z. Answered r ls x w p i e z n) (sym v.goes.0)
           (by_called x s w st called name.name v.value v.left n none
           (subst (λ (a : ActorId). PredefinedCalled a called v.value (noted (next_stand s) (with_left v.left m)) n) st.standing.actor v.goes.1)
           (next_is ∙ ap (λ k. evaluated f k (onward x s w st called name.name)) v.done))
-      by_case (inr a) = by_itself a
+      by_case (inr a) = a

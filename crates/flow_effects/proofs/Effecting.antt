@@ -12,6 +12,7 @@ use Rattle.flow_code.specs.declared.class.Effect.{Effect}
 use Rattle.flow_code.specs.declared.class.Effect.TheVariants as effect
 use Rattle.flow_code.specs.declared.program.Code.{Code}
 use Rattle.flow_trace.specs.declared.line.Line.{Line}
+use Rattle.flow_trace.specs.declared.line.Line.TheVariants as line
 use Rattle.flow_cancel.specs.Heap.{actor_id}
 use Rattle.flow_meaning.specs.Numbered.{thing, put}
 use Rattle.flow_meaning.specs.Asks as asks
@@ -42,19 +43,19 @@ use Rattle.flow_steps.specs.declared.process.Process.{Process}
 use Rattle.flow_steps.specs.Doing.{asking, unasked}
 use Rattle.flow_steps.specs.Standing.{noted}
 use Rattle.flow_steps.specs.Sights.{with_left, Evaluates}
-use Rattle.flow_steps.specs.Acting.{Values, args_of, disk_of, EffectAsked, ActorCalled, EffectDone}
+use Rattle.flow_steps.specs.Acting.{Values, args_of, disk_of, EffectAsked, ActorCalled, not_called, actor_starts, EffectDone}
 use Rattle.flow_machine.specs.Requests.{asked_of}
 use Rattle.flow_follows.specs.Shown.{Shown, shows, told}
 use Rattle.flow_follows.specs.Working.{SameGoal}
 use Rattle.flow_follows.specs.Placing.{Stood}
-use Rattle.flow_follows.specs.Carried.{StepsAs}
 use Rattle.flow_follows.specs.Evaluated.{GivesValue}
 use Rattle.flow_follows.proofs.Making.{same_goal_by, cell_given}
+use Rattle.flow_follows.proofs.Takings.{turned_asked}
 use Rattle.flow_follows.proofs.Carrying.{asked}
-use Rattle.flow_effects.specs.Asking.{Asks, draws, delays, listens, disks, resumed, AsksAs, Answered, by_itself, by_the_world, MayAsk}
+use Rattle.flow_effects.specs.Asking.{Asks, draws, delays, listens, disks, resumed, AsksAs, IsTold, Answered, by_itself, by_the_world, MayAsk}
 use Rattle.flow_effects.specs.Effects as law
 use Rattle.flow_effects.specs.Effects.{SameEffect, MayMake}
-use Rattle.flow_effects.proofs.Answering.{resumed_stood, evaluation_at}
+use Rattle.flow_effects.proofs.Answering.{nothing_told, line_told, resumed_stood, evaluation_at}
 use Rattle.flow_effects.proofs.Starts.{call_starts, may_resumed}
 
 -- a request to a disk is seen the same
@@ -125,7 +126,7 @@ module _ (r : RawTree) (ls : List Line) (m : Process) (p : Proc Frame) (i : ℕ)
       after = on_core (gives_new i h kind.Future (empty_cell kind.Future)) (resumed i f left p);
       steps = stepped left asks.Never next;
       carries = shows (cell_given r ls x (noted s (with_left left m)) (resumed i f left p) g h (actor_id i) kind.Future t.cell n (resumed_stood r ls m p i e f x s left st).shown rising (goal_then left) t.number t.given);
-    })
+    }) (nothing_told n.asked (ap (λ (k : Process). k.asked) t.given.given_by ∙ st.asked))
 
     -- an effect, with its arguments
     by_called : (called : Effectful) (eff : Effect) (args : Values) (comes_to : Res (List ValueTree)) (left : ℕ) (pace : Pace) (n : Process) → SameEffect eff called → MayMake r code p called comes_to
@@ -145,11 +146,15 @@ module _ (r : RawTree) (ls : List Line) (m : Process) (p : Proc Frame) (i : ℕ)
           carries = call_starts r ls x (noted s (with_left left m)) (resumed i f left p) code (actor_id i) g h k args.items e f n there.shown st.asked there.acts started (goal_then left)
               (subst (λ (a : ActorId). ActorCalled code a g k args.items (noted s (with_left left m)) n) st.actor
               (subst (λ z. ActorCalled code s.actor g z args.items (noted s (with_left left m)) n) is goes.1));
-        }))
+        }) (start_told (noted s (with_left left m)) s.actor c args n st.asked goes.1))
       where
         silent_start : (o : Option Frame) (k left : ℕ) → Some (start (classes r) i h k o (resumed i f left p)) ≡ Some (silent (start (classes r) i h k o (resumed i f left p)).0)
         silent_start None k left = refl
         silent_start (Some a) k left = refl
+
+        start_told : (k : Process) (caller : ActorId) (class : ℕ) (args : Values) (n : Process) → k.asked ≡ None → ActorCalled code caller g class args.items k n → IsTold n.asked
+        start_told k caller class args n none (not_called l q) = nothing_told n.asked (ap (λ (z : Process). z.asked) q ∙ turned_asked k ∙ none)
+        start_told k caller class args n none (actor_starts l z) = line_told n.asked (line.Start z.actor z.starts.of.name) (ap (λ (z : Process). z.asked) z.starts.told)
     by_called (World q) (effect.Actor c) args comes_to left pace n is may done next goes = absurd is
     by_called (Actor k) (effect.World c) args comes_to left pace n is may done next goes = absurd is
 
@@ -167,9 +172,9 @@ module _ (r : RawTree) (ls : List Line) (m : Process) (p : Proc Frame) (i : ℕ)
         next_is : next_step (class_names r) (view w i p.core) f ≡ evaluated f comes_to (onward called)
         next_is = next ∙ ap (λ k. evaluated f k (onward called)) (sym same_values)
 
-        by_case : GivesValue args_of comes_to m (EffectDone code s g eff) pace n ⊎ StepsAs r ls x w p i e pace n → Answered r ls x w p i e pace n
+        by_case : GivesValue args_of comes_to m (EffectDone code s g eff) pace n ⊎ Answered r ls x w p i e pace n → Answered r ls x w p i e pace n
         by_case (inl v) = by_called called eff v.value comes_to v.left pace n is may v.done (next_is ∙ ap (λ k. evaluated f k (onward called)) v.done) v.goes
-        by_case (inr a) = by_itself a
+        by_case (inr a) = a
 
   pub effect_step : law.EffectStep r ls m p i e f
   effect_step x s w code path t es called eff comes_to pace n st may there is_effect is same_values evaluates =

@@ -1,5 +1,5 @@
 -- A method of a reference, called by an actor in memory, is a step of the class machine.
-use Rattle.std.proofs.Common.{◌≡◌, ◌⊎◌, inl, inr, ℕ, suc, nat_eq, Bool, true, false, List, [], ◌∷◌, ◌++◌, map, if◌then◌else◌, refl, sym, ap, ◌∙◌, subst, arith}
+use Rattle.std.proofs.Common.{◌≡◌, ◌⊎◌, inl, inr, ℕ, suc, nat_eq, nat_lt, Bool, true, false, List, [], ◌∷◌, ◌++◌, map, if◌then◌else◌, refl, sym, ap, ◌∙◌, subst, arith}
 use Rattle.std.specs.Option.{option_map}
 use Rattle.std.specs.declared.option.Option.{Option}
 use Rattle.std.specs.declared.option.Option.TheVariants.{None, Some}
@@ -12,6 +12,7 @@ use Rattle.flow_tree.specs.declared.ty.Ident.{Ident}
 use Rattle.flow_tree.specs.Tree.{ExprTrees, NoExprs, MoreExprs}
 use Rattle.flow_value.specs.declared.value.Kind.{Kind}
 use Rattle.flow_value.specs.declared.value.Kind.TheVariants as kind
+use Rattle.flow_value.specs.declared.value.Outcome.{Outcome}
 use Rattle.flow_value.specs.declared.value.Value.{Value}
 use Rattle.flow_value.specs.Values.{ValueTree, RefValue, OutcomeTree, GoodOutcome, BadOutcome, refs_of}
 use Rattle.flow_value.specs.View.{value_of, outcome_of}
@@ -26,6 +27,11 @@ use Rattle.flow_numbered.specs.Numbered as stored
 use Rattle.flow_frame.specs.Frames.{FrameTree}
 use Rattle.flow_resolved.specs.View.{places_in}
 use Rattle.flow_cancel.specs.Heap.{HeapTree, actor_id}
+use Rattle.flow_base.specs.ErrorNumbers.{already_set}
+use Rattle.flow_cancel.specs.Heap as heap
+use Rattle.flow_cancel.specs.Dropping as dropping
+use Rattle.flow_cancel.specs.declared.task.Dropped.{Dropped}
+use Rattle.flow_cancel.specs.declared.task.Dropped.TheVariants as after
 use Rattle.flow_cancel.specs.declared.task.Task.TheVariants as task
 use Rattle.flow_meaning.specs.Numbered.{thing}
 use Rattle.flow_meaning.specs.Cells.{Side, PromiseSide, Ref}
@@ -47,26 +53,25 @@ use Rattle.flow_steps.specs.declared.frames.Stand.{Stand}
 use Rattle.flow_steps.specs.declared.next.Pace.{Pace}
 use Rattle.flow_steps.specs.declared.next.Pace.TheVariants.{Off}
 use Rattle.flow_steps.specs.declared.process.Process.{Process}
-use Rattle.flow_steps.specs.Doing.{doing}
-use Rattle.flow_steps.specs.Holding.{outcome_refs, owner_cancelled}
-use Rattle.flow_steps.specs.Bringing.{gone_to}
+use Rattle.flow_steps.specs.Doing.{turned, doing}
+use Rattle.flow_steps.specs.Holding.{on_heap, outcome_refs, cancelled_if, owner_cancelled}
+use Rattle.flow_steps.specs.Bringing.{gone_to, complete_at, sent_into, sending}
 use Rattle.flow_steps.specs.Standing.{reframed, noted, next_stand, place_held, field_path, values as given_values}
 use Rattle.flow_steps.specs.Sights.{with_left}
 use Rattle.flow_steps.specs.Acting.{Sends, MethodCalled}
 use Rattle.flow_steps.specs.Stepping.{IsMethod, IsMethodOf}
 use Rattle.flow_follows.specs.Shown.{Shown, Follows, shows, with_task, Sound}
 use Rattle.flow_follows.specs.Going.{MayBeStale}
-use Rattle.flow_follows.specs.Carried.{StepsAs}
 use Rattle.flow_follows.specs.Evaluated.{GivesValue}
 use Rattle.flow_follows.proofs.Working.{as_many_shown, task_done}
 use Rattle.flow_follows.proofs.Cancelling.{owner_stopped}
 use Rattle.flow_follows.proofs.Brought.{there_by, all_there_by, sending_follows}
-use Rattle.flow_follows.proofs.Evaluations.{evaluation_follows}
-use Rattle.flow_effects.specs.Asking.{resumed, Answered, by_itself}
+use Rattle.flow_follows.proofs.Takings.{turned_asked}
+use Rattle.flow_effects.specs.Asking.{resumed, IsTold, Answered, by_itself}
 use Rattle.flow_effects.specs.Calling as law
 use Rattle.flow_effects.specs.Calling.{AimsAtRef, MayCall}
-use Rattle.flow_effects.proofs.Answering.{evaluated_then}
-use Rattle.flow_effects.proofs.Calls.{next, next_stood, stepped}
+use Rattle.flow_effects.proofs.Answering.{nothing_told, evaluated_then, evaluation_at}
+use Rattle.flow_effects.proofs.Calls.{may_ask, next, next_stood, stepped}
 
 -- what is sent refers to what the argument does
 there_over : (p : Proc Frame) (qs : List Ref) → AllThere p qs → AllThere p (qs ++ [])
@@ -101,6 +106,23 @@ sorted_put h i (Some k) g s = record {
   frames = rising_put 0 h.frames.greatest h.frames.things i (g k) s.frames;
   ports = s.ports;
 }
+
+-- a send asks nothing, and a cancel only that its line be written
+sending_asked : (i : ActorId) (kd : Kind) (k : ℕ) (o : Outcome) (m : Process) → (sending i kd k o m).asked ≡ m.asked
+sending_asked i kd k o m = by_tests (complete_at kd k m.heap) (nat_lt 0 m.left)
+  where
+    by_tests : (b c : Bool)
+        → (if b then doing (task.Throw i (record { 0 = already_set })) m else if c then on_heap (sent_into i kd k o) (turned m) else turned m).asked ≡ m.asked
+    by_tests true c = refl
+    by_tests false true = turned_asked m
+    by_tests false false = turned_asked m
+
+cancelled_told : (d : Dropped) (m : Process) → m.asked ≡ None → IsTold (cancelled_if d m).asked
+cancelled_told (after.Cancel a) m none = tt
+cancelled_told after.Nothing m none = nothing_told m.asked none
+cancelled_told after.Freed m none = nothing_told m.asked none
+cancelled_told after.Broken m none = nothing_told m.asked none
+cancelled_told after.PortFreed m none = nothing_told m.asked none
 
 module _ (r : RawTree) (ls : List Line) (m : Process) (p : Proc Frame) (i : ℕ) (e : Entry) (f : Frame) where
   -- what holds of the process holds where the actor stands further on, with its task on top
@@ -153,7 +175,7 @@ module _ (r : RawTree) (ls : List Line) (m : Process) (p : Proc Frame) (i : ℕ)
           steps = stepped r ls m p i e f x s w st left (asks.Sends k.0 o) (is ∙ ap (λ z. evaluated f (done (option_map (asks.Sends k.0) z) left) onward) t.sent);
           carries = subst (λ z. Follows r ls x z (on_core (λ c. send_in (thing c.cells k.0) i k.0 o c) q)) (sym t.sends)
               (sending_follows r ls x (noted (next_stand s) (with_left left m)) q (actor_id i) kd k.0 t.outcome there_now.shown all (there_by p q (kd, k.0) refl there));
-        })
+        }) (nothing_told n.asked (ap (λ (z : Process). z.asked) t.sends ∙ sending_asked (actor_id i) kd k.0 t.outcome (noted (next_stand s) (with_left left m)) ∙ may.asked))
 
     -- an actor is cancelled
     by_cancelling : (k : CellId) (left : ℕ) (n : Process) → n ≡ owner_cancelled k.0 (doing (task.Run (actor_id i)) (noted (next_stand s) (with_left left m)))
@@ -171,7 +193,7 @@ module _ (r : RawTree) (ls : List Line) (m : Process) (p : Proc Frame) (i : ℕ)
           steps = stepped r ls m p i e f x s w st left (asks.Cancels k.0) is;
           carries = shows (subst (λ z. Shown r ls x z (on_core (λ c. cancel_owner (owner k.0 c.entries) c) (ran left))) (sym out)
               (owner_stopped r ls x (doing (task.Run (actor_id i)) n1) (ran left) k.0 run may.asked (sound_then left st.acting may.sound) sorted_then));
-        })
+        }) (subst (λ (z : Process). IsTold z.asked) (sym out) (cancelled_told (dropping.cancel_owner n1.heap.actors.things (heap.owner k.0 n1.heap.actors.things)) (doing (task.Run (actor_id i)) n1) may.asked))
 
     by_method : (called : Method) (kd : Kind) (k : CellId) (given : Option Value) (left : ℕ) (n : Process) → There p (kd, k.0) → AllThere p (refs_of (arg (map value_of (given_values given)) 0))
         → MethodCalled (actor_id i) called kd k given (noted (next_stand s) (with_left left m)) n
@@ -212,7 +234,7 @@ module _ (r : RawTree) (ls : List Line) (m : Process) (p : Proc Frame) (i : ℕ)
 
   pub method_of_step : law.MethodOfStep r ls m p i e f
   method_of_step x s w code y z ys t aim called comes_to pace n st may there is aims refer same evaluates =
-      by_case (evaluation_follows r ls m p i e f x s w value_of comes_to (λ v left. called_on x s w st may y z ys called (v ∷ []) left) (IsMethodOf code s aim called) pace n st next_is evaluates)
+      by_case (evaluation_at r ls m p i e f x s w value_of comes_to (λ v left. called_on x s w st may y z ys called (v ∷ []) left) (IsMethodOf code s aim called) pace n (may_ask r ls m p i e f x s st may.asked) next_is evaluates)
     where
       next_is : next_step (class_names r) (view w i p.core) f ≡ evaluated f comes_to (λ v left. called_on x s w st may y z ys called (v ∷ []) left)
       next_is =
@@ -220,8 +242,8 @@ module _ (r : RawTree) (ls : List Line) (m : Process) (p : Proc Frame) (i : ℕ)
           ∙ evaluated_then f (value (class_names r) (view w i p.core) (look f.mem) t) (λ v left. Done (v ∷ []) left) (called_on x s w st may y z ys called)
           ∙ ap (λ k. evaluated f k (λ v left. called_on x s w st may y z ys called (v ∷ []) left)) (sym same)
 
-      by_case : GivesValue value_of comes_to m (IsMethodOf code s aim called) pace n ⊎ StepsAs r ls x w p i e pace n → Answered r ls x w p i e pace n
+      by_case : GivesValue value_of comes_to m (IsMethodOf code s aim called) pace n ⊎ Answered r ls x w p i e pace n → Answered r ls x w p i e pace n
       by_case (inl v) =
           by_aim x s w st may code called aim (law.based r ls m p i e f y z ys) (Some v.value) v.left pace n aims (refer (value_of v.value) v.left v.done) v.goes
           (next_is ∙ ap (λ k. evaluated f k (λ v left. called_on x s w st may y z ys called (v ∷ []) left)) v.done)
-      by_case (inr a) = by_itself a
+      by_case (inr a) = a

@@ -123,7 +123,7 @@ once_at bs (ks ∷ gs) from (suc g) h l =
     let z : suc from + g ≡ from + suc g = omega arith in subst (λ n. times_chosen n bs ≡ 1) z (once_at bs gs (suc from) g a (omega (arith, l)))
 
 module _ (r : RawTree) (valid : IsValid r) (k : ℕ) (c : ClassTree) (at : slice_get r.classes k ≡ Some c) where
-  named_block : (b : ℕ) (d : BlockTree) → slice_get c.blocks b ≡ Some d → has_named c d ≡ true
+  pub named_block : (b : ℕ) (d : BlockTree) → slice_get c.blocks b ≡ Some d → has_named c d ≡ true
   named_block b d e =
       let names = (sound_of r c (valid.classes k c at).tested).names in
       all_at (has_named c) c.blocks b d (first_true (list_all (has_named c) c.blocks) (list_all (list_all (has_operand c)) c.groups) names) e

@@ -50,14 +50,13 @@ use Rattle.flow_unstuck.proofs.Tops.{first_true, second_true}
 use Rattle.flow_steps.specs.declared.process.Process.{Process}
 use Rattle.flow_follows.specs.Placing.{Acts, HasLocals}
 use Rattle.flow_follows.specs.Seeing.{IsCodeOf}
-use Rattle.flow_follows.specs.Taking.{MayGo}
 use Rattle.flow_follows.specs.Closing.{MayClose}
 use Rattle.flow_follows.specs.Tasking.{Suspended, MayFire}
 use Rattle.flow_follows.specs.Throwing.{CatcherFits, MayThrow}
 use Rattle.flow_kept.specs.Kept.{Kept}
 use Rattle.flow_kept.proofs.Homes.{catcher_there}
 use Rattle.flow_kept.proofs.Theres.{content_there}
-use Rattle.flow_kept.proofs.Off.{no_tasks_keep, tasks_rest, unfinished, kinds_right, idle, tied_off, alone_off, free_off}
+use Rattle.flow_kept.proofs.Off.{no_tasks_keep, tasks_rest, unfinished, idle, tied_off, alone_off, free_off, go_off}
 use Rattle.flow_kept.proofs.Acting.{actor_at, acts_at, stands_by, waiting_there, either_there}
 
 -- an entry by whether it is suspended
@@ -110,7 +109,7 @@ error_holds rs typed (Some v) h s j = by_value v (h v refl)
     by_value (RefValue kind.FutureStream k) t = let d = t.1 in absurd cc
 
 -- a catch part has its locals
-locals_there : (c : ClassTree) (f : Frame) (ns : List ℕ) → length f.mem.locals ≡ length c.locals → list_all (has_place c) (map Local ns) ≡ true → HasLocals f ns
+pub locals_there : (c : ClassTree) (f : Frame) (ns : List ℕ) → length f.mem.locals ≡ length c.locals → list_all (has_place c) (map Local ns) ≡ true → HasLocals f ns
 locals_there c f [] long h = tt
 locals_there c f (n ∷ ns) long h =
     let a = first_true (has_place c (Local n)) (list_all (has_place c) (map Local ns)) h in
@@ -122,7 +121,7 @@ locals_there c f (n ∷ ns) long h =
     below (x ∷ xs) zero h = omega arith
     below (x ∷ xs) (suc n) h = let a = below xs n h in omega (arith, a)
 
-both_parts : (p : Slotted → Bool) (xs ys : List Slotted) → list_all p (xs ++ ys) ≡ true → (list_all p xs ≡ true) × (list_all p ys ≡ true)
+pub both_parts : (p : Slotted → Bool) (xs ys : List Slotted) → list_all p (xs ++ ys) ≡ true → (list_all p xs ≡ true) × (list_all p ys ≡ true)
 both_parts p [] ys h = (refl, h)
 both_parts p (x ∷ xs) ys h =
     let a = both_parts p xs ys (second_true (p x) (list_all p (xs ++ ys)) h) in (ap (λ b. b && list_all p xs) (first_true (p x) (list_all p (xs ++ ys)) h) ∙ a.0, a.1)
@@ -133,10 +132,6 @@ module _ (r : RawTree) (code : Code) (valid : AreValid r) (coded : IsCodeOf r co
 
   rules : ClassRules r (heads r)
   rules = class_rules r valid.valid valid.written (functions_kept r valid.valid valid.functions)
-
-  -- an actor whose other tasks keep nothing may leave its wait
-  go_off : (i : ℕ) (e : Entry) → thing p.core.entries i ≡ Some e → tasks_of i below ≡ [] → MayGo i e q.core
-  go_off i e at none = record { agree = k.tied.agree; cells = k.fits.numbered; kinds = kinds_right r p k i e at; keeps = no_tasks_keep i below none }
 
   -- whoever waits at a cell is suspended
   waiter_suspended : (start : Process) → Shows r start.heap q → (j : ℕ) (cell : Cell) (w : Waiter) (ws : List Waiter) → thing p.core.cells j ≡ Some cell → waiters cell ≡ w ∷ ws → Suspended code r start q w
@@ -153,7 +148,7 @@ module _ (r : RawTree) (code : Code) (valid : AreValid r) (coded : IsCodeOf r co
         acts = acts;
         suspended = en.1.1;
         emptied = loses_nothing x.frame waits.lost;
-        go = go_off w.actor en.0 en.1.0 (tasks_rest w.actor u below (ap (tasks_of w.actor) (sym top) ∙ idle r p k w.actor en.0 en.1.0 en.1.1));
+        go = go_off r p k u below top w.actor en.0 en.1.0 (tasks_rest w.actor u below (ap (tasks_of w.actor) (sym top) ∙ idle r p k w.actor en.0 en.1.0 en.1.1));
         group = waits.group;
         stands = λ st now. let b = stands_by r code valid coded start q w.actor en.0 x.frame st acts now in (b.standing, b.waits waits.group waits.there);
       }
@@ -192,7 +187,7 @@ module _ (r : RawTree) (code : Code) (valid : AreValid r) (coded : IsCodeOf r co
           (
             acts,
             record {
-              go = go_off i a.entry a.at rest;
+              go = go_off r p k u below top i a.entry a.at rest;
               stands = λ st now. let b = stands_by r code valid coded start q i a.entry a.frame st acts now in (b.standing, b.catcher);
               fits = catcher_fits a.class a.entry.class a.frame a.owner.is a.doing.0 (holds_either a.frame a.doing.1) (frame_rules r (heads r) rules (record { word = 0; now = 0; processes = 0 }) k.types a.entry a.class a.frame a.owner a.doing.0);
             },

@@ -32,6 +32,7 @@ use Rattle.flow_unstuck.proofs.CellStates.{cell_there}
 use Rattle.flow_runs.proofs.Owned.{ports_alone, results_alone}
 use Rattle.flow_owned.specs.Unset.{awaited}
 use Rattle.flow_follows.specs.Shown.{Sound}
+use Rattle.flow_follows.specs.Taking.{MayGo}
 use Rattle.flow_kept.specs.Kept.{Kept}
 use Rattle.flow_kept.proofs.Theres.{operands_right}
 
@@ -194,3 +195,7 @@ module _ (r : RawTree) (p : Proc Frame) (k : Kept r p) where
     -- an actor that runs, and whose other tasks keep nothing, is free
     pub free_off : (i : ℕ) (e : Entry) → thing p.core.entries i ≡ Some e → e.suspended ≡ false → NoKeep i below → Free i q.core
     free_off i e at s keep = record { waits = waits_nowhere i e at s; keeps = keep }
+
+    -- an actor whose other tasks keep nothing may leave its wait
+    pub go_off : (i : ℕ) (e : Entry) → thing p.core.entries i ≡ Some e → tasks_of i below ≡ [] → MayGo i e q.core
+    go_off i e at none = record { agree = k.tied.agree; cells = k.fits.numbered; kinds = kinds_right i e at; keeps = no_tasks_keep i below none }

@@ -554,8 +554,8 @@ when-returns-then-not-is_word-clause-reads h c =
     let l = when_left t c.args.at a d k c.requires.within n in
     rw c.refused.ensures (first_fails t (when_word a d k n) l (Refused (rule.S 5) (place_at t c.args.at)) (opening_none (Branch n ∷ Node d ∷ []) (token.Word word.When) t c.args.at (λ e. not_true (c.if-not-is_word.ensures.word.1 e))))
 
-pub when-returns-then-depth-gt-DEPTH-clause-reads : goal.when-returns-then-depth-gt-DEPTH-clause-reads
-when-returns-then-depth-gt-DEPTH-clause-reads h c =
+pub when-returns-then-around-gt-DEPTH-clause-reads : goal.when-returns-then-around-gt-DEPTH-clause-reads
+when-returns-then-around-gt-DEPTH-clause-reads h c =
     let t = c.args.tokens.now in
     let a = c.args.around.actor in
     let d = c.args.around.depth in
@@ -563,7 +563,7 @@ when-returns-then-depth-gt-DEPTH-clause-reads h c =
     let n = c.args.number in
     let l = when_left t c.args.at a d k c.requires.within n in
     let q = c.if-not-is_word.ensures.word.0 refl in
-    rw c.refused-then-depth-gt-DEPTH.ensures (first_fails t (when_word a d k n) l (Refused (rule.L 5) (place_at t c.args.at)) (opening_beyond (Branch n ∷ Node d ∷ []) (token.Word word.When) 5 t c.args.at (omega arith) (omega arith) q (λ x. omega (arith, x.1.0 (omega arith), c.if-depth-gt-DEPTH.true)) (λ m i. ((λ j. absurd (omega (arith, i, j))), ((λ j. absurd (omega (arith, i, j))), tt)))))
+    rw c.refused-then-around-gt-DEPTH.ensures (first_fails t (when_word a d k n) l (Refused (rule.L 5) (place_at t c.args.at)) (opening_beyond (Branch n ∷ Node d ∷ []) (token.Word word.When) 5 t c.args.at (omega arith) (omega arith) q (λ x. omega (arith, x.1.0 (omega arith), c.if-around-gt-DEPTH.true)) (λ m i. ((λ j. absurd (omega (arith, i, j))), ((λ j. absurd (omega (arith, i, j))), tt)))))
 
 pub when-returns-then-number-gt-BRANCHES-clause-reads : goal.when-returns-then-number-gt-BRANCHES-clause-reads
 when-returns-then-number-gt-BRANCHES-clause-reads h c =
@@ -574,7 +574,7 @@ when-returns-then-number-gt-BRANCHES-clause-reads h c =
     let n = c.args.number in
     let l = when_left t c.args.at a d k c.requires.within n in
     let q = c.if-not-is_word.ensures.word.0 refl in
-    rw c.refused-then-number-gt-BRANCHES.ensures (first_fails t (when_word a d k n) l (Refused (rule.L 7) (place_at t c.args.at)) (opening_beyond (Branch n ∷ Node d ∷ []) (token.Word word.When) 7 t c.args.at (omega arith) (omega arith) q (λ x. omega (arith, x.0 (omega arith), c.if-number-gt-BRANCHES.true)) (λ m i. ((λ j. absurd (omega (arith, i, j))), ((λ j. c.if-depth-gt-DEPTH.false), tt)))))
+    rw c.refused-then-number-gt-BRANCHES.ensures (first_fails t (when_word a d k n) l (Refused (rule.L 7) (place_at t c.args.at)) (opening_beyond (Branch n ∷ Node d ∷ []) (token.Word word.When) 7 t c.args.at (omega arith) (omega arith) q (λ x. omega (arith, x.0 (omega arith), c.if-number-gt-BRANCHES.true)) (λ m i. ((λ j. absurd (omega (arith, i, j))), ((λ j. c.if-around-gt-DEPTH.false), tt)))))
 
 pub when-returns-in_err-at-clause-reads : goal.when-returns-in_err-at-clause-reads
 when-returns-in_err-at-clause-reads h c =
@@ -586,7 +586,7 @@ when-returns-in_err-at-clause-reads h c =
     let n = c.args.number in
     let l = when_left t c.args.at a d k c.requires.within n in
     let q = c.if-not-is_word.ensures.word.0 refl in
-    let w = opening_reads t c.args.at (Branch n ∷ Node d ∷ []) (token.Word word.When) q ((λ l. c.if-number-gt-BRANCHES.false), ((λ l. c.if-depth-gt-DEPTH.false), tt)) in
+    let w = opening_reads t c.args.at (Branch n ∷ Node d ∷ []) (token.Word word.When) q ((λ l. c.if-number-gt-BRANCHES.false), ((λ l. c.if-around-gt-DEPTH.false), tt)) in
     let l1 = then_reads s (when_word a d k n) l w in
     let e = c.in_err-at.field-0.0 in
     let p = err_from_is_err_and c.from_residual.result c.from_residual.ensures.1 in
@@ -602,7 +602,7 @@ when-returns-in_err-read-clause-reads h c =
     let n = c.args.number in
     let l = when_left t c.args.at a d k c.requires.within n in
     let q = c.if-not-is_word.ensures.word.0 refl in
-    let w = opening_reads t c.args.at (Branch n ∷ Node d ∷ []) (token.Word word.When) q ((λ l. c.if-number-gt-BRANCHES.false), ((λ l. c.if-depth-gt-DEPTH.false), tt)) in
+    let w = opening_reads t c.args.at (Branch n ∷ Node d ∷ []) (token.Word word.When) q ((λ l. c.if-number-gt-BRANCHES.false), ((λ l. c.if-around-gt-DEPTH.false), tt)) in
     let l1 = then_reads s (when_word a d k n) l w in
     let l2 = then_reads s (when_open a d k) l1 c.in_ok-at.ensures.reads in
     let e = c.in_err-read.field-0.0 in
@@ -619,7 +619,7 @@ when-returns-in_err-at-2-clause-reads h c =
     let n = c.args.number in
     let l = when_left t c.args.at a d k c.requires.within n in
     let q = c.if-not-is_word.ensures.word.0 refl in
-    let w = opening_reads t c.args.at (Branch n ∷ Node d ∷ []) (token.Word word.When) q ((λ l. c.if-number-gt-BRANCHES.false), ((λ l. c.if-depth-gt-DEPTH.false), tt)) in
+    let w = opening_reads t c.args.at (Branch n ∷ Node d ∷ []) (token.Word word.When) q ((λ l. c.if-number-gt-BRANCHES.false), ((λ l. c.if-around-gt-DEPTH.false), tt)) in
     let l1 = then_reads s (when_word a d k n) l w in
     let l2 = then_reads s (when_open a d k) l1 c.in_ok-at.ensures.reads in
     let l3 = then_reads s (when_waiting a d k) l2 c.in_ok-read.ensures.reads in
@@ -638,7 +638,7 @@ when-returns-in_err-inner-clause-reads h c =
     let n = c.args.number in
     let l = when_left t c.args.at a d k c.requires.within n in
     let q = c.if-not-is_word.ensures.word.0 refl in
-    let w = opening_reads t c.args.at (Branch n ∷ Node d ∷ []) (token.Word word.When) q ((λ l. c.if-number-gt-BRANCHES.false), ((λ l. c.if-depth-gt-DEPTH.false), tt)) in
+    let w = opening_reads t c.args.at (Branch n ∷ Node d ∷ []) (token.Word word.When) q ((λ l. c.if-number-gt-BRANCHES.false), ((λ l. c.if-around-gt-DEPTH.false), tt)) in
     let l1 = then_reads s (when_word a d k n) l w in
     let l2 = then_reads s (when_open a d k) l1 c.in_ok-at.ensures.reads in
     let l3 = then_reads s (when_waiting a d k) l2 c.in_ok-read.ensures.reads in
@@ -658,7 +658,7 @@ when-returns-clause-reads h c =
     let n = c.args.number in
     let l = when_left t c.args.at a d k c.requires.within n in
     let q = c.if-not-is_word.ensures.word.0 refl in
-    let w = opening_reads t c.args.at (Branch n ∷ Node d ∷ []) (token.Word word.When) q ((λ l. c.if-number-gt-BRANCHES.false), ((λ l. c.if-depth-gt-DEPTH.false), tt)) in
+    let w = opening_reads t c.args.at (Branch n ∷ Node d ∷ []) (token.Word word.When) q ((λ l. c.if-number-gt-BRANCHES.false), ((λ l. c.if-around-gt-DEPTH.false), tt)) in
     let l1 = then_reads s (when_word a d k n) l w in
     let l2 = then_reads s (when_open a d k) l1 c.in_ok-at.ensures.reads in
     let l3 = then_reads s (when_waiting a d k) l2 c.in_ok-read.ensures.reads in
