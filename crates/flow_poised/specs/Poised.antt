@@ -1,4 +1,5 @@
--- A frame in memory that is in the state of a wait belongs to an actor that waits, or that is to be thrown an error or to end.
+-- A frame in memory that is in the state of a wait belongs to an actor that waits, or that is to be
+-- thrown an error or to end.
 use Rattle.std.specs.Prelude.{◌≡◌, ◌⊎◌, ℕ, true, false, List, [], ◌∷◌, slice_get}
 use Rattle.std.specs.declared.option.Option.TheVariants.{Some}
 use Rattle.flow_base.specs.declared.ids.ActorId.{ActorId}
@@ -47,30 +48,37 @@ Poised h = (i : ℕ) (a : FrameTree Value) → thing h.frames.things i ≡ Some 
 -- each wait of a class has a branch
 abbrev pub Branched : List Class → Type 0
 Branched classes =
-    (k : ℕ) (c : Class) (number : ℕ) (g : Group) → slice_get classes k ≡ Some c → group_numbered number c.groups.items ≡ Some g
+    (k : ℕ) (c : Class) (number : ℕ) (g : Group) → slice_get classes k ≡ Some c
+    → group_numbered number c.groups.items ≡ Some g
     → g.branches.items ≡ [] → ⊥
 
 -- Each task, done in memory, keeps it.
 abbrev pub TaskKeeps : Type 0
 TaskKeeps =
     (code : Code) (t : Task) (m start n : Process) → Branched code.classes.items
-    → IsRising 0 m.heap.frames.things m.heap.frames.greatest → Poised m.heap → TopTaken t m start → IsDone code t start n
+    → IsRising 0 m.heap.frames.things m.heap.frames.greatest → Poised m.heap → TopTaken t m start
+    → IsDone code t start n
     → Poised n.heap
 
 -- So does what changes no frame and takes no task off; a result that is given; and the call of `main`.
 abbrev pub AsideKeeps : Type 0
 AsideKeeps =
-    (h g : HeapTree) → g.frames ≡ h.frames → ((i : ℕ) → IsEnding i h.tasks → IsEnding i g.tasks) → Poised h → Poised g
+    (h g : HeapTree) → g.frames ≡ h.frames → ((i : ℕ) → IsEnding i h.tasks → IsEnding i g.tasks) → Poised h
+    → Poised g
 
 abbrev pub GivesKeeps : Type 0
-GivesKeeps = (g : Goal) (i : ActorId) (v : Value) (m n : Process) → Gives g i v m n → Poised m.heap → Poised n.heap
+GivesKeeps = (g : Goal) (i : ActorId) (v : Value) (m n : Process) → Gives g i v m n → Poised m.heap
+    → Poised n.heap
 
 abbrev pub MainKeeps : Type 0
-MainKeeps = (code : Code) (me : ProcId) (m n : Process) → MainCalled code me m n → Poised m.heap → Poised n.heap
+MainKeeps = (code : Code) (me : ProcId) (m n : Process) → MainCalled code me m n → Poised m.heap
+    → Poised n.heap
 
 -- An actor whose own task is the newest of an orderly process is in no state of a wait.
 abbrev pub AtNextStep : Type 0
 AtNextStep =
-    (r : RawTree) (h : HeapTree) (p q : Proc Frame) (i : ℕ) (e : Entry) (f : Frame) (ts : List meaning.Task) → Shows r h p
-    → Orderly p.core → Poised h → p.core.tasks ≡ meaning.Run i ∷ ts → (a : Acts r h q i e f) → e.suspended ≡ false
+    (r : RawTree) (h : HeapTree) (p q : Proc Frame) (i : ℕ) (e : Entry) (f : Frame) (ts : List meaning.Task)
+    → Shows r h p
+    → Orderly p.core → Poised h → p.core.tasks ≡ meaning.Run i ∷ ts → (a : Acts r h q i e f) → e.suspended
+    ≡ false
     → a.memory.state ≡ 0
