@@ -1,34 +1,29 @@
 -- By what it stands at, an actor may take its next step.
-use Rattle.std.proofs.Common.{◌≡◌, ℕ, suc, Bool, true, false, List, [], ◌∷◌, length, refl, sym, ap, subst, ◌∙◌}
-use Rattle.std.specs.Prelude.{map, slice_get, ◌&&◌, ◌++◌}
+use Rattle.std.proofs.Common.{◌≡◌, ℕ, zero, suc, true, List, [], ◌∷◌, length, refl, sym, ap, subst, ◌∙◌}
+use Rattle.std.specs.Prelude.{slice_get, ◌&&◌}
 use Rattle.std.specs.List.{list_all}
 use Rattle.std.specs.declared.option.Option.{Option}
 use Rattle.std.specs.declared.option.Option.TheVariants.{None, Some}
 use Rattle.flow_ast.specs.Typing.{is_there}
 use Rattle.flow_tree.specs.Tree.{ExprTree, TypeTree}
 use Rattle.flow_tree.specs.declared.ty.Ident.{Ident}
-use Rattle.flow_value.specs.declared.value.Kind.{Kind}
-use Rattle.flow_value.specs.Values.{ValueTree, RefValue, OutcomeTree, GoodOutcome, refs_of}
-use Rattle.flow_eval.specs.Eval.{Res, Done}
-use Rattle.flow_eval.specs.Functions.{put_in}
+use Rattle.flow_value.specs.Values.{RefValue, OutcomeTree, GoodOutcome, refs_of}
 use Rattle.flow_class.specs.declared.class.Slotted.{Slotted}
 use Rattle.flow_class.specs.declared.class.Slotted.TheVariants.{Slot, Local}
 use Rattle.flow_class.specs.Classes.{SetInstr, EffectInstr, NewInstr, ActInstr, DropInstr, InstrTree, GotoLast, PassLast, TestLast, ChooseLast, ReturnLast, ThrowLast, LastTree, CallbackTree, BlockTree, ClassTree, RawTree}
-use Rattle.flow_class.specs.Places.{place_named}
 use Rattle.flow_class.specs.Code.{type_at, Fetched, Body, Last, Nothing, fetch_in, fetch_at, fetch, callback_at}
-use Rattle.flow_valid.specs.Named.{has_place, has_catcher, has_last, has_named, has_operand, listed, path_place, expr_places, instr_places}
+use Rattle.flow_valid.specs.Named.{has_place, has_catcher, has_last, listed, path_place, expr_places, instr_places}
 use Rattle.flow_valid.specs.Validity.{IsValid}
 use Rattle.flow_meaning.specs.Numbered.{thing}
 use Rattle.flow_meaning.specs.Cells.{Ref, Cell, Single, Stream, taken, outcome}
-use Rattle.flow_meaning.specs.Asks.{Spot, Supply}
+use Rattle.flow_meaning.specs.Asks.{Supply}
 use Rattle.flow_meaning.specs.Process.{Run, Entry, Proc}
 use Rattle.flow_meaning.specs.Evaluating.{evaluated, effect_in, value, values}
 use Rattle.flow_meaning.specs.Occ.{refs_in, value_in}
-use Rattle.flow_meaning.specs.Orderly.{tasks_of}
 use Rattle.flow_meaning.specs.Work.{pushed}
 use Rattle.flow_meaning.specs.Step.{kept_by, view, on_core}
 use Rattle.flow_meaning.specs.Class.{fetched, next_step, instruction, last, choose, operand_by, class_names}
-use Rattle.flow_meaning.specs.Frame.{Frame, read, look, assign, spot_of}
+use Rattle.flow_meaning.specs.Frame.{Frame, look, assign, spot_of}
 use Rattle.flow_meaning.proofs.Shifts.{run_of, same_of}
 use Rattle.flow_meaning.proofs.TaskShifts.{popped_at}
 use Rattle.flow_picture.specs.Standing.{HasPlace}
@@ -43,17 +38,16 @@ use Rattle.flow_unstuck.proofs.CellStates.{type_there}
 use Rattle.flow_unstuck.proofs.Functions.{functions_kept}
 use Rattle.flow_unstuck.proofs.KeptClasses.{class_rules}
 use Rattle.flow_unstuck.proofs.Memories.{within_of}
-use Rattle.flow_unstuck.proofs.StepFits.{Actor, actor_here, frame_rules, cells_seen}
+use Rattle.flow_unstuck.proofs.StepFits.{Actor, actor_here, cells_seen}
 use Rattle.flow_unstuck.proofs.Tops.{first_true, second_true}
 use Rattle.flow_awake.proofs.Groups.{group_begins}
-use Rattle.flow_follows.specs.Placing.{HasLocals}
 use Rattle.flow_follows.specs.Waiting.{Waitable}
 use Rattle.flow_executes.specs.Deciding.{GivesThere}
-use Rattle.flow_executes.specs.Assigning.{CanAssign, CanAssignAll}
-use Rattle.flow_executes.specs.Choosing.{CanWaitAt, GivesOperand}
+use Rattle.flow_executes.specs.Assigning.{CanAssignAll}
+use Rattle.flow_executes.specs.Choosing.{GivesOperand}
 use Rattle.flow_executes.specs.Decoding.{root_of, Rooted}
 use Rattle.flow_executes.specs.Referring.{HoldsThere, SetThere}
-use Rattle.flow_executes.specs.Executing.{MaySet, AllKept, MayChoose, MayDoNext}
+use Rattle.flow_executes.specs.Executing.{AllKept, MayDoNext}
 use Rattle.flow_executes.proofs.Refers.{value_there, arguments_there}
 use Rattle.flow_effects.proofs.Fresh.{actor_free}
 use Rattle.flow_kept.specs.Kept.{Kept}
@@ -75,7 +69,7 @@ body_named c (i ∷ is) l zero x e h =
 body_named c (i ∷ is) l (suc n) x e h =
     body_named c is l n x e (second_true (list_all (has_place c) (instr_places i)) (list_all (λ (i : InstrTree). list_all (has_place c) (instr_places i)) is) h)
 
-instr_named : (r : RawTree) → IsValid r → (k : ℕ) (c : ClassTree) → slice_get r.classes k ≡ Some c → (b n : ℕ) (x : InstrTree) → fetch c b n ≡ Body x → list_all (has_place c) (instr_places x) ≡ true
+pub instr_named : (r : RawTree) → IsValid r → (k : ℕ) (c : ClassTree) → slice_get r.classes k ≡ Some c → (b n : ℕ) (x : InstrTree) → fetch c b n ≡ Body x → list_all (has_place c) (instr_places x) ≡ true
 instr_named r valid k c at b n x e = by_block (slice_get c.blocks b) refl e
   where
     by_block : (o : Option BlockTree) → slice_get c.blocks b ≡ o → fetch_at o n ≡ Body x → list_all (has_place c) (instr_places x) ≡ true
@@ -85,7 +79,7 @@ instr_named r valid k c at b n x e = by_block (slice_get c.blocks b) refl e
         body_named c d.body d.last n x e (second_true (has_catcher c d.catcher) all (first_true (has_catcher c d.catcher && all) (has_last c d.last) (named_block r valid k c at b d is)))
 
 -- a place that the class has is one of its frames
-place_there : (rs : _) (typed : ℕ → TypeTree → Type 0) (f : Frame) (q : Slotted) → HoldsTypes rs typed f.code f.mem → is_there (type_at f.code q) ≡ true → HasPlace f q
+pub place_there : (rs : _) (typed : ℕ → TypeTree → Type 0) (f : Frame) (q : Slotted) → HoldsTypes rs typed f.code f.mem → is_there (type_at f.code q) ≡ true → HasPlace f q
 place_there rs typed f q h e = by_type (type_at f.code q) refl e
   where
     as_place : (q : Slotted) (t : TypeTree) → type_at f.code q ≡ Some t → HasPlace f q
@@ -96,7 +90,7 @@ place_there rs typed f q h e = by_type (type_at f.code q) refl e
     by_type None at e = cc
     by_type (Some t) at e = as_place q t at
 
-root_listed : (c : ClassTree) (path : List Ident) (q : Slotted) → root_of path ≡ Some q → list_all (has_place c) (path_place path) ≡ true → has_place c q ≡ true
+pub root_listed : (c : ClassTree) (path : List Ident) (q : Slotted) → root_of path ≡ Some q → list_all (has_place c) (path_place path) ≡ true → has_place c q ≡ true
 root_listed c [] q e h = cc
 root_listed c (x ∷ xs) q e h =
     first_true (has_place c q) (list_all (has_place c) []) (subst (λ o. list_all (has_place c) (listed o) ≡ true) e h)

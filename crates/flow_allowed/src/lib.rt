@@ -3,3 +3,4 @@
 #![tactic(auto)]
 
 pub mod allowing;
+pub mod tasking;

@@ -35,7 +35,7 @@ use Rattle.flow_steps.specs.declared.next.Pace.TheVariants.{On, Off}
 use Rattle.flow_steps.specs.declared.process.Process.{Process}
 use Rattle.flow_steps.specs.Holding.{on_heap, refs_dropped}
 use Rattle.flow_steps.specs.Standing.{StandsNow, next_stand, noted, gone, values, GoesTo}
-use Rattle.flow_steps.specs.Tasks.{TopTaken}
+use Rattle.flow_steps.specs.Tasks.{TopTaken, bound as bound_in}
 use Rattle.flow_follows.specs.Shown.{Shown, shows, with_task}
 use Rattle.flow_follows.specs.Placing.{Acts, Stood, with_memory}
 use Rattle.flow_frame.specs.declared.held.Held.{Held}
@@ -54,6 +54,7 @@ use Rattle.flow_executes.specs.Giving as law
 use Rattle.flow_executes.proofs.Onward.{same_memory, goes_after}
 use Rattle.flow_executes.proofs.Paths.{path_put}
 use Rattle.flow_executes.proofs.Choices.{goes_kept}
+use Rattle.flow_executes.proofs.Telling.{over_told, keeps_told}
 
 module _ (r : RawTree) (ls : List Line) (m : Process) (p : Proc Frame) (i : ℕ) (e : Entry) (f : Frame) where
   -- in the same state
@@ -134,7 +135,7 @@ module _ (r : RawTree) (ls : List Line) (m : Process) (p : Proc Frame) (i : ℕ)
       by_place (Some q) = refl
 
   pub give_goes : law.GiveGoes r ls m p i e f
-  give_goes x code w number v n st may is =
+  give_goes x code w number v n st none may is =
       let u = value_of v in
       let over = going.over_at r ls m p i e f may.callback.into u in
       let g : Frame = go may.callback.block (going.memory_at r ls m p i e f may.callback.into u) f in
@@ -167,6 +168,7 @@ module _ (r : RawTree) (ls : List Line) (m : Process) (p : Proc Frame) (i : ℕ)
         stands = λ t on.
             subst (InClass code e.class) (goes_after is.goes t _ _ is.between is.pace is.after on)
             (goes_in_class code e.class is.stand is.goes is.branch.block 0 (in_class code is.stand st.acts is.stands) is.to);
+        told = λ off. over_told is.goes _ (on_heap (bound_in i is.branch.into v) m) is.between is.pace none is.after;
         further = is.further;
       }
 
@@ -271,5 +273,6 @@ module _ (r : RawTree) (ls : List Line) (m : Process) (p : Proc Frame) (i : ℕ)
         stands = λ t on.
             subst (InClass code e.class) (keeps_there r ls m p i e f is.stand t _ start is.between is.pace on is.keeps)
             (in_class r ls start p i e f code is.stand st1.acts is.stands);
+        told = λ off. keeps_told is.stand _ start is.between is.pace asks_none is.keeps;
         further = is.further;
       }

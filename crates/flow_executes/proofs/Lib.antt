@@ -17,4 +17,5 @@ pub mod Refers
 pub mod Tasks
 pub mod Matches
 pub mod Quiet
+pub mod Telling
 pub mod Rows

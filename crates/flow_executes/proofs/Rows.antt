@@ -22,7 +22,7 @@ use Rattle.flow_steps.specs.Sights.{program_time}
 use Rattle.flow_steps.specs.Stepping.{GoesOn, StepsOn, Runs, runs_on, runs_off}
 use Rattle.flow_follows.specs.Shown.{Follows}
 use Rattle.flow_follows.specs.Seeing.{IsCodeOf}
-use Rattle.flow_executes.specs.Going.{Silent, no_more, then_on, MayStep, moves, chooses, GoesBy, InClass, GoesFurther}
+use Rattle.flow_executes.specs.Going.{Silent, no_more, then_on, MayStep, moves, chooses, GoesBy, InClass, GoesFurther, OnlyTells}
 use Rattle.flow_executes.specs.Executing.{coded_by, InProgram, Asks, by_effect, by_act, by_method, by_operand}
 use Rattle.flow_executes.specs.Running as law
 use Rattle.flow_executes.specs.Running.{Allows, AsksAtLast, RanOff}
@@ -31,13 +31,14 @@ use Rattle.flow_executes.proofs.Stays as stays
 use Rattle.flow_executes.proofs.Stays.{never, evaluated_on, in_class_stays}
 use Rattle.flow_executes.proofs.Quiet.{step_quiet}
 use Rattle.flow_executes.proofs.Ends.{step_follows}
+use Rattle.flow_executes.proofs.Telling.{step_told}
 
 -- what asks something doesn't go on at once
 asks_off : (code : Code) (s : Stand) (m : Process) (pace : Pace) (n : Process) (t : Stand) → pace ≡ On t → Asks code s m pace n → ⊥
 asks_off code s m pace n t on (by_effect aim eff args at does) = stays.by_effect code s t _ eff args.items m n pace s on does
 asks_off code s m pace n t on (by_act called args at does) = let a = evaluated_on s _ _ m _ t pace n on does in never t (sym a.1.1.0 ∙ on)
 asks_off code s m pace n t on (by_method aim g args at does) = stays.by_method code s t aim g args.items m n pace on does
-asks_off code s m pace n t on (by_operand number group b eff args last of at is does) = stays.by_effect code s t _ eff args.items _ n pace _ on does
+asks_off code s m pace n t on (by_operand number group b eff args end last of at is does) = stays.by_effect code s t _ eff args.items _ n pace _ on does
 
 module _ (r : RawTree) (w : Supply) where
   -- rows one after the other
@@ -80,7 +81,7 @@ module _ (r : RawTree) (ls : List Line) (x : Scan) (w : Supply) (holds : Proc Fr
 
   -- after steps that were taken already
   later : (i : ℕ) (start q : Proc Frame) (n : Process) → Silent r w start q → ending i q n → ending i start n
-  later i start q n row (inl a) = inl (record { after = a.after; steps = joined r w start q a.after row a.steps; follows = a.follows })
+  later i start q n row (inl a) = inl (record { after = a.after; steps = joined r w start q a.after row a.steps; follows = a.follows; told = a.told })
   later i start q n row (inr a) = inr (record {
     stand = a.stand;
     memory = a.memory;
@@ -124,11 +125,10 @@ module _ (r : RawTree) (ls : List Line) (x : Scan) (w : Supply) (holds : Proc Fr
         → program_time m.time ≡ pos w.now → Runs code s m n → ending i (on_core (pushed (Run i)) p) n
     runs s m n p e f held may here none time (runs_off a b c steps) =
         by_step (step_follows r ls m p i e f x s w code Off n may (in_program s m p e f held may here) none time
-        (allows.next p i e f held (entered r ls x s m p i e f may) (acting r ls x s m p i e f may)) steps)
+        (allows.next p i e f held (entered r ls x s m p i e f may) (acting r ls x s m p i e f may)) steps) (step_told code s m n Off none steps)
       where
-        by_step : GoesBy r ls x w i e.class (on_core (pushed (Run i)) p) Off n ⊎ Asks code s m Off n → ending i (on_core (pushed (Run i)) p) n
-        by_step (inl g) = inl (record { after = g.after; steps = g.steps; follows = g.onward })
-        by_step (inr a) = inr (record {
+        asks_last : Asks code s m Off n → ending i (on_core (pushed (Run i)) p) n
+        asks_last a = inr (record {
           stand = s;
           memory = m;
           process = p;
@@ -142,6 +142,11 @@ module _ (r : RawTree) (ls : List Line) (x : Scan) (w : Supply) (holds : Proc Fr
           time = time;
           asks = a;
         })
+
+        by_step : GoesBy r ls x w i e.class (on_core (pushed (Run i)) p) Off n ⊎ Asks code s m Off n → OnlyTells n.asked ⊎ Asks code s m Off n → ending i (on_core (pushed (Run i)) p) n
+        by_step (inl g) (inl t) = inl (record { after = g.after; steps = g.steps; follows = g.onward; told = t })
+        by_step (inl g) (inr a) = asks_last a
+        by_step (inr a) t = asks_last a
     runs s m n p e f held may here none time (runs_on a t b between c steps rest) =
         goes_further s m n p e f t between held here none time steps
         (step_follows r ls m p i e f x s w code (On t) between may (in_program s m p e f held may here) none time
@@ -150,12 +155,17 @@ module _ (r : RawTree) (ls : List Line) (x : Scan) (w : Supply) (holds : Proc Fr
 
     further : (number : ℕ) (start : Proc Frame) (n : Process) → holds start → (g : GoesFurther code r ls x w i number start n) → g.between.asked ≡ None ⊎ (g.pace ≡ Off) → program_time g.between.time ≡ pos w.now
         → ending i start n
-    further number start n held g quiet time = by_pace g.pace g.goes g.stands g.further quiet
+    further number start n held g quiet time = by_pace g.pace g.goes g.stands g.told g.further quiet
       where
-        by_pace : (pace : Pace) → GoesBy r ls x w i number start pace g.between → ((t : Stand) → pace ≡ On t → InClass code number t) → GoesOn code pace g.between n → g.between.asked ≡ None ⊎ (pace ≡ Off) → ending i start n
-        by_pace Off goes stands is quiet = inl (record { after = goes.after; steps = goes.steps; follows = subst (λ (y : Process). Follows r ls x y goes.after) (sym is) goes.onward })
-        by_pace (On t) goes stands is (inr off) = absurd (cc (off))
-        by_pace (On t) goes stands is (inl none) =
+        by_pace : (pace : Pace) → GoesBy r ls x w i number start pace g.between → ((t : Stand) → pace ≡ On t → InClass code number t) → (pace ≡ Off → OnlyTells g.between.asked) → GoesOn code pace g.between n → g.between.asked ≡ None ⊎ (pace ≡ Off) → ending i start n
+        by_pace Off goes stands told is quiet = inl (record {
+          after = goes.after;
+          steps = goes.steps;
+          follows = subst (λ (y : Process). Follows r ls x y goes.after) (sym is) goes.onward;
+          told = subst (λ (y : Process). OnlyTells y.asked) (sym is) (told refl);
+        })
+        by_pace (On t) goes stands told is (inr off) = absurd (cc (off))
+        by_pace (On t) goes stands told is (inl none) =
             let a = goes.onward in
             let row = subst (Silent r w start) a.runs goes.steps in
             let held2 = holds_then r w holds allows start (on_core (pushed (Run i)) a.process) row held (goes_on r ls x t g.between a.process i a.entry a.frame a.next) in

@@ -36,20 +36,21 @@ use Rattle.flow_follows.proofs.Working.{as_many_shown}
 use Rattle.flow_follows.proofs.Gone.{appended}
 use Rattle.flow_follows.proofs.Doing as stepped
 use Rattle.flow_follows.proofs.Doing.{top_follows}
-use Rattle.flow_executes.specs.Going.{GoesFurther}
+use Rattle.flow_executes.specs.Going.{GoesFurther, OnlyTells}
 use Rattle.flow_executes.specs.Giving.{MayStore, TaskSteps}
 use Rattle.flow_executes.specs.Tasking as law
 use Rattle.flow_executes.specs.Tasking.{TaskGoes, is_step, goes_further, runs, MayGo, is_free, has_operands, MayGet, MayKeepOne, MayBeDone}
 use Rattle.flow_executes.proofs.Gives.{run_begins, run_at_wait, give_goes, give_throws, store_done, keep_goes}
+use Rattle.flow_executes.proofs.Telling.{quiet, throw_told, catch_told, fire_told, drop_told, close_told, store_told}
 
 module _ (r : RawTree) (ls : List Line) (p : Proc Frame) (code : Code) (w : Supply) (start n : Process) where
   -- the process with its newest task
   whole : (u : Task) (below : List Task) → p.core.tasks ≡ u ∷ below → on_core (pushed u) (popped below p) ≡ p
   whole u below h = ap (λ ts. proc (record p.core { tasks = ts }) p.actors) (sym h)
 
-  from_step : (u : Task) (below : List Task) → p.core.tasks ≡ u ∷ below → TaskSteps r ls nothing_in_hand w (on_core (pushed u) (popped below p)) n → TaskGoes code r ls w p n
-  from_step u below h s =
-      let t = subst (λ q. TaskSteps r ls nothing_in_hand w q n) (whole u below h) s in is_step (record { after = t.after; steps = t.steps; follows = t.follows })
+  from_step : (u : Task) (below : List Task) → p.core.tasks ≡ u ∷ below → TaskSteps r ls nothing_in_hand w (on_core (pushed u) (popped below p)) n → OnlyTells n.asked → TaskGoes code r ls w p n
+  from_step u below h s told =
+      let t = subst (λ q. TaskSteps r ls nothing_in_hand w q n) (whole u below h) s in is_step (record { after = t.after; steps = t.steps; follows = t.follows }) told
 
   from_row : (i k : ℕ) (u : Task) (below : List Task) → p.core.tasks ≡ u ∷ below → GoesFurther code r ls nothing_in_hand w i k (on_core (pushed u) (popped below p)) n → TaskGoes code r ls w p n
   from_row i k u below h g = goes_further i k (subst (λ q. GoesFurther code r ls nothing_in_hand w i k q n) (whole u below h) g)
@@ -73,23 +74,23 @@ module _ (r : RawTree) (ls : List Line) (p : Proc Frame) (code : Code) (w : Supp
   -- a branch gets what it took
   give_follows : (i : ActorId) (b : ℕ) (o : Outcome) (below : List Task) → p.core.tasks ≡ Give i.0 b (outcome_of o) ∷ below
       → Shown r ls (with_task (Give i.0 b (outcome_of o)) nothing_in_hand) start (popped below p) → MayGet code r ls start (popped below p) i.0 b o
-      → Given code i b o start n → TaskGoes code r ls w p n
-  give_follows i b (outcome.Value v) below h shown may is =
+      → start.asked ≡ None → Given code i b o start n → TaskGoes code r ls w p n
+  give_follows i b (outcome.Value v) below h shown may none is =
       let q : Proc Frame = popped below p in
       let u = Give i.0 b (GoodOutcome (value_of v)) in
       let st : Stood r ls (with_refs (value_refs v) nothing_in_hand) start q i.0 may.0 may.1.0 = record {
         shown = as_many_shown r ls (with_task u nothing_in_hand) (with_refs (value_refs v) nothing_in_hand) start q (λ z j. let a = appended z j (value_refs v) in omega (arith, a)) shown;
         acts = may.1.1.0;
       } in
-      from_row i.0 may.0.class u below h (give_goes r ls start q i.0 may.0 may.1.0 nothing_in_hand code w b v n st may.1.1.1 is)
-  give_follows i b (outcome.Error err) below h shown may is =
+      from_row i.0 may.0.class u below h (give_goes r ls start q i.0 may.0 may.1.0 nothing_in_hand code w b v n st none may.1.1.1 is)
+  give_follows i b (outcome.Error err) below h shown may none is =
       let q : Proc Frame = popped below p in
       let u = Give i.0 b (BadOutcome err.0) in
       let st : Stood r ls nothing_in_hand start q i.0 may.0 may.1.0 = record {
         shown = as_many_shown r ls (with_task u nothing_in_hand) nothing_in_hand start q (λ z j. omega arith) shown;
         acts = may.1.1;
       } in
-      from_step u below h (subst (λ z. TaskSteps r ls nothing_in_hand w (on_core (pushed u) q) z) (sym is) (give_throws r ls start q i.0 may.0 may.1.0 nothing_in_hand w b err st))
+      from_step u below h (subst (λ z. TaskSteps r ls nothing_in_hand w (on_core (pushed u) q) z) (sym is) (give_throws r ls start q i.0 may.0 may.1.0 nothing_in_hand w b err st)) (quiet n (ap (λ (y : Process). y.asked) is ∙ none))
 
   -- an operand is kept
   keep_follows : (i : ActorId) (m k : ℕ) (kd : Kind) (below : List Task) (u : Task) → p.core.tasks ≡ u ∷ below → (may : MayKeepOne code r start (popped below p) i.0 k u)
@@ -124,21 +125,21 @@ module _ (r : RawTree) (ls : List Line) (p : Proc Frame) (code : Code) (w : Supp
 
   -- the result of an effect is stored
   store_follows : (i : ActorId) (v : Value) (below : List Task) → p.core.tasks ≡ Store i.0 (value_of v) ∷ below → Shown r ls (with_task (Store i.0 (value_of v)) nothing_in_hand) start (popped below p)
-      → (may : (e : Entry) × ((f : Frame) × (Acts r start.heap (popped below p) i.0 e f × MayStore code r start (popped below p) i.0 (value_of v) e f))) → Stored code i v start n → TaskGoes code r ls w p n
-  store_follows i v below h shown may is =
+      → (may : (e : Entry) × ((f : Frame) × (Acts r start.heap (popped below p) i.0 e f × MayStore code r start (popped below p) i.0 (value_of v) e f))) → start.asked ≡ None → Stored code i v start n → TaskGoes code r ls w p n
+  store_follows i v below h shown may none is =
       let q : Proc Frame = popped below p in
       let u = Store i.0 (value_of v) in
       let st : Stood r ls (with_refs (value_refs v) nothing_in_hand) start q i.0 may.0 may.1.0 = record {
         shown = as_many_shown r ls (with_task u nothing_in_hand) (with_refs (value_refs v) nothing_in_hand) start q (λ z j. omega arith) shown;
         acts = may.1.1.0;
       } in
-      from_step u below h (store_done r ls start q i.0 may.0 may.1.0 nothing_in_hand code w v n st may.1.1.1 is)
+      from_step u below h (store_done r ls start q i.0 may.0 may.1.0 nothing_in_hand code w v n st may.1.1.1 is) (store_told code i v start n none is)
 
 module _ (r : RawTree) (ls : List Line) (m : Process) (p : Proc Frame) where
   -- the tasks that need no step of an actor
   other : (code : Code) (w : Supply) (t : stack.Task) (start n : Process) → Shown r ls nothing_in_hand m p → m.asked ≡ None → TopTaken t m start
-      → ((below : List Task) (u : Task) → p.core.tasks ≡ u ∷ below → Doable code r start (popped below p) t) → IsDone code t start n → TaskGoes code r ls w p n
-  other code w t start n shown none taken may done = is_step (stepped.task_follows r ls m p code w t start n shown none taken may done)
+      → ((below : List Task) (u : Task) → p.core.tasks ≡ u ∷ below → Doable code r start (popped below p) t) → IsDone code t start n → OnlyTells n.asked → TaskGoes code r ls w p n
+  other code w t start n shown none taken may done told = is_step (stepped.task_follows r ls m p code w t start n shown none taken may done) told
 
   pub task_follows : law.TaskFollows r ls m p
   task_follows code w t start n shown none taken may done = by_task t taken (top_follows r ls m p t start shown taken) may done
@@ -153,19 +154,24 @@ module _ (r : RawTree) (ls : List Line) (m : Process) (p : Proc Frame) where
           run_follows r ls p code w start n i o.below tasks (subst (λ y. Shown r ls (with_task y nothing_in_hand) start (popped o.below p)) o.same o.shown) (may o.below o.top o.tasks).may done
       by_task (task.Give i b v) taken o may done =
           let tasks = o.tasks ∙ ap (λ y. y ∷ o.below) o.same in
-          give_follows r ls p code w start n i b v.value o.below tasks (subst (λ y. Shown r ls (with_task y nothing_in_hand) start (popped o.below p)) o.same o.shown) (may o.below o.top o.tasks).may done
+          give_follows r ls p code w start n i b v.value o.below tasks (subst (λ y. Shown r ls (with_task y nothing_in_hand) start (popped o.below p)) o.same o.shown) (may o.below o.top o.tasks).may (asks_none (task.Give i b v) taken) done
       by_task (task.Store i v) taken o may done =
           let tasks = o.tasks ∙ ap (λ y. y ∷ o.below) o.same in
-          store_follows r ls p code w start n i v.value o.below tasks (subst (λ y. Shown r ls (with_task y nothing_in_hand) start (popped o.below p)) o.same o.shown) (may o.below o.top o.tasks).may done
+          store_follows r ls p code w start n i v.value o.below tasks (subst (λ y. Shown r ls (with_task y nothing_in_hand) start (popped o.below p)) o.same o.shown) (may o.below o.top o.tasks).may (asks_none (task.Store i v) taken) done
       by_task (task.Keep i b k) taken o may done =
           keep_task r ls p code w start n i b k o.below o.top o.tasks o.same (may o.below o.top o.tasks).may o.shown (asks_none (task.Keep i b k) taken) done
       by_task (task.Throw i err) taken o may done =
           other code w (task.Throw i err) start n shown none taken (λ below u h. let a = may below u h in record { sound = a.sound; sorted = a.sorted; may = a.may }) done
+          (throw_told code i err start n done)
       by_task (task.Catch i err) taken o may done =
           other code w (task.Catch i err) start n shown none taken (λ below u h. let a = may below u h in record { sound = a.sound; sorted = a.sorted; may = a.may }) done
+          (catch_told code i err start n done)
       by_task (task.Fire k) taken o may done =
           other code w (task.Fire k) start n shown none taken (λ below u h. let a = may below u h in record { sound = a.sound; sorted = a.sorted; may = a.may }) done
+          (fire_told code k start n (asks_none (task.Fire k) taken) done)
       by_task (task.Drop kd k) taken o may done =
           other code w (task.Drop kd k) start n shown none taken (λ below u h. let a = may below u h in record { sound = a.sound; sorted = a.sorted; may = a.may }) done
+          (drop_told code kd k start n (asks_none (task.Drop kd k) taken) done)
       by_task (task.Close i v) taken o may done =
           other code w (task.Close i v) start n shown none taken (λ below u h. let a = may below u h in record { sound = a.sound; sorted = a.sorted; may = a.may }) done
+          (close_told code i v start n (asks_none (task.Close i v) taken) done)

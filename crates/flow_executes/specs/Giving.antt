@@ -117,7 +117,7 @@ module _ (r : RawTree) (ls : List Line) (m : Process) (p : Proc Frame) (i : ℕ)
   abbrev pub GiveGoes : Type 0
   GiveGoes =
       (x : Scan) (code : Code) (w : Supply) (number : ℕ) (v : Value) (n : Process)
-      → Stood r ls (with_refs (value_refs v) x) m p i e f
+      → Stood r ls (with_refs (value_refs v) x) m p i e f → m.asked ≡ None
       → MayBranch code r ls m p i number e f → ValueGiven code (actor_id i) number v m n
       → GoesFurther code r ls x w i e.class (on_core (pushed (Give i number (GoodOutcome (value_of v)))) p) n
 

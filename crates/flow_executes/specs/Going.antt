@@ -1,6 +1,7 @@
 -- What an actor in memory does by an instruction is a row of steps of the class machine.
 use Rattle.std.specs.Prelude.{◌≡◌, ℕ, true, false, List, slice_get}
-use Rattle.std.specs.declared.option.Option.TheVariants.{Some}
+use Rattle.std.specs.declared.option.Option.{Option}
+use Rattle.std.specs.declared.option.Option.TheVariants.{None, Some}
 use Rattle.flow_class.specs.Classes.{RawTree}
 use Rattle.flow_code.specs.declared.program.Code.{Code}
 use Rattle.flow_trace.specs.declared.line.Line.{Line}
@@ -11,6 +12,8 @@ use Rattle.flow_meaning.specs.Work.{pushed}
 use Rattle.flow_meaning.specs.Step.{silent, step, on_core}
 use Rattle.flow_meaning.specs.Class.{classes}
 use Rattle.flow_meaning.specs.Frame.{Frame}
+use Rattle.flow_steps.specs.declared.call.Call.{Call}
+use Rattle.flow_steps.specs.declared.call.Call.TheVariants as call
 use Rattle.flow_steps.specs.declared.frames.Stand.{Stand}
 use Rattle.flow_steps.specs.declared.next.Pace.{Pace}
 use Rattle.flow_steps.specs.declared.next.Pace.TheVariants.{On, Off}
@@ -78,6 +81,14 @@ pub record InClass (code : Code) (number : ℕ) (s : Stand) : Type 0 where
   pub class : slice_get code.classes.items number ≡ Some s.class.now
   pub block : slice_get s.class.now.blocks.items s.place ≡ Some s.block.now
 
+-- what a step asks where it asks nothing of an actor's: nothing, that a line be written, or that a port be heard
+-- no more
+abbrev pub OnlyTells : Option Call → Type 0
+OnlyTells None = Unit {0}
+OnlyTells (Some (call.Line l)) = Unit {0}
+OnlyTells (Some (call.Unlisten k)) = Unit {0}
+OnlyTells _ = ⊥
+
 -- and the actor's further steps in memory follow
 pub record GoesFurther (code : Code) (r : RawTree) (ls : List Line) (x : Scan) (w : Supply) (i class : ℕ)
     (start : Proc Frame) (n : Process)
@@ -86,4 +97,5 @@ pub record GoesFurther (code : Code) (r : RawTree) (ls : List Line) (x : Scan) (
   pub between : Process
   pub goes : GoesBy r ls x w i class start pace between
   pub stands : (t : Stand) → pace ≡ On t → InClass code class t
+  pub told : pace ≡ Off → OnlyTells between.asked
   pub further : stepping.GoesOn code pace between n

@@ -20,7 +20,7 @@ use Rattle.flow_steps.specs.Sights.{program_time}
 use Rattle.flow_steps.specs.Stepping.{Runs}
 use Rattle.flow_follows.specs.Shown.{Follows}
 use Rattle.flow_follows.specs.Seeing.{IsCodeOf}
-use Rattle.flow_executes.specs.Going.{MayStep, Silent, InClass, GoesFurther}
+use Rattle.flow_executes.specs.Going.{MayStep, Silent, InClass, OnlyTells, GoesFurther}
 use Rattle.flow_executes.specs.Executing.{MayDoNext, InProgram, Asks}
 
 -- What holds of each process of an event is kept by its steps, and allows the next step of an actor whose
@@ -56,6 +56,7 @@ module _ (r : RawTree) (ls : List Line) (x : Scan) (w : Supply) (holds : Proc Fr
     pub after : Proc Frame
     pub steps : Silent r w start after
     pub follows : Follows r ls x n after
+    pub told : OnlyTells n.asked
 
   abbrev pub RunsFollow : Type 0
   RunsFollow =

@@ -26,13 +26,13 @@ use Rattle.flow_follows.specs.Shown.{Shown, Sound}
 use Rattle.flow_follows.specs.Placing.{Acts}
 use Rattle.flow_follows.specs.Keeping.{MayKeep}
 use Rattle.flow_follows.specs.Stepped.{MayDo, Steps}
-use Rattle.flow_executes.specs.Going.{AtOperands, GoesFurther}
+use Rattle.flow_executes.specs.Going.{AtOperands, GoesFurther, OnlyTells}
 use Rattle.flow_executes.specs.Giving.{Begins, MayRun, MayBranch, MayStore}
 
 -- what a task that was the newest leads to
 pub data TaskGoes (code : Code) (r : RawTree) (ls : List Line) (w : Supply) (p : Proc Frame) (n : Process)
     : Type 0 where
-  is_step : Steps r ls w p n → TaskGoes code r ls w p n
+  is_step : Steps r ls w p n → OnlyTells n.asked → TaskGoes code r ls w p n
   goes_further : (i class : ℕ) → GoesFurther code r ls nothing_in_hand w i class p n
       → TaskGoes code r ls w p n
   runs : (i : ℕ) (start : Process) (q : Proc Frame) (e : Entry) (f : Frame) → p ≡ on_core (pushed (Run i)) q
