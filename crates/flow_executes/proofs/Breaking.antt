@@ -40,7 +40,7 @@ noted_same s m h = ap (λ b. on_heap (noting b s.actor.0 s.place s.instruction) 
 module _ (r : RawTree) (ls : List Line) (m : Process) (p : Proc Frame) (i : ℕ) (e : Entry) (f : Frame) (x : Scan) (s : Stand) (w : Supply)
     (actor : s.actor ≡ actor_id i) (noted_there : s.noted ≡ true) (st : Stood r ls x m p i e f) where
   pub error_off : (err : ErrorCode) (left : ℕ) (n : Process) → Halted s (halt.Thrown err) (with_left left m) n
-      → next_step (class_names r) (view w i p.core) f ≡ asks left (Throws err.0) f → GoesBy r ls x w i (on_core (pushed (Run i)) p) Off n
+      → next_step (class_names r) (view w i p.core) f ≡ asks left (Throws err.0) f → GoesBy r ls x w i e.class (on_core (pushed (Run i)) p) Off n
   error_off err left n halted next =
       let there = with_turns r ls m p i e f x left st in
       let q : Proc Frame = on_core (λ c. record c { left = left }) p in
@@ -58,7 +58,7 @@ module _ (r : RawTree) (ls : List Line) (m : Process) (p : Proc Frame) (i : ℕ)
       }
 
   pub ran_off : (n : Process) → Halted s halt.Spent (with_left 0 m) n → next_step (class_names r) (view w i p.core) f ≡ asks 0 RunsOut f
-      → GoesBy r ls x w i (on_core (pushed (Run i)) p) Off n
+      → GoesBy r ls x w i e.class (on_core (pushed (Run i)) p) Off n
   ran_off n halted next =
       let after : Proc Frame = proc (halt Spent (record p.core { left = 0 })) (put p.actors i f) in record {
         after = after;
@@ -72,7 +72,7 @@ module _ (r : RawTree) (ls : List Line) (m : Process) (p : Proc Frame) (i : ℕ)
 
   pub evaluation_there : {A B : Type 0} (seen : B → A) (comes_to : Res A) (go : A → ℕ → StepOf Frame) (goal : B → Process → Pace → Process → Type 0) (pace : Pace) (n : Process)
       → next_step (class_names r) (view w i p.core) f ≡ evaluated f comes_to go → Evaluates s seen comes_to m goal pace n
-      → GivesValue seen comes_to m goal pace n ⊎ GoesBy r ls x w i (on_core (pushed (Run i)) p) pace n
+      → GivesValue seen comes_to m goal pace n ⊎ GoesBy r ls x w i e.class (on_core (pushed (Run i)) p) pace n
   evaluation_there seen comes_to go goal pace n next (gives b left a q done goes) = inl (record { value = b; left = left; done = done; goes = goes })
   evaluation_there seen comes_to go goal pace n next (throws err left q fails halted) = inr (error_off err left n halted (next ∙ ap (λ k. evaluated f k go) fails))
   evaluation_there seen comes_to go goal pace n next (runs_out q spent halted) = inr (ran_off n halted (next ∙ ap (λ k. evaluated f k go) spent))

@@ -127,7 +127,7 @@ module _ (r : RawTree) (ls : List Line) (m : Process) (p : Proc Frame) (i : ℕ)
 
   -- what comes of an operand that is kept
   pub goes_kept : (group : ℕ) (start : Proc Frame) (pace : Pace) (n : Process) → p.core.halted ≡ None → Acts r m.heap p i e f → s.noted ≡ true → s.instruction ≡ f.instr
-      → MayKeep s p i group q e f → Silent r w start to_keep → keeping.AfterKeeping r ls m p i e f x s q pace n → GoesBy r ls x w i start pace n
+      → MayKeep s p i group q e f → Silent r w start to_keep → keeping.AfterKeeping r ls m p i e f x s q pace n → GoesBy r ls x w i e.class start pace n
   goes_kept group start (On t) n goes acts told instruction may row after = record {
     after = on_core (pushed (Run i)) (keeping.kept_in r ls m p i e f q);
     steps = with_last r w start to_keep (on_core (pushed (Run i)) (keeping.kept_in r ls m p i e f q)) row
@@ -137,6 +137,7 @@ module _ (r : RawTree) (ls : List Line) (m : Process) (p : Proc Frame) (i : ℕ)
       entry = with_one e f q;
       frame = f;
       runs = refl;
+      same = refl;
       next = chooses (subst (λ (y : Stand). AtOperands r ls x y n (keeping.kept_in r ls m p i e f q) i (with_one e f q) f) (sym after.0) (record {
         group = group;
         stood = after.2;
@@ -175,7 +176,7 @@ module _ (r : RawTree) (ls : List Line) (m : Process) (p : Proc Frame) (i : ℕ)
   operand_given : (x : Scan) (s : Stand) (w : Supply) (at : AtOperands r ls x s m p i e f) → m.asked ≡ None → (q : Ref) → CanWaitAt p q → (left : ℕ)
       → next_step (class_names r) (view w i p.core) f ≡ asks left (Operand (wait_spot f) q) f → (pace : Pace) (n : Process)
       → Keeps s (record { callback = next_callback e f; cell = cell_id q.1 }) (on_heap (hold q.0 q.1) (with_left left m)) pace n
-      → GoesBy r ls x w i (on_core (pushed (Run i)) p) pace n
+      → GoesBy r ls x w i e.class (on_core (pushed (Run i)) p) pace n
   operand_given x s w at none q can left next pace n keeps =
       let p1 : Proc Frame = on_core (λ c. record c { left = left }) p in
       let m1 : Process = with_left left m in
@@ -220,7 +221,7 @@ module _ (r : RawTree) (ls : List Line) (m : Process) (p : Proc Frame) (i : ℕ)
           ∙ ap (λ c. evaluated f c (given w)) (sym same)
 
       by_value : (v : ValueTree) (left : ℕ) → comes_to ≡ Done v left → ReferenceKept s (next_callback e f) v (with_left left m) pace n
-          → GoesBy r ls x w i (on_core (pushed (Run i)) p) pace n
+          → GoesBy r ls x w i e.class (on_core (pushed (Run i)) p) pace n
       by_value (RefValue kd k) left done keeps =
           operand_given x s w at none (kd, k) (gives kd k left done) left (next ∙ ap (λ c. evaluated f c (given w)) done) pace n keeps
       by_value (IntValue k) left done keeps = absurd keeps
@@ -230,8 +231,8 @@ module _ (r : RawTree) (ls : List Line) (m : Process) (p : Proc Frame) (i : ℕ)
       by_value (ErrorValue k) left done keeps = absurd keeps
       by_value (RecordValue d vs) left done keeps = absurd keeps
 
-      by_case : GivesValue value_of comes_to m (OperandKept s (next_callback e f)) pace n ⊎ GoesBy r ls x w i (on_core (pushed (Run i)) p) pace n
-          → GoesBy r ls x w i (on_core (pushed (Run i)) p) pace n
+      by_case : GivesValue value_of comes_to m (OperandKept s (next_callback e f)) pace n ⊎ GoesBy r ls x w i e.class (on_core (pushed (Run i)) p) pace n
+          → GoesBy r ls x w i e.class (on_core (pushed (Run i)) p) pace n
       by_case (inl g) = by_value (value_of g.value) g.left g.done g.goes
       by_case (inr a) = a
 

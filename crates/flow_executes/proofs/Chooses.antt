@@ -75,7 +75,7 @@ module _ (r : RawTree) (ls : List Line) (m : Process) (p : Proc Frame) (i : ℕ)
   coding_now = coding by.names by.class (length f.code.slots)
 
   abbrev row : Pace → Process → Type 0
-  row pace n = GoesBy r ls x w i (on_core (pushed (Run i)) p) pace n
+  row pace n = GoesBy r ls x w i e.class (on_core (pushed (Run i)) p) pace n
 
   abbrev told : Process
   told = noted s m
@@ -131,7 +131,7 @@ module _ (r : RawTree) (ls : List Line) (m : Process) (p : Proc Frame) (i : ℕ)
     by_code b there (operand.Value res) is c callback None effect same does =
         inl (by_value c res callback effect (let a : node_of res ≡ resolved coding_now.names c.operand = cc (same) in a) does)
     by_code b there (operand.Value res) is c callback (Some y) effect same does = absurd (cc (same))
-    by_code b there (operand.Effect eff args) is c callback y effect same does = inr (by_operand g group b eff args last_is of_number there is does)
+    by_code b there (operand.Effect eff args) is c callback y effect same does = inr (by_operand g group b eff args (at.instruction ∙ sym at.wait.end) last_is of_number there is does)
 
     all_are_kept : (g : ℕ) → at.group ≡ g → MayChoose r w p i e f g → callback_at f.code g (length e.operands) ≡ None → group_numbered g s.class.now.groups.items ≡ Some group
         → Waits (noted_stand s) g told n → row Off n

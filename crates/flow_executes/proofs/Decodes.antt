@@ -45,6 +45,15 @@ begins_in_code r classes m p i e f s c a now = record {
   block = now.stands.block;
 }
 
+pub in_code_of : law.InCodeOf
+in_code_of r code number s f c here at = record {
+  class =
+      let a = both_mapped code_of (coded c.names c.class) code.classes.items r.classes number c.are_coded in
+      let b : Some (code_of s.class.now) ≡ Some (coded c.names c.class f.code) =
+      sym (ap (option_map code_of) here.class) ∙ a ∙ ap (option_map (coded c.names c.class)) at in cc (b);
+  block = here.block;
+}
+
 -- what stands in a body, and at its end
 body_in : (is : List InstrTree) (k : LastTree) (n : ℕ) (t : InstrTree) → slice_get is n ≡ Some t → fetch_in is k n ≡ Body t
 body_in [] k n t e = absurd (cc (e))

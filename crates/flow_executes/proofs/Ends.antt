@@ -46,7 +46,7 @@ use Rattle.flow_executes.proofs.Executes.{by, coding_now, value_is, does_follows
 module _ (r : RawTree) (ls : List Line) (m : Process) (p : Proc Frame) (i : ℕ) (e : Entry) (f : Frame) (x : Scan) (s : Stand) (w : Supply) (code : Code)
     (inp : InProgram r code s f) (time : program_time m.time ≡ pos w.now) (none : m.asked ≡ None) (pace : Pace) (n : Process) where
   abbrev row : Type 0
-  row = GoesBy r ls x w i (on_core (pushed (Run i)) p) pace n
+  row = GoesBy r ls x w i e.class (on_core (pushed (Run i)) p) pace n
 
   abbrev either : Type 0
   either = row ⊎ Asks code s m pace n

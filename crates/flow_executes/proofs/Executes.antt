@@ -90,7 +90,7 @@ module _ (r : RawTree) (ls : List Line) (m : Process) (p : Proc Frame) (i : ℕ)
   coding_now = coding by.names by.class (length f.code.slots)
 
   abbrev row : Pace → Process → Type 0
-  row pace n = GoesBy r ls x w i (on_core (pushed (Run i)) p) pace n
+  row pace n = GoesBy r ls x w i e.class (on_core (pushed (Run i)) p) pace n
 
   -- an expression in memory, and arguments
   pub value_is : (t : ExprTree) (res : Resolved) → node_of res ≡ resolved coding_now.names t → value_for code s.actor.0 res m ≡ value (class_names r) (view w i p.core) (look f.mem) t

@@ -1,6 +1,7 @@
 -- The tasks by which an actor goes on are steps of the class machine.
 use Rattle.std.proofs.Common.{◌≡◌, ℕ, suc, false, List, [], ◌∷◌, refl, sym, ap, ◌∙◌, subst, arith}
 use Rattle.std.specs.declared.option.Option.{Option}
+use Rattle.std.specs.Prelude.{slice_get}
 use Rattle.std.specs.declared.option.Option.TheVariants.{None, Some}
 use Rattle.flow_base.specs.declared.ids.ActorId.{ActorId}
 use Rattle.flow_value.specs.declared.value.Value.{Value}
@@ -33,10 +34,12 @@ use Rattle.flow_steps.specs.declared.next.Pace.{Pace}
 use Rattle.flow_steps.specs.declared.next.Pace.TheVariants.{On, Off}
 use Rattle.flow_steps.specs.declared.process.Process.{Process}
 use Rattle.flow_steps.specs.Holding.{on_heap, refs_dropped}
-use Rattle.flow_steps.specs.Standing.{StandsNow, next_stand, noted, gone, values}
-use Rattle.flow_steps.specs.Tasks.{TopTaken}
+use Rattle.flow_steps.specs.Standing.{StandsNow, next_stand, noted, gone, values, GoesTo}
+use Rattle.flow_steps.specs.Tasks.{TopTaken, bound as bound_in}
 use Rattle.flow_follows.specs.Shown.{Shown, shows, with_task}
 use Rattle.flow_follows.specs.Placing.{Acts, Stood, with_memory}
+use Rattle.flow_frame.specs.declared.held.Held.{Held}
+use Rattle.flow_steps.specs.Waiting.{Keeps, kept_marked, kept_unready, kept_ready}
 use Rattle.flow_follows.specs.Going.{MayMove}
 use Rattle.flow_follows.specs.Going as going
 use Rattle.flow_follows.proofs.Working.{changed, as_many_shown, task_done, refs_dropped_shown}
@@ -46,48 +49,76 @@ use Rattle.flow_follows.proofs.Parting.{acts_by, no_keep_under}
 use Rattle.flow_follows.proofs.Kept.{operand_follows}
 use Rattle.flow_follows.proofs.Moving.{goes_in}
 use Rattle.flow_follows.proofs.Gone.{value_bound}
-use Rattle.flow_executes.specs.Going.{no_more, then_on, moves, chooses, Onward}
+use Rattle.flow_executes.specs.Going.{no_more, then_on, moves, chooses, Onward, InClass}
 use Rattle.flow_executes.specs.Giving as law
-use Rattle.flow_executes.proofs.Onward.{same_memory}
+use Rattle.flow_executes.proofs.Onward.{same_memory, goes_after}
 use Rattle.flow_executes.proofs.Paths.{path_put}
 use Rattle.flow_executes.proofs.Choices.{goes_kept}
+use Rattle.flow_executes.proofs.Telling.{over_told, keeps_told}
 
 module _ (r : RawTree) (ls : List Line) (m : Process) (p : Proc Frame) (i : ℕ) (e : Entry) (f : Frame) where
   -- in the same state
   same_state : (q : Proc Frame) (g : Frame) → (a : Acts r m.heap q i e g) → (b : Acts r m.heap p i e f) → a.memory.state ≡ b.memory.state
   same_state q g a b = ap (λ (y : FrameTree Value). y.state) (same_memory r m.heap m.heap p q i e e f g refl b a)
 
+  -- where the code has it stand is in its class
+  in_class : (code : Code) (s : Stand) → Acts r m.heap p i e f → StandsNow code.classes.items (actor_id i) m s → InClass code e.class s
+  in_class code s a now =
+      let same : now.frame ≡ a.memory = let b = now.at in let c = a.framed in cc (b, c) in record {
+        class = ap (slice_get code.classes.items) (a.class ∙ ap (λ (y : FrameTree Value). y.class) (sym same)) ∙ now.stands.class;
+        block = now.stands.block;
+      }
+
+  -- and so is where it goes
+  goes_in_class : (code : Code) (number : ℕ) (s t : Stand) (b k : ℕ) → InClass code number s → GoesTo s b k t → InClass code number t
+  goes_in_class code number s t b k within to =
+      let same : t.class ≡ s.class = ap (λ (y : Stand). y.class) to.same in record {
+        class = within.class ∙ ap (λ y. Some y.now) (sym same);
+        block = ap (λ y. slice_get y.now.blocks.items t.place) same ∙ ap (λ (y : Stand). slice_get s.class.now.blocks.items y.place) to.same ∙ to.at;
+      }
+
+  -- where it keeps an operand it stays
+  keeps_there : (s t : Stand) (x : Held) (start n : Process) (pace : Pace) → pace ≡ On t → Keeps s x start pace n → s ≡ t
+  keeps_there s t x start n pace on (kept_unready q unmarked unready is) = let e : s ≡ t = cc (on) in e
+  keeps_there s t x start n pace on (kept_marked q marked is) = absurd (cc (on))
+  keeps_there s t x start n pace on (kept_ready q b unmarked ready at takes) = absurd (cc (on))
+
   pub run_begins : law.RunBegins r ls m p i e f
-  run_begins x code n st zero_state may runs = (
-    runs.stand,
-    (
-      moves (record {
-        block = f.block;
-        instr = f.instr;
-        state = f.state;
-        stood = unchanged r ls i e x m p f st;
-        told = λ h. refl;
-        acting = st.acts.acting;
-        standing = (may.stands runs.stand runs.stands).0;
-        instruction = (may.stands runs.stand runs.stands).1;
-        free = record { waits = may.free.waits; keeps = may.free.keeps };
-        operands = may.operands;
-      }) (λ h. same_state (proc p.core (put p.actors i f)) f (unchanged r ls i e x m p f st).acts st.acts ∙ zero_state),
-      runs.runs,
-    ),
-  )
+  run_begins x code n st zero_state may runs = record {
+    stand = runs.stand;
+    may = moves (record {
+      block = f.block;
+      instr = f.instr;
+      state = f.state;
+      stood = unchanged r ls i e x m p f st;
+      told = λ h. refl;
+      acting = st.acts.acting;
+      standing = (may.stands runs.stand runs.stands).0;
+      instruction = (may.stands runs.stand runs.stands).1;
+      free = record { waits = may.free.waits; keeps = may.free.keeps };
+      operands = may.operands;
+    }) (λ h. same_state (proc p.core (put p.actors i f)) f (unchanged r ls i e x m p f st).acts st.acts ∙ zero_state);
+    stands = in_class code runs.stand st.acts runs.stands;
+    runs = runs.runs;
+  }
 
   pub run_at_wait : law.RunAtWait r ls m p i e f
-  run_at_wait x code n at runs = (runs.stand, (chooses (at runs.stand runs.stands), runs.runs))
+  run_at_wait x code n at runs = record {
+    stand = runs.stand;
+    may = chooses (at runs.stand runs.stands);
+    stands = in_class code runs.stand (at runs.stand runs.stands).stood.acts runs.stands;
+    runs = runs.runs;
+  }
 
   -- values are left over at a task
   after_task : (x : Scan) (t : Stand) (rs : List Ref) (g : Frame) (pace : Pace) (n : Process) → t.noted ≡ false → going.AfterValues r ls m p i e f x t rs g pace n
-      → Onward r ls x i pace n (proc (work.dropping rs (pushed (Run i) p.core)) (put p.actors i g))
+      → Onward r ls x i e.class pace n (proc (work.dropping rs (pushed (Run i) p.core)) (put p.actors i g))
   after_task x t rs g (On u) n later a = record {
     process = put_frame i g p;
     entry = e;
     frame = g;
     runs = ap (λ us. proc (work.dropping us (pushed (Run i) p.core)) (put p.actors i g)) a.1;
+    same = refl;
     next = moves (subst (λ (y : Stand). going.Goes r ls x y n p i e g) (sym a.0) a.2) (λ h. let b = ap (λ (y : Stand). y.noted) a.0 ∙ later in absurd (cc (b, h)));
   }
   after_task x t rs g Off n later a = shows a
@@ -104,7 +135,7 @@ module _ (r : RawTree) (ls : List Line) (m : Process) (p : Proc Frame) (i : ℕ)
       by_place (Some q) = refl
 
   pub give_goes : law.GiveGoes r ls m p i e f
-  give_goes x code w number v n st may is =
+  give_goes x code w number v n st none may is =
       let u = value_of v in
       let over = going.over_at r ls m p i e f may.callback.into u in
       let g : Frame = go may.callback.block (going.memory_at r ls m p i e f may.callback.into u) f in
@@ -134,6 +165,10 @@ module _ (r : RawTree) (ls : List Line) (m : Process) (p : Proc Frame) (i : ℕ)
           steps = then_on start after after one (no_more after);
           onward = after_task x is.goes (refs_in over) g is.pace is.between (ap (λ (y : Stand). y.noted) is.to.same) there;
         };
+        stands = λ t on.
+            subst (InClass code e.class) (goes_after is.goes t _ _ is.between is.pace is.after on)
+            (goes_in_class code e.class is.stand is.goes is.branch.block 0 (in_class code is.stand st.acts is.stands) is.to);
+        told = λ off. over_told is.goes _ (on_heap (bound_in i is.branch.into v) m) is.between is.pace none is.after;
         further = is.further;
       }
 
@@ -235,5 +270,9 @@ module _ (r : RawTree) (ls : List Line) (m : Process) (p : Proc Frame) (i : ℕ)
         between = is.between;
         goes = goes_kept r ls start p i e f x is.stand w q group first is.pace is.between st1.shown.goes st1.acts is.stands.stands.noted
             (stands_here r start p i e f code is.stand st1.acts state is.stands) may (no_more first) after;
+        stands = λ t on.
+            subst (InClass code e.class) (keeps_there r ls m p i e f is.stand t _ start is.between is.pace on is.keeps)
+            (in_class r ls start p i e f code is.stand st1.acts is.stands);
+        told = λ off. keeps_told is.stand _ start is.between is.pace asks_none is.keeps;
         further = is.further;
       }

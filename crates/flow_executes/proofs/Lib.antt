@@ -16,3 +16,6 @@ pub mod Ends
 pub mod Refers
 pub mod Tasks
 pub mod Matches
+pub mod Quiet
+pub mod Telling
+pub mod Rows

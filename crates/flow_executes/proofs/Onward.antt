@@ -149,26 +149,29 @@ module _ (r : RawTree) (ls : List Line) (m : Process) (p : Proc Frame) (i : ℕ)
       subst (λ y. Carries r ls x i e pace n (proc (work.dropping rs (pushed (Run i) p.core)) (put p.actors i y))) here
       (after_values r ls m p i e f x s st t rs g pace n there)
 
--- an actor that goes on after values are left over isn't noted
+-- where an actor goes on after values are left over
+pub goes_after : (u t : Stand) (vs : List Value) (p n : Process) (pace : Pace) → OnAfter u vs p pace n → pace ≡ On t → u ≡ t
+goes_after u t [] p n pace after on =
+    let same : On u ≡ On t = sym after.0 ∙ on in cc (same)
+goes_after u t (v ∷ vs) p n pace after on = absurd (let a = after.0 in cc (a, on))
+
 pub later_after : (s t : Stand) (vs : List Value) (p n : Process) (pace : Pace) → OnAfter (next_stand s) vs p pace n → pace ≡ On t → t.noted ≡ false
-later_after s t [] p n pace after on =
-    let same : On (next_stand s) ≡ On t = sym after.0 ∙ on in
-    let there : next_stand s ≡ t = cc (same) in ap (λ (y : Stand). y.noted) (sym there)
-later_after s t (v ∷ vs) p n pace after on = absurd (let a = after.0 in cc (a, on))
+later_after s t vs p n pace after on = ap (λ (y : Stand). y.noted) (sym (goes_after (next_stand s) t vs p n pace after on))
 
 -- a step of an actor that is free is a row of steps
 module _ (r : RawTree) (ls : List Line) (x : Scan) (w : Supply) (p : Proc Frame) (i : ℕ) (e : Entry) where
-  pub carried : (pace : Pace) (n : Process) (q : Proc Frame) → ((t : Stand) → pace ≡ On t → t.noted ≡ false) → Carries r ls x i e pace n q → Onward r ls x i pace n q
+  pub carried : (pace : Pace) (n : Process) (q : Proc Frame) → ((t : Stand) → pace ≡ On t → t.noted ≡ false) → Carries r ls x i e pace n q → Onward r ls x i e.class pace n q
   carried (On t) n q later c = record {
     process = put_frame i c.1.0 c.0;
     entry = e;
     frame = c.1.0;
     runs = c.1.1.0;
+    same = refl;
     next = moves c.1.1.1 (λ h. let a = later t refl in absurd (cc (a, h)));
   }
   carried Off n q later c = c
 
-  pub one_step : (pace : Pace) (n : Process) → ((t : Stand) → pace ≡ On t → t.noted ≡ false) → StepsAs r ls x w p i e pace n → GoesBy r ls x w i (on_core (pushed (Run i)) p) pace n
+  pub one_step : (pace : Pace) (n : Process) → ((t : Stand) → pace ≡ On t → t.noted ≡ false) → StepsAs r ls x w p i e pace n → GoesBy r ls x w i e.class (on_core (pushed (Run i)) p) pace n
   one_step pace n later s = record {
     after = s.after;
     steps = then_on (on_core (pushed (Run i)) p) s.after s.after s.steps (no_more s.after);

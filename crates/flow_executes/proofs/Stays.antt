@@ -46,15 +46,34 @@ abbrev pub told_after : code_last.Last → Bool
 told_after (last.Choose g) = true
 told_after _ = false
 
-never : (t : Stand) → Off ≡ On t → ⊥
+pub never : (t : Stand) → Off ≡ On t → ⊥
 never t h = cc (h)
 
 -- what evaluation leads to where the actor goes on
-evaluated_on : {A B : Type 0} (s : Stand) (seen : B → A) (c : Res A) (p : Process) (goal : B → Process → Pace → Process → Type 0) (t : Stand) (pace : Pace) (n : Process)
+pub evaluated_on : {A B : Type 0} (s : Stand) (seen : B → A) (c : Res A) (p : Process) (goal : B → Process → Pace → Process → Type 0) (t : Stand) (pace : Pace) (n : Process)
     → pace ≡ On t → Evaluates s seen c p goal pace n → (b : B) × ((left : ℕ) × goal b (with_left left p) pace n)
 evaluated_on s seen c p goal t pace n on (gives b left a q done goes) = (b, (left, goes))
 evaluated_on s seen c p goal t pace n on (throws err left q fails halted) = absurd (never t on)
 evaluated_on s seen c p goal t pace n on (runs_out q spent halted) = absurd (never t on)
+
+-- what asks something, and what throws, doesn't go on at once
+module _ (code : Code) (s : Stand) where
+  pub by_method : (t : Stand) (aim : Aim) (m : Method) (es : List Resolved) (p n : Process) (pace : Pace) → pace ≡ On t → MethodStep code s aim m es p pace n → ⊥
+  by_method t aim m [] p n pace on does = never t (sym does.off ∙ on)
+  by_method t aim m (e ∷ []) p n pace on does = let a = evaluated_on s _ _ p _ t pace n on does in never t (sym a.1.1.off ∙ on)
+  by_method t aim m (e ∷ d ∷ es) p n pace on does = absurd does
+
+  pub by_effect : (t : Stand) (g : Goal) (e : Effect) (es : List Resolved) (p n : Process) (pace : Pace) (u : Stand) → pace ≡ On t → IsEffect code u g e es p pace n → ⊥
+  by_effect t g e es p n pace u on does = let a = evaluated_on u _ _ p _ t pace n on does in never t (sym a.1.1.0 ∙ on)
+
+  pub by_throw : (t : Stand) (v : ValueTree) (p n : Process) (pace : Pace) → pace ≡ On t → ErrorThrown s v p pace n → ⊥
+  by_throw t (ErrorValue k) p n pace on thrown = never t (sym thrown.0 ∙ on)
+  by_throw t (IntValue k) p n pace on thrown = absurd thrown
+  by_throw t (BoolValue k) p n pace on thrown = absurd thrown
+  by_throw t (TextValue k) p n pace on thrown = absurd thrown
+  by_throw t VoidValue p n pace on thrown = absurd thrown
+  by_throw t (RecordValue d vs) p n pace on thrown = absurd thrown
+  by_throw t (RefValue d k) p n pace on thrown = absurd thrown
 
 module _ (code : Code) (s : Stand) (here : slice_get s.class.now.blocks.items s.place ≡ Some s.block.now) where
   same_as : (told : Bool) (t u : Stand) → u ≡ t → SameClass s told u → SameClass s told t
@@ -89,20 +108,12 @@ module _ (code : Code) (s : Stand) (here : slice_get s.class.now.blocks.items s.
   by_act t (act.World called) args p n pace on does = absurd (never t (sym does.0 ∙ on))
   by_act t (act.Function k) args p n pace on does = let a = evaluated_on s _ _ p _ t pace n on does in onward t pace on a.1.1.0
 
-  by_method : (t : Stand) (aim : Aim) (m : Method) (es : List Resolved) (p n : Process) (pace : Pace) → pace ≡ On t → MethodStep code s aim m es p pace n → ⊥
-  by_method t aim m [] p n pace on does = never t (sym does.off ∙ on)
-  by_method t aim m (e ∷ []) p n pace on does = let a = evaluated_on s _ _ p _ t pace n on does in never t (sym a.1.1.off ∙ on)
-  by_method t aim m (e ∷ d ∷ es) p n pace on does = absurd does
-
-  by_effect : (t : Stand) (g : Goal) (e : Effect) (es : List Resolved) (p n : Process) (pace : Pace) (u : Stand) → pace ≡ On t → IsEffect code u g e es p pace n → ⊥
-  by_effect t g e es p n pace u on does = let a = evaluated_on u _ _ p _ t pace n on does in never t (sym a.1.1.0 ∙ on)
-
   by_does : (t : Stand) (x : Instruction) (p n : Process) (pace : Pace) → pace ≡ On t → Does code s x p pace n → SameClass s false t
   by_does t (instruction.Set aim e) p n pace on does = let a = evaluated_on s _ _ p _ t pace n on does in after_values t _ _ n pace on a.1.1.after
-  by_does t (instruction.Effect aim e args) p n pace on does = absurd (by_effect t _ e args.items p n pace s on does)
+  by_does t (instruction.Effect aim e args) p n pace on does = absurd (by_effect code s t _ e args.items p n pace s on does)
   by_does t (instruction.New place kd) p n pace on does = after_values t _ _ n pace on does.after
   by_does t (instruction.Act a args) p n pace on does = let b = evaluated_on s _ _ p _ t pace n on does in by_act t a b.0 _ n pace on b.1.1
-  by_does t (instruction.Method aim m args) p n pace on does = absurd (by_method t aim m args.items p n pace on does)
+  by_does t (instruction.Method aim m args) p n pace on does = absurd (by_method code s t aim m args.items p n pace on does)
   by_does t (instruction.Drop places) p n pace on does = after_values t _ _ n pace on does
   by_does t instruction.Invalid p n pace on does = absurd does
 
@@ -123,20 +134,11 @@ module _ (code : Code) (s : Stand) (here : slice_get s.class.now.blocks.items s.
 
   by_operand : (t : Stand) (k : ℕ) (o : Operand) (p n : Process) (pace : Pace) → pace ≡ On t → OperandStep code (noted_stand s) k o p pace n → SameClass s true t
   by_operand t k (operand.Value e) p n pace on does = let a = evaluated_on (noted_stand s) _ _ p _ t pace n on does in by_reference t k (value_of a.0) _ n pace on a.1.1
-  by_operand t k (operand.Effect e args) p n pace on does = absurd (by_effect t _ e args.items p n pace (noted_stand s) on does)
+  by_operand t k (operand.Effect e args) p n pace on does = absurd (by_effect code s t _ e args.items p n pace (noted_stand s) on does)
 
   by_choice : (t : Stand) (g : ℕ) (group : Group) (p n : Process) (pace : Pace) → pace ≡ On t → Chooses code (noted_stand s) g group p pace n → SameClass s true t
   by_choice t g group p n pace on (asks_operand b at does) = by_operand t _ b.operand p n pace on does
   by_choice t g group p n pace on (all_kept none off waits) = absurd (never t (sym off ∙ on))
-
-  by_throw : (t : Stand) (v : ValueTree) (p n : Process) (pace : Pace) → pace ≡ On t → ErrorThrown s v p pace n → ⊥
-  by_throw t (ErrorValue k) p n pace on thrown = never t (sym thrown.0 ∙ on)
-  by_throw t (IntValue k) p n pace on thrown = absurd thrown
-  by_throw t (BoolValue k) p n pace on thrown = absurd thrown
-  by_throw t (TextValue k) p n pace on thrown = absurd thrown
-  by_throw t VoidValue p n pace on thrown = absurd thrown
-  by_throw t (RecordValue d vs) p n pace on thrown = absurd thrown
-  by_throw t (RefValue d k) p n pace on thrown = absurd thrown
 
   by_test : (t : Stand) (one other : ℕ) (b : Bool) (p n : Process) (pace : Pace) → pace ≡ On t → IsTest s one other b p pace n → SameClass s false t
   by_test t one other true p n pace on to = at_block t one p n pace on to
@@ -148,7 +150,7 @@ module _ (code : Code) (s : Stand) (here : slice_get s.class.now.blocks.items s.
   by_end t (last.Test e one other) p n pace on does = let a = evaluated_on s _ _ p _ t pace n on does in by_test t one other a.0 _ n pace on a.1.1
   by_end t (last.Choose g) p n pace on does = by_choice t g does.group _ n pace on does.chooses
   by_end t (last.Return e) p n pace on does = let a = evaluated_on s _ _ p _ t pace n on does in absurd (never t (sym a.1.1.off ∙ on))
-  by_end t (last.Throw e) p n pace on does = let a = evaluated_on s _ _ p _ t pace n on does in absurd (by_throw t (value_of a.0) _ n pace on a.1.1)
+  by_end t (last.Throw e) p n pace on does = let a = evaluated_on s _ _ p _ t pace n on does in absurd (by_throw code s t (value_of a.0) _ n pace on a.1.1)
 
   by_step : (t : Stand) (p n : Process) (pace : Pace) → pace ≡ On t → StepsOn code s p pace n → (told : Bool) × SameClass s told t
   by_step t p n pace on (by_instruction x at does) = (false, by_does t x p n pace on does)
@@ -164,5 +166,12 @@ pub stays_in_code : law.StaysInCode
 stays_in_code r classes code s t f g m n c at same steps =
     let a = (by_step code s at.block t m n (On t) refl steps).1 in record {
       class = ap (λ y. code_of y.now) a.class ∙ at.class ∙ ap (coded c.names c.class) (sym same);
+      block = ap (λ y. slice_get y.now.blocks.items t.place) a.class ∙ a.block;
+    }
+
+pub in_class_stays : law.InClassStays
+in_class_stays code number s t m n here steps =
+    let a = (by_step code s here.block t m n (On t) refl steps).1 in record {
+      class = here.class ∙ ap (λ y. Some y.now) (sym a.class);
       block = ap (λ y. slice_get y.now.blocks.items t.place) a.class ∙ a.block;
     }

@@ -105,4 +105,4 @@ module _ (r : RawTree) (ls : List Line) (m : Process) (p : Proc Frame) (i : ℕ)
       → MayBeStale r ls x s m p i e f → fetch f.code f.block f.instr ≡ Body (NewInstr q) → HasPlace f q
       → bind (type_at f.code q) promise_kind ≡ Some kd → Rising 0 p.core.made p.core.cells
       → IsNew s (number_in (length f.code.slots) q) kd m pace n
-      → GoesBy r ls x w i (on_core (pushed (Run i)) p) pace n
+      → GoesBy r ls x w i e.class (on_core (pushed (Run i)) p) pace n

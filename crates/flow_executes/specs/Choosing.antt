@@ -64,7 +64,7 @@ module _ (r : RawTree) (ls : List Line) (m : Process) (p : Proc Frame) (i : ℕ)
       → effect_in (class_names r) b.operand ≡ None
       → comes_to ≡ value (class_names r) (view w i p.core) (look f.mem) b.operand → GivesOperand p comes_to
       → Evaluates s value_of comes_to m (OperandKept s (next_callback e f)) pace n
-      → GoesBy r ls x w i (on_core (pushed (Run i)) p) pace n
+      → GoesBy r ls x w i e.class (on_core (pushed (Run i)) p) pace n
 
   -- all operands are kept: one that is ready is taken, or the actor waits
   abbrev pub WaitStep : Type 0
@@ -72,4 +72,4 @@ module _ (r : RawTree) (ls : List Line) (m : Process) (p : Proc Frame) (i : ℕ)
       (x : Scan) (s : Stand) (w : Supply) (group : ℕ) (n : Process) → Stood r ls x m p i e f → m.asked ≡ None
       → MayAwait s p i group e f → callback_at f.code (suc group) (length e.operands) ≡ None
       → Waits s (suc group) m n
-      → GoesBy r ls x w i (on_core (pushed (Run i)) p) Off n
+      → GoesBy r ls x w i e.class (on_core (pushed (Run i)) p) Off n

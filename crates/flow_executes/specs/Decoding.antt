@@ -43,6 +43,7 @@ use Rattle.flow_steps.specs.Stepping.{StepsOn}
 use Rattle.flow_follows.specs.Placing.{Acts}
 use Rattle.flow_follows.specs.Taking.{Standing, AtWait}
 use Rattle.flow_follows.specs.Coded.{CodedBy}
+use Rattle.flow_executes.specs.Going.{InClass}
 use Rattle.flow_executes.specs.Assigning.{AimsAt}
 
 -- An actor stands in a block of the class that is coded from that of its frame.
@@ -113,6 +114,18 @@ StaysInCode =
     (r : RawTree) (classes : List Class) (code : Code) (s t : Stand) (f g : Frame) (m n : Process)
     → (c : CodedBy r classes)
     → InCode c s f → g.code ≡ f.code → StepsOn code s m (On t) n → InCode c t g
+
+-- the same by the number of its class
+abbrev pub InClassStays : Type 0
+InClassStays =
+    (code : Code) (number : ℕ) (s t : Stand) (m n : Process) → InClass code number s
+    → StepsOn code s m (On t) n
+    → InClass code number t
+
+abbrev pub InCodeOf : Type 0
+InCodeOf =
+    (r : RawTree) (code : Code) (number : ℕ) (s : Stand) (f : Frame) → (c : CodedBy r code.classes.items)
+    → InClass code number s → slice_get r.classes number ≡ Some f.code → InCode c s f
 
 module _ (r : RawTree) (classes : List Class) (s : Stand) (i : ℕ) (f : Frame) where
   abbrev pub InstructionAt : Type 0

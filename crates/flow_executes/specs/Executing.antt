@@ -113,7 +113,7 @@ pub data Asks (code : Code) (s : Stand) (m : Process) (pace : Pace) (n : Process
       → slice_get s.block.now.body.items s.instruction ≡ Some (instruction.Method aim method args)
       → Does code s (instruction.Method aim method args) m pace n → Asks code s m pace n
   by_operand : (number : ℕ) (group : Group) (b : Branch) (effect : Effect) (args : Vec Resolved Global)
-      → s.block.now.last ≡ last.Choose number → group_numbered number s.class.now.groups.items ≡ Some group
+      → s.instruction ≡ length s.block.now.body.items → s.block.now.last ≡ last.Choose number → group_numbered number s.class.now.groups.items ≡ Some group
       → slice_get group.branches.items (kept_by (noted_stand s) (noted s m)) ≡ Some b → b.operand
       ≡ operand.Effect effect args
       → IsEffect code (noted_stand s)
@@ -127,4 +127,4 @@ module _ (r : RawTree) (ls : List Line) (m : Process) (p : Proc Frame) (i : ℕ)
       → MayStep r ls x s m p i e f
       → InProgram r code s f → m.asked ≡ None → program_time m.time ≡ pos w.now
       → MayDoNext r w p i e f (fetch f.code f.block f.instr) → StepsOn code s m pace n
-      → GoesBy r ls x w i (on_core (pushed (Run i)) p) pace n ⊎ Asks code s m pace n
+      → GoesBy r ls x w i e.class (on_core (pushed (Run i)) p) pace n ⊎ Asks code s m pace n

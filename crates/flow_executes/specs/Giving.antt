@@ -45,7 +45,7 @@ use Rattle.flow_follows.specs.Placing.{Stood}
 use Rattle.flow_follows.specs.Taking.{Standing}
 use Rattle.flow_follows.specs.Going.{SameInto}
 use Rattle.flow_follows.specs.Keeping.{MayKeep}
-use Rattle.flow_executes.specs.Going.{MayStep, AtOperands, GoesFurther}
+use Rattle.flow_executes.specs.Going.{MayStep, AtOperands, InClass, GoesFurther}
 use Rattle.flow_executes.specs.Assigning.{AimsAt, CanAssign}
 
 -- An actor whose task is next, without operands and in no state of a wait: where the code has it stand is
@@ -96,26 +96,30 @@ pub record TaskSteps (r : RawTree) (ls : List Line) (x : Scan) (w : Supply) (sta
 
 module _ (r : RawTree) (ls : List Line) (m : Process) (p : Proc Frame) (i : ℕ) (e : Entry) (f : Frame) where
   -- an actor takes its next step, by its task, which is off
+  pub record Begins (x : Scan) (code : Code) (n : Process) : Type 0 where
+    pub stand : Stand
+    pub may : MayStep r ls x stand m p i e f
+    pub stands : InClass code e.class stand
+    pub runs : Runs code stand m n
+
   abbrev pub RunBegins : Type 0
   RunBegins =
       (x : Scan) (code : Code) (n : Process) → (st : Stood r ls x m p i e f) → st.acts.memory.state ≡ 0
-      → MayRun code m p i e f
-      → RunsNow code (actor_id i) m n
-      → (s : Stand) × (MayStep r ls x s m p i e f × Runs code s m n)
+      → MayRun code m p i e f → RunsNow code (actor_id i) m n → Begins x code n
 
   abbrev pub RunAtWait : Type 0
   RunAtWait =
       (x : Scan) (code : Code) (n : Process)
       → ((s : Stand) → StandsNow code.classes.items (actor_id i) m s → AtOperands r ls x s m p i e f)
-      → RunsNow code (actor_id i) m n → (s : Stand) × (MayStep r ls x s m p i e f × Runs code s m n)
+      → RunsNow code (actor_id i) m n → Begins x code n
 
   -- it goes on at a branch that was taken, with its value in hand
   abbrev pub GiveGoes : Type 0
   GiveGoes =
       (x : Scan) (code : Code) (w : Supply) (number : ℕ) (v : Value) (n : Process)
-      → Stood r ls (with_refs (value_refs v) x) m p i e f
+      → Stood r ls (with_refs (value_refs v) x) m p i e f → m.asked ≡ None
       → MayBranch code r ls m p i number e f → ValueGiven code (actor_id i) number v m n
-      → GoesFurther code r ls x w i (on_core (pushed (Give i number (GoodOutcome (value_of v)))) p) n
+      → GoesFurther code r ls x w i e.class (on_core (pushed (Give i number (GoodOutcome (value_of v)))) p) n
 
   -- or is thrown an error
   abbrev pub GiveThrows : Type 0
@@ -141,4 +145,4 @@ module _ (r : RawTree) (ls : List Line) (m : Process) (p : Proc Frame) (i : ℕ)
       → ((s : Stand) (start : Process) → start.heap.frames ≡ m.heap.frames → StandsNow code.classes.items (actor_id i) start s
       → MayKeep s p i group (kd, k.0) e f)
       → IsKept code (actor_id i) (record { callback = next_callback e f; cell = k }) m n
-      → GoesFurther code r ls x w i (on_core (pushed (Keep i (wait_spot f) (kd, k.0))) (on_core (pushed (Run i)) p)) n
+      → GoesFurther code r ls x w i e.class (on_core (pushed (Keep i (wait_spot f) (kd, k.0))) (on_core (pushed (Run i)) p)) n

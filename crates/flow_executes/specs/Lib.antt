@@ -9,3 +9,4 @@ pub mod Executing
 pub mod Referring
 pub mod Tasking
 pub mod Matching
+pub mod Running

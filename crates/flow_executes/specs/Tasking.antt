@@ -21,23 +21,22 @@ use Rattle.flow_picture.specs.Rested.{Sorted}
 use Rattle.flow_steps.specs.declared.frames.Stand.{Stand}
 use Rattle.flow_steps.specs.declared.process.Process.{Process}
 use Rattle.flow_steps.specs.Standing.{StandsNow}
-use Rattle.flow_steps.specs.Stepping.{Runs}
 use Rattle.flow_steps.specs.Tasks.{TopTaken, IsDone}
 use Rattle.flow_follows.specs.Shown.{Shown, Sound}
 use Rattle.flow_follows.specs.Placing.{Acts}
 use Rattle.flow_follows.specs.Keeping.{MayKeep}
 use Rattle.flow_follows.specs.Stepped.{MayDo, Steps}
-use Rattle.flow_executes.specs.Going.{AtOperands, MayStep, GoesFurther}
-use Rattle.flow_executes.specs.Giving.{MayRun, MayBranch, MayStore}
+use Rattle.flow_executes.specs.Going.{AtOperands, GoesFurther, OnlyTells}
+use Rattle.flow_executes.specs.Giving.{Begins, MayRun, MayBranch, MayStore}
 
 -- what a task that was the newest leads to
 pub data TaskGoes (code : Code) (r : RawTree) (ls : List Line) (w : Supply) (p : Proc Frame) (n : Process)
     : Type 0 where
-  is_step : Steps r ls w p n → TaskGoes code r ls w p n
-  goes_further : (i : ℕ) → GoesFurther code r ls nothing_in_hand w i p n → TaskGoes code r ls w p n
-  runs : (i : ℕ) (s : Stand) (start : Process) (q : Proc Frame) (e : Entry) (f : Frame) → p
-      ≡ on_core (pushed (Run i)) q
-      → MayStep r ls nothing_in_hand s start q i e f → Runs code s start n → TaskGoes code r ls w p n
+  is_step : Steps r ls w p n → OnlyTells n.asked → TaskGoes code r ls w p n
+  goes_further : (i class : ℕ) → GoesFurther code r ls nothing_in_hand w i class p n
+      → TaskGoes code r ls w p n
+  runs : (i : ℕ) (start : Process) (q : Proc Frame) (e : Entry) (f : Frame) → p ≡ on_core (pushed (Run i)) q
+      → Begins r ls start q i e f nothing_in_hand code n → TaskGoes code r ls w p n
 
 -- an actor that takes its next step: it is free to go on, or it is at its wait with operands
 pub data MayGo (code : Code) (r : RawTree) (ls : List Line) (m : Process) (p : Proc Frame) (i : ℕ)

@@ -14,6 +14,8 @@ ghost use Rattle.flow_executes.specs.Matching as tasks;
 pub fn code_is_that_of_the_frame()
     ensures begins { law.BeginsInCode }
     ensures stays { law.StaysInCode }
+    ensures class { law.InClassStays }
+    ensures code { law.InCodeOf }
     ensures from { law.InstructionFrom }
     ensures instruction { (r : RawTree) (classes : List Class) (s : Stand) (i : ℕ) (f : Frame)
         → law.InstructionAt r classes s i f }

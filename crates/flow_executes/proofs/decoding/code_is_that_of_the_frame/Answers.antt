@@ -1,8 +1,8 @@
-use Rattle.flow_executes.proofs.Decodes.{begins_in_code, instruction_there, end_there, group_there, wait_there, aim_there}
+use Rattle.flow_executes.proofs.Decodes.{begins_in_code, in_code_of, instruction_there, end_there, group_there, wait_there, aim_there}
 use Rattle.flow_executes.proofs.Froms.{instruction_from}
 use Rattle.flow_executes.proofs.Named.{effect_there}
 use Rattle.flow_executes.proofs.Matches.{effect_aims, branch_coded}
-use Rattle.flow_executes.proofs.Stays.{stays_in_code}
+use Rattle.flow_executes.proofs.Stays.{stays_in_code, in_class_stays}
 use Rattle.flow_executes.proofs.decoding.code_is_that_of_the_frame.Goals as goal
 
 pub returns-clause-begins : goal.returns-clause-begins
@@ -37,3 +37,9 @@ returns-clause-stored c = effect_aims
 
 pub returns-clause-branch : goal.returns-clause-branch
 returns-clause-branch c = branch_coded
+
+pub returns-clause-class : goal.returns-clause-class
+returns-clause-class c = in_class_stays
+
+pub returns-clause-code : goal.returns-clause-code
+returns-clause-code c = in_code_of
