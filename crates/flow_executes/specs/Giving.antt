@@ -142,7 +142,7 @@ module _ (r : RawTree) (ls : List Line) (m : Process) (p : Proc Frame) (i : ℕ)
       (x : Scan) (code : Code) (w : Supply) (group : ℕ) (kd : Kind) (k : CellId) (n : Process)
       → (st : Stood r ls (with_refs ((kd, k.0) ∷ []) x) m (on_core (pushed (Run i)) p) i e f)
       → st.acts.memory.state ≡ 0 → m.asked ≡ None
-      → ((s : Stand) (start : Process) → start.heap.frames ≡ m.heap.frames → StandsNow code.classes.items (actor_id i) start s
-      → MayKeep s p i group (kd, k.0) e f)
+      → ((s : Stand) (start : Process) → start.heap.frames ≡ m.heap.frames
+      → StandsNow code.classes.items (actor_id i) start s → MayKeep s p i group (kd, k.0) e f)
       → IsKept code (actor_id i) (record { callback = next_callback e f; cell = k }) m n
       → GoesFurther code r ls x w i e.class (on_core (pushed (Keep i (wait_spot f) (kd, k.0))) (on_core (pushed (Run i)) p)) n
