@@ -1,9 +1,12 @@
 // Putting lines.
 
-ghost use Rattle.std.specs.Prelude.{◌≡◌, Ok, OnOk};
+ghost use Rattle.std.specs.Prelude.{◌≡◌, Ok, map, OnOk};
+ghost use Rattle.flow_meaning.specs.World.{kept_line};
 ghost use Rattle.flow_machine.specs.Cause.{RunCause};
+ghost use Rattle.flow_world.specs.Around.{Puts};
 
 use flow_machine::host::RunFault;
+use flow_simdisk::Kept;
 use flow_trace::line::Line;
 use flow_trace::out::LineOut;
 
@@ -17,4 +20,18 @@ pub fn put<L: LineOut>(out: &mut L, line: &Line) -> Result<(), RunFault>
         Ok(()) => Ok(()),
         Err(fault) => Err(RunFault::from(fault)),
     }
+}
+
+#[tactic(auto, using(flow_machine::proofs::Causes::cause_before))]
+/// Puts a line for each write of which a disk kept something or nothing.
+pub fn put_kept<L: LineOut>(out: &mut L, fates: Vec<Kept>) -> Result<(), RunFault>
+    ensures puts { OnOk result (Puts L.puts out.old (map kept_line fates.items) out.new) }
+    ensures cause { RunCause (L.faults out.old) (L.faults out.new) result }
+    ensures kept { L.kept out.new ≡ L.kept out.old }
+{
+    for kept in fates {
+        let line = Line::Kept(kept.name, kept.offset, kept.length, kept.kept);
+        put(out, &line)?;
+    }
+    Ok(())
 }
