@@ -19,7 +19,8 @@ range_more : (k n : ℕ) → range_with_len k n ++ (k + n) ∷ [] ≡ range_with
 range_more k zero = let e : k + 0 ≡ k = omega arith in ap (λ m. m ∷ []) e
 range_more k (suc n) =
     let e : k + suc n ≡ (k + 1) + n = omega arith in
-    ap (λ m. k ∷ (range_with_len (k + 1) n ++ m ∷ [])) e ∙ ap (λ ms. k ∷ ms) (range_more (k + 1) n)
+    let f : suc (n + 1) ≡ suc n + 1 = omega arith in
+    ap (λ m. k ∷ (range_with_len (k + 1) n ++ m ∷ [])) e ∙ ap (λ ms. k ∷ ms) (range_more (k + 1) n) ∙ ap (range_with_len k) f
 
 placed_last : (p k n : ℕ) → k + n ≤ p → placed (boot_of p) (map boot_of (range_with_len k n)) ≡ map boot_of (range_with_len k n) ++ boot_of p ∷ []
 placed_last p k zero le = refl
@@ -30,7 +31,8 @@ placed_last p k (suc n) le =
 pub boots_more : (n : ℕ) → with_event (boots n) 0 (Boots (record { 0 = n })) ≡ boots (n + 1)
 boots_more n =
     let made : suc n ≡ n + 1 = omega arith in
+    let zero_more : n ≡ 0 + n = omega arith in
     let all : placed (boot_of n) (map boot_of (range_with_len 0 n)) ≡ map boot_of (range_with_len 0 (n + 1)) =
-    placed_last n 0 n (omega arith) ∙ sym (map-append boot_of (range_with_len 0 n) (n ∷ [])) ∙ ap (map boot_of) (range_more 0 n)
+    placed_last n 0 n (omega arith) ∙ sym (map-append boot_of (range_with_len 0 n) (n ∷ [])) ∙ ap (λ m. map boot_of (range_with_len 0 n ++ m ∷ [])) zero_more ∙ ap (map boot_of) (range_more 0 n)
     in
     ap (λ es. record { made = suc n; pending = es }) all ∙ ap (λ m. record { made = m; pending = map boot_of (range_with_len 0 (n + 1)) }) made

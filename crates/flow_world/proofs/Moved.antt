@@ -1,5 +1,5 @@
 -- What a process and its host do is what they do where the host is seen as something else that shows and writes the same.
-use Rattle.std.proofs.Common.{◌≡◌, ℕ, ap, refl}
+use Rattle.std.proofs.Common.{◌≡◌, ℕ, ap, subst}
 use Rattle.std.specs.Prelude.{◌+◌, ◌^◌, ℤ, ◌-ℤ◌, nat_le, Bool, true, false, List}
 use Rattle.std.specs.declared.option.Option.{Option}
 use Rattle.std.specs.declared.option.Option.TheVariants.{None, Some}
@@ -103,10 +103,15 @@ module _ {A B W : Type 0} (f : A → B) (serves : Host W) (shows : B → Numbere
   follows_by code (Delivers k o) m p q a b e t = bursts_by code m.processes _ q a b e t
   follows_by code (Brings k v) m p q a b e t = bursts_by code m.processes _ q a b e t
 
-  pub does_by : (code : Code) (now turns : ℕ) (d : Deed) (m : Machine) (a : A) (e : Burst) (n : Machine) (b : A)
+  does_by : (code : Code) (now turns : ℕ) (d : Deed) (m : Machine) (a : A) (e : Burst) (n : Machine) (b : A)
       → Does serves shown written code now turns d m a e n b → Does serves shows wrote code now turns d m (f a) e n (f b)
   does_by code now turns d m a e n b t = record {
     follows = follows_by code d m _ n.process a b e t.follows;
     me = t.me;
     processes = t.processes;
   }
+
+  -- the same, where the host is seen as this after it
+  pub does_to : (code : Code) (now turns : ℕ) (d : Deed) (m : Machine) (a : A) (e : Burst) (n : Machine) (b : A) (left : B) → f b ≡ left
+      → Does serves shown written code now turns d m a e n b → Does serves shows wrote code now turns d m (f a) e n left
+  does_to code now turns d m a e n b left same t = subst (λ h. Does serves shows wrote code now turns d m (f a) e n h) same (does_by code now turns d m a e n b t)

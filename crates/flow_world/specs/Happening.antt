@@ -110,6 +110,12 @@ pub record Fails (p : ProcId) (count : ℕ) (w v : Seen) : Type 0 where
   pub there : slice_get w.outside.disks p.0 ≡ Some disk
   pub left : v ≡ with_outside (with_disk p.0 (record disk { fails = count }) w.outside) w
 
+-- whether a process of the world has nothing to do for a deed
+pub record HeldAt (p : ProcId) (d : Deed) (places : List Place) (held : Bool) : Type 0 where
+  pub at : Place
+  pub there : slice_get places p.0 ≡ Some at
+  pub held_is : held ≡ holds_already d at.machine
+
 module _ {A : Type 0} (puts : A → Line → Result (Unit {0}) OutFault → A → Type 0) where
   -- a line is put, and so it goes on
   pub record Told (l : Line) (goes_on : A → Type 0) (a : A) : Type 0 where
@@ -132,14 +138,20 @@ module _ {A : Type 0} (puts : A → Line → Result (Unit {0}) OutFault → A �
     pub acts : Acts w.code w.turns p d at w.outside a e place outside b
     pub left : v ≡ with_outside outside (with_place p place w)
 
-  abbrev pub ActedUnless : (held : Bool) → ProcId → Deed → Place → Seen → A → Burst → Seen → A → Type 0
-  ActedUnless true p d at w a e v b = (e ≡ Rested) × (v ≡ w) × (b ≡ a)
-  ActedUnless false p d at w a e v b = Acted p d at w a e v b
+  pub record ActsAt (p : ProcId) (d : Deed) (w : Seen) (a : A) (e : Burst) (v : Seen) (b : A) : Type 0 where
+    pub at : Place
+    pub there : slice_get w.places p.0 ≡ Some at
+    pub acted : Acted p d at w a e v b
+
+  -- so it does, unless it has nothing to do
+  abbrev pub RunsUnless : (held : Bool) → ProcId → Deed → Seen → A → Burst → Seen → A → Type 0
+  RunsUnless true p d w a e v b = (e ≡ Rested) × (v ≡ w) × (b ≡ a)
+  RunsUnless false p d w a e v b = ActsAt p d w a e v b
 
   pub record Runs (p : ProcId) (d : Deed) (w : Seen) (a : A) (e : Burst) (v : Seen) (b : A) : Type 0 where
-    pub place : Place
-    pub there : slice_get w.places p.0 ≡ Some place
-    pub acted : ActedUnless (holds_already d place.machine) p d place w a e v b
+    pub held : Bool
+    pub known : HeldAt p d w.places held
+    pub runs : RunsUnless held p d w a e v b
 
   -- a loss of power: its line, what the disk kept of each write, and the process gone with its timers and requests
   pub record Killed (p : ProcId) (w : Seen) (a : A) (e : Burst) (v : Seen) (b : A) : Type 0 where

@@ -1,5 +1,5 @@
 -- What is told of the processes of a world between events.
-use Rattle.std.specs.Prelude.{ℕ, List, [], length}
+use Rattle.std.specs.Prelude.{ℕ, ◌+◌, List, [], ◌∷◌, length}
 use Rattle.std.specs.declared.option.Option.{Option}
 use Rattle.std.specs.declared.option.Option.TheVariants.{None, Some}
 use Rattle.flow_steps.specs.declared.views.FrameView.{FrameView}
@@ -16,6 +16,10 @@ abbrev pub callbacks_at : Option Place → List CallbackView
 callbacks_at None = []
 callbacks_at (Some at) = callbacks_in at.machine.process.heap
 
--- how many actors of a process are unfinished
+-- how many actors of a process, and of all these, are unfinished
 abbrev pub live_at : Place → ℕ
 live_at at = length at.machine.process.heap.frames.things
+
+abbrev pub live_in : List Place → ℕ
+live_in [] = 0
+live_in (at ∷ ats) = live_at at + live_in ats

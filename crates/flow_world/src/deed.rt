@@ -97,11 +97,13 @@ pub fn acts<L: LineOut>(
     let burst = does(deed, &mut place.machine, code, now, turns, &mut around);
     let Around {
         me: _,
-        ports: _,
-        outside: _,
+        ports,
+        outside,
         out,
     } = around;
-    // No effect at run time. The proof reads what the lines are from this use of `out`.
+    // No effect at run time. The proof reads what these are from this use of them.
+    let _ = &*ports;
+    let _ = &*outside;
     let _ = &*out;
     burst
 }

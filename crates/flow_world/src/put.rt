@@ -9,6 +9,7 @@ use flow_machine::host::RunFault;
 use flow_simdisk::Kept;
 use flow_trace::line::Line;
 use flow_trace::out::LineOut;
+use std::alloc::Global;
 
 /// Puts a line. `Failed` comes only where the count of faults rose.
 pub fn put<L: LineOut>(out: &mut L, line: &Line) -> Result<(), RunFault>
@@ -24,14 +25,23 @@ pub fn put<L: LineOut>(out: &mut L, line: &Line) -> Result<(), RunFault>
 
 #[tactic(auto, using(flow_machine::proofs::Causes::cause_before))]
 /// Puts a line for each write of which a disk kept something or nothing.
-pub fn put_kept<L: LineOut>(out: &mut L, fates: Vec<Kept>) -> Result<(), RunFault>
-    ensures puts { OnOk result (Puts L.puts out.old (map kept_line fates.items) out.new) }
+pub fn put_kept<L: LineOut>(alloc: Global, fates: &[Kept], out: &mut L) -> Result<(), RunFault>
+    ensures puts { OnOk result (Puts L.puts out.old (map kept_line fates.now) out.new) }
     ensures cause { RunCause (L.faults out.old) (L.faults out.new) result }
     ensures kept { L.kept out.new ≡ L.kept out.old }
 {
     for kept in fates {
-        let line = Line::Kept(kept.name, kept.offset, kept.length, kept.kept);
-        put(out, &line)?;
+        put_one(alloc, kept, out)?;
     }
     Ok(())
+}
+
+// Puts the line of a write.
+fn put_one<L: LineOut>(alloc: Global, kept: &Kept, out: &mut L) -> Result<(), RunFault>
+    ensures puts { OnOk result (L.puts out.old (kept_line kept.now) (Ok tt) out.new) }
+    ensures cause { RunCause (L.faults out.old) (L.faults out.new) result }
+    ensures kept { L.kept out.new ≡ L.kept out.old }
+{
+    let name = kept.name.copy(alloc)?;
+    put(out, &Line::Kept(name, kept.offset, kept.length, kept.kept))
 }

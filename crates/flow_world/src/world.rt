@@ -1,6 +1,6 @@
 // The world.
 
-ghost use Rattle.std.specs.Prelude.{◌≡◌, ◌+◌, ◌-◌, ◌^◌, ◌<◌, false, true, map, min, slice_get, sum, IfOk, OnOk, IsErrOf};
+ghost use Rattle.std.specs.Prelude.{◌≡◌, ◌+◌, ◌-◌, ◌^◌, ◌<◌, false, true, min, slice_get, IfOk, OnOk, IsErrOf};
 ghost use Rattle.flow_worldfile.specs.Worlds.{IsInRange, seen};
 ghost use Rattle.flow_worldfile.specs.declared.world.Act.TheVariants as act;
 ghost use Rattle.flow_simnet.specs.Links.{cut, healed};
@@ -11,9 +11,9 @@ ghost use Rattle.flow_world.specs.Ending.{MeansEvent, WithinEvent, next};
 ghost use Rattle.flow_world.specs.Worlds.{world_seen};
 ghost use Rattle.flow_world.specs.Happening.{EventDoes, Comes, LineComes, EventComes, Ordered, Happened};
 ghost use Rattle.flow_world.specs.Happening.{Killed, Arrived, Taken, Answered, Runs, Fails, HeardIn};
-ghost use Rattle.flow_world.specs.Happening.{Vanishes, begins, with_net};
+ghost use Rattle.flow_world.specs.Happening.{Vanishes, HeldAt, ActsAt, begins, with_net};
 ghost use Rattle.flow_world.specs.Starting.{Starts};
-ghost use Rattle.flow_world.specs.Views.{frames_at, callbacks_at, live_at};
+ghost use Rattle.flow_world.specs.Views.{frames_at, callbacks_at, live_in};
 
 use crate::asked::Asked;
 use crate::brought::{disk_line, disk_outcome, packet_value};
@@ -337,7 +337,7 @@ impl World {
     {
         put(out, &Line::Kill(self.number(), self.outside.time, p))?;
         let fates = self.outside.lose_disk(p)?;
-        put_kept(out, fates)?;
+        put_kept(self.alloc, &fates, out)?;
         self.outside.forget(p)?;
         self.vanishes(p)?;
         Ok(Burst::Rested)
@@ -440,9 +440,35 @@ impl World {
         self.runs(p, Deed::Delivers(cell, outcome), out)
     }
 
+    #[tactic(auto, using(flow_machine::proofs::Causes::cause_before))]
     /// A process does what follows of a deed.
     fn runs<L: LineOut>(&mut self, p: ProcId, deed: Deed, out: &mut L) -> Result<Burst, RunFault>
         ensures happens { IfOk result (λ e. Runs L.puts p deed
+            (world_seen self.old) out.old e (world_seen self.new) out.new) }
+        ensures within { WithinEvent (world_seen self.old) (world_seen self.new) }
+        ensures cause { RunCause (L.faults out.old) (L.faults out.new) result }
+        ensures kept { L.kept out.new ≡ L.kept out.old }
+    {
+        if self.holds_already(p, &deed)? {
+            return Ok(Burst::Rested);
+        }
+        self.acts(p, deed, out)
+    }
+
+    /// Whether a process has nothing to do for a deed.
+    fn holds_already(&self, p: ProcId, deed: &Deed) -> Result<bool, RunFault>
+        ensures cause { ¬ IsErrOf result Failed }
+        ensures held { IfOk result (λ held. HeldAt p deed.now self.now.places.items held) }
+    {
+        match self.places.get(usize::from(p.0)) {
+            Some(place) => Ok(holds_already(deed, &place.machine)),
+            None => Err(RunFault::Astray),
+        }
+    }
+
+    /// A process of the world does what follows of a deed.
+    fn acts<L: LineOut>(&mut self, p: ProcId, deed: Deed, out: &mut L) -> Result<Burst, RunFault>
+        ensures acts { IfOk result (λ e. ActsAt L.puts p deed
             (world_seen self.old) out.old e (world_seen self.new) out.new) }
         ensures within { WithinEvent (world_seen self.old) (world_seen self.new) }
         ensures cause { RunCause (L.faults out.old) (L.faults out.new) result }
@@ -454,9 +480,6 @@ impl World {
         let count = self.outside.net.processes();
         if p.0 >= count || place.machine.processes() != count {
             return Err(RunFault::Astray);
-        }
-        if holds_already(&deed, &place.machine) {
-            return Ok(Burst::Rested);
         }
         let outside = &mut self.outside;
         acts(p, deed, place, outside, &self.code, self.turns, out)
@@ -485,10 +508,9 @@ impl World {
         }
     }
 
-    /// How many actors are unfinished.
-    /// 2^64 - 1 where there are more.
+    /// How many actors are unfinished; 2^64 - 1 where there are more.
     pub fn live(&self) -> u64
-        ensures { result ≡ min (sum (map live_at self.now.places.items)) (2 ^ 64 - 1) }
+        ensures { result ≡ min (live_in self.now.places.items) (2 ^ 64 - 1) }
     {
         let mut count: u64 = 0;
         for process in self.places.iter() {
