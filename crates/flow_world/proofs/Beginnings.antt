@@ -1,10 +1,9 @@
 -- What stands in a world before its first event, made one by one.
-use Rattle.std.proofs.Common.{◌≡◌, ℕ, zero, suc, ◌+◌, ◌≤◌, List, [], ◌∷◌, ◌++◌, length, map, nat_lt, Bool, true, false, refl, sym, ap, ◌∙◌, subst, arith, if◌then◌else◌}
+use Rattle.std.proofs.Common.{◌≡◌, ℕ, zero, suc, ◌+◌, ◌≤◌, List, [], ◌∷◌, ◌++◌, length, map, nat_lt, false, refl, sym, ap, ◌∙◌, subst, arith}
 use Rattle.std.specs.List.{range_with_len}
 use Rattle.std.proofs.lemmas.Bool.Decides.{nat_tests}
 use Rattle.std.proofs.lemmas.List.{map-append}
-use Rattle.flow_timers.specs.Pending.{Pending, Queue, placed, comes_before, with_event}
-use Rattle.flow_world.specs.declared.outside.What.{What}
+use Rattle.flow_timers.specs.Pending.{placed, with_event}
 use Rattle.flow_world.specs.declared.outside.What.TheVariants.{Boots}
 use Rattle.flow_world.specs.declared.place.Place.{Place}
 use Rattle.flow_world.specs.Starting.{IsFresh, AreFresh, boot_of, boots}

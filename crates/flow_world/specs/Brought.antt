@@ -9,7 +9,7 @@ use Rattle.flow_trace.specs.declared.line.Line.TheVariants as line
 use Rattle.flow_simdisk.specs.declared.ask.DiskAsk.{DiskAsk}
 use Rattle.flow_simdisk.specs.declared.ask.DiskAsk.TheVariants as ask
 use Rattle.flow_simdisk.specs.declared.ask.DiskReply.{DiskReply}
-use Rattle.flow_simdisk.specs.declared.ask.DiskReply.TheVariants.{Text, Done, Size, Failed}
+use Rattle.flow_simdisk.specs.declared.ask.DiskReply.TheVariants.{Text, Done, Size}
 
 -- the bytes, the size, and whether a write or a sync is done
 abbrev pub text_in : DiskReply → Option (List ℕ)

@@ -1,6 +1,6 @@
 -- What an event does to a world in memory, and the lines that it puts.
 use Rattle.std.specs.Prelude.{◌≡◌, ℕ, ◌+◌, ◌<◌, ◌≤◌, Bool, true, false, List, [], ◌∷◌, map, slice_get, slice_set, Result, Ok, IsSome}
-use Rattle.std.specs.Map.{lookup, remove_entry}
+use Rattle.std.specs.Map.{remove_entry}
 use Rattle.std.specs.Ordering.{nat_cmp}
 use Rattle.std.specs.BTreeMap.{is_at}
 use Rattle.std.specs.Option.{option_map}
@@ -47,7 +47,7 @@ use Rattle.flow_world.specs.Around.{Inside, Puts, shows, wrote}
 use Rattle.flow_world.specs.Brought.{answer_line}
 use Rattle.flow_world.specs.Changes.{Surroundings, DiskServes, DiskLoses, with_disk, with_events, without_requests}
 use Rattle.flow_world.specs.Deeds.{Does, holds_already, up_after}
-use Rattle.flow_world.specs.Ending.{Seen, next, MayRun}
+use Rattle.flow_world.specs.Ending.{Seen, next}
 use Rattle.flow_world.specs.Ports.{PortsShow}
 use Rattle.flow_world.specs.Shows.{NumbersOnce, letter_at}
 
