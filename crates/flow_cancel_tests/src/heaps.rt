@@ -51,6 +51,52 @@ pub(crate) fn suspend(
     Ok(true)
 }
 
+// What the loss of a reference does, where it may be lost.
+pub(crate) fn lose(heap: &mut Heap, kind: Kind, cell: CellId) -> Result<Option<Dropped>, NoMemory> {
+    if !heap.may_drop(kind, cell) {
+        return Ok(None);
+    }
+    Ok(Some(heap.drop_ref(kind, cell)?))
+}
+
+// An actor with two places starts, where the cell may be its result.
+fn start(heap: &mut Heap, cell: CellId) -> Result<Option<ActorId>, NoMemory> {
+    if !heap.may_start(Some(cell)) {
+        return Ok(None);
+    }
+    Ok(Some(heap.start(4, 2, Some(cell))?))
+}
+
+// An unfinished actor ends, where it may.
+fn finish(heap: &mut Heap, actor: ActorId) -> bool {
+    if !heap.unfinished(actor) || !heap.may_finish(actor) {
+        return false;
+    }
+    heap.finish(actor);
+    true
+}
+
+// An unfinished actor is cancelled: whether it is marked then.
+fn cancel(heap: &mut Heap, actor: ActorId) -> Result<bool, NoMemory> {
+    if !heap.unfinished(actor) || !heap.frames().contains(actor) {
+        return Ok(false);
+    }
+    heap.cancel(actor)?;
+    Ok(heap.unfinished(actor) && heap.marked(actor))
+}
+
+// An actor that waits at a cell with one callback.
+fn waiting(heap: &mut Heap, cell: CellId) -> Result<Option<ActorId>, NoMemory> {
+    let actor = heap.start(4, 2, None)?;
+    if !add_wait(heap.cells_mut(), actor, cell)? {
+        return Ok(None);
+    }
+    if !suspend(heap.frames_mut(), actor, cell)? {
+        return Ok(None);
+    }
+    Ok(Some(actor))
+}
+
 #[test]
 fn the_newest_task_comes_first(rt: HostRuntime) -> Result<(), NoMemory> {
     let mut heap = Heap::new(rt.alloc())?;
@@ -95,13 +141,16 @@ fn drop_by_counts(rt: HostRuntime) -> Result<(), NoMemory> {
     assert!(rt; hold(heap.cells_mut(), cell, Side::Promise));
     assert!(rt; hold(heap.cells_mut(), cell, Side::Promise));
     assert!(rt; hold(heap.cells_mut(), cell, Side::Future));
-    assert!(rt; heap.may_drop(Kind::Promise, cell));
-    assert_eq!(rt; heap.drop_ref(Kind::Promise, cell)?, Dropped::Nothing);
-    assert!(rt; heap.may_drop(Kind::Promise, cell));
-    assert_eq!(rt; heap.drop_ref(Kind::Promise, cell)?, Dropped::Broken);
-    assert!(rt; !heap.may_drop(Kind::Promise, cell));
-    assert!(rt; heap.may_drop(Kind::Future, cell));
-    assert_eq!(rt; heap.drop_ref(Kind::Future, cell)?, Dropped::Freed);
+    assert_eq!(rt;
+        lose(&mut heap, Kind::Promise, cell)?,
+        Some(Dropped::Nothing)
+    );
+    assert_eq!(rt;
+        lose(&mut heap, Kind::Promise, cell)?,
+        Some(Dropped::Broken)
+    );
+    assert_eq!(rt; lose(&mut heap, Kind::Promise, cell)?, None);
+    assert_eq!(rt; lose(&mut heap, Kind::Future, cell)?, Some(Dropped::Freed));
     Ok(())
 }
 
@@ -109,19 +158,16 @@ fn drop_by_counts(rt: HostRuntime) -> Result<(), NoMemory> {
 fn the_last_future_cancels_an_actor(rt: HostRuntime) -> Result<(), NoMemory> {
     let mut heap = Heap::new(rt.alloc())?;
     let cell = heap.new_result()?;
-    assert!(rt; heap.may_start(Some(cell)));
-    let actor = heap.start(4, 2, Some(cell))?;
-    assert_eq!(rt; actor, ActorId(1));
-    assert!(rt; !heap.may_start(Some(cell)));
+    assert_eq!(rt; start(&mut heap, cell)?, Some(ActorId(1)));
+    assert_eq!(rt; start(&mut heap, cell)?, None);
     assert!(rt; hold(heap.cells_mut(), cell, Side::Future));
-    assert!(rt; heap.may_drop(Kind::Future, cell));
-    assert_eq!(rt; heap.drop_ref(Kind::Future, cell)?, Dropped::Cancel(actor));
-    assert!(rt; heap.may_finish(actor));
-    assert!(rt; heap.unfinished(actor));
-    heap.finish(actor);
-    assert!(rt; !heap.unfinished(actor));
-    assert!(rt; heap.may_start(Some(cell)));
-    assert_eq!(rt; heap.start(4, 2, Some(cell))?, ActorId(2));
+    assert_eq!(rt;
+        lose(&mut heap, Kind::Future, cell)?,
+        Some(Dropped::Cancel(ActorId(1)))
+    );
+    assert!(rt; finish(&mut heap, ActorId(1)));
+    assert!(rt; !finish(&mut heap, ActorId(1)));
+    assert_eq!(rt; start(&mut heap, cell)?, Some(ActorId(2)));
     Ok(())
 }
 
@@ -129,17 +175,13 @@ fn the_last_future_cancels_an_actor(rt: HostRuntime) -> Result<(), NoMemory> {
 fn a_cancelled_actor_leaves_its_wait(rt: HostRuntime) -> Result<(), NoMemory> {
     let mut heap = Heap::new(rt.alloc())?;
     let cell = heap.new_result()?;
-    let actor = heap.start(4, 2, None)?;
-    assert!(rt; add_wait(heap.cells_mut(), actor, cell)?);
-    assert!(rt; suspend(heap.frames_mut(), actor, cell)?);
-    assert!(rt; heap.unfinished(actor));
-    assert!(rt; heap.frames().contains(actor));
-    heap.cancel(actor)?;
+    let Some(actor) = waiting(&mut heap, cell)? else {
+        return Err(NoMemory);
+    };
+    assert!(rt; cancel(&mut heap, actor)?);
     assert!(rt; !heap.cells().waits(cell, Waiter { actor, callback: 0 }));
     assert!(rt; matches!(&heap.next_task(), Some(Task::Drop(Kind::Future, _))));
     assert!(rt; matches!(&heap.next_task(), Some(Task::Throw(_, OPERATION_CANCELLED))));
     assert!(rt; heap.next_task().is_none());
-    assert!(rt; heap.unfinished(actor));
-    assert!(rt; heap.marked(actor));
     Ok(())
 }

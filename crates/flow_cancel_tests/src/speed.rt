@@ -1,6 +1,6 @@
 // What bench/heap.sh times and measures.
 
-use crate::heaps::{add_wait, hold, suspend};
+use crate::heaps::{add_wait, hold, lose, suspend};
 use flow_base::ids::{ActorId, CellId};
 use flow_base::memory::NoMemory;
 use flow_cancel::heap::Heap;
@@ -35,14 +35,6 @@ fn take(cells: &mut Cells<Outcome>, cell: CellId) -> bool {
     true
 }
 
-// A reference is given up, where it may be.
-fn lose(heap: &mut Heap, kind: Kind, cell: CellId) -> Result<Dropped, NoMemory> {
-    if !heap.may_drop(kind, cell) {
-        return Ok(Dropped::Nothing);
-    }
-    heap.drop_ref(kind, cell)
-}
-
 // A cell that is there is held on both sides, waited for and set, and its waiter is taken.
 fn pass(cells: &mut Cells<Outcome>, cell: CellId) -> Result<bool, NoMemory> {
     if !hold(cells, cell, Side::Promise) || !hold(cells, cell, Side::Future) {
@@ -61,7 +53,7 @@ fn round(heap: &mut Heap) -> Result<bool, NoMemory> {
         return Ok(false);
     }
     lose(heap, Kind::Promise, cell)?;
-    Ok(lose(heap, Kind::Future, cell)? == Dropped::Freed)
+    Ok(lose(heap, Kind::Future, cell)? == Some(Dropped::Freed))
 }
 
 #[test]

@@ -302,6 +302,10 @@ run_function s zero f vs (suc left) = Fails out_of_range left
 run_function s (suc nest) f vs zero = Spent
 run_function s (suc nest) f vs (suc left) = body_run s (run_function s nest) f (entered f.params vs) left
 
+-- a part of evaluation, where calls of functions may still be nested so deep
+abbrev pub nested : {A : Type 0} → (Setting → Runner → A) → Setting → ℕ → A
+nested part s nest = part s (run_function s nest)
+
 -- how deep calls of functions may be nested
 abbrev pub deepest : ℕ
 deepest = CALL_DEPTH

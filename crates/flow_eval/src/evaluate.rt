@@ -9,7 +9,7 @@ ghost use Rattle.flow_eval.specs.Answers.{bool_of, truth};
 ghost use Rattle.flow_eval.specs.Records.{field, field_answer};
 ghost use Rattle.flow_eval.specs.Eval.{eval, eval_all, variable, second, method_called, called, function_called};
 ghost use Rattle.flow_ast.specs.Typing.{routine_named};
-ghost use Rattle.flow_eval.specs.Functions.{routine_at, called_body, run_function};
+ghost use Rattle.flow_eval.specs.Functions.{routine_at, called_body, nested};
 ghost use Rattle.flow_eval.specs.Variables.{look_of};
 ghost use Rattle.flow_eval.specs.View.{Answers, Gives, GivesAll, setting_of};
 
@@ -131,9 +131,8 @@ pub fn evaluate<V: Variables, C: CellView>(
     expr: &Expr,
     turns: &mut Turns,
 ) -> Result<Value, Halt>
-    ensures gives { Gives (eval (setting_of C.content setting.now)
-        (run_function (setting_of C.content setting.now) nest) (look_of V.by_name vars.now)
-        (expr_of expr.now) turns.old.left) result turns.new.left }
+    ensures gives { Gives (nested eval (setting_of C.content setting.now) nest
+        (look_of V.by_name vars.now) (expr_of expr.now) turns.old.left) result turns.new.left }
     ensures fewer { turns.new.left ≤ turns.old.left }
 {
     match expr {
@@ -175,10 +174,9 @@ fn evaluate_second<V: Variables, C: CellView>(
     right: &Expr,
     turns: &mut Turns,
 ) -> Result<Value, Halt>
-    ensures gives { Gives (second op (value_of left.now)
-        (eval (setting_of C.content setting.now)
-        (run_function (setting_of C.content setting.now) nest) (look_of V.by_name vars.now)
-        (expr_of right.now)) turns.old.left) result turns.new.left }
+    ensures gives { Gives (second op (value_of left.now) (nested eval
+        (setting_of C.content setting.now) nest (look_of V.by_name vars.now) (expr_of right.now))
+        turns.old.left) result turns.new.left }
     ensures fewer { turns.new.left ≤ turns.old.left }
 {
     match op {
@@ -219,9 +217,8 @@ pub fn evaluate_all<V: Variables, C: CellView>(
     args: &[Expr],
     turns: &mut Turns,
 ) -> Result<Vec<Value>, Halt>
-    ensures gives { GivesAll (eval_all (setting_of C.content setting.now)
-        (run_function (setting_of C.content setting.now) nest) (look_of V.by_name vars.now)
-        (exprs_of args.now) turns.old.left) result turns.new.left }
+    ensures gives { GivesAll (nested eval_all (setting_of C.content setting.now) nest
+        (look_of V.by_name vars.now) (exprs_of args.now) turns.old.left) result turns.new.left }
     ensures fewer { turns.new.left ≤ turns.old.left }
 {
     let mut values = Vec::new(setting.alloc);
@@ -240,9 +237,9 @@ fn call_named<V: Variables, C: CellView>(
     args: Vec<Value>,
     turns: &mut Turns,
 ) -> Result<Value, Halt>
-    ensures gives { Gives (called (setting_of C.content setting.now)
-        (run_function (setting_of C.content setting.now) nest) (named call_names name.now) name.now
-        (map value_of args.items) turns.old.left) result turns.new.left }
+    ensures gives { Gives (nested called (setting_of C.content setting.now) nest
+        (named call_names name.now) name.now (map value_of args.items) turns.old.left) result
+        turns.new.left }
     ensures fewer { turns.new.left ≤ turns.old.left }
 {
     if let Some(call) = predefined_call(name) {
@@ -263,8 +260,7 @@ pub fn call_function<V: Variables, C: CellView>(
     args: Vec<Value>,
     turns: &mut Turns,
 ) -> Result<Value, Halt>
-    ensures gives { Gives (function_called (setting_of C.content setting.now)
-        (run_function (setting_of C.content setting.now) nest)
+    ensures gives { Gives (nested function_called (setting_of C.content setting.now) nest
         (routine_named (map function_of setting.now.functions.now) name.now)
         (map value_of args.items) turns.old.left) result turns.new.left }
     ensures fewer { turns.new.left ≤ turns.old.left }
@@ -286,8 +282,7 @@ pub fn run_at<V: Variables, C: CellView>(
     turns: &mut Turns,
 ) -> Result<Value, Halt>
     requires { function < length setting.now.functions.now }
-    ensures gives { Gives (function_called (setting_of C.content setting.now)
-        (run_function (setting_of C.content setting.now) nest)
+    ensures gives { Gives (nested function_called (setting_of C.content setting.now) nest
         (slice_get (map function_of setting.now.functions.now) function) (map value_of args.items)
         turns.old.left) result turns.new.left }
     ensures fewer { turns.new.left ≤ turns.old.left }
@@ -313,8 +308,7 @@ fn run_called<V: Variables, C: CellView>(
     turns: &mut Turns,
 ) -> Result<Value, Halt>
     requires { function < length setting.now.functions.now }
-    ensures gives { Gives (called_body (setting_of C.content setting.now)
-        (run_function (setting_of C.content setting.now) nest)
+    ensures gives { Gives (nested called_body (setting_of C.content setting.now) nest
         (slice_get (map function_of setting.now.functions.now) function) (map value_of args.items)
         turns.old.left) result turns.new.left }
     ensures fewer { turns.new.left ≤ turns.old.left }

@@ -98,7 +98,8 @@ pub fn read_path<'a>(records: &[RecordDecl], vars: &'a [Var], path: &[Ident]) ->
 }
 
 #[tactic(auto, using(crate::proofs::Lookups::values_set))]
-fn put_at(fields: &mut Vec<Value>, k: usize, value: Value)
+/// Fills the field at a place.
+pub fn put_at(fields: &mut Vec<Value>, k: usize, value: Value)
     requires { k < length fields.old.items }
     ensures { values_of fields.new.items
         ≡ value_put (values_of fields.old.items) k (value_of value) }
@@ -106,16 +107,16 @@ fn put_at(fields: &mut Vec<Value>, k: usize, value: Value)
     fields[k] = value;
 }
 
-// A record as a value.
-fn record_value(of: Box<Record<Value>>) -> Value
+/// A record as a value.
+pub fn record_value(of: Box<Record<Value>>) -> Value
     ensures { value_of result ≡ RecordValue of.value.id (values_of of.value.fields.items) }
 {
     Value::Struct(of)
 }
 
-// Takes a field out, and leaves a place that is yet to be filled.
+/// Takes a field out, and leaves a place that is yet to be filled.
 #[tactic(auto, using(crate::proofs::Lookups::values_set, crate::proofs::Lookups::put_again, crate::proofs::Lookups::value_there))]
-fn take_at(fields: &mut Vec<Value>, k: usize) -> Value
+pub fn take_at(fields: &mut Vec<Value>, k: usize) -> Value
     requires { k < length fields.old.items }
     ensures part { value_at (values_of fields.old.items) k ≡ Some (value_of result) }
     ensures rest { (w : ValueTree) → value_put (values_of fields.new.items) k w

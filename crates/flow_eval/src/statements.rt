@@ -8,7 +8,7 @@ ghost use Rattle.std.specs.Option.{option_map, option_copied};
 ghost use Rattle.flow_tree.specs.StmtView.{stmt_of, kind_of, body_of, simple_of, else_of, into_of, change_of};
 ghost use Rattle.flow_eval.specs.Answers.{error_of};
 ghost use Rattle.flow_eval.specs.Operators.{operated};
-ghost use Rattle.flow_eval.specs.Functions.{read_path, declared, default_value, evaluated, Run, Locals, finished, run_function, exec, scope, if_run, pass_run, turn_run, loop_run, for_run, try_run, handled, return_run, throw_run, declare_run, assign_run, change_operand, change_sign, modify_run, call_run, assigned, put_path, rethrown};
+ghost use Rattle.flow_eval.specs.Functions.{read_path, declared, default_value, evaluated, Run, Locals, finished, nested, exec, scope, if_run, pass_run, turn_run, loop_run, for_run, try_run, handled, return_run, throw_run, declare_run, assign_run, change_operand, change_sign, modify_run, call_run, assigned, put_path, rethrown};
 ghost use Rattle.flow_eval.specs.Variables.{var_of};
 ghost use Rattle.flow_eval.specs.View.{Answers, Gives, Ran, StmtRan, else_run, setting_of};
 
@@ -155,9 +155,8 @@ fn evaluate_in<V: Variables, C: CellView>(
     expr: &Expr,
     turns: &mut Turns,
 ) -> Result<Value, Halt>
-    ensures gives { Gives (evaluated (setting_of C.content setting.now)
-        (run_function (setting_of C.content setting.now) nest) (expr_of expr.now)
-        (map var_of locals.now.items) turns.old.left) result turns.new.left }
+    ensures gives { Gives (nested evaluated (setting_of C.content setting.now) nest
+        (expr_of expr.now) (map var_of locals.now.items) turns.old.left) result turns.new.left }
     ensures fewer { turns.new.left ≤ turns.old.left }
 {
     evaluate(setting, nest, &Vars::<V>::Inner(locals), expr, turns)
@@ -174,8 +173,7 @@ pub fn run_body<V: Variables, C: CellView>(
     locals: &mut Vec<Var>,
     turns: &mut Turns,
 ) -> Result<Flow, Halt>
-    ensures gives { Ran (exec (setting_of C.content setting.now)
-        (run_function (setting_of C.content setting.now) nest) (body_of stmts.now)
+    ensures gives { Ran (nested exec (setting_of C.content setting.now) nest (body_of stmts.now)
         (option_copied caught.entry) (map var_of locals.old.items) turns.old.left) result
         (map var_of locals.new.items) turns.new.left }
     ensures fewer { turns.new.left ≤ turns.old.left }
@@ -201,12 +199,10 @@ fn run_stmt<V: Variables, C: CellView>(
     locals: &mut Vec<Var>,
     turns: &mut Turns,
 ) -> Result<Flow, Halt>
-    ensures gives { StmtRan (λ k. exec (setting_of C.content setting.now)
-        (run_function (setting_of C.content setting.now) nest) (stmt_of stmt.now k)
-        (option_copied caught.entry) (map var_of locals.old.items) turns.old.left)
-        (λ k. exec (setting_of C.content setting.now)
-        (run_function (setting_of C.content setting.now) nest) k (option_copied caught.entry))
-        result (map var_of locals.new.items) turns.new.left }
+    ensures gives { StmtRan (λ k. nested exec (setting_of C.content setting.now) nest
+        (stmt_of stmt.now k) (option_copied caught.entry) (map var_of locals.old.items)
+        turns.old.left) (λ k. nested exec (setting_of C.content setting.now) nest k
+        (option_copied caught.entry)) result (map var_of locals.new.items) turns.new.left }
     ensures fewer { turns.new.left ≤ turns.old.left }
 {
     run_kind::<V, C>(setting, nest, stmt.at, &stmt.kind, caught, locals, turns)
@@ -224,12 +220,10 @@ fn run_kind<V: Variables, C: CellView>(
     locals: &mut Vec<Var>,
     turns: &mut Turns,
 ) -> Result<Flow, Halt>
-    ensures gives { StmtRan (λ k. exec (setting_of C.content setting.now)
-        (run_function (setting_of C.content setting.now) nest) (kind_of kind.now at k)
-        (option_copied caught.entry) (map var_of locals.old.items) turns.old.left)
-        (λ k. exec (setting_of C.content setting.now)
-        (run_function (setting_of C.content setting.now) nest) k (option_copied caught.entry))
-        result (map var_of locals.new.items) turns.new.left }
+    ensures gives { StmtRan (λ k. nested exec (setting_of C.content setting.now) nest
+        (kind_of kind.now at k) (option_copied caught.entry) (map var_of locals.old.items)
+        turns.old.left) (λ k. nested exec (setting_of C.content setting.now) nest k
+        (option_copied caught.entry)) result (map var_of locals.new.items) turns.new.left }
     ensures fewer { turns.new.left ≤ turns.old.left }
 {
     match kind {
@@ -281,10 +275,9 @@ fn run_scope<V: Variables, C: CellView>(
     locals: &mut Vec<Var>,
     turns: &mut Turns,
 ) -> Result<Flow, Halt>
-    ensures gives { Ran (scope (exec (setting_of C.content setting.now)
-        (run_function (setting_of C.content setting.now) nest) (body_of stmts.now.items)
-        (option_copied caught.entry)) (map var_of locals.old.items) turns.old.left) result
-        (map var_of locals.new.items) turns.new.left }
+    ensures gives { Ran (scope (nested exec (setting_of C.content setting.now) nest
+        (body_of stmts.now.items) (option_copied caught.entry)) (map var_of locals.old.items)
+        turns.old.left) result (map var_of locals.new.items) turns.new.left }
     ensures fewer { turns.new.left ≤ turns.old.left }
 {
     let count = locals.len();
@@ -306,14 +299,11 @@ fn run_if<V: Variables, C: CellView>(
     locals: &mut Vec<Var>,
     turns: &mut Turns,
 ) -> Result<Flow, Halt>
-    ensures gives { Ran (if_run (setting_of C.content setting.now)
-        (run_function (setting_of C.content setting.now) nest) (expr_of test.now)
-        (scope (exec (setting_of C.content setting.now)
-        (run_function (setting_of C.content setting.now) nest) (body_of body.now.items)
-        (option_copied caught.entry))) (else_run (setting_of C.content setting.now)
-        (run_function (setting_of C.content setting.now) nest) (else_of otherwise.now)
-        (option_copied caught.entry)) (map var_of locals.old.items) turns.old.left) result
-        (map var_of locals.new.items) turns.new.left }
+    ensures gives { Ran (nested if_run (setting_of C.content setting.now) nest (expr_of test.now)
+        (scope (nested exec (setting_of C.content setting.now) nest (body_of body.now.items)
+        (option_copied caught.entry))) (nested else_run (setting_of C.content setting.now) nest
+        (else_of otherwise.now) (option_copied caught.entry)) (map var_of locals.old.items)
+        turns.old.left) result (map var_of locals.new.items) turns.new.left }
     ensures fewer { turns.new.left ≤ turns.old.left }
 {
     let value = evaluate_in::<V, C>(setting, nest, locals, test, turns)?;
@@ -334,10 +324,9 @@ fn run_else<V: Variables, C: CellView>(
     locals: &mut Vec<Var>,
     turns: &mut Turns,
 ) -> Result<Flow, Halt>
-    ensures gives { Ran (else_run (setting_of C.content setting.now)
-        (run_function (setting_of C.content setting.now) nest) (else_of otherwise.now)
-        (option_copied caught.entry) (map var_of locals.old.items) turns.old.left) result
-        (map var_of locals.new.items) turns.new.left }
+    ensures gives { Ran (nested else_run (setting_of C.content setting.now) nest
+        (else_of otherwise.now) (option_copied caught.entry) (map var_of locals.old.items)
+        turns.old.left) result (map var_of locals.new.items) turns.new.left }
     ensures fewer { turns.new.left ≤ turns.old.left }
 {
     match otherwise {
@@ -358,11 +347,9 @@ fn run_pass<V: Variables, C: CellView>(
     locals: &mut Vec<Var>,
     turns: &mut Turns,
 ) -> Result<Flow, Halt>
-    ensures gives { Ran (pass_run (setting_of C.content setting.now)
-        (run_function (setting_of C.content setting.now) nest)
-        (option_map expr_of (option_copied test.entry))
-        (exec (setting_of C.content setting.now)
-        (run_function (setting_of C.content setting.now) nest) (body_of body.now.items)
+    ensures gives { Ran (nested pass_run (setting_of C.content setting.now) nest
+        (option_map expr_of (option_copied test.entry)) (nested exec
+        (setting_of C.content setting.now) nest (body_of body.now.items)
         (option_copied caught.entry)) (map var_of locals.old.items) turns.old.left) result
         (map var_of locals.new.items) turns.new.left }
     ensures fewer { turns.new.left ≤ turns.old.left }
@@ -390,16 +377,12 @@ fn run_turn<V: Variables, C: CellView>(
     locals: &mut Vec<Var>,
     turns: &mut Turns,
 ) -> Result<Flow, Halt>
-    ensures gives { Ran (turn_run (setting_of C.content setting.now)
-        (run_function (setting_of C.content setting.now) nest)
-        (option_map expr_of (option_copied test.entry))
-        (exec (setting_of C.content setting.now)
-        (run_function (setting_of C.content setting.now) nest)
-        (simple_of (option_copied step.entry)) (option_copied caught.entry))
-        (exec (setting_of C.content setting.now)
-        (run_function (setting_of C.content setting.now) nest) (body_of body.now.items)
-        (option_copied caught.entry)) (map var_of locals.old.items) turns.old.left) result
-        (map var_of locals.new.items) turns.new.left }
+    ensures gives { Ran (nested turn_run (setting_of C.content setting.now) nest
+        (option_map expr_of (option_copied test.entry)) (nested exec
+        (setting_of C.content setting.now) nest (simple_of (option_copied step.entry))
+        (option_copied caught.entry)) (nested exec (setting_of C.content setting.now) nest
+        (body_of body.now.items) (option_copied caught.entry)) (map var_of locals.old.items)
+        turns.old.left) result (map var_of locals.new.items) turns.new.left }
     ensures fewer { turns.new.left ≤ turns.old.left }
 {
     match run_pass::<V, C>(setting, nest, test, body, caught, locals, turns)? {
@@ -423,16 +406,12 @@ fn run_loop<V: Variables, C: CellView>(
     locals: &mut Vec<Var>,
     turns: &mut Turns,
 ) -> Result<Flow, Halt>
-    ensures gives { Ran (loop_run (setting_of C.content setting.now)
-        (run_function (setting_of C.content setting.now) nest)
-        (option_map expr_of (option_copied test.entry))
-        (exec (setting_of C.content setting.now)
-        (run_function (setting_of C.content setting.now) nest)
-        (simple_of (option_copied step.entry)) (option_copied caught.entry))
-        (exec (setting_of C.content setting.now)
-        (run_function (setting_of C.content setting.now) nest) (body_of body.now.items)
-        (option_copied caught.entry)) (map var_of locals.old.items) turns.old.left) result
-        (map var_of locals.new.items) turns.new.left }
+    ensures gives { Ran (nested loop_run (setting_of C.content setting.now) nest
+        (option_map expr_of (option_copied test.entry)) (nested exec
+        (setting_of C.content setting.now) nest (simple_of (option_copied step.entry))
+        (option_copied caught.entry)) (nested exec (setting_of C.content setting.now) nest
+        (body_of body.now.items) (option_copied caught.entry)) (map var_of locals.old.items)
+        turns.old.left) result (map var_of locals.new.items) turns.new.left }
     ensures fewer { turns.new.left ≤ turns.old.left }
 {
     while turns.left > 0 {
@@ -457,8 +436,7 @@ fn run_part<V: Variables, C: CellView>(
     locals: &mut Vec<Var>,
     turns: &mut Turns,
 ) -> Result<Flow, Halt>
-    ensures gives { Ran (exec (setting_of C.content setting.now)
-        (run_function (setting_of C.content setting.now) nest)
+    ensures gives { Ran (nested exec (setting_of C.content setting.now) nest
         (simple_of (option_copied part.entry)) (option_copied caught.entry)
         (map var_of locals.old.items) turns.old.left) result (map var_of locals.new.items)
         turns.new.left }
@@ -484,15 +462,11 @@ fn run_for<V: Variables, C: CellView>(
     locals: &mut Vec<Var>,
     turns: &mut Turns,
 ) -> Result<Flow, Halt>
-    ensures gives { Ran (scope (for_run (setting_of C.content setting.now)
-        (run_function (setting_of C.content setting.now) nest)
-        (exec (setting_of C.content setting.now)
-        (run_function (setting_of C.content setting.now) nest) (simple_of init.now)
-        (option_copied caught.entry)) (option_map expr_of test.now)
-        (exec (setting_of C.content setting.now)
-        (run_function (setting_of C.content setting.now) nest) (simple_of step.now)
-        (option_copied caught.entry)) (exec (setting_of C.content setting.now)
-        (run_function (setting_of C.content setting.now) nest) (body_of body.now.items)
+    ensures gives { Ran (scope (nested for_run (setting_of C.content setting.now) nest (nested exec
+        (setting_of C.content setting.now) nest (simple_of init.now) (option_copied caught.entry))
+        (option_map expr_of test.now) (nested exec (setting_of C.content setting.now) nest
+        (simple_of step.now) (option_copied caught.entry)) (nested exec
+        (setting_of C.content setting.now) nest (body_of body.now.items)
         (option_copied caught.entry))) (map var_of locals.old.items) turns.old.left) result
         (map var_of locals.new.items) turns.new.left }
     ensures fewer { turns.new.left ≤ turns.old.left }
@@ -517,15 +491,11 @@ fn run_for_parts<V: Variables, C: CellView>(
     locals: &mut Vec<Var>,
     turns: &mut Turns,
 ) -> Result<Flow, Halt>
-    ensures gives { Ran (for_run (setting_of C.content setting.now)
-        (run_function (setting_of C.content setting.now) nest)
-        (exec (setting_of C.content setting.now)
-        (run_function (setting_of C.content setting.now) nest) (simple_of init.now)
-        (option_copied caught.entry)) (option_map expr_of test.now)
-        (exec (setting_of C.content setting.now)
-        (run_function (setting_of C.content setting.now) nest) (simple_of step.now)
-        (option_copied caught.entry)) (exec (setting_of C.content setting.now)
-        (run_function (setting_of C.content setting.now) nest) (body_of body.now.items)
+    ensures gives { Ran (nested for_run (setting_of C.content setting.now) nest (nested exec
+        (setting_of C.content setting.now) nest (simple_of init.now) (option_copied caught.entry))
+        (option_map expr_of test.now) (nested exec (setting_of C.content setting.now) nest
+        (simple_of step.now) (option_copied caught.entry)) (nested exec
+        (setting_of C.content setting.now) nest (body_of body.now.items)
         (option_copied caught.entry)) (map var_of locals.old.items) turns.old.left) result
         (map var_of locals.new.items) turns.new.left }
     ensures fewer { turns.new.left ≤ turns.old.left }
@@ -560,13 +530,11 @@ fn run_try<V: Variables, C: CellView>(
     locals: &mut Vec<Var>,
     turns: &mut Turns,
 ) -> Result<Flow, Halt>
-    ensures gives { Ran (try_run (exec (setting_of C.content setting.now)
-        (run_function (setting_of C.content setting.now) nest) (body_of body.now.items)
-        (option_copied caught.entry)) error.now.name
-        (exec (setting_of C.content setting.now)
-        (run_function (setting_of C.content setting.now) nest) (body_of handler.now.items)
-        (Some error.now.name)) (map var_of locals.old.items) turns.old.left) result
-        (map var_of locals.new.items) turns.new.left }
+    ensures gives { Ran (try_run (nested exec (setting_of C.content setting.now) nest
+        (body_of body.now.items) (option_copied caught.entry)) error.now.name (nested exec
+        (setting_of C.content setting.now) nest (body_of handler.now.items) (Some error.now.name))
+        (map var_of locals.old.items) turns.old.left) result (map var_of locals.new.items)
+        turns.new.left }
     ensures fewer { turns.new.left ≤ turns.old.left }
 {
     match run_scope::<V, C>(setting, nest, body, caught, locals, turns) {
@@ -592,11 +560,9 @@ fn run_handler<V: Variables, C: CellView>(
     locals: &mut Vec<Var>,
     turns: &mut Turns,
 ) -> Result<Flow, Halt>
-    ensures gives { Ran (handled error.now.name
-        (exec (setting_of C.content setting.now)
-        (run_function (setting_of C.content setting.now) nest) (body_of handler.now.items)
-        (Some error.now.name)) code.0 (map var_of locals.old.items) turns.old.left) result
-        (map var_of locals.new.items) turns.new.left }
+    ensures gives { Ran (handled error.now.name (nested exec (setting_of C.content setting.now) nest
+        (body_of handler.now.items) (Some error.now.name)) code.0 (map var_of locals.old.items)
+        turns.old.left) result (map var_of locals.new.items) turns.new.left }
     ensures fewer { turns.new.left ≤ turns.old.left }
 {
     let count = locals.len();
@@ -615,10 +581,9 @@ fn run_return<V: Variables, C: CellView>(
     locals: &mut Vec<Var>,
     turns: &mut Turns,
 ) -> Result<Flow, Halt>
-    ensures gives { Ran (return_run (setting_of C.content setting.now)
-        (run_function (setting_of C.content setting.now) nest) (expr_of value.now)
-        (map var_of locals.old.items) turns.old.left) result (map var_of locals.new.items)
-        turns.new.left }
+    ensures gives { Ran (nested return_run (setting_of C.content setting.now) nest
+        (expr_of value.now) (map var_of locals.old.items) turns.old.left) result
+        (map var_of locals.new.items) turns.new.left }
     ensures fewer { turns.new.left ≤ turns.old.left }
 {
     let value = evaluate_in::<V, C>(setting, nest, locals, value, turns)?;
@@ -636,10 +601,9 @@ fn run_throw<V: Variables, C: CellView>(
     locals: &mut Vec<Var>,
     turns: &mut Turns,
 ) -> Result<Flow, Halt>
-    ensures gives { Ran (throw_run (setting_of C.content setting.now)
-        (run_function (setting_of C.content setting.now) nest) (option_map expr_of error.now)
-        (option_copied caught.entry) (map var_of locals.old.items) turns.old.left) result
-        (map var_of locals.new.items) turns.new.left }
+    ensures gives { Ran (nested throw_run (setting_of C.content setting.now) nest
+        (option_map expr_of error.now) (option_copied caught.entry) (map var_of locals.old.items)
+        turns.old.left) result (map var_of locals.new.items) turns.new.left }
     ensures fewer { turns.new.left ≤ turns.old.left }
 {
     let Some(error) = error else {
@@ -663,10 +627,9 @@ fn run_declare<V: Variables, C: CellView>(
     locals: &mut Vec<Var>,
     turns: &mut Turns,
 ) -> Result<Flow, Halt>
-    ensures gives { Ran (declare_run (setting_of C.content setting.now)
-        (run_function (setting_of C.content setting.now) nest) (into_of into.now)
-        (option_map expr_of value.now) (map var_of locals.old.items) turns.old.left) result
-        (map var_of locals.new.items) turns.new.left }
+    ensures gives { Ran (nested declare_run (setting_of C.content setting.now) nest
+        (into_of into.now) (option_map expr_of value.now) (map var_of locals.old.items)
+        turns.old.left) result (map var_of locals.new.items) turns.new.left }
     ensures fewer { turns.new.left ≤ turns.old.left }
 {
     let Some(value) = value else {
@@ -687,10 +650,9 @@ fn run_assign<V: Variables, C: CellView>(
     locals: &mut Vec<Var>,
     turns: &mut Turns,
 ) -> Result<Flow, Halt>
-    ensures gives { Ran (assign_run (setting_of C.content setting.now)
-        (run_function (setting_of C.content setting.now) nest) target.now.path.items
-        (expr_of value.now) (map var_of locals.old.items) turns.old.left) result
-        (map var_of locals.new.items) turns.new.left }
+    ensures gives { Ran (nested assign_run (setting_of C.content setting.now) nest
+        target.now.path.items (expr_of value.now) (map var_of locals.old.items) turns.old.left)
+        result (map var_of locals.new.items) turns.new.left }
     ensures fewer { turns.new.left ≤ turns.old.left }
 {
     let value = evaluate_in::<V, C>(setting, nest, locals, value, turns)?;
@@ -706,9 +668,8 @@ fn operand<V: Variables, C: CellView>(
     change: &Change,
     turns: &mut Turns,
 ) -> Result<Value, Halt>
-    ensures gives { Gives (change_operand (setting_of C.content setting.now)
-        (run_function (setting_of C.content setting.now) nest) (change_of change.now)
-        (map var_of locals.now.items) turns.old.left) result turns.new.left }
+    ensures gives { Gives (nested change_operand (setting_of C.content setting.now) nest
+        (change_of change.now) (map var_of locals.now.items) turns.old.left) result turns.new.left }
     ensures fewer { turns.new.left ≤ turns.old.left }
 {
     match change {
@@ -730,10 +691,9 @@ fn run_modify<V: Variables, C: CellView>(
     locals: &mut Vec<Var>,
     turns: &mut Turns,
 ) -> Result<Flow, Halt>
-    ensures gives { Ran (modify_run (setting_of C.content setting.now)
-        (run_function (setting_of C.content setting.now) nest) target.now.path.items
-        (change_of change.now) (map var_of locals.old.items) turns.old.left) result
-        (map var_of locals.new.items) turns.new.left }
+    ensures gives { Ran (nested modify_run (setting_of C.content setting.now) nest
+        target.now.path.items (change_of change.now) (map var_of locals.old.items) turns.old.left)
+        result (map var_of locals.new.items) turns.new.left }
     ensures fewer { turns.new.left ≤ turns.old.left }
 {
     let Some(old) = read_target(setting.records, locals, target) else {
@@ -754,10 +714,9 @@ fn run_call<V: Variables, C: CellView>(
     locals: &mut Vec<Var>,
     turns: &mut Turns,
 ) -> Result<Flow, Halt>
-    ensures gives { Ran (call_run (setting_of C.content setting.now)
-        (run_function (setting_of C.content setting.now) nest) target.now.path.items
-        (exprs_of args.now) (map var_of locals.old.items) turns.old.left) result
-        (map var_of locals.new.items) turns.new.left }
+    ensures gives { Ran (nested call_run (setting_of C.content setting.now) nest
+        target.now.path.items (exprs_of args.now) (map var_of locals.old.items) turns.old.left)
+        result (map var_of locals.new.items) turns.new.left }
     ensures fewer { turns.new.left ≤ turns.old.left }
 {
     let args = evaluate_all(setting, nest, &Vars::<V>::Inner(locals), args, turns)?;

@@ -1,92 +1,29 @@
 // Texts and what they are read as.
 
 use flow_base::memory::NoMemory;
-use flow_base::name::Name;
-use flow_base::place::Place;
 use flow_exprs::expr::parse_expr;
 use flow_exprs::ty::parse_type;
+use flow_lex::lex::lex;
 use flow_tree::expr::{Expr, Op};
 use flow_tree::fault::{Rule, SourceFault};
-use flow_tree::token::{Sign, Spot, Token, Tokens, Word};
+use flow_tree::token::Tokens;
 use flow_tree::ty::Ty;
 use std::alloc::Global;
 use std::test::Fail;
 
-fn sign(word: &str) -> Option<Sign> {
-    match word.as_bytes() {
-        b"(" => Some(Sign::OpenRound),
-        b")" => Some(Sign::CloseRound),
-        b"<" => Some(Sign::Less),
-        b">" => Some(Sign::Greater),
-        b"," => Some(Sign::Comma),
-        b";" => Some(Sign::Semicolon),
-        b"." => Some(Sign::Dot),
-        b"==" => Some(Sign::Equal),
-        b"!=" => Some(Sign::NotEqual),
-        b"<=" => Some(Sign::LessEqual),
-        b">=" => Some(Sign::GreaterEqual),
-        b"&&" => Some(Sign::AndAnd),
-        b"||" => Some(Sign::OrOr),
-        b"!" => Some(Sign::Not),
-        b"+" => Some(Sign::Plus),
-        b"-" => Some(Sign::Minus),
-        b"*" => Some(Sign::Star),
-        b"/" => Some(Sign::Slash),
-        b"%" => Some(Sign::Percent),
-        _ => None,
+// The tokens of a text; the column of each is its number from 0.
+fn tokens(alloc: Global, text: &str) -> Result<Tokens, SourceFault> {
+    if text.len() > 1_000_000 {
+        return Err(SourceFault::OutOfMemory);
     }
-}
-
-fn token(alloc: Global, word: &str) -> Result<Token, NoMemory> {
-    if let Some(sign) = sign(word) {
-        return Ok(Token::Sign(sign));
-    }
-    match word.as_bytes() {
-        b"true" => Ok(Token::Word(Word::Yes)),
-        b"false" => Ok(Token::Word(Word::No)),
-        b"Void" => Ok(Token::Word(Word::Void)),
-        b"int" => Ok(Token::Word(Word::Int)),
-        b"bool" => Ok(Token::Word(Word::Bool)),
-        b"string" => Ok(Token::Word(Word::Str)),
-        b"Error" => Ok(Token::Word(Word::Error)),
-        b"Future" => Ok(Token::Word(Word::Future)),
-        b"FutureStream" => Ok(Token::Word(Word::FutureStream)),
-        b"Promise" => Ok(Token::Word(Word::Promise)),
-        b"PromiseStream" => Ok(Token::Word(Word::PromiseStream)),
-        b"wait" => Ok(Token::Word(Word::Wait)),
-        b"1" => Ok(Token::Number(1)),
-        b"2" => Ok(Token::Number(2)),
-        b"3" => Ok(Token::Number(3)),
-        _ => Ok(Token::Name(Name::new(alloc, b"a")?)),
-    }
-}
-
-// The words of a text as tokens; the column of each is its number from 0.
-fn tokens(alloc: Global, text: &str) -> Result<Tokens, NoMemory> {
-    let mut spots = Vec::new(alloc);
+    let mut tokens = lex(alloc, text.as_bytes())?;
     let mut column = 0;
-    for word in text.split_whitespace() {
-        let at = Place {
-            line: 1,
-            column,
-            byte: 0,
-        };
-        spots.push(Spot {
-            token: token(alloc, word)?,
-            at,
-        })?;
-        if column < 1000 {
-            column += 1;
-        }
+    for spot in &mut tokens.spots {
+        spot.at.column = column;
+        column = column.saturating_add(1);
     }
-    Ok(Tokens {
-        spots,
-        end: Place {
-            line: 2,
-            column,
-            byte: 0,
-        },
-    })
+    tokens.end.column = column;
+    Ok(tokens)
 }
 
 // A text again and again, and one behind it.

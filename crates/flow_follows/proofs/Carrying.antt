@@ -42,13 +42,13 @@ use Rattle.flow_follows.proofs.Gone.{locals_dropped, went_to, pass_began}
 
 module _ (r : RawTree) (ls : List Line) (m : Process) (p : Proc Frame) (i : ℕ) (e : Entry) (f : Frame) (x : Scan) (s : Stand) (st : MayBeStale r ls x s m p i e f) where
   -- the frame as memory has it, and the process with that
-  abbrev old : Frame
+  abbrev pub old : Frame
   old = stale st.block st.instr st.state f
 
-  abbrev seen : Proc Frame
+  abbrev pub seen : Proc Frame
   seen = put_frame i old p
 
-  may : MayMove s seen i e old
+  pub may : MayMove s seen i e old
   may = record {
     actor = st.standing.actor;
     slots = st.standing.slots;
@@ -57,7 +57,7 @@ module _ (r : RawTree) (ls : List Line) (m : Process) (p : Proc Frame) (i : ℕ)
   }
 
   -- the step of the process by what stands where the frame stands
-  stepped : (w : Supply) (k : Fetched) → fetch f.code f.block f.instr ≡ k
+  pub stepped : (w : Supply) (k : Fetched) → fetch f.code f.block f.instr ≡ k
       → step (classes r) w (on_core (pushed (Run i)) p)
       ≡ Some (run_next (classes r) w i p.core.tasks (fetched (class_names r) (view w i (pushed (Run i) p.core)) f k) (on_core (pushed (Run i)) p))
   stepped w k at =
@@ -66,7 +66,7 @@ module _ (r : RawTree) (ls : List Line) (m : Process) (p : Proc Frame) (i : ℕ)
       ∙ ap (λ l. Some (run_next (classes r) w i p.core.tasks (fetched (class_names r) (view w i (pushed (Run i) p.core)) f l) (on_core (pushed (Run i)) p))) at
 
   -- values that are left over
-  after_values : (t : Stand) (rs : List Ref) (g : Frame) (pace : Pace) (n : Process) → going.AfterValues r ls m seen i e old x t rs g pace n
+  pub after_values : (t : Stand) (rs : List Ref) (g : Frame) (pace : Pace) (n : Process) → going.AfterValues r ls m seen i e old x t rs g pace n
       → Carries r ls x i e pace n (proc (work.dropping rs (pushed (Run i) p.core)) (put p.actors i g))
   after_values t rs g (On u) n a = (
     seen,
@@ -81,12 +81,12 @@ module _ (r : RawTree) (ls : List Line) (m : Process) (p : Proc Frame) (i : ℕ)
   after_values t rs g Off n a = shows (subst (λ xs. Shown r ls x n (proc (work.dropping rs (pushed (Run i) p.core)) xs)) (put_over p.actors i old g) a)
 
   -- a block
-  at_block : (g : Frame) (pace : Pace) (n : Process) → going.GoesAt r ls m seen i e old x g pace n → Carries r ls x i e pace n (on_core (pushed (Run i)) (put_frame i g p))
+  pub at_block : (g : Frame) (pace : Pace) (n : Process) → going.GoesAt r ls m seen i e old x g pace n → Carries r ls x i e pace n (on_core (pushed (Run i)) (put_frame i g p))
   at_block g (On t) n a = (seen, (g, (ap (λ xs. proc (pushed (Run i) p.core) xs) (sym (put_over p.actors i old g)), a)))
   at_block g Off n a = absurd a
 
   -- a pass
-  after_pass : (g : Frame) (pace : Pace) (n : Process) → going.AfterPass r ls m seen i e old x g pace n
+  pub after_pass : (g : Frame) (pace : Pace) (n : Process) → going.AfterPass r ls m seen i e old x g pace n
       → Carries r ls x i e pace n (proc (turn p.core (λ d. pushed (Run i) d)) (put p.actors i g))
   after_pass g (On t) n a = (
     on_core (λ c. record c { left = a.0 }) seen,
@@ -160,7 +160,7 @@ module _ (r : RawTree) (ls : List Line) (m : Process) (p : Proc Frame) (i : ℕ)
           (subst (λ xs. Stood r ls x (on_heap (gone i f.block f.instr) m) (proc p.core xs) i e f) (put_over p.actors i (stale st.block st.instr st.state f) f ∙ same) gone_there))))
 
 -- with other turns
-with_turns : (r : RawTree) (ls : List Line) (m : Process) (p : Proc Frame) (i : ℕ) (e : Entry) (f : Frame) (x : Scan) (n : ℕ) → Stood r ls x m p i e f → Stood r ls x (with_left n m) (on_core (λ c. record c { left = n }) p) i e f
+pub with_turns : (r : RawTree) (ls : List Line) (m : Process) (p : Proc Frame) (i : ℕ) (e : Entry) (f : Frame) (x : Scan) (n : ℕ) → Stood r ls x m p i e f → Stood r ls x (with_left n m) (on_core (λ c. record c { left = n }) p) i e f
 with_turns r ls m p i e f x n st = record {
   shown = record { holds = holds_aside r x m.heap p p.core.lines n st.shown.holds; left = refl; lines = st.shown.lines; unspent = st.shown.unspent; goes = st.shown.goes };
   acts = acts_by r m.heap m.heap p (on_core (λ c. record c { left = n }) p) i e f refl refl refl refl st.acts;
@@ -168,7 +168,7 @@ with_turns r ls m p i e f x n st = record {
 
 module _ (r : RawTree) (ls : List Line) (m : Process) (p : Proc Frame) (i : ℕ) (e : Entry) (f : Frame) where
   -- the step of the process by what its actor asks
-  asked : (w : Supply) (k : StepOf Frame) → p.core.halted ≡ None → thing p.actors i ≡ Some f → next_step (class_names r) (view w i p.core) f ≡ k
+  pub asked : (w : Supply) (k : StepOf Frame) → p.core.halted ≡ None → thing p.actors i ≡ Some f → next_step (class_names r) (view w i p.core) f ≡ k
       → step (classes r) w (on_core (pushed (Run i)) p) ≡ Some (run_next (classes r) w i p.core.tasks k (on_core (pushed (Run i)) p))
   asked w k goes at next =
       ap (λ h. step_if (classes r) w h (on_core (pushed (Run i)) p)) goes

@@ -49,14 +49,14 @@ use Rattle.flow_follows.proofs.Takings.{turned_heap}
 use Rattle.flow_follows.proofs.Moving.{goes_in}
 
 -- the stand that an actor goes to
-record Stands (s : Stand) (b n : ℕ) (t : Stand) : Type 0 where
-  actor : t.actor ≡ s.actor
-  class : t.class ≡ s.class
-  place : t.place ≡ b
-  instruction : t.instruction ≡ n
-  noted : t.noted ≡ false
+pub record Stands (s : Stand) (b n : ℕ) (t : Stand) : Type 0 where
+  pub actor : t.actor ≡ s.actor
+  pub class : t.class ≡ s.class
+  pub place : t.place ≡ b
+  pub instruction : t.instruction ≡ n
+  pub noted : t.noted ≡ false
 
-goes_stands : (s : Stand) (b n : ℕ) (t : Stand) → GoesTo s b n t → Stands s b n t
+pub goes_stands : (s : Stand) (b n : ℕ) (t : Stand) → GoesTo s b n t → Stands s b n t
 goes_stands s b n t g = record {
   actor = ap (λ (u : Stand). u.actor) g.same;
   class = ap (λ (u : Stand). u.class) g.same;
@@ -67,7 +67,7 @@ goes_stands s b n t g = record {
 
 module _ (r : RawTree) (ls : List Line) (m : Process) (p : Proc Frame) (i : ℕ) (e : Entry) (f : Frame) where
   -- its frame is told
-  told_there : (x : Scan) (s t : Stand) (b n k : ℕ) → Stood r ls x m p i e f → MayMove s p i e f → Stands s b n t
+  pub told_there : (x : Scan) (s t : Stand) (b n k : ℕ) → Stood r ls x m p i e f → MayMove s p i e f → Stands s b n t
       → Stood r ls x (noted t m) (put_frame i (record f { block = b; instr = n; state = k }) p) i e (record f { block = b; instr = n; state = k })
   told_there x s t b n k st may to =
       let g : Frame = record f { block = b; instr = n; state = k } in
@@ -79,7 +79,7 @@ module _ (r : RawTree) (ls : List Line) (m : Process) (p : Proc Frame) (i : ℕ)
       (subst (λ y. Stood r ls x (on_heap (gone i b y) m) (put_frame i g p) i e g) (sym to.instruction) told)))
 
   -- or it isn't yet
-  moved : (x : Scan) (s t : Stand) (b n k : ℕ) → Stood r ls x m p i e f → MayMove s p i e f → Stands s b n t → Goes r ls x t m p i e (record f { block = b; instr = n; state = k })
+  pub moved : (x : Scan) (s t : Stand) (b n k : ℕ) → Stood r ls x m p i e f → MayMove s p i e f → Stands s b n t → Goes r ls x t m p i e (record f { block = b; instr = n; state = k })
   moved x s t b n k st may to =
       let g : Frame = record f { block = b; instr = n; state = k } in
       let back : put (put p.actors i g) i f ≡ p.actors = put_over p.actors i g f ∙ same_put p.actors i f st.acts.acting in record {
@@ -99,7 +99,7 @@ module _ (r : RawTree) (ls : List Line) (m : Process) (p : Proc Frame) (i : ℕ)
   gone_on x s t b n k st may to = moved x s t b n k st may (goes_stands s b n t to)
 
   -- values are left over
-  left_over : (x : Scan) (s t : Stand) (b j k : ℕ) (vs : List Value) (pace : Pace) (n : Process) → Stood r ls (with_refs (refs_in (map value_of vs)) x) m p i e f → MayMove s p i e f → Stands s b j t → OnAfter t vs m pace n
+  pub left_over : (x : Scan) (s t : Stand) (b j k : ℕ) (vs : List Value) (pace : Pace) (n : Process) → Stood r ls (with_refs (refs_in (map value_of vs)) x) m p i e f → MayMove s p i e f → Stands s b j t → OnAfter t vs m pace n
       → law.AfterValues r ls m p i e f x t (refs_in (map value_of vs)) (record f { block = b; instr = j; state = k }) pace n
   left_over x s t b j k [] pace n st may to after =
       let g : Frame = record f { block = b; instr = j; state = k } in
@@ -133,7 +133,7 @@ module _ (r : RawTree) (ls : List Line) (m : Process) (p : Proc Frame) (i : ℕ)
       (subst (λ q. Goes r ls x to.0 q p i e (go b f.mem f)) (sym to.3) (gone_on x s to.0 b 0 0 st may to.1))
 
 -- the same actor, put twice
-over_after : (r : RawTree) (ls : List Line) (m n1 : Process) (p : Proc Frame) (i : ℕ) (e : Entry) (f h g : Frame) (x : Scan) (t : Stand) (rs qs : List Ref) (pace : Pace) (n : Process) → rs ≡ qs
+pub over_after : (r : RawTree) (ls : List Line) (m n1 : Process) (p : Proc Frame) (i : ℕ) (e : Entry) (f h g : Frame) (x : Scan) (t : Stand) (rs qs : List Ref) (pace : Pace) (n : Process) → rs ≡ qs
     → law.AfterValues r ls n1 (put_frame i h p) i e h x t rs g pace n → law.AfterValues r ls m p i e f x t qs g pace n
 over_after r ls m n1 p i e f h g x t rs qs (On u) n same a = (
   a.0,
@@ -144,13 +144,13 @@ over_after r ls m n1 p i e f h g x t rs qs Off n same a =
     subst (λ us. Shown r ls x n (proc (work.dropping us (pushed (Run i) p.core)) (put p.actors i g))) same
     (subst (λ xs. Shown r ls x n (proc (work.dropping rs (pushed (Run i) p.core)) xs)) (put_over p.actors i h g) a)
 
-same_refs : (r : RawTree) (ls : List Line) (m : Process) (p : Proc Frame) (i : ℕ) (e : Entry) (f g : Frame) (x : Scan) (t : Stand) (rs qs : List Ref) (pace : Pace) (n : Process) → rs ≡ qs
+pub same_refs : (r : RawTree) (ls : List Line) (m : Process) (p : Proc Frame) (i : ℕ) (e : Entry) (f g : Frame) (x : Scan) (t : Stand) (rs qs : List Ref) (pace : Pace) (n : Process) → rs ≡ qs
     → law.AfterValues r ls m p i e f x t rs g pace n → law.AfterValues r ls m p i e f x t qs g pace n
 same_refs r ls m p i e f g x t rs qs (On u) n same a = (a.0, sym same ∙ a.1, a.2)
 same_refs r ls m p i e f g x t rs qs Off n same a = subst (λ us. Shown r ls x n (proc (work.dropping us (pushed (Run i) p.core)) (put p.actors i g))) same a
 
 -- nothing is appended
-appended : (s : Side) (j : ℕ) (rs : List Ref) → count s j rs ≡ count s j (rs ++ [])
+pub appended : (s : Side) (j : ℕ) (rs : List Ref) → count s j rs ≡ count s j (rs ++ [])
 appended s j [] = refl
 appended s j (q ∷ rs) = let a = appended s j rs in omega (arith, a)
 

@@ -144,7 +144,7 @@ module _ (r : RawTree) (ls : List Line) (m : Process) (p : Proc Frame) (i : ℕ)
       })
 
   -- then it may leave its wait
-  go_with_one : (q : Ref) → Acts r m.heap p i e f → e.suspended ≡ false → MayGo i e p.core → q.0 ≡ wait_kind (thing p.core.cells q.1) → MayGo i (with_one e f q) (law.kept_in r ls m p i e f q).core
+  pub go_with_one : (q : Ref) → Acts r m.heap p i e f → e.suspended ≡ false → MayGo i e p.core → q.0 ≡ wait_kind (thing p.core.cells q.1) → MayGo i (with_one e f q) (law.kept_in r ls m p i e f q).core
   go_with_one q a awake go right = record {
     agree = agree_by p.core (law.kept_in r ls m p i e f q).core (λ k. refl)
         (each_number i (λ j. waiting_of (thing (put p.core.entries i (with_one e f q)) j) ≡ waiting_of (thing p.core.entries j))

@@ -23,3 +23,7 @@ pub mod Seen
 pub mod Doing
 pub mod Carrying
 pub mod Evaluations
+pub mod Arguments
+pub mod Beside
+pub mod Partly
+pub mod Turned

@@ -104,7 +104,7 @@ module _ (r : RawTree) (ls : List Line) (x : Scan) (m : Process) (p : Proc Frame
   cell_made kind.PromiseStream s rising = queue_made s rising
   cell_made kind.FutureStream s rising = queue_made s rising
 
-  new_there : (kd : Kind) → Rising 0 p.core.made p.core.cells → There (on_core (new_cell (empty_cell kd)) p) (kd, suc p.core.made)
+  pub new_there : (kd : Kind) → Rising 0 p.core.made p.core.cells → There (on_core (new_cell (empty_cell kd)) p) (kd, suc p.core.made)
   new_there kd rising = record {
     cell = empty_cell kd;
     at = thing_new p.core.cells (suc p.core.made) (empty_cell kd) (not_there rising);

@@ -86,7 +86,7 @@ module _ (r : RawTree) (ls : List Line) (x y : Scan) (m : Process) (p : Proc Fra
         };
       }
 
-in_memory : (f : Frame) (q : Slotted) → HasPlace f q → InMemory f.mem q
+pub in_memory : (f : Frame) (q : Slotted) → HasPlace f q → InMemory f.mem q
 in_memory f (Slot n) l = l
 in_memory f (Local n) l = l
 
@@ -105,7 +105,7 @@ module _ (r : RawTree) (ls : List Line) (m : Process) (p : Proc Frame) (i : ℕ)
       (λ z j. let a = of_written z j f.mem q (option_map value_of v) (in_memory f q l) in let b = hand z j in omega (arith, a, b)))
 
   -- a place is emptied, and what it held is dropped
-  dropped_values : (o : Option Value) (h : HeapTree) → dropping.dropping (values o) h ≡ refs_dropped (refs_in (filled (option_map value_of o ∷ []))) h
+  pub dropped_values : (o : Option Value) (h : HeapTree) → dropping.dropping (values o) h ≡ refs_dropped (refs_in (filled (option_map value_of o ∷ []))) h
   dropped_values None h = refl
   dropped_values (Some v) h = refl
 

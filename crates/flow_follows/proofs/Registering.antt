@@ -60,18 +60,18 @@ future_side kd (Single o ws) e = ap side_of e
 future_side kd (Stream q d w) e = ap side_of e
 
 module _ (r : RawTree) (h : HeapTree) (p : Proc Frame) (i : ℕ) where
-  abbrev first : ℕ
+  abbrev pub first : ℕ
   first = (spot_of_actor p.actors i).first
 
-  abbrev waiter : ℕ → Waiter
+  abbrev pub waiter : ℕ → Waiter
   waiter b = record { actor = i; branch = b }
 
   -- one operand: it waits, or a stream refuses it
-  abbrev OneWaits : HeapTree → Numbered Cell → List Ref → Ref → (branch : ℕ) → Cell → Type 0
+  abbrev pub OneWaits : HeapTree → Numbered Cell → List Ref → Ref → (branch : ℕ) → Cell → Type 0
   OneWaits g ds done q b c =
       (is_busy c ≡ false) × ((k : HeapTree) × (waiting.register i (record { callback = first + b; cell = cell_id q.1 }) g ≡ (true, k)) × Waited r h p k (put ds q.1 (with_waiter c (waiter b))) (done ++ q ∷ []))
 
-  abbrev OneRefused : HeapTree → Ref → (branch : ℕ) → Cell → Type 0
+  abbrev pub OneRefused : HeapTree → Ref → (branch : ℕ) → Cell → Type 0
   OneRefused g q b c = (is_busy c ≡ true) × (waiting.register i (record { callback = first + b; cell = cell_id q.1 }) g ≡ (false, g))
 
   -- what changes beside the cells
@@ -148,7 +148,7 @@ module _ (r : RawTree) (h : HeapTree) (p : Proc Frame) (i : ℕ) where
       let f = found g ds done q b u d (Some v) w at right in
       inr (refl, registers g ds done q b u d (Some v) w at right ∙ ap (λ x. waiting.stream_awaited q.1 (leaving.waiter_of i (record { callback = first + b; cell = cell_id q.1 })) f.0 x g) (same_waiter g ds done q b u d (Some v) w at right))
 
-  one_waits : (g : HeapTree) (ds : Numbered Cell) (done : List Ref) (q : Ref) (b : ℕ) (c : Cell) → Waited r h p g ds done → thing ds q.1 ≡ Some c → q.0 ≡ wait_kind (Some c) → OneWaits g ds done q b c ⊎ OneRefused g q b c
+  pub one_waits : (g : HeapTree) (ds : Numbered Cell) (done : List Ref) (q : Ref) (b : ℕ) (c : Cell) → Waited r h p g ds done → thing ds q.1 ≡ Some c → q.0 ≡ wait_kind (Some c) → OneWaits g ds done q b c ⊎ OneRefused g q b c
   one_waits g ds done q b (Single o ws) w at right = inl (single_waits g ds done q b o ws w at right)
   one_waits g ds done q b (Stream u d v) w at right = stream_waits g ds done q b u d v w at right
 
@@ -166,7 +166,7 @@ module _ (r : RawTree) (h : HeapTree) (p : Proc Frame) (i : ℕ) where
       (λ d e. (with_waiter c w, thing_put ds k c (with_waiter c w) at, sym (ap wait_kind e) ∙ ap wait_kind at ∙ sym (more_kind c w)))
       (λ n differ d e. (d, thing_put_other ds k n (with_waiter c w) differ ∙ e, refl))
 
-  still_waitable : (ds : Numbered Cell) (k : ℕ) (c : Cell) (w : Waiter) → thing ds k ≡ Some c → (rs : List Ref) → Waitable ds rs → Waitable (put ds k (with_waiter c w)) rs
+  pub still_waitable : (ds : Numbered Cell) (k : ℕ) (c : Cell) (w : Waiter) → thing ds k ≡ Some c → (rs : List Ref) → Waitable ds rs → Waitable (put ds k (with_waiter c w)) rs
   still_waitable ds k c w at [] h = tt
   still_waitable ds k c w at (q ∷ rs) h =
       let a = still_there ds k c w at q.1 h.0.0 h.0.1 in

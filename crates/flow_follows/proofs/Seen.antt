@@ -100,7 +100,7 @@ module _ (r : RawTree) (ls : List Line) (x : Scan) (m : Process) (p : Proc Frame
       by_tests false g b h c k =
           let l : length f.mem.locals ≤ n = grind (arith, nat_tests, g, few) in sym (beyond f.mem.locals n l)
 
-  seen : length f.code.slots + length f.mem.locals ≤ 2 ^ 32 → (name : List ℕ) → look f.mem name ≡ held_by held (place_in (length f.code.slots) name)
+  pub seen : length f.code.slots + length f.mem.locals ≤ 2 ^ 32 → (name : List ℕ) → look f.mem name ≡ held_by held (place_in (length f.code.slots) name)
   seen few name = by_name (place_named name)
     where
       by_name : (o : Option Slotted) → bind o (read f.mem) ≡ held_by held (option_and_then (place_of (length f.code.slots)) (small_place o))
@@ -109,7 +109,7 @@ module _ (r : RawTree) (ls : List Line) (x : Scan) (m : Process) (p : Proc Frame
       by_name (Some (Local n)) = sym (local_seen n few)
 
 -- what set cells hold
-content_same : (a : Option (CellTree Outcome)) (b : Option (StreamTree Value)) (c : Option Cell) (spots : ℕ → Spot) → CellShows spots a b c → content_of a ≡ outcome c
+pub content_same : (a : Option (CellTree Outcome)) (b : Option (StreamTree Value)) (c : Option Cell) (spots : ℕ → Spot) → CellShows spots a b c → content_of a ≡ outcome c
 content_same None None None spots t = refl
 content_same None None (Some c) spots t = absurd t
 content_same (Some y) None None spots t = absurd t

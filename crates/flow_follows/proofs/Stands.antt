@@ -31,33 +31,33 @@ use Rattle.flow_follows.specs.Coded.{CodedBy, AtHome, StandsBy}
 use Rattle.flow_follows.specs.Coded as law
 
 -- lists
-get_mapped : {A B : Type 0} (g : A → B) (xs : List A) (n : ℕ) → slice_get (map g xs) n ≡ option_map g (slice_get xs n)
+pub get_mapped : {A B : Type 0} (g : A → B) (xs : List A) (n : ℕ) → slice_get (map g xs) n ≡ option_map g (slice_get xs n)
 get_mapped g [] n = refl
 get_mapped g (x ∷ xs) zero = refl
 get_mapped g (x ∷ xs) (suc n) = get_mapped g xs n
 
-as_many : {A B : Type 0} (g : A → B) (xs : List A) → length (map g xs) ≡ length xs
+pub as_many : {A B : Type 0} (g : A → B) (xs : List A) → length (map g xs) ≡ length xs
 as_many g [] = refl
 as_many g (x ∷ xs) = ap suc (as_many g xs)
 
 -- what is mapped to the same from both sides
-both_mapped : {A B C : Type 0} (g : A → C) (h : B → C) (xs : List A) (ys : List B) (n : ℕ) → map g xs ≡ map h ys → option_map g (slice_get xs n) ≡ option_map h (slice_get ys n)
+pub both_mapped : {A B C : Type 0} (g : A → C) (h : B → C) (xs : List A) (ys : List B) (n : ℕ) → map g xs ≡ map h ys → option_map g (slice_get xs n) ≡ option_map h (slice_get ys n)
 both_mapped g h xs ys n e = sym (get_mapped g xs n) ∙ ap (λ zs. slice_get zs n) e ∙ get_mapped h ys n
 
 -- what stands at the end of a block
-record AtEnd (c : ClassTree) (b n : ℕ) (l : LastTree) : Type 0 where
-  block : BlockTree
-  there : slice_get c.blocks b ≡ Some block
-  ends : block.last ≡ l
-  end : length block.body ≡ n
+pub record AtEnd (c : ClassTree) (b n : ℕ) (l : LastTree) : Type 0 where
+  pub block : BlockTree
+  pub there : slice_get c.blocks b ≡ Some block
+  pub ends : block.last ≡ l
+  pub end : length block.body ≡ n
 
-last_in : (is : List InstrTree) (k l : LastTree) (n : ℕ) → fetch_in is k n ≡ Last l → (k ≡ l) × (length is ≡ n)
+pub last_in : (is : List InstrTree) (k l : LastTree) (n : ℕ) → fetch_in is k n ≡ Last l → (k ≡ l) × (length is ≡ n)
 last_in [] k l zero e = (let a : k ≡ l = cc (e) in a, refl)
 last_in [] k l (suc n) e = absurd (cc (e))
 last_in (i ∷ is) k l zero e = absurd (cc (e))
 last_in (i ∷ is) k l (suc n) e = let a = last_in is k l n e in (a.0, ap suc a.1)
 
-at_end : (c : ClassTree) (b n : ℕ) (l : LastTree) → fetch c b n ≡ Last l → AtEnd c b n l
+pub at_end : (c : ClassTree) (b n : ℕ) (l : LastTree) → fetch c b n ≡ Last l → AtEnd c b n l
 at_end c b n l e = by_block (slice_get c.blocks b) refl e
   where
     by_block : (o : Option BlockTree) → slice_get c.blocks b ≡ o → fetch_at o n ≡ Last l → AtEnd c b n l
@@ -76,7 +76,7 @@ waits_at c (Body i) g e = absurd (omega (arith, e))
 waits_at c Nothing g e = absurd (omega (arith, e))
 
 -- a coded group: its home, and the number of its first branch
-group_coded : (k : Coding) (first : ℕ) (hs : List ℕ) (gs : List (List CallbackTree)) (n : ℕ) (y : GroupCode) → slice_get (coded_groups k first hs gs) n ≡ Some y
+pub group_coded : (k : Coding) (first : ℕ) (hs : List ℕ) (gs : List (List CallbackTree)) (n : ℕ) (y : GroupCode) → slice_get (coded_groups k first hs gs) n ≡ Some y
     → (slice_get hs n ≡ Some y.block) × (y.first ≡ first + callbacks_before gs (suc n))
 group_coded k first [] gs n y e = absurd (cc (e))
 group_coded k first (h ∷ hs) [] n y e = absurd (cc (e))
@@ -86,7 +86,7 @@ group_coded k first (h ∷ hs) (g ∷ gs) zero y e =
 group_coded k first (h ∷ hs) (g ∷ gs) (suc n) y e = let a = group_coded k (first + length g) hs gs n y e in (a.0, let b = a.1 in omega (arith, b))
 
 -- a coded wait is one
-choose_is : (l : coded_last.Last) (g : ℕ) → end_of l ≡ ChooseEnd g → l ≡ last.Choose g
+pub choose_is : (l : coded_last.Last) (g : ℕ) → end_of l ≡ ChooseEnd g → l ≡ last.Choose g
 choose_is (last.Choose k) g e = let same : k ≡ g = cc (e) in ap last.Choose same
 choose_is (last.Goto b) g e = absurd (cc (e))
 choose_is (last.Pass b) g e = absurd (cc (e))
@@ -94,7 +94,7 @@ choose_is (last.Test x a b) g e = absurd (cc (e))
 choose_is (last.Return x) g e = absurd (cc (e))
 choose_is (last.Throw x) g e = absurd (cc (e))
 
-same_catcher : (k : Coding) (a : Option Catcher) (b : Option CatcherTree) → option_map catcher_of a ≡ option_map (caught k) b → SameCatcher k.slots a b
+pub same_catcher : (k : Coding) (a : Option Catcher) (b : Option CatcherTree) → option_map catcher_of a ≡ option_map (caught k) b → SameCatcher k.slots a b
 same_catcher k None None e = tt
 same_catcher k (Some c) (Some t) e =
     let same : catcher_of c ≡ caught k t = cc (e) in

@@ -57,7 +57,7 @@ use Rattle.flow_follows.proofs.Parting.{acts_by, actor_withdrawn, no_keep_under}
 use Rattle.flow_follows.proofs.Moving.{goes_to, free_left, is_over_shown}
 
 -- the view of an error
-error_seen : (e : ErrorCode) → value_of (Error e) ≡ ErrorValue e.0
+pub error_seen : (e : ErrorCode) → value_of (Error e) ≡ ErrorValue e.0
 error_seen e = ap value_of (sym (rolls-Error e)) ∙ fold-roll-Value ValueTree value_step (layer.Error e)
 
 emptied_long : (ns : List ℕ) (m : Memory) → length (emptied ns m).locals ≡ length m.locals
@@ -66,7 +66,7 @@ emptied_long (n ∷ ns) m = emptied_long ns (write m (Local n) None) ∙ as_long
 
 module _ (r : RawTree) (ls : List Line) (x : Scan) (i : ℕ) (e : Entry) (f : Frame) where
   -- a task comes that holds nothing
-  task_over : (m : Process) (p : Proc Frame) (t : stack.Task) (u : Task) → SameTask p t u → ((z : Side) (j : ℕ) → in_task z j u ≡ 0) → Stood r ls x m p i e f
+  pub task_over : (m : Process) (p : Proc Frame) (t : stack.Task) (u : Task) → SameTask p t u → ((z : Side) (j : ℕ) → in_task z j u ≡ 0) → Stood r ls x m p i e f
       → Stood r ls x (on_heap (pushed t) m) (on_core (work.pushed u) p) i e f
   task_over m p t u same none s = record {
     shown = task_done r ls x m p t u (as_many_shown r ls x (with_task u x) m p (λ z j. let a = none z j in omega (arith, a)) s.shown) same;
@@ -92,7 +92,7 @@ module _ (r : RawTree) (ls : List Line) (x : Scan) (i : ℕ) (e : Entry) (f : Fr
 
 module _ (r : RawTree) (ls : List Line) (x : Scan) (i : ℕ) (e : Entry) (f : Frame) where
   -- the error goes into its local
-  error_put : (m : Process) (p : Proc Frame) (err : ErrorCode) (o : Option ℕ) → Stood r ls x m p i e f → ((n : ℕ) → o ≡ Some n → (n < length f.mem.locals) × (read f.mem (Local n) ≡ None))
+  error_put : (m : Process) (p : Proc Frame) (err : ErrorCode) (o : Option ℕ) → Stood r ls x m p i e f → ((n : ℕ) → o ≡ Some n → (n < length f.mem.locals) × ((z : Side) (j : ℕ) → held z j (read f.mem (Local n)) ≡ 0))
       → Stood r ls x (on_heap (tasks.with_error i (option_map (λ n. length f.code.slots + n) o) err) m)
       (proc p.core (put p.actors i (with_memory (with_error o err.0 f.mem) f))) i e (with_memory (with_error o err.0 f.mem) f)
   error_put m p err None s there = unchanged r ls i e x m p f s
@@ -100,7 +100,7 @@ module _ (r : RawTree) (ls : List Line) (x : Scan) (i : ℕ) (e : Entry) (f : Fr
       let a = there n refl in
       subst (λ v. Stood r ls x (on_heap (place_put i (length f.code.slots + n) (Some (Error err))) m) (proc p.core (put p.actors i (with_memory (write f.mem (Local n) (Some v)) f))) i e (with_memory (write f.mem (Local n) (Some v)) f)) (error_seen err)
       (place_changed r ls m p i e f x x (Local n) (Some (Error err)) s a.0 (λ z j.
-      let b = ap (λ o. held z j o) a.1 in
+      let b = a.1 z j in
       let c = ap (λ v. held z j (Some v)) (error_seen err) in omega (arith, b, c)))
 
 -- the handler begins
@@ -141,7 +141,7 @@ module _ (r : RawTree) (ls : List Line) (x : Scan) (m : Process) (p : Proc Frame
       (subst (λ ns. Shown r ls x (on_heap (λ h. gone i.0 t.block 0 (withdrawn i.0 (tasks.with_error i.0 (option_map (λ n. length f.code.slots + n) t.error) err (dropped_places i.0 ns (pushed (task.Catch i err) h))))) m) (proc (left_wait i.0 e core2) (put p.actors i.0 f4))) (sym same.2) done))
 
 -- the task by which an actor is closed
-close_same : (p : Proc Frame) (i : ActorId) (o : Outcome) (t : stack.Task) → IsClose i o t → SameTask p t (Close i.0 (outcome_of o))
+pub close_same : (p : Proc Frame) (i : ActorId) (o : Outcome) (t : stack.Task) → IsClose i o t → SameTask p t (Close i.0 (outcome_of o))
 close_same p i o (task.Close j v) is = ap (λ (a : ActorId). Close a.0 (outcome_of o)) (sym is.0) ∙ ap (λ w. Close j.0 (outcome_of w)) (sym is.1)
 close_same p i o (task.Run j) is = absurd is
 close_same p i o (task.Give j b v) is = absurd is

@@ -3,6 +3,7 @@ use Rattle.std.proofs.Common.{◌≡◌, ℕ, suc, ◌+◌, Bool, true, false, L
 use Rattle.std.proofs.lemmas.Bool.{false≢true}
 use Rattle.std.specs.declared.option.Option.{Option}
 use Rattle.std.specs.declared.option.Option.TheVariants.{None, Some}
+use Rattle.flow_base.specs.ErrorNumbers.{second_waiter}
 use Rattle.flow_base.specs.declared.ids.ActorId.{ActorId}
 use Rattle.flow_value.specs.declared.value.Value.{Value}
 use Rattle.flow_class.specs.Classes.{RawTree}
@@ -12,14 +13,15 @@ use Rattle.flow_trace.specs.declared.line.Line.TheVariants as line
 use Rattle.flow_numbered.specs.Numbered as stored
 use Rattle.flow_frame.specs.declared.held.Held.{Held}
 use Rattle.flow_frame.specs.Frames.{FrameTree, in_state}
+use Rattle.flow_cancel.specs.declared.task.Task.TheVariants as task
 use Rattle.flow_cancel.specs.Heap.{HeapTree, cell_id}
 use Rattle.flow_meaning.specs.Numbered.{Numbered, thing, put}
 use Rattle.flow_meaning.specs.Cells.{Side, Ref, Cell}
-use Rattle.flow_meaning.specs.Process.{Entry, Proc}
+use Rattle.flow_meaning.specs.Process.{Task, Throw, Entry, Proc}
 use Rattle.flow_meaning.specs.Occ.{Scan, refs_in, value_in}
 use Rattle.flow_meaning.specs.Lines.{wait_line}
 use Rattle.flow_meaning.specs.Work as work
-use Rattle.flow_meaning.specs.Work.{writes, running, take_branch, is_ready_at, Registration, Registered, register, dropping_values}
+use Rattle.flow_meaning.specs.Work.{writes, running, leave_for, take_branch, is_ready_at, Registered, Refused, register, dropping_values}
 use Rattle.flow_meaning.specs.React.{at_spot, suspend, wait_by, wait}
 use Rattle.flow_meaning.specs.Step.{proc, on_core}
 use Rattle.flow_meaning.specs.Frame.{Frame, lose}
@@ -27,6 +29,7 @@ use Rattle.flow_meaning.specs.Views.{spot_at}
 use Rattle.flow_meaning.proofs.Posture.{each_number, thing_put, thing_put_other}
 use Rattle.flow_picture.specs.Shows.{Shows, Stands, OneActor, stands, Position, here, at_wait, spot_of_actor, spot_by, wait_spot, held_from}
 use Rattle.flow_picture.specs.Counted.{references, waiting_of}
+use Rattle.flow_picture.specs.Changes.{SameTask}
 use Rattle.flow_picture.specs.Acting.{frame_put, put_actor}
 use Rattle.flow_picture.specs.References.{entry_holds, frame_holds}
 use Rattle.flow_picture.proofs.Tidy.{agree_by}
@@ -41,21 +44,22 @@ use Rattle.flow_steps.specs.Doing.{telling}
 use Rattle.flow_steps.specs.Holding.{on_heap, with_heap}
 use Rattle.flow_steps.specs.Standing.{reframed, lost_from}
 use Rattle.flow_steps.specs.Waiting as waiting
-use Rattle.flow_steps.specs.Waiting.{ready_at, callbacks_in, callbacks_of, suspended_at, TakesBranch, Waits, waits_ready, waits_refused, waits_suspended}
-use Rattle.flow_follows.specs.Shown.{Shown, Follows, shows}
+use Rattle.flow_steps.specs.Waiting.{ready_at, left_for, callbacks_in, callbacks_of, suspended_at, TakesBranch, Waits, waits_ready, waits_refused, waits_suspended}
+use Rattle.flow_follows.specs.Shown.{Shown, Follows, shows, with_task}
 use Rattle.flow_follows.specs.Placing.{Acts, Stood}
 use Rattle.flow_follows.specs.Taking.{Standing, AtWait, MayGo}
 use Rattle.flow_follows.specs.Waiting.{MayAwait}
 use Rattle.flow_follows.specs.Waiting as law
 use Rattle.flow_follows.proofs.Working.{telling_shown}
 use Rattle.flow_follows.proofs.Brought.{all_there_by}
-use Rattle.flow_follows.proofs.Places.{at_of}
+use Rattle.flow_follows.proofs.Places.{at_of, as_many_stood}
 use Rattle.flow_follows.proofs.Lost.{put_over}
 use Rattle.flow_follows.proofs.Emptied.{locals_lost}
 use Rattle.flow_follows.proofs.Parting.{acts_by}
 use Rattle.flow_follows.proofs.Takings.{branch_follows}
 use Rattle.flow_follows.proofs.Kept.{ready_same, kept_awake}
 use Rattle.flow_follows.proofs.Commuting.{suspended_first}
+use Rattle.flow_follows.proofs.Turned.{left_refused}
 use Rattle.flow_follows.proofs.Registering.{with_cells, Waited, AllWait, all_wait, one_refused, all_waits, none_waited}
 
 -- an actor with another entry and frame, at the same wait and with as many operands
@@ -273,7 +277,9 @@ module _ (r : RawTree) (ls : List Line) (m : Process) (p : Proc Frame) (x : Scan
   by_registration : (n : Process) (h : HeapTree) → waiting.register_all i (held_from (first + 0) e.operands) m.heap ≡ (true, h)
       → n ≡ telling (wait_line i (suc group)) (on_heap (λ g. suspended_at i (suc group) (lost_from i (length f.code.slots) g)) (with_heap h m)) → AllWait r m.heap p i m.heap p.core.cells [] e.operands 0
       → Follows r ls x n (out_of None)
-  by_registration n h reg is (one_refused k mem refused) = absurd (may.accepted refused)
+  by_registration n h reg is (one_refused k mem refused) =
+      let mem2 = ap (λ u. waiting.register_all i (held_from (u + 0) e.operands) m.heap) (sym spots_first) ∙ mem in
+      absurd (false≢true (ap (λ (y : waiting.Registered). y.0) (sym mem2 ∙ reg)))
   by_registration n h reg is (all_wait k es mem reg2 w) =
       let mem2 = ap (λ u. waiting.register_all i (held_from (u + 0) e.operands) m.heap) (sym spots_first) ∙ mem in
       let pair : (true, h) ≡ (true, k) = sym reg ∙ mem2 in
@@ -285,12 +291,28 @@ module _ (r : RawTree) (ls : List Line) (m : Process) (p : Proc Frame) (x : Scan
   registration : AllWait r m.heap p i m.heap p.core.cells [] e.operands 0
   registration = all_waits r m.heap p i e.operands 0 m.heap p.core.cells [] (none_waited r m.heap p i st.shown.holds.shows may.go.cells) may.waitable
 
-  not_refused : (h : HeapTree) → waiting.register_all i (held_from (first + 0) e.operands) m.heap ≡ (false, h) → AllWait r m.heap p i m.heap p.core.cells [] e.operands 0 → ⊥
-  not_refused h reg (one_refused k mem refused) = may.accepted refused
-  not_refused h reg (all_wait k es mem reg2 w) =
+  -- a stream refuses
+  refused_there : (h : HeapTree) → waiting.register_all i (held_from (first + 0) e.operands) m.heap ≡ (false, h) → AllWait r m.heap p i m.heap p.core.cells [] e.operands 0
+      → register i 0 e.operands (Registered p.core.cells) ≡ Refused
+  refused_there h reg (one_refused k mem refused) = refused
+  refused_there h reg (all_wait k es mem reg2 w) =
       let mem2 = ap (λ u. waiting.register_all i (held_from (u + 0) e.operands) m.heap) (sym spots_first) ∙ mem in
-      let pair : (false, h) ≡ (true, k) = sym reg ∙ mem2 in
-      false≢true (ap (λ (y : waiting.Registered). y.0) pair)
+      absurd (false≢true (ap (λ (y : waiting.Registered). y.0) (sym reg ∙ mem2)))
+
+  refused_way : (n : Process) (h : HeapTree) (o : Option (ℕ × ℕ)) → FirstSame first p.core.cells None o → waiting.register_all i (held_from (first + 0) e.operands) m.heap ≡ (false, h)
+      → n ≡ on_heap (left_for s (task.Throw s.actor (record { 0 = second_waiter }))) (with_heap h m) → Follows r ls x n (out_of o)
+  refused_way n h (Some z) same reg is = absurd same
+  refused_way n h None same reg is =
+      let u : Task = Throw i second_waiter in
+      let q : Proc Frame = put_actor i spotted waiting_frame p in
+      let task_same : SameTask q (task.Throw s.actor (record { 0 = second_waiter })) u = ap (λ (k : ActorId). Throw k.0 second_waiter) (sym may.standing.actor) in
+      let left = left_refused r ls m q i spotted waiting_frame x s (task.Throw s.actor (record { 0 = second_waiter })) u h
+      (as_many_stood r ls x (with_task u x) m q i spotted waiting_frame (λ z j. omega arith) there) standing_there may.wait.end task_same go_there tt may.awake may.waitable reg in
+      subst (λ y. Follows r ls x n (proc (suspend i (wait_spot f) spotted (lose f).0 y p.core) (put p.actors i (record (lose f).1 { state = suc group })))) (sym (refused_there h reg registration))
+      (subst (λ z. Follows r ls x z (proc (leave_for i spotted (lose f).0 u p.core) (put p.actors i (record (lose f).1 { state = suc group })))) (sym is)
+      (subst (λ xs. Follows r ls x (on_heap (left_for s (task.Throw s.actor (record { 0 = second_waiter }))) (with_heap h m)) (proc (record (leave_for i spotted (lose f).0 u p.core) { entries = xs }) (put p.actors i (record (lose f).1 { state = suc group })))) (put_over p.core.entries i spotted (running spotted))
+      (subst (λ xs. Follows r ls x (on_heap (left_for s (task.Throw s.actor (record { 0 = second_waiter }))) (with_heap h m)) (proc (leave_for i spotted (lose f).0 u q.core) xs)) (put_over p.actors i waiting_frame (record (lose f).1 { state = suc group }))
+      (shows left.shown))))
 
   -- each way
   ready_way : (n : Process) (y : Held) (b : ℕ) (o : Option (ℕ × ℕ)) → FirstSame first p.core.cells (Some y) o → waiting.BranchOf s y.callback b → TakesBranch s b y.cell m n → Follows r ls x n (out_of o)
@@ -315,7 +337,9 @@ module _ (r : RawTree) (ls : List Line) (m : Process) (p : Proc Frame) (x : Scan
       let held = first_there (callbacks_of s.actor.0 m.heap) refl in
       let reg2 : waiting.register_all i (held_from (first + 0) e.operands) m.heap ≡ (false, h) =
       ap (λ c. waiting.register_all i c m.heap) (sym held) ∙ ap (λ (k : ActorId). waiting.register_all k.0 (callbacks_of s.actor.0 m.heap) m.heap) (sym may.standing.actor) ∙ reg in
-      absurd (not_refused h reg2 registration)
+      let none_first : waiting.first_ready m.heap (held_from (first + 0) e.operands) ≡ None = ap (waiting.first_ready m.heap) (sym held) ∙ at in
+      refused_way n h (work.first_ready p.core.cells 0 e.operands)
+      (subst (λ o. FirstSame first p.core.cells o (work.first_ready p.core.cells 0 e.operands)) none_first (first_same r m.heap p first st.shown.holds.shows e.operands 0)) reg2 is
   each_way n (waits_suspended h at reg is) =
       let held = first_there (callbacks_of s.actor.0 m.heap) refl in
       let none_first : waiting.first_ready m.heap (held_from (first + 0) e.operands) ≡ None = ap (waiting.first_ready m.heap) (sym held) ∙ at in

@@ -11,10 +11,12 @@ use Rattle.flow_class.specs.Code.{catcher_at}
 use Rattle.flow_code.specs.declared.class.Catcher.{Catcher}
 use Rattle.flow_code.specs.declared.program.Code.{Code}
 use Rattle.flow_trace.specs.declared.line.Line.{Line}
+use Rattle.flow_meaning.specs.Cells.{Side}
 use Rattle.flow_meaning.specs.Process.{Entry, Proc}
 use Rattle.flow_meaning.specs.Occ.{Scan}
 use Rattle.flow_meaning.specs.Step.{throw_with}
 use Rattle.flow_meaning.specs.Frame.{Frame, read, emptied, raise}
+use Rattle.flow_picture.specs.Holding.{held}
 use Rattle.flow_steps.specs.declared.frames.Stand.{Stand}
 use Rattle.flow_steps.specs.declared.process.Process.{Process}
 use Rattle.flow_steps.specs.Standing.{StandsNow}
@@ -31,10 +33,11 @@ SameCatcher n (Some c) (Some t) =
 SameCatcher n None (Some t) = ⊥
 SameCatcher n (Some c) None = ⊥
 
--- a catch part that a frame has places for: the local of the error is empty once the others are
+-- a catch part that a frame has places for: the local of the error refers to nothing once the others are empty
 pub record CatcherFits (f : Frame) (t : CatcherTree) : Type 0 where
   pub drops : HasLocals f t.drops
-  pub error : (n : ℕ) → t.error ≡ Some n → (n < length f.mem.locals) × (read (emptied t.drops f.mem) (Local n) ≡ None)
+  pub error : (n : ℕ) → t.error ≡ Some n
+      → (n < length f.mem.locals) × ((s : Side) (j : ℕ) → held s j (read (emptied t.drops f.mem) (Local n)) ≡ 0)
 
 -- An actor that may be thrown an error: its block's catch part is coded, and fits.
 pub record MayThrow (code : Code) (m : Process) (p : Proc Frame) (i : ActorId) (e : Entry) (f : Frame) : Type 0 where

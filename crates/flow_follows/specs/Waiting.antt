@@ -8,7 +8,6 @@ use Rattle.flow_meaning.specs.Numbered.{Numbered, thing, put}
 use Rattle.flow_meaning.specs.Cells.{Ref, Cell, taken}
 use Rattle.flow_meaning.specs.Process.{Entry, Proc}
 use Rattle.flow_meaning.specs.Occ.{Scan, refs_in, value_in}
-use Rattle.flow_meaning.specs.Work.{Registered, Refused, register}
 use Rattle.flow_meaning.specs.React.{wait}
 use Rattle.flow_meaning.specs.Step.{proc}
 use Rattle.flow_meaning.specs.Frame.{Frame, lose}
@@ -27,7 +26,7 @@ abbrev pub Waitable : Numbered Cell → List Ref → Type 0
 Waitable cs [] = Unit {0}
 Waitable cs (q ∷ qs) = ((c : Cell) × (thing cs q.1 ≡ Some c) × (q.0 ≡ wait_kind (Some c))) × Waitable cs qs
 
--- An actor that runs, stands at a wait and has kept its operands, of which there are some; and no stream refuses it.
+-- An actor that runs, stands at a wait and has kept its operands, of which there are some.
 pub record MayAwait (s : Stand) (p : Proc Frame) (i group : ℕ) (e : Entry) (f : Frame) : Type 0 where
   pub standing : Standing s i f
   pub wait : AtWait s f (suc group)
@@ -39,10 +38,9 @@ pub record MayAwait (s : Stand) (p : Proc Frame) (i group : ℕ) (e : Entry) (f 
   pub waitable : Waitable p.core.cells e.operands
   pub contents : (k : ℕ) (c : Cell) (o : OutcomeTree) → thing p.core.cells k ≡ Some c → taken c ≡ Some o
       → AllThere p (refs_in (value_in o))
-  pub accepted : register i 0 e.operands (Registered p.core.cells) ≡ Refused → ⊥
 
 -- The first operand that is ready is taken; otherwise the actor waits for all of them, with the line, and its locals are
--- dropped.
+-- dropped; where a stream refuses, that is thrown.
 abbrev pub WaitDone : RawTree → List Line → Process → Proc Frame → Type 0
 WaitDone r ls m p =
     (x : Scan) (s : Stand) (i group : ℕ) (e : Entry) (f : Frame) (n : Process) → Stood r ls x m p i e f

@@ -17,7 +17,7 @@ pub fn operands_follow()
 {}
 
 /// An actor that has kept all its operands takes the first that is ready; otherwise it waits for all of them, with the line, and
-/// its locals are dropped: where no stream refuses it.
+/// its locals are dropped; where a stream refuses it, that is thrown.
 pub fn suspensions_follow()
     ensures { (r : RawTree) (ls : List Line) (m : Process) (p : Proc Frame) → WaitDone r ls m p }
 {}

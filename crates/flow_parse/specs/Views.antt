@@ -1,10 +1,12 @@
 -- What the readers give, seen as plain data.
-use Rattle.std.specs.Prelude.{◌≡◌}
+use Rattle.std.specs.Prelude.{◌≡◌, ℕ, Bool, List}
 use Rattle.flow_tree.specs.declared.stmt.Stmt.{Stmt}
 use Rattle.flow_tree.specs.Body.{IntoTree, WaitTree, Body, End, Branches}
 use Rattle.flow_tree.specs.StmtView.{into_of, waiting_of, stmt_of, body_of, branches_of, simple_of}
 use Rattle.flow_tree.specs.GrammarStmt.{Counts}
+use Rattle.flow_tree.specs.GrammarToken.{Marked}
 use Rattle.flow_parse.specs.declared.simple.Counts as code
+use Rattle.flow_parse.specs.declared.simple.Around.{Around}
 use Rattle.flow_parse.specs.declared.simple.ReadInto.{ReadInto}
 use Rattle.flow_parse.specs.declared.simple.ReadStmt.{ReadStmt}
 use Rattle.flow_parse.specs.declared.simple.ReadWaiting.{ReadWaiting}
@@ -19,6 +21,10 @@ use Rattle.flow_parse.specs.Parts.{RoutineOut, Out, BlockOut, WhenOut, put_befor
 
 abbrev pub counts_of : code.Counts → Counts
 counts_of c = record { statements = c.statements; variables = c.variables }
+
+-- a part of a routine that stands there
+abbrev pub Within : {A : Type 0} → (Bool → ℕ → Counts → List Marked → A → Type 0) → Around → List Marked → A → Type 0
+Within P z = P z.actor z.depth (counts_of z.counts)
 
 abbrev pub into_out : ReadInto → IntoTree × Counts
 into_out r = (into_of r.into, counts_of r.counts)

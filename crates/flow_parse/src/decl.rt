@@ -10,7 +10,7 @@ ghost use Rattle.flow_parse.specs.Openers.{AsFirst, DeclToken};
 ghost use Rattle.flow_parse.specs.Parts.{AllFields, Params, Routine, Record, Function, Actor};
 ghost use Rattle.flow_parse.specs.Views.{routine_out};
 
-use crate::simple::Counts;
+use crate::simple::{Around, Counts};
 use crate::stmt::block;
 use crate::token::{begins_type, is_sign, is_word, name, place, refused, sign, ty, word};
 use flow_base::place::Place;
@@ -145,7 +145,12 @@ fn routine(
         statements: 0,
         variables: count(&params),
     };
-    let read = block(alloc, tokens, at, actor, 2, counts)?;
+    let around = Around {
+        actor,
+        depth: 2,
+        counts,
+    };
+    let read = block(alloc, tokens, at, around)?;
     Ok(ReadRoutine {
         name,
         params,

@@ -12,7 +12,7 @@ ghost use Rattle.flow_tree.specs.Body.{End};
 ghost use Rattle.flow_parse.specs.Reading.{token_at, Any, Answer};
 ghost use Rattle.flow_parse.specs.Follow.{ExprEnds, Before, NotBefore};
 ghost use Rattle.flow_parse.specs.Parts.{Test, StatePart, IntoPart, OperandPart, WaitingPart, MoreNames, Args, ChangeRule, ChangedRule, DeclaredRule, ValuedRule, Unended, Init, Simple};
-ghost use Rattle.flow_parse.specs.Views.{counts_of, into_out, stmt_out, waiting_out, Stands};
+ghost use Rattle.flow_parse.specs.Views.{counts_of, Within, into_out, stmt_out, waiting_out, Stands};
 
 use crate::build;
 use crate::token::{
@@ -32,6 +32,14 @@ use std::alloc::Global;
 pub struct Counts {
     pub statements: u32,
     pub variables: u32,
+}
+
+/// Where a statement stands: whether in an actor, how deep, and how many have begun in the routine before it.
+#[derive(Clone, Copy, Debug)]
+pub struct Around {
+    pub actor: bool,
+    pub depth: u32,
+    pub counts: Counts,
 }
 
 /// A declared variable that was read.
@@ -94,18 +102,15 @@ pub fn into(
     alloc: Global,
     tokens: &Tokens,
     at: usize,
-    actor: bool,
-    depth: u32,
-    counts: Counts,
+    around: Around,
 ) -> Result<ReadInto, SourceFault>
     requires within { at ≤ length tokens.now.spots.items }
-    requires shallow { depth ≤ DEPTH }
-    ensures reads { Answer (IntoPart actor depth (counts_of counts)) Any into_out (λ r. r.to)
-        tokens.now at result }
+    requires shallow { around.depth ≤ DEPTH }
+    ensures reads { Answer (Within IntoPart around) Any into_out (λ r. r.to) tokens.now at result }
     ensures moves { IfOk result (λ r. (at < r.to) × (r.to ≤ length tokens.now.spots.items)) }
 {
-    let (state, at, counts) = state(tokens, at, actor, counts)?;
-    let (ty, at) = ty(alloc, tokens, at, depth)?;
+    let (state, at, counts) = state(tokens, at, around.actor, around.counts)?;
+    let (ty, at) = ty(alloc, tokens, at, around.depth)?;
     let (name, to) = name(alloc, tokens, at)?;
     Ok(ReadInto {
         into: Into { state, ty, name },
@@ -333,13 +338,11 @@ pub fn init(
     alloc: Global,
     tokens: &Tokens,
     at: usize,
-    actor: bool,
-    depth: u32,
-    counts: Counts,
+    around: Around,
 ) -> Result<ReadStmt, SourceFault>
     requires within { at ≤ length tokens.now.spots.items }
-    requires shallow { depth ≤ DEPTH }
-    ensures reads { Answer (Init actor depth (counts_of counts))
+    requires shallow { around.depth ≤ DEPTH }
+    ensures reads { Answer (Within Init around)
         (Before (token.Sign sign.Semicolon)) stmt_out (λ r. r.to) tokens.now at result }
     ensures stands { IfOk result (λ r. Stands r.stmt) }
     ensures closed { IfOk result (λ r. r.ends_if ≡ false) }
@@ -347,15 +350,15 @@ pub fn init(
 {
     let Some(first) = read_name(alloc, tokens, at)? else {
         let here = place(tokens, at);
-        let read = into(alloc, tokens, at, actor, depth, counts)?;
-        let (stmt, to) = declared(alloc, tokens, here, read.into, read.to, depth)?;
+        let read = into(alloc, tokens, at, around)?;
+        let (stmt, to) = declared(alloc, tokens, here, read.into, read.to, around.depth)?;
         return Ok(ended(stmt, to, read.counts));
     };
     let here = first.at;
     let Some(second) = read_name(alloc, tokens, at + 1)? else {
         let (path, at) = more_names(alloc, tokens, first, at + 1)?;
-        let (stmt, to) = change(alloc, tokens, here, path, at, depth)?;
-        return Ok(ended(stmt, to, counts));
+        let (stmt, to) = change(alloc, tokens, here, path, at, around.depth)?;
+        return Ok(ended(stmt, to, around.counts));
     };
     let (stmt, to) = declared(
         alloc,
@@ -363,9 +366,9 @@ pub fn init(
         here,
         named_into(first, second),
         at + 2,
-        depth,
+        around.depth,
     )?;
-    Ok(ended(stmt, to, counts))
+    Ok(ended(stmt, to, around.counts))
 }
 
 // A declaration, a change, a wait or a call, without its semicolon.
@@ -373,13 +376,11 @@ fn unended(
     alloc: Global,
     tokens: &Tokens,
     at: usize,
-    actor: bool,
-    depth: u32,
-    counts: Counts,
+    around: Around,
 ) -> Result<ReadStmt, SourceFault>
     requires within { at ≤ length tokens.now.spots.items }
-    requires shallow { depth ≤ DEPTH }
-    ensures reads { Answer (Unended actor depth (counts_of counts))
+    requires shallow { around.depth ≤ DEPTH }
+    ensures reads { Answer (Within Unended around)
         (Before (token.Sign sign.Semicolon)) stmt_out (λ r. r.to) tokens.now at result }
     ensures stands { IfOk result (λ r. Stands r.stmt) }
     ensures closed { IfOk result (λ r. r.ends_if ≡ false) }
@@ -387,20 +388,20 @@ fn unended(
 {
     if begins_wait(tokens, at) {
         let here = place(tokens, at);
-        let (next, operand, to) = operand(alloc, tokens, at, depth)?;
-        return Ok(ended(build::wait(here, None, next, operand), to, counts));
+        let (next, operand, to) = operand(alloc, tokens, at, around.depth)?;
+        return Ok(ended(build::wait(here, None, next, operand), to, around.counts));
     }
     let Some(first) = read_name(alloc, tokens, at)? else {
         let here = place(tokens, at);
-        let read = into(alloc, tokens, at, actor, depth, counts)?;
-        let (stmt, to) = valued(alloc, tokens, here, read.into, read.to, depth)?;
+        let read = into(alloc, tokens, at, around)?;
+        let (stmt, to) = valued(alloc, tokens, here, read.into, read.to, around.depth)?;
         return Ok(ended(stmt, to, read.counts));
     };
     let here = first.at;
     let Some(second) = read_name(alloc, tokens, at + 1)? else {
         let (path, at) = more_names(alloc, tokens, first, at + 1)?;
-        let (stmt, to) = changed(alloc, tokens, here, path, at, depth)?;
-        return Ok(ended(stmt, to, counts));
+        let (stmt, to) = changed(alloc, tokens, here, path, at, around.depth)?;
+        return Ok(ended(stmt, to, around.counts));
     };
     let (stmt, to) = valued(
         alloc,
@@ -408,9 +409,9 @@ fn unended(
         here,
         named_into(first, second),
         at + 2,
-        depth,
+        around.depth,
     )?;
-    Ok(ended(stmt, to, counts))
+    Ok(ended(stmt, to, around.counts))
 }
 
 /// A statement that ends in no `if`.
@@ -433,19 +434,16 @@ pub fn simple(
     alloc: Global,
     tokens: &Tokens,
     at: usize,
-    actor: bool,
-    depth: u32,
-    counts: Counts,
+    around: Around,
 ) -> Result<ReadStmt, SourceFault>
     requires within { at ≤ length tokens.now.spots.items }
-    requires shallow { depth ≤ DEPTH }
-    ensures reads { Answer (Simple actor depth (counts_of counts)) Any stmt_out (λ r. r.to)
-        tokens.now at result }
+    requires shallow { around.depth ≤ DEPTH }
+    ensures reads { Answer (Within Simple around) Any stmt_out (λ r. r.to) tokens.now at result }
     ensures stands { IfOk result (λ r. Stands r.stmt) }
     ensures closed { IfOk result (λ r. r.ends_if ≡ false) }
     ensures moves { IfOk result (λ r. (at < r.to) × (r.to ≤ length tokens.now.spots.items)) }
 {
-    let read = unended(alloc, tokens, at, actor, depth, counts)?;
+    let read = unended(alloc, tokens, at, around)?;
     let to = sign(tokens, read.to, Sign::Semicolon)?;
     Ok(ended(read.stmt, to, read.counts))
 }
@@ -455,18 +453,16 @@ pub fn waiting(
     alloc: Global,
     tokens: &Tokens,
     at: usize,
-    actor: bool,
-    depth: u32,
-    counts: Counts,
+    around: Around,
 ) -> Result<ReadWaiting, SourceFault>
     requires within { at ≤ length tokens.now.spots.items }
-    requires shallow { depth ≤ DEPTH }
-    ensures reads { Answer (WaitingPart actor depth (counts_of counts)) Any waiting_out (λ r. r.to)
+    requires shallow { around.depth ≤ DEPTH }
+    ensures reads { Answer (Within WaitingPart around) Any waiting_out (λ r. r.to)
         tokens.now at result }
     ensures moves { IfOk result (λ r. (at < r.to) × (r.to ≤ length tokens.now.spots.items)) }
 {
     if begins_wait(tokens, at) {
-        let (next, operand, to) = operand(alloc, tokens, at, depth)?;
+        let (next, operand, to) = operand(alloc, tokens, at, around.depth)?;
         return Ok(ReadWaiting {
             waiting: Waiting {
                 into: None,
@@ -474,12 +470,12 @@ pub fn waiting(
                 operand,
             },
             to,
-            counts,
+            counts: around.counts,
         });
     }
-    let read = into(alloc, tokens, at, actor, depth, counts)?;
+    let read = into(alloc, tokens, at, around)?;
     let at = sign(tokens, read.to, Sign::Assign)?;
-    let (next, operand, to) = operand(alloc, tokens, at, depth)?;
+    let (next, operand, to) = operand(alloc, tokens, at, around.depth)?;
     Ok(ReadWaiting {
         waiting: Waiting {
             into: Some(read.into),

@@ -16,10 +16,12 @@ ghost use Rattle.flow_parse.specs.Follow.{ExprEnds, NotBefore};
 ghost use Rattle.flow_parse.specs.Openers.{AsFirst, IntoToken, StmtWord, StmtToken};
 ghost use Rattle.flow_parse.specs.Beyond.{Beyond};
 ghost use Rattle.flow_parse.specs.Parts.{NoElse, Assignment, Catch, AllWhens, MaybeExpr, StartPart, NextPart, Plain, One, BodyPart, Closing, Block, WhenPart, WhensPart};
-ghost use Rattle.flow_parse.specs.Views.{counts_of, stmt_out, body_out, block_out, when_out, whens_out, part_out, Stands};
+ghost use Rattle.flow_parse.specs.Views.{counts_of, Within, stmt_out, body_out, block_out, when_out, whens_out, part_out, Stands};
 
 use crate::build;
-use crate::simple::{Counts, ReadStmt, change, ended, init, more_names, simple, test, waiting};
+use crate::simple::{
+    Around, Counts, ReadStmt, change, ended, init, more_names, simple, test, waiting,
+};
 use crate::token::{
     begins_type, expr, is_name, is_sign, is_type_word, is_word, name, place, refused, sign, word,
 };
@@ -140,51 +142,42 @@ fn begin(tokens: &Tokens, at: usize, depth: u32, counts: Counts) -> Result<Count
 
 // A statement in a list of statements.
 #[cycle(stmt)]
-fn stmt(
-    alloc: Global,
-    tokens: &Tokens,
-    at: usize,
-    actor: bool,
-    depth: u32,
-    counts: Counts,
-) -> Result<ReadStmt, SourceFault>
+fn stmt(alloc: Global, tokens: &Tokens, at: usize, around: Around) -> Result<ReadStmt, SourceFault>
     requires within { at ≤ length tokens.now.spots.items }
-    requires shallow { depth ≤ 65 }
-    ensures reads { Answer (One actor depth (counts_of counts)) NoElse stmt_out (λ r. r.to)
-        tokens.now at result }
+    requires shallow { around.depth ≤ 65 }
+    ensures reads { Answer (Within One around) NoElse stmt_out (λ r. r.to) tokens.now at result }
     ensures stands { IfOk result (λ r. Stands r.stmt) }
     ensures moves { IfOk result (λ r. (at < r.to) × (r.to ≤ length tokens.now.spots.items)) }
 {
     if !begins_stmt(tokens, at) {
         return Err(refused(tokens, Rule::S(5), at));
     }
-    let counts = begin(tokens, at, depth, counts)?;
+    let counts = begin(tokens, at, around.depth, around.counts)?;
     if !is_sign(tokens, at, Sign::OpenCurly) {
-        return plain(alloc, tokens, at, actor, depth, counts);
+        let around = Around { counts, ..around };
+        return plain(alloc, tokens, at, around);
     }
-    let read = block(alloc, tokens, at, actor, depth + 1, counts)?;
+    let deeper = Around {
+        depth: around.depth + 1,
+        counts,
+        ..around
+    };
+    let read = block(alloc, tokens, at, deeper)?;
     let here = place(tokens, at);
     Ok(ended(build::block(here, read.body), read.to, read.counts))
 }
 
 // The body of a statement or a branch.
 #[cycle(stmt)]
-fn body(
-    alloc: Global,
-    tokens: &Tokens,
-    at: usize,
-    actor: bool,
-    depth: u32,
-    counts: Counts,
-) -> Result<ReadBody, SourceFault>
+fn body(alloc: Global, tokens: &Tokens, at: usize, around: Around) -> Result<ReadBody, SourceFault>
     requires within { at ≤ length tokens.now.spots.items }
-    requires shallow { depth ≤ 65 }
-    ensures reads { Answer (BodyPart actor depth (counts_of counts)) NoElse body_out (λ r. r.to)
+    requires shallow { around.depth ≤ 65 }
+    ensures reads { Answer (Within BodyPart around) NoElse body_out (λ r. r.to)
         tokens.now at result }
     ensures moves { IfOk result (λ r. (at < r.to) × (r.to ≤ length tokens.now.spots.items)) }
 {
     if is_sign(tokens, at, Sign::OpenCurly) {
-        let read = block(alloc, tokens, at, actor, depth, counts)?;
+        let read = block(alloc, tokens, at, around)?;
         return Ok(ReadBody {
             body: read.body,
             to: read.to,
@@ -195,8 +188,9 @@ fn body(
     if !begins_stmt(tokens, at) {
         return Err(refused(tokens, Rule::S(5), at));
     }
-    let counts = begin(tokens, at, depth, counts)?;
-    let read = plain(alloc, tokens, at, actor, depth, counts)?;
+    let counts = begin(tokens, at, around.depth, around.counts)?;
+    let around = Around { counts, ..around };
+    let read = plain(alloc, tokens, at, around)?;
     let mut body = Vec::new(alloc);
     body.push(read.stmt)?;
     Ok(ReadBody {
@@ -213,18 +207,15 @@ pub fn block(
     alloc: Global,
     tokens: &Tokens,
     at: usize,
-    actor: bool,
-    depth: u32,
-    counts: Counts,
+    around: Around,
 ) -> Result<ReadBlock, SourceFault>
     requires within { at ≤ length tokens.now.spots.items }
-    requires shallow { depth ≤ 65 }
-    ensures reads { Answer (Block actor depth (counts_of counts)) Any block_out (λ r. r.to)
-        tokens.now at result }
+    requires shallow { around.depth ≤ 65 }
+    ensures reads { Answer (Within Block around) Any block_out (λ r. r.to) tokens.now at result }
     ensures moves { IfOk result (λ r. (at < r.to) × (r.to ≤ length tokens.now.spots.items)) }
 {
     let at = sign(tokens, at, Sign::OpenCurly)?;
-    stmts(alloc, tokens, at, actor, depth, counts)
+    stmts(alloc, tokens, at, around)
 }
 
 // Statements up to a closing brace, with it.
@@ -233,21 +224,19 @@ fn stmts(
     alloc: Global,
     tokens: &Tokens,
     at: usize,
-    actor: bool,
-    depth: u32,
-    counts: Counts,
+    around: Around,
 ) -> Result<ReadBlock, SourceFault>
     requires within { at ≤ length tokens.now.spots.items }
-    requires shallow { depth ≤ 65 }
-    ensures reads { Answer (Closing actor depth (counts_of counts)) Any block_out (λ r. r.to)
-        tokens.now at result }
+    requires shallow { around.depth ≤ 65 }
+    ensures reads { Answer (Within Closing around) Any block_out (λ r. r.to) tokens.now at result }
     ensures moves { IfOk result (λ r. (at < r.to) × (r.to ≤ length tokens.now.spots.items)) }
 {
     let mut body = Vec::new(alloc);
     let mut at = at;
-    let mut counts = counts;
+    let mut counts = around.counts;
     'items: while !is_sign(tokens, at, Sign::CloseCurly) {
-        let read = stmt(alloc, tokens, at, actor, depth, counts)?;
+        let around = Around { counts, ..around };
+        let read = stmt(alloc, tokens, at, around)?;
         body.push(read.stmt)?;
         at = read.to;
         counts = read.counts;
@@ -262,91 +251,69 @@ fn stmts(
 
 // A statement that is no block.
 #[cycle(stmt)]
-fn plain(
-    alloc: Global,
-    tokens: &Tokens,
-    at: usize,
-    actor: bool,
-    depth: u32,
-    counts: Counts,
-) -> Result<ReadStmt, SourceFault>
+fn plain(alloc: Global, tokens: &Tokens, at: usize, around: Around) -> Result<ReadStmt, SourceFault>
     requires within { at ≤ length tokens.now.spots.items }
-    requires shallow { depth ≤ DEPTH }
-    ensures reads { Answer (Plain actor depth (counts_of counts)) NoElse stmt_out (λ r. r.to)
-        tokens.now at result }
+    requires shallow { around.depth ≤ DEPTH }
+    ensures reads { Answer (Within Plain around) NoElse stmt_out (λ r. r.to) tokens.now at result }
     ensures stands { IfOk result (λ r. Stands r.stmt) }
     ensures moves { IfOk result (λ r. (at < r.to) × (r.to ≤ length tokens.now.spots.items)) }
 {
     if is_word(tokens, at, Word::If) {
-        return if_stmt(alloc, tokens, at, actor, depth, counts);
+        return if_stmt(alloc, tokens, at, around);
     }
     if is_word(tokens, at, Word::While) {
-        return while_stmt(alloc, tokens, at, actor, depth, counts);
+        return while_stmt(alloc, tokens, at, around);
     }
     if is_word(tokens, at, Word::For) {
-        return for_stmt(alloc, tokens, at, actor, depth, counts);
+        return for_stmt(alloc, tokens, at, around);
     }
     if is_word(tokens, at, Word::Loop) {
-        return loop_stmt(alloc, tokens, at, actor, depth, counts);
+        return loop_stmt(alloc, tokens, at, around);
     }
     if is_word(tokens, at, Word::Try) {
-        return try_stmt(alloc, tokens, at, actor, depth, counts);
+        return try_stmt(alloc, tokens, at, around);
     }
     if is_word(tokens, at, Word::Choose) {
-        return choose(alloc, tokens, at, actor, depth, counts);
+        return choose(alloc, tokens, at, around);
     }
     if is_word(tokens, at, Word::Return) {
-        return return_stmt(alloc, tokens, at, actor, depth, counts);
+        return return_stmt(alloc, tokens, at, around);
     }
     if is_word(tokens, at, Word::Throw) {
-        return throw_stmt(alloc, tokens, at, actor, depth, counts);
+        return throw_stmt(alloc, tokens, at, around);
     }
     if is_word(tokens, at, Word::Break) {
-        return break_stmt(tokens, at, actor, depth, counts);
+        return break_stmt(tokens, at, around);
     }
     if is_word(tokens, at, Word::Continue) {
-        return continue_stmt(tokens, at, actor, depth, counts);
+        return continue_stmt(tokens, at, around);
     }
-    let read = simple(alloc, tokens, at, actor, depth, counts)?;
+    let read = simple(alloc, tokens, at, around)?;
     Ok(ended(read.stmt, read.to, read.counts))
 }
 
-fn break_stmt(
-    tokens: &Tokens,
-    at: usize,
-    actor: bool,
-    depth: u32,
-    counts: Counts,
-) -> Result<ReadStmt, SourceFault>
+fn break_stmt(tokens: &Tokens, at: usize, around: Around) -> Result<ReadStmt, SourceFault>
     requires within { at ≤ length tokens.now.spots.items }
     requires here { token_at tokens.now.spots.items at ≡ Some (token.Word word.Break) }
-    ensures reads { Answer (Plain actor depth (counts_of counts)) NoElse stmt_out (λ r. r.to)
-        tokens.now at result }
+    ensures reads { Answer (Within Plain around) NoElse stmt_out (λ r. r.to) tokens.now at result }
     ensures stands { IfOk result (λ r. Stands r.stmt) }
     ensures moves { IfOk result (λ r. (at < r.to) × (r.to ≤ length tokens.now.spots.items)) }
 {
     let here = place(tokens, at);
     let to = sign(tokens, at + 1, Sign::Semicolon)?;
-    Ok(ended(build::break_stmt(here), to, counts))
+    Ok(ended(build::break_stmt(here), to, around.counts))
 }
 
-fn continue_stmt(
-    tokens: &Tokens,
-    at: usize,
-    actor: bool,
-    depth: u32,
-    counts: Counts,
-) -> Result<ReadStmt, SourceFault>
+fn continue_stmt(tokens: &Tokens, at: usize, around: Around) -> Result<ReadStmt, SourceFault>
     requires within { at ≤ length tokens.now.spots.items }
     requires here { token_at tokens.now.spots.items at ≡ Some (token.Word word.Continue) }
-    ensures reads { Answer (Plain actor depth (counts_of counts)) NoElse stmt_out (λ r. r.to)
-        tokens.now at result }
+    ensures reads { Answer (Within Plain around) NoElse stmt_out (λ r. r.to) tokens.now at result }
     ensures stands { IfOk result (λ r. Stands r.stmt) }
     ensures moves { IfOk result (λ r. (at < r.to) × (r.to ≤ length tokens.now.spots.items)) }
 {
     let here = place(tokens, at);
     let to = sign(tokens, at + 1, Sign::Semicolon)?;
-    Ok(ended(build::continue_stmt(here), to, counts))
+    Ok(ended(build::continue_stmt(here), to, around.counts))
 }
 
 // An `else` belongs to the nearest `if` that has none.
@@ -355,21 +322,22 @@ fn if_stmt(
     alloc: Global,
     tokens: &Tokens,
     at: usize,
-    actor: bool,
-    depth: u32,
-    counts: Counts,
+    around: Around,
 ) -> Result<ReadStmt, SourceFault>
     requires within { at ≤ length tokens.now.spots.items }
-    requires shallow { depth ≤ DEPTH }
+    requires shallow { around.depth ≤ DEPTH }
     requires here { token_at tokens.now.spots.items at ≡ Some (token.Word word.If) }
-    ensures reads { Answer (Plain actor depth (counts_of counts)) NoElse stmt_out (λ r. r.to)
-        tokens.now at result }
+    ensures reads { Answer (Within Plain around) NoElse stmt_out (λ r. r.to) tokens.now at result }
     ensures stands { IfOk result (λ r. Stands r.stmt) }
     ensures moves { IfOk result (λ r. (at < r.to) × (r.to ≤ length tokens.now.spots.items)) }
 {
     let here = place(tokens, at);
-    let (test, at) = test(alloc, tokens, at + 1, depth + 1)?;
-    let then = body(alloc, tokens, at, actor, depth + 1, counts)?;
+    let (test, at) = test(alloc, tokens, at + 1, around.depth + 1)?;
+    let deeper = Around {
+        depth: around.depth + 1,
+        ..around
+    };
+    let then = body(alloc, tokens, at, deeper)?;
     if then.ends_if || !is_word(tokens, then.to, Word::Else) {
         return Ok(ReadStmt {
             stmt: build::if_stmt(here, test, then.body),
@@ -378,7 +346,11 @@ fn if_stmt(
             ends_if: true,
         });
     }
-    let other = body(alloc, tokens, then.to + 1, actor, depth + 1, then.counts)?;
+    let deeper = Around {
+        counts: then.counts,
+        ..deeper
+    };
+    let other = body(alloc, tokens, then.to + 1, deeper)?;
     Ok(ReadStmt {
         stmt: build::if_else(here, test, then.body, other.body),
         to: other.to,
@@ -392,21 +364,22 @@ fn while_stmt(
     alloc: Global,
     tokens: &Tokens,
     at: usize,
-    actor: bool,
-    depth: u32,
-    counts: Counts,
+    around: Around,
 ) -> Result<ReadStmt, SourceFault>
     requires within { at ≤ length tokens.now.spots.items }
-    requires shallow { depth ≤ DEPTH }
+    requires shallow { around.depth ≤ DEPTH }
     requires here { token_at tokens.now.spots.items at ≡ Some (token.Word word.While) }
-    ensures reads { Answer (Plain actor depth (counts_of counts)) NoElse stmt_out (λ r. r.to)
-        tokens.now at result }
+    ensures reads { Answer (Within Plain around) NoElse stmt_out (λ r. r.to) tokens.now at result }
     ensures stands { IfOk result (λ r. Stands r.stmt) }
     ensures moves { IfOk result (λ r. (at < r.to) × (r.to ≤ length tokens.now.spots.items)) }
 {
     let here = place(tokens, at);
-    let (test, at) = test(alloc, tokens, at + 1, depth + 1)?;
-    let read = body(alloc, tokens, at, actor, depth + 1, counts)?;
+    let (test, at) = test(alloc, tokens, at + 1, around.depth + 1)?;
+    let deeper = Around {
+        depth: around.depth + 1,
+        ..around
+    };
+    let read = body(alloc, tokens, at, deeper)?;
     Ok(ReadStmt {
         stmt: build::while_stmt(here, test, read.body),
         to: read.to,
@@ -420,20 +393,21 @@ fn loop_stmt(
     alloc: Global,
     tokens: &Tokens,
     at: usize,
-    actor: bool,
-    depth: u32,
-    counts: Counts,
+    around: Around,
 ) -> Result<ReadStmt, SourceFault>
     requires within { at ≤ length tokens.now.spots.items }
-    requires shallow { depth ≤ DEPTH }
+    requires shallow { around.depth ≤ DEPTH }
     requires here { token_at tokens.now.spots.items at ≡ Some (token.Word word.Loop) }
-    ensures reads { Answer (Plain actor depth (counts_of counts)) NoElse stmt_out (λ r. r.to)
-        tokens.now at result }
+    ensures reads { Answer (Within Plain around) NoElse stmt_out (λ r. r.to) tokens.now at result }
     ensures stands { IfOk result (λ r. Stands r.stmt) }
     ensures moves { IfOk result (λ r. (at < r.to) × (r.to ≤ length tokens.now.spots.items)) }
 {
     let here = place(tokens, at);
-    let read = body(alloc, tokens, at + 1, actor, depth + 1, counts)?;
+    let deeper = Around {
+        depth: around.depth + 1,
+        ..around
+    };
+    let read = body(alloc, tokens, at + 1, deeper)?;
     Ok(ReadStmt {
         stmt: build::loop_stmt(here, read.body),
         to: read.to,
@@ -454,28 +428,26 @@ fn start_part(
     alloc: Global,
     tokens: &Tokens,
     at: usize,
-    actor: bool,
-    depth: u32,
-    counts: Counts,
+    around: Around,
 ) -> Result<ReadPart, SourceFault>
     requires within { at ≤ length tokens.now.spots.items }
-    requires shallow { depth ≤ 65 }
-    ensures reads { Answer (StartPart actor depth (counts_of counts)) Any part_out (λ r. r.to)
-        tokens.now at result }
+    requires shallow { around.depth ≤ 65 }
+    ensures reads { Answer (Within StartPart around) Any part_out (λ r. r.to) tokens.now at result }
     ensures moves { IfOk result (λ r. (at < r.to) × (r.to ≤ length tokens.now.spots.items)) }
 {
     if is_sign(tokens, at, Sign::Semicolon) {
         return Ok(ReadPart {
             part: None,
             to: at + 1,
-            counts,
+            counts: around.counts,
         });
     }
     if !begins_init(tokens, at) {
         return Err(refused(tokens, Rule::S(5), at));
     }
-    let counts = begin(tokens, at, depth, counts)?;
-    let read = init(alloc, tokens, at, actor, depth, counts)?;
+    let counts = begin(tokens, at, around.depth, around.counts)?;
+    let around = Around { counts, ..around };
+    let read = init(alloc, tokens, at, around)?;
     let to = sign(tokens, read.to, Sign::Semicolon)?;
     let part = boxed(alloc, read.stmt)?;
     Ok(ReadPart {
@@ -564,24 +536,29 @@ fn for_stmt(
     alloc: Global,
     tokens: &Tokens,
     at: usize,
-    actor: bool,
-    depth: u32,
-    counts: Counts,
+    around: Around,
 ) -> Result<ReadStmt, SourceFault>
     requires within { at ≤ length tokens.now.spots.items }
-    requires shallow { depth ≤ DEPTH }
+    requires shallow { around.depth ≤ DEPTH }
     requires here { token_at tokens.now.spots.items at ≡ Some (token.Word word.For) }
-    ensures reads { Answer (Plain actor depth (counts_of counts)) NoElse stmt_out (λ r. r.to)
-        tokens.now at result }
+    ensures reads { Answer (Within Plain around) NoElse stmt_out (λ r. r.to) tokens.now at result }
     ensures stands { IfOk result (λ r. Stands r.stmt) }
     ensures moves { IfOk result (λ r. (at < r.to) × (r.to ≤ length tokens.now.spots.items)) }
 {
     let here = place(tokens, at);
     let at = sign(tokens, at + 1, Sign::OpenRound)?;
-    let start = start_part(alloc, tokens, at, actor, depth + 1, counts)?;
-    let (test, at) = maybe_expr(alloc, tokens, start.to, depth + 1)?;
-    let next = next_part(alloc, tokens, at, depth + 1, start.counts)?;
-    let read = body(alloc, tokens, next.to, actor, depth + 1, next.counts)?;
+    let deeper = Around {
+        depth: around.depth + 1,
+        ..around
+    };
+    let start = start_part(alloc, tokens, at, deeper)?;
+    let (test, at) = maybe_expr(alloc, tokens, start.to, around.depth + 1)?;
+    let next = next_part(alloc, tokens, at, around.depth + 1, start.counts)?;
+    let deeper = Around {
+        counts: next.counts,
+        ..deeper
+    };
+    let read = body(alloc, tokens, next.to, deeper)?;
     Ok(ReadStmt {
         stmt: build::for_stmt(here, start.part, test, next.part, read.body),
         to: read.to,
@@ -594,43 +571,37 @@ fn return_stmt(
     alloc: Global,
     tokens: &Tokens,
     at: usize,
-    actor: bool,
-    depth: u32,
-    counts: Counts,
+    around: Around,
 ) -> Result<ReadStmt, SourceFault>
     requires within { at ≤ length tokens.now.spots.items }
-    requires shallow { depth ≤ DEPTH }
+    requires shallow { around.depth ≤ DEPTH }
     requires here { token_at tokens.now.spots.items at ≡ Some (token.Word word.Return) }
-    ensures reads { Answer (Plain actor depth (counts_of counts)) NoElse stmt_out (λ r. r.to)
-        tokens.now at result }
+    ensures reads { Answer (Within Plain around) NoElse stmt_out (λ r. r.to) tokens.now at result }
     ensures stands { IfOk result (λ r. Stands r.stmt) }
     ensures moves { IfOk result (λ r. (at < r.to) × (r.to ≤ length tokens.now.spots.items)) }
 {
     let here = place(tokens, at);
-    let (value, at) = expr(alloc, tokens, at + 1, depth + 1)?;
+    let (value, at) = expr(alloc, tokens, at + 1, around.depth + 1)?;
     let to = sign(tokens, at, Sign::Semicolon)?;
-    Ok(ended(build::return_stmt(here, value), to, counts))
+    Ok(ended(build::return_stmt(here, value), to, around.counts))
 }
 
 fn throw_stmt(
     alloc: Global,
     tokens: &Tokens,
     at: usize,
-    actor: bool,
-    depth: u32,
-    counts: Counts,
+    around: Around,
 ) -> Result<ReadStmt, SourceFault>
     requires within { at ≤ length tokens.now.spots.items }
-    requires shallow { depth ≤ DEPTH }
+    requires shallow { around.depth ≤ DEPTH }
     requires here { token_at tokens.now.spots.items at ≡ Some (token.Word word.Throw) }
-    ensures reads { Answer (Plain actor depth (counts_of counts)) NoElse stmt_out (λ r. r.to)
-        tokens.now at result }
+    ensures reads { Answer (Within Plain around) NoElse stmt_out (λ r. r.to) tokens.now at result }
     ensures stands { IfOk result (λ r. Stands r.stmt) }
     ensures moves { IfOk result (λ r. (at < r.to) × (r.to ≤ length tokens.now.spots.items)) }
 {
     let here = place(tokens, at);
-    let (error, to) = maybe_expr(alloc, tokens, at + 1, depth + 1)?;
-    Ok(ended(build::throw_stmt(here, error), to, counts))
+    let (error, to) = maybe_expr(alloc, tokens, at + 1, around.depth + 1)?;
+    Ok(ended(build::throw_stmt(here, error), to, around.counts))
 }
 
 // `"catch" "(" "Error" "&" name ")"`.
@@ -654,22 +625,27 @@ fn try_stmt(
     alloc: Global,
     tokens: &Tokens,
     at: usize,
-    actor: bool,
-    depth: u32,
-    counts: Counts,
+    around: Around,
 ) -> Result<ReadStmt, SourceFault>
     requires within { at ≤ length tokens.now.spots.items }
-    requires shallow { depth ≤ DEPTH }
+    requires shallow { around.depth ≤ DEPTH }
     requires here { token_at tokens.now.spots.items at ≡ Some (token.Word word.Try) }
-    ensures reads { Answer (Plain actor depth (counts_of counts)) NoElse stmt_out (λ r. r.to)
-        tokens.now at result }
+    ensures reads { Answer (Within Plain around) NoElse stmt_out (λ r. r.to) tokens.now at result }
     ensures stands { IfOk result (λ r. Stands r.stmt) }
     ensures moves { IfOk result (λ r. (at < r.to) × (r.to ≤ length tokens.now.spots.items)) }
 {
     let here = place(tokens, at);
-    let inner = block(alloc, tokens, at + 1, actor, depth + 1, counts)?;
+    let deeper = Around {
+        depth: around.depth + 1,
+        ..around
+    };
+    let inner = block(alloc, tokens, at + 1, deeper)?;
     let (catch_at, error, at) = catch(alloc, tokens, inner.to)?;
-    let handler = block(alloc, tokens, at, actor, depth + 1, inner.counts)?;
+    let deeper = Around {
+        counts: inner.counts,
+        ..deeper
+    };
+    let handler = block(alloc, tokens, at, deeper)?;
     let stmt = build::try_stmt(here, inner.body, catch_at, error, handler.body);
     Ok(ended(stmt, handler.to, handler.counts))
 }
@@ -679,21 +655,22 @@ fn choose(
     alloc: Global,
     tokens: &Tokens,
     at: usize,
-    actor: bool,
-    depth: u32,
-    counts: Counts,
+    around: Around,
 ) -> Result<ReadStmt, SourceFault>
     requires within { at ≤ length tokens.now.spots.items }
-    requires shallow { depth ≤ DEPTH }
+    requires shallow { around.depth ≤ DEPTH }
     requires here { token_at tokens.now.spots.items at ≡ Some (token.Word word.Choose) }
-    ensures reads { Answer (Plain actor depth (counts_of counts)) NoElse stmt_out (λ r. r.to)
-        tokens.now at result }
+    ensures reads { Answer (Within Plain around) NoElse stmt_out (λ r. r.to) tokens.now at result }
     ensures stands { IfOk result (λ r. Stands r.stmt) }
     ensures moves { IfOk result (λ r. (at < r.to) × (r.to ≤ length tokens.now.spots.items)) }
 {
     let here = place(tokens, at);
     let at = sign(tokens, at + 1, Sign::OpenCurly)?;
-    let read = whens(alloc, tokens, at, actor, depth + 1, counts)?;
+    let deeper = Around {
+        depth: around.depth + 1,
+        ..around
+    };
+    let read = whens(alloc, tokens, at, deeper)?;
     Ok(ended(build::choose(here, read.branches), read.to, read.counts))
 }
 
@@ -703,24 +680,22 @@ fn whens(
     alloc: Global,
     tokens: &Tokens,
     at: usize,
-    actor: bool,
-    depth: u32,
-    counts: Counts,
+    around: Around,
 ) -> Result<ReadWhens, SourceFault>
     requires within { at ≤ length tokens.now.spots.items }
-    requires shallow { depth ≤ 65 }
-    ensures reads { Answer (AllWhens actor depth (counts_of counts)) Any whens_out (λ r. r.to)
-        tokens.now at result }
+    requires shallow { around.depth ≤ 65 }
+    ensures reads { Answer (Within AllWhens around) Any whens_out (λ r. r.to) tokens.now at result }
     ensures moves { IfOk result (λ r. (at < r.to) × (r.to ≤ length tokens.now.spots.items)) }
 {
-    let first = when(alloc, tokens, at, actor, depth, 1, counts)?;
+    let first = when(alloc, tokens, at, 1, around)?;
     let mut branches = Vec::new(alloc);
     let mut at = first.to;
     let mut counts = first.counts;
     let mut number = 2;
     branches.push(build::when_branch(first.at, first.waiting, first.body))?;
     'branches: while is_word(tokens, at, Word::When) {
-        let read = when(alloc, tokens, at, actor, depth, number, counts)?;
+        let around = Around { counts, ..around };
+        let read = when(alloc, tokens, at, number, around)?;
         branches.push(build::when_branch(read.at, read.waiting, read.body))?;
         at = read.to;
         counts = read.counts;
@@ -740,14 +715,12 @@ fn when(
     alloc: Global,
     tokens: &Tokens,
     at: usize,
-    actor: bool,
-    depth: u32,
     number: u32,
-    counts: Counts,
+    around: Around,
 ) -> Result<ReadWhen, SourceFault>
     requires within { at ≤ length tokens.now.spots.items }
-    requires shallow { depth ≤ 65 }
-    ensures reads { Answer (WhenPart actor depth number (counts_of counts))
+    requires shallow { around.depth ≤ 65 }
+    ensures reads { Answer (WhenPart around.actor around.depth number (counts_of around.counts))
         (NotBefore (token.Word word.Else)) when_out (λ r. r.to) tokens.now at result }
     ensures few { IfOk result (λ r. number ≤ BRANCHES) }
     ensures moves { IfOk result (λ r. (at < r.to) × (r.to ≤ length tokens.now.spots.items)) }
@@ -755,7 +728,7 @@ fn when(
     if !is_word(tokens, at, Word::When) {
         return Err(refused(tokens, Rule::S(5), at));
     }
-    if depth > DEPTH {
+    if around.depth > DEPTH {
         return Err(refused(tokens, Rule::L(5), at));
     }
     if number > BRANCHES {
@@ -763,9 +736,14 @@ fn when(
     }
     let here = place(tokens, at);
     let at = sign(tokens, at + 1, Sign::OpenRound)?;
-    let read = waiting(alloc, tokens, at, actor, depth, counts)?;
+    let read = waiting(alloc, tokens, at, around)?;
     let at = sign(tokens, read.to, Sign::CloseRound)?;
-    let inner = body(alloc, tokens, at, actor, depth + 1, read.counts)?;
+    let deeper = Around {
+        depth: around.depth + 1,
+        counts: read.counts,
+        ..around
+    };
+    let inner = body(alloc, tokens, at, deeper)?;
     Ok(ReadWhen {
         at: here,
         waiting: read.waiting,

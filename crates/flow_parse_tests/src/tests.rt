@@ -1,109 +1,29 @@
 // Texts and what they are read as.
 
 use flow_base::memory::NoMemory;
-use flow_base::name::Name;
-use flow_base::place::Place;
+use flow_lex::lex::lex;
 use flow_parse::parse::parse;
 use flow_tree::decl::Decl;
 use flow_tree::fault::{Rule, SourceFault};
 use flow_tree::stmt::StmtKind;
-use flow_tree::token::{Sign, Spot, Token, Tokens, Word};
+use flow_tree::token::Tokens;
 use std::alloc::Global;
 use std::test::Fail;
 
-fn sign(word: &str) -> Option<Sign> {
-    match word.as_bytes() {
-        b"(" => Some(Sign::OpenRound),
-        b")" => Some(Sign::CloseRound),
-        b"{" => Some(Sign::OpenCurly),
-        b"}" => Some(Sign::CloseCurly),
-        b"<" => Some(Sign::Less),
-        b">" => Some(Sign::Greater),
-        b"," => Some(Sign::Comma),
-        b";" => Some(Sign::Semicolon),
-        b"." => Some(Sign::Dot),
-        b"=" => Some(Sign::Assign),
-        b"!" => Some(Sign::Not),
-        b"+" => Some(Sign::Plus),
-        b"-" => Some(Sign::Minus),
-        b"+=" => Some(Sign::PlusAssign),
-        b"-=" => Some(Sign::MinusAssign),
-        b"++" => Some(Sign::PlusPlus),
-        b"--" => Some(Sign::MinusMinus),
-        b"&" => Some(Sign::Amp),
-        _ => None,
+// The first tokens of a text; the column of each is its number from 0.
+fn tokens(alloc: Global, text: &str, count: usize) -> Result<Tokens, SourceFault> {
+    if text.len() > 1_000_000 {
+        return Err(SourceFault::OutOfMemory);
     }
-}
-
-fn reserved(word: &str) -> Option<Word> {
-    match word.as_bytes() {
-        b"ACTOR" => Some(Word::Actor),
-        b"struct" => Some(Word::Struct),
-        b"state" => Some(Word::State),
-        b"wait" => Some(Word::Wait),
-        b"waitNext" => Some(Word::WaitNext),
-        b"choose" => Some(Word::Choose),
-        b"when" => Some(Word::When),
-        b"loop" => Some(Word::Loop),
-        b"while" => Some(Word::While),
-        b"for" => Some(Word::For),
-        b"if" => Some(Word::If),
-        b"else" => Some(Word::Else),
-        b"break" => Some(Word::Break),
-        b"continue" => Some(Word::Continue),
-        b"return" => Some(Word::Return),
-        b"throw" => Some(Word::Throw),
-        b"try" => Some(Word::Try),
-        b"catch" => Some(Word::Catch),
-        b"true" => Some(Word::Yes),
-        b"int" => Some(Word::Int),
-        b"Void" => Some(Word::Void),
-        b"Error" => Some(Word::Error),
-        b"Future" => Some(Word::Future),
-        b"Promise" => Some(Word::Promise),
-        _ => None,
-    }
-}
-
-fn token(alloc: Global, word: &str) -> Result<Token, NoMemory> {
-    if let Some(sign) = sign(word) {
-        return Ok(Token::Sign(sign));
-    }
-    if let Some(word) = reserved(word) {
-        return Ok(Token::Word(word));
-    }
-    match word.as_bytes() {
-        b"0" | b"1" | b"2" | b"3" => Ok(Token::Number(1)),
-        _ => Ok(Token::Name(Name::new(alloc, b"a")?)),
-    }
-}
-
-// The first words of a text as tokens; the column of each is its number from 0.
-fn tokens(alloc: Global, text: &str, count: usize) -> Result<Tokens, NoMemory> {
-    let mut spots = Vec::new(alloc);
+    let mut tokens = lex(alloc, text.as_bytes())?;
+    tokens.spots.truncate(count);
     let mut column = 0;
-    for word in text.split_whitespace().take(count) {
-        let at = Place {
-            line: 1,
-            column,
-            byte: 0,
-        };
-        spots.push(Spot {
-            token: token(alloc, word)?,
-            at,
-        })?;
-        if column < 1000000 {
-            column += 1;
-        }
+    for spot in &mut tokens.spots {
+        spot.at.column = column;
+        column = column.saturating_add(1);
     }
-    Ok(Tokens {
-        spots,
-        end: Place {
-            line: 2,
-            column,
-            byte: 0,
-        },
-    })
+    tokens.end.column = column;
+    Ok(tokens)
 }
 
 // The rule and the token for which the first words of a text are refused.

@@ -1,11 +1,10 @@
 // The frames of a process: places, positions, and values that leave them.
 
-ghost use Rattle.std.specs.Prelude.{◌≡◌, ◌∷◌, ◌++◌, ◌<◌, OnOk, IfOk, IfSome, IsSome, length, slice_get};
+ghost use Rattle.std.specs.Prelude.{◌≡◌, ◌∷◌, ◌++◌, ◌<◌, OnOk, IfOk, IfSome, IsSome, slice_get};
 ghost use Rattle.std.specs.Option.{option_copied};
 ghost use Rattle.std.specs.declared.option.Option.TheVariants.{Some};
 ghost use Rattle.flow_value.specs.View.{value_of, values_of};
-ghost use Rattle.flow_value.specs.Values.{ValueTree, RecordValue};
-ghost use Rattle.flow_eval.specs.Records.{value_at, value_put};
+ghost use Rattle.flow_value.specs.Values.{RecordValue};
 ghost use Rattle.flow_resolved.specs.View.{places_in};
 ghost use Rattle.flow_numbered.specs.Numbered.{thing};
 ghost use Rattle.flow_cancel.specs.Dropping.{dropping};
@@ -18,10 +17,10 @@ use crate::process::Process;
 use flow_base::ids::ActorId;
 use flow_code::class::{Aim, Block, Class, Instruction};
 use flow_code::program::Code;
+use flow_eval::locals::{put_at, record_value, take_at};
 use flow_frame::standing::Standing;
 use flow_resolved::names::FieldNames;
 use flow_value::value::{Record, Value};
-use std::mem;
 
 /// Whether a value may hold references.
 pub(crate) fn may_refer(value: &Value) -> bool
@@ -121,35 +120,6 @@ fn stand_in(code: &Code, actor: ActorId, at: Standing) -> Option<Stand<'_>>
     })
 }
 
-#[tactic(auto, using(flow_eval::proofs::Lookups::values_set, flow_eval::proofs::Lookups::put_again, flow_eval::proofs::Lookups::value_there))]
-// Takes a field out, and leaves a place that is yet to be filled.
-fn take_field(fields: &mut Vec<Value>, place: usize) -> Value
-    requires { place < length fields.old.items }
-    ensures part { value_at (values_of fields.old.items) place ≡ Some (value_of result) }
-    ensures rest { (w : ValueTree) → value_put (values_of fields.new.items) place w
-        ≡ value_put (values_of fields.old.items) place w }
-    ensures count { length fields.new.items ≡ length fields.old.items }
-{
-    mem::replace(&mut fields[place], Value::Void)
-}
-
-#[tactic(auto, using(flow_eval::proofs::Lookups::values_set))]
-// Fills it.
-fn fill_field(fields: &mut Vec<Value>, place: usize, value: Value)
-    requires { place < length fields.old.items }
-    ensures { values_of fields.new.items
-        ≡ value_put (values_of fields.old.items) place (value_of value) }
-{
-    fields[place] = value;
-}
-
-// A record as a value.
-fn record_value(of: Box<Record<Value>>) -> Value
-    ensures { value_of result ≡ RecordValue of.value.id (values_of of.value.fields.items) }
-{
-    Value::Struct(of)
-}
-
 /// Exchanges the part of a value to which the fields with names of these numbers lead, if they do. Gives what stood there, and
 /// the value then.
 #[cycle(exchange)]
@@ -196,11 +166,11 @@ fn exchange_field(
     if place >= of.fields.len() {
         return None;
     }
-    let part = take_field(&mut of.fields, place);
+    let part = take_at(&mut of.fields, place);
     let Some((old, part)) = exchange(fields, part, rest, value) else {
         return None;
     };
-    fill_field(&mut of.fields, place, part);
+    put_at(&mut of.fields, place, part);
     Some((old, record_value(of)))
 }
 

@@ -133,7 +133,7 @@ module _ (r : RawTree) (valid : IsValid r) (actors : List RoutineTree) (rules : 
         actors = w.actors;
         work = w.work;
         ports = w.ports;
-        main = λ n g. (future, subst (λ z. ts z ≡ Some future) (same_number n g) (new_type types (suc c.made) future));
+        main = λ n g. (d.returns, subst (λ z. ts z ≡ Some future) (same_number n g) (new_type types (suc c.made) future));
         requests = w.requests;
         numbered = w.numbered;
         framed = w.framed;

@@ -4,6 +4,7 @@ use Rattle.std.specs.declared.option.Option.{Option}
 use Rattle.std.specs.declared.option.Option.TheVariants.{None, Some}
 use Rattle.flow_tree.specs.Tree.{TypeTree}
 use Rattle.flow_value.specs.declared.value.Kind.{Kind}
+use Rattle.flow_eval.specs.Typed.{future_side}
 use Rattle.flow_class.specs.Classes.{RawTree}
 use Rattle.flow_meaning.specs.Numbered.{Numbered, thing, removed}
 use Rattle.flow_meaning.specs.Cells.{PromiseSide, FutureSide, side_of, Waiter, Cell, is_ready, waiters}
@@ -63,7 +64,7 @@ module _ (r : RawTree) (types : CellTypes) (c : Core) (xs : Numbered Frame) (p :
   pub drop_fits : (kind : Kind) (k : ℕ) (ts : List Task) → c.tasks ≡ Drop kind k ∷ ts → Ok (drop (frames_scan xs) kind k (record c { tasks = ts }))
   drop_fits kind k ts top =
       fine_turn r types (λ d. lose_ref (frames_scan xs) (side_of kind) k d) (record c { tasks = ts }) xs
-      (λ n. lose_fits r types xs (record c { tasks = ts; left = n }) (drop_popped kind k ts n top) go o.numbered (popped_alone c xs (Drop kind k) ts n top alone) (side_of kind) k (subst (TasksFit r types) top p.work).0)
+      (λ n. lose_fits r types xs (record c { tasks = ts; left = n }) (drop_popped kind k ts n top) go o.numbered (popped_alone c xs (Drop kind k) ts n top alone) (side_of kind) k (let x = (subst (TasksFit r types) top p.work).0 in (future_side kind x.0, x.1)))
 
   -- a fire
   fire_popped : (k : ℕ) (ts : List Task) → c.tasks ≡ Fire k ∷ ts → ProcessFits r types (record c { tasks = ts }) xs

@@ -2,7 +2,7 @@
 use Rattle.std.proofs.Common.{◌≡◌, ℕ, suc, nat_eq, List, [], ◌∷◌, if◌then◌else◌, refl, sym, ap, ◌∙◌, subst, arith}
 use Rattle.std.specs.declared.option.Option.{Option}
 use Rattle.std.specs.declared.option.Option.TheVariants.{None, Some}
-use Rattle.flow_tree.specs.Tree.{TypeTree}
+use Rattle.flow_tree.specs.Tree.{TypeTree, FutureType}
 use Rattle.flow_class.specs.Classes.{RawTree}
 use Rattle.flow_meaning.specs.Numbered.{Numbered, thing, added}
 use Rattle.flow_meaning.specs.Cells.{Waiter, Cell, waiters}
@@ -96,7 +96,7 @@ module _ (r : RawTree) (types : CellTypes) (t : TypeTree) (c : Core) (xs : Numbe
     actors = λ j n. old_actor (thing c.entries j) (thing xs j) (tasks_of j c.tasks) (p.actors j n);
     work = tasks_retyped r types more Any kept_types c.tasks (tasks_any Any any c.tasks) p.work;
     ports = λ q k e. kept_types k _ tt (p.ports q k e);
-    main = λ k e. let x = p.main k e in (x.0, kept_types k x.0 tt x.1);
+    main = λ k e. let x = p.main k e in (x.0, kept_types k (FutureType x.0) tt x.1);
     requests = all_exist_retyped r types more Any kept_types c.requests (seen_any Any any c.requests) p.requests;
     numbered = rising_added c.cells 0 c.made cell (omega arith) p.numbered;
     framed = p.framed;

@@ -2,7 +2,7 @@
 use Rattle.std.proofs.Common.{◌≡◌, ℕ, ◌+◌, nat_eq, Bool, true, false, List, [], ◌∷◌, refl, sym, subst, arith, if◌then◌else◌}
 use Rattle.std.specs.declared.option.Option.{Option}
 use Rattle.std.specs.declared.option.Option.TheVariants.{None, Some}
-use Rattle.flow_tree.specs.Tree.{TypeTree}
+use Rattle.flow_tree.specs.Tree.{TypeTree, FutureType}
 use Rattle.flow_value.specs.Values.{ValueTree, GoodOutcome, BadOutcome}
 use Rattle.flow_class.specs.Classes.{RawTree}
 use Rattle.flow_meaning.specs.Numbered.{Numbered, thing, removed}
@@ -153,7 +153,7 @@ module _ (r : RawTree) (types : CellTypes) (k : ℕ) where
       actors = λ i. actor_again i (thing c.entries i) (thing xs i) refl refl (p.actors i);
       work = tasks_retyped r types others (Off k) moves c.tasks s.tasks p.work;
       ports = λ q n at. moves n _ (s.ports q n at) (p.ports q n at);
-      main = λ n at. let e = p.main n at in (e.0, moves n e.0 (s.main n at) e.1);
+      main = λ n at. let e = p.main n at in (e.0, moves n (FutureType e.0) (s.main n at) e.1);
       requests = all_exist_retyped r types others (Off k) moves c.requests s.requests p.requests;
       numbered = rising_removed c.cells 0 c.made k p.numbered;
       framed = p.framed;

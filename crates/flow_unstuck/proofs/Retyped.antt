@@ -4,6 +4,7 @@ use Rattle.std.specs.declared.option.Option.{Option}
 use Rattle.std.specs.declared.option.Option.TheVariants.{None, Some}
 use Rattle.flow_tree.specs.Tree.{TypeTree, FutureType}
 use Rattle.flow_value.specs.Values.{ValueTree, ValueTrees, NoValues, MoreValues, IntValue, BoolValue, TextValue, VoidValue, ErrorValue, RecordValue, RefValue, OutcomeTree, GoodOutcome, BadOutcome}
+use Rattle.flow_value.specs.declared.value.Kind.{Kind}
 use Rattle.flow_eval.specs.Typed.{future_side, HaveTypes}
 use Rattle.flow_class.specs.declared.class.Slotted.{Slotted}
 use Rattle.flow_class.specs.Classes.{ClassTree, RawTree}
@@ -12,7 +13,7 @@ use Rattle.flow_meaning.specs.Process.{Task, Run, Give, Throw, Catch, Store, Kee
 use Rattle.flow_meaning.specs.Frame.{Memory, Frame, read}
 use Rattle.flow_unstuck.specs.Places.{HoldsTypes}
 use Rattle.flow_unstuck.specs.Asking.{OutcomeFits}
-use Rattle.flow_unstuck.specs.Fitting.{CellTypes, typed_by, Fits, Exists, ContentFits, QueueFits, CellFits, OperandsFit, Standing, Waiting, GivenFits, DoingFits, PostureFits, ActorFits, TasksFit, AllExist}
+use Rattle.flow_unstuck.specs.Fitting.{CellTypes, typed_by, Fits, Exists, Leads, ContentFits, QueueFits, CellFits, OperandsFit, Standing, Waiting, GivenFits, DoingFits, PostureFits, ActorFits, TasksFit, AllExist}
 
 -- the cells to which things refer
 module _ (P : ℕ → Type 0) where
@@ -169,10 +170,13 @@ module _ (r : RawTree) (types others : CellTypes) (P : ℕ → Type 0) (moves : 
   exists_retyped : (k : ℕ) → P k → Exists r types k → Exists r others k
   exists_retyped k s h = (h.0, moves k h.0 s h.1)
 
+  leads_retyped : (kd : Kind) (k : ℕ) → P k → Leads r types kd k → Leads r others kd k
+  leads_retyped kd k s h = (h.0, moves k (future_side kd h.0) s h.1)
+
   pub tasks_retyped : (ts : List Task) → TasksSee P ts → TasksFit r types ts → TasksFit r others ts
   tasks_retyped [] s h = tt
   tasks_retyped (Fire k ∷ ts) s h = (exists_retyped k s.0 h.0, tasks_retyped ts s.1 h.1)
-  tasks_retyped (Drop kd k ∷ ts) s h = (exists_retyped k s.0 h.0, tasks_retyped ts s.1 h.1)
+  tasks_retyped (Drop kd k ∷ ts) s h = (leads_retyped kd k s.0 h.0, tasks_retyped ts s.1 h.1)
   tasks_retyped (Run i ∷ ts) s h = tasks_retyped ts s.1 h
   tasks_retyped (Give i b o ∷ ts) s h = tasks_retyped ts s.1 h
   tasks_retyped (Throw i e ∷ ts) s h = tasks_retyped ts s.1 h

@@ -5,6 +5,7 @@ use Rattle.std.specs.declared.option.Option.{Option}
 use Rattle.std.specs.declared.option.Option.TheVariants.{None, Some}
 use Rattle.flow_tree.specs.Tree.{TypeTree, NamedType, FutureStreamType}
 use Rattle.flow_value.specs.Values.{ValueTree, ValueTrees, NoValues, MoreValues, IntValue, BoolValue, TextValue, VoidValue, ErrorValue, RecordValue, RefValue, refs_of, refs_of_all}
+use Rattle.flow_value.specs.declared.value.Kind.TheVariants.{Future}
 use Rattle.flow_eval.specs.Typed.{HaveTypes}
 use Rattle.flow_class.specs.Classes.{RawTree}
 use Rattle.flow_meaning.specs.Numbered.{Numbered, thing, put}
@@ -23,7 +24,7 @@ pub use Rattle.flow_unstuck.specs.Keeping.{Fine}
 use Rattle.flow_unstuck.specs.Keeping.{StillTyped, AskFits, FitsStill, FineAsking}
 use Rattle.flow_unstuck.proofs.Retyped.{AllSeen}
 use Rattle.flow_unstuck.specs.Registering.{IsRegistered}
-use Rattle.flow_unstuck.specs.Fitting.{CellTypes, typed_by, Fits, Exists, CellAt, AllWaitFor, WaitersAt, OperandsFit, ActorFits, ActorAt, TasksFit, AllExist, ProcessFits}
+use Rattle.flow_unstuck.specs.Fitting.{CellTypes, typed_by, Fits, Leads, CellAt, AllWaitFor, WaitersAt, OperandsFit, ActorFits, ActorAt, TasksFit, AllExist, ProcessFits}
 
 pub fine_of : (r : RawTree) (before : CellTypes) (q : Option Request) (o : Option Halt) (c : Core) (xs : Numbered Frame) → o ≡ None → FitsStill r before q c xs → FineAsking r before q o c xs
 fine_of r before q None c xs e h = h
@@ -72,7 +73,7 @@ module _ (r : RawTree) (types : CellTypes) where
     pub actors : (j : ℕ) → (i ≡ j → ⊥) → ActorAt r types (thing c.entries j) (thing xs j) (tasks_of j c.tasks)
     pub work : TasksFit r types c.tasks
     pub ports : (p k : ℕ) → thing c.ports p ≡ Some k → types k ≡ Some (FutureStreamType (NamedType (codes "Packet")))
-    pub main : (k : ℕ) → c.main ≡ Some k → Exists r types k
+    pub main : (k : ℕ) → c.main ≡ Some k → Leads r types Future k
     pub requests : AllExist r types c.requests
     pub numbered : Rising 0 c.made c.cells
     pub framed : Rising 0 c.started xs
@@ -165,10 +166,10 @@ module _ (r : RawTree) (types : CellTypes) where
     registered = h.registered;
   }
 
-  -- references of values that have types exist
+  -- references of values that have types lead to cells of their kinds
   abbrev pub RefsExist : List Ref → Type 0
   RefsExist [] = Unit {0}
-  RefsExist (q ∷ qs) = Exists r types q.1 × RefsExist qs
+  RefsExist (q ∷ qs) = Leads r types q.0 q.1 × RefsExist qs
 
   refs_both : (xs ys : List Ref) → RefsExist xs → RefsExist ys → RefsExist (xs ++ ys)
   refs_both [] ys h k = k
@@ -182,7 +183,7 @@ module _ (r : RawTree) (types : CellTypes) where
     value_refs VoidValue t h = tt
     value_refs (ErrorValue e) t h = tt
     value_refs (RecordValue d vs) t h = all_refs vs h.1.params h.5
-    value_refs (RefValue kd k) t h = ((_, h.2), tt)
+    value_refs (RefValue kd k) t h = ((h.0, h.2), tt)
 
     all_refs : (vs : ValueTrees) (ts : List TypeTree) → HaveTypes r.records (typed_by types) vs ts → RefsExist (refs_of_all vs)
     all_refs NoValues ts h = tt
@@ -198,7 +199,7 @@ module _ (r : RawTree) (types : CellTypes) where
 
   pub operands_exist : (f : Frame) (n : ℕ) (qs : List Ref) → OperandsFit r types f n qs → RefsExist qs
   operands_exist f n [] h = tt
-  operands_exist f n (q ∷ qs) h = ((_, h.0.2.2), operands_exist f (suc n) qs h.1)
+  operands_exist f n (q ∷ qs) h = ((h.0.2.0, h.0.2.2), operands_exist f (suc n) qs h.1)
 
   pub dropping_fits : (vs : List ValueTree) (c : Core) (xs : Numbered Frame) → HaveSome r.records (typed_by types) vs → ProcessFits r types c xs → ProcessFits r types (dropping_values vs c) xs
   dropping_fits vs c xs h p = record {

@@ -3,8 +3,10 @@ use Rattle.std.specs.Prelude.{◌≡◌, ◌⊎◌, ℕ, suc, Bool, true, false,
 use Rattle.std.specs.declared.option.Option.{Option}
 use Rattle.std.specs.declared.option.Option.TheVariants.{None, Some}
 use Rattle.flow_tree.specs.Tree.{TypeTree, NamedType, FutureType, FutureStreamType}
+use Rattle.flow_value.specs.declared.value.Kind as reference
+use Rattle.flow_value.specs.declared.value.Kind.TheVariants.{Future}
 use Rattle.flow_value.specs.Values.{ValueTree, RefValue, OutcomeTree}
-use Rattle.flow_eval.specs.Typed.{HasType}
+use Rattle.flow_eval.specs.Typed.{future_side, HasType}
 use Rattle.flow_class.specs.Classes.{CallbackTree, ClassTree, RawTree}
 use Rattle.flow_class.specs.Code.{fetch, callback_at}
 use Rattle.flow_meaning.specs.Numbered.{Numbered, thing}
@@ -31,6 +33,10 @@ module _ (r : RawTree) (types : CellTypes) where
 
   abbrev pub Exists : ℕ → Type 0
   Exists k = (t : TypeTree) × (types k ≡ Some t)
+
+  -- a reference of a kind is to a cell of that kind
+  abbrev pub Leads : reference.Kind → ℕ → Type 0
+  Leads kind k = (u : TypeTree) × (types k ≡ Some (future_side kind u))
 
   -- what a cell holds has the type of what it is of
   abbrev pub ContentFits : Option OutcomeTree → TypeTree → Type 0
@@ -119,11 +125,11 @@ module _ (r : RawTree) (types : CellTypes) where
   ActorAt (Some e) None ts = ⊥
   ActorAt (Some e) (Some f) ts = ActorFits e f ts
 
-  -- the cells of fires and drops are there
+  -- the cells of fires are there, and those of drops are of their kinds
   abbrev pub TasksFit : List Task → Type 0
   TasksFit [] = Unit {0}
   TasksFit (Fire k ∷ ts) = Exists k × TasksFit ts
-  TasksFit (Drop kind k ∷ ts) = Exists k × TasksFit ts
+  TasksFit (Drop kind k ∷ ts) = Leads kind k × TasksFit ts
   TasksFit (t ∷ ts) = TasksFit ts
 
   abbrev pub AllExist : List ℕ → Type 0
@@ -136,7 +142,7 @@ module _ (r : RawTree) (types : CellTypes) where
     pub actors : (i : ℕ) → ActorAt (thing c.entries i) (thing xs i) (tasks_of i c.tasks)
     pub work : TasksFit c.tasks
     pub ports : (p k : ℕ) → thing c.ports p ≡ Some k → types k ≡ Some (FutureStreamType (NamedType (codes "Packet")))
-    pub main : (k : ℕ) → c.main ≡ Some k → Exists k
+    pub main : (k : ℕ) → c.main ≡ Some k → Leads Future k
     pub requests : AllExist c.requests
     pub numbered : Rising 0 c.made c.cells
     pub framed : Rising 0 c.started xs

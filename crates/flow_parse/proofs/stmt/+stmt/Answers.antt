@@ -30,9 +30,9 @@ pub block-returns-in_err-at-clause-reads : goal.block-returns-in_err-at-clause-r
 block-returns-in_err-at-clause-reads h c =
     let t = c.args.tokens.now in
     let s = t.spots.items in
-    let a = c.args.actor in
-    let d = c.args.depth in
-    let k = counts_of c.args.counts in
+    let a = c.args.around.actor in
+    let d = c.args.around.depth in
+    let k = counts_of c.args.around.counts in
     let l = narrow s refl (block_turns a d k (token_at s c.args.at)) (nothing s (Block a d k) Any c.args.at c.requires.within) in
     let e = c.in_err-at.field-0.0 in
     let p = err_from_is_err_and c.from_residual.result c.from_residual.ensures.1 in
@@ -42,9 +42,9 @@ pub block-returns-clause-reads : goal.block-returns-clause-reads
 block-returns-clause-reads h c =
     let t = c.args.tokens.now in
     let s = t.spots.items in
-    let a = c.args.actor in
-    let d = c.args.depth in
-    let k = counts_of c.args.counts in
+    let a = c.args.around.actor in
+    let d = c.args.around.depth in
+    let k = counts_of c.args.around.counts in
     let l = narrow s refl (block_turns a d k (token_at s c.args.at)) (nothing s (Block a d k) Any c.args.at c.requires.within) in
     answer_done block_out (λ r. r.to) t (then_reads s (block_open a d k) l c.in_ok-at.ensures.reads) c.stmts.result c.stmts.ensures.reads
 
@@ -52,9 +52,9 @@ pub body-returns-in_err-read-clause-reads : goal.body-returns-in_err-read-clause
 body-returns-in_err-read-clause-reads h c =
     let t = c.args.tokens.now in
     let s = t.spots.items in
-    let a = c.args.actor in
-    let d = c.args.depth in
-    let k = counts_of c.args.counts in
+    let a = c.args.around.actor in
+    let d = c.args.around.depth in
+    let k = counts_of c.args.around.counts in
     let l = narrow s (c.if-is_sign.ensures.sign.0 refl) (body_block a d k) (nothing s (BodyPart a d k) NoElse c.args.at c.requires.within) in
     let e = c.in_err-read.field-0.0 in
     let p = err_from_is_err_and c.from_residual.result c.from_residual.ensures.1 in
@@ -64,26 +64,26 @@ pub body-returns-then-is_sign-clause-reads : goal.body-returns-then-is_sign-clau
 body-returns-then-is_sign-clause-reads h c =
     let t = c.args.tokens.now in
     let s = t.spots.items in
-    let a = c.args.actor in
-    let d = c.args.depth in
-    let k = counts_of c.args.counts in
+    let a = c.args.around.actor in
+    let d = c.args.around.depth in
+    let k = counts_of c.args.around.counts in
     let l = narrow s (c.if-is_sign.ensures.sign.0 refl) (body_block a d k) (nothing s (BodyPart a d k) NoElse c.args.at c.requires.within) in
     done s l c.in_ok-read.ensures.reads
 
 pub body-returns-then-not-begins_stmt-clause-reads : goal.body-returns-then-not-begins_stmt-clause-reads
 body-returns-then-not-begins_stmt-clause-reads h c =
     let t = c.args.tokens.now in
-    let a = c.args.actor in
-    let d = c.args.depth in
-    let k = counts_of c.args.counts in
+    let a = c.args.around.actor in
+    let d = c.args.around.depth in
+    let k = counts_of c.args.around.counts in
     rw c.refused.ensures (body_none t c.args.at a d k (λ e. not_true (c.if-not-begins_stmt.ensures.begins.1 e)))
 
 pub body-returns-in_err-counts-clause-reads : goal.body-returns-in_err-counts-clause-reads
 body-returns-in_err-counts-clause-reads h c =
     let t = c.args.tokens.now in
-    let a = c.args.actor in
-    let d = c.args.depth in
-    let k = counts_of c.args.counts in
+    let a = c.args.around.actor in
+    let d = c.args.around.depth in
+    let k = counts_of c.args.around.counts in
     let e = c.in_err-counts.field-0.0 in
     let p = err_from_is_err_and c.from_residual-in_err-counts.result c.from_residual-in_err-counts.ensures.1 in
     rw (p.1, p.2) (body_beyond t c.args.at a d k c.if-not-begins_stmt.ensures.within (c.if-not-begins_stmt.ensures.begins.0 refl) (λ e. not_true (c.if-is_sign.ensures.sign.1 e)) e c.in_err-counts.ensures.beyond)
@@ -92,9 +92,9 @@ pub body-returns-in_err-read-2-clause-reads : goal.body-returns-in_err-read-2-cl
 body-returns-in_err-read-2-clause-reads h c =
     let t = c.args.tokens.now in
     let s = t.spots.items in
-    let a = c.args.actor in
-    let d = c.args.depth in
-    let k = counts_of c.args.counts in
+    let a = c.args.around.actor in
+    let d = c.args.around.depth in
+    let k = counts_of c.args.around.counts in
     let l = narrow s refl (body_plain a d k (token_at s c.args.at) (λ e. not_true (c.if-is_sign.ensures.sign.1 e))) (nothing s (BodyPart a d k) NoElse c.args.at c.requires.within) in
     let e = c.in_err-read-2.field-0.0 in
     let p = err_from_is_err_and c.from_residual-in_err-read-2.result c.from_residual-in_err-read-2.ensures.1 in
@@ -104,9 +104,9 @@ pub body-returns-clause-reads : goal.body-returns-clause-reads
 body-returns-clause-reads h c =
     let t = c.args.tokens.now in
     let s = t.spots.items in
-    let a = c.args.actor in
-    let d = c.args.depth in
-    let k = counts_of c.args.counts in
+    let a = c.args.around.actor in
+    let d = c.args.around.depth in
+    let k = counts_of c.args.around.counts in
     let l = narrow s refl (body_plain a d k (token_at s c.args.at) (λ e. not_true (c.if-is_sign.ensures.sign.1 e))) (nothing s (BodyPart a d k) NoElse c.args.at c.requires.within) in
     let r = moved (Plain a d) c.in_ok-counts.ensures.one c.in_ok-read-2.ensures.reads in
     let b = begun_reads (Plain a d (one_statement k)) NoElse t c.args.at k d c.requires.within c.in_ok-counts.ensures.within.1 c.in_ok-counts.ensures.within.0 (stmt_out c.in_ok-read-2.read) c.in_ok-read-2.read.to r in
@@ -117,9 +117,9 @@ pub choose-returns-in_err-at-clause-reads : goal.choose-returns-in_err-at-clause
 choose-returns-in_err-at-clause-reads h c =
     let t = c.args.tokens.now in
     let s = t.spots.items in
-    let a = c.args.actor in
-    let d = c.args.depth in
-    let k = counts_of c.args.counts in
+    let a = c.args.around.actor in
+    let d = c.args.around.depth in
+    let k = counts_of c.args.around.counts in
     let l = then_reads s (choose_word a (suc d) k) (choose_left t c.args.at a d k c.requires.within c.requires.here) (tok_reads t c.args.at (token.Word word.Choose) c.requires.here) in
     let e = c.in_err-at.field-0.0 in
     let p = err_from_is_err_and c.from_residual.result c.from_residual.ensures.1 in
@@ -129,9 +129,9 @@ pub choose-returns-in_err-read-clause-reads : goal.choose-returns-in_err-read-cl
 choose-returns-in_err-read-clause-reads h c =
     let t = c.args.tokens.now in
     let s = t.spots.items in
-    let a = c.args.actor in
-    let d = c.args.depth in
-    let k = counts_of c.args.counts in
+    let a = c.args.around.actor in
+    let d = c.args.around.depth in
+    let k = counts_of c.args.around.counts in
     let l = then_reads s (choose_word a (suc d) k) (choose_left t c.args.at a d k c.requires.within c.requires.here) (tok_reads t c.args.at (token.Word word.Choose) c.requires.here) in
     let m = then_reads s (choose_open a (suc d) k) l c.in_ok-at.ensures.reads in
     let e = c.in_err-read.field-0.0 in
@@ -142,9 +142,9 @@ pub choose-returns-clause-reads : goal.choose-returns-clause-reads
 choose-returns-clause-reads h c =
     let t = c.args.tokens.now in
     let s = t.spots.items in
-    let a = c.args.actor in
-    let d = c.args.depth in
-    let k = counts_of c.args.counts in
+    let a = c.args.around.actor in
+    let d = c.args.around.depth in
+    let k = counts_of c.args.around.counts in
     let l = then_reads s (choose_word a (suc d) k) (choose_left t c.args.at a d k c.requires.within c.requires.here) (tok_reads t c.args.at (token.Word word.Choose) c.requires.here) in
     let m = then_reads s (choose_open a (suc d) k) l c.in_ok-at.ensures.reads in
     rw (c.ended.ensures.is, c.choose.ensures.is End, c.place-here.ensures) (done s m (deeper (λ i. AllWhens a i k) d c.in_ok-read.ensures.reads))
@@ -153,9 +153,9 @@ pub for_stmt-returns-in_err-at-clause-reads : goal.for_stmt-returns-in_err-at-cl
 for_stmt-returns-in_err-at-clause-reads h c =
     let t = c.args.tokens.now in
     let s = t.spots.items in
-    let a = c.args.actor in
-    let d = c.args.depth in
-    let k = counts_of c.args.counts in
+    let a = c.args.around.actor in
+    let d = c.args.around.depth in
+    let k = counts_of c.args.around.counts in
     let l1 = then_reads s (for_word a (suc d) k) (for_left t c.args.at a d k c.requires.within c.requires.here) (tok_reads t c.args.at (token.Word word.For) c.requires.here) in
     let e = c.in_err-at.field-0.0 in
     let p = err_from_is_err_and c.from_residual.result c.from_residual.ensures.1 in
@@ -165,9 +165,9 @@ pub for_stmt-returns-in_err-start-clause-reads : goal.for_stmt-returns-in_err-st
 for_stmt-returns-in_err-start-clause-reads h c =
     let t = c.args.tokens.now in
     let s = t.spots.items in
-    let a = c.args.actor in
-    let d = c.args.depth in
-    let k = counts_of c.args.counts in
+    let a = c.args.around.actor in
+    let d = c.args.around.depth in
+    let k = counts_of c.args.around.counts in
     let l1 = then_reads s (for_word a (suc d) k) (for_left t c.args.at a d k c.requires.within c.requires.here) (tok_reads t c.args.at (token.Word word.For) c.requires.here) in
     let l2 = then_reads s (for_open a (suc d) k) l1 c.in_ok-at.ensures.reads in
     let e = c.in_err-start.field-0.0 in
@@ -178,9 +178,9 @@ pub for_stmt-returns-in_err-test-clause-reads : goal.for_stmt-returns-in_err-tes
 for_stmt-returns-in_err-test-clause-reads h c =
     let t = c.args.tokens.now in
     let s = t.spots.items in
-    let a = c.args.actor in
-    let d = c.args.depth in
-    let k = counts_of c.args.counts in
+    let a = c.args.around.actor in
+    let d = c.args.around.depth in
+    let k = counts_of c.args.around.counts in
     let l1 = then_reads s (for_word a (suc d) k) (for_left t c.args.at a d k c.requires.within c.requires.here) (tok_reads t c.args.at (token.Word word.For) c.requires.here) in
     let l2 = then_reads s (for_open a (suc d) k) l1 c.in_ok-at.ensures.reads in
     let l3 = then_reads s (start_test a (suc d) k) l2 (deeper (λ i. StartPart a i k) d c.in_ok-start.ensures.reads) in
@@ -193,9 +193,9 @@ pub for_stmt-returns-in_err-next-clause-reads : goal.for_stmt-returns-in_err-nex
 for_stmt-returns-in_err-next-clause-reads h c =
     let t = c.args.tokens.now in
     let s = t.spots.items in
-    let a = c.args.actor in
-    let d = c.args.depth in
-    let k = counts_of c.args.counts in
+    let a = c.args.around.actor in
+    let d = c.args.around.depth in
+    let k = counts_of c.args.around.counts in
     let l1 = then_reads s (for_word a (suc d) k) (for_left t c.args.at a d k c.requires.within c.requires.here) (tok_reads t c.args.at (token.Word word.For) c.requires.here) in
     let l2 = then_reads s (for_open a (suc d) k) l1 c.in_ok-at.ensures.reads in
     let l3 = then_reads s (start_test a (suc d) k) l2 (deeper (λ i. StartPart a i k) d c.in_ok-start.ensures.reads) in
@@ -209,9 +209,9 @@ pub for_stmt-returns-in_err-read-clause-reads : goal.for_stmt-returns-in_err-rea
 for_stmt-returns-in_err-read-clause-reads h c =
     let t = c.args.tokens.now in
     let s = t.spots.items in
-    let a = c.args.actor in
-    let d = c.args.depth in
-    let k = counts_of c.args.counts in
+    let a = c.args.around.actor in
+    let d = c.args.around.depth in
+    let k = counts_of c.args.around.counts in
     let l1 = then_reads s (for_word a (suc d) k) (for_left t c.args.at a d k c.requires.within c.requires.here) (tok_reads t c.args.at (token.Word word.For) c.requires.here) in
     let l2 = then_reads s (for_open a (suc d) k) l1 c.in_ok-at.ensures.reads in
     let l3 = then_reads s (start_test a (suc d) k) l2 (deeper (λ i. StartPart a i k) d c.in_ok-start.ensures.reads) in
@@ -227,9 +227,9 @@ pub for_stmt-returns-clause-reads : goal.for_stmt-returns-clause-reads
 for_stmt-returns-clause-reads h c =
     let t = c.args.tokens.now in
     let s = t.spots.items in
-    let a = c.args.actor in
-    let d = c.args.depth in
-    let k = counts_of c.args.counts in
+    let a = c.args.around.actor in
+    let d = c.args.around.depth in
+    let k = counts_of c.args.around.counts in
     let l1 = then_reads s (for_word a (suc d) k) (for_left t c.args.at a d k c.requires.within c.requires.here) (tok_reads t c.args.at (token.Word word.For) c.requires.here) in
     let l2 = then_reads s (for_open a (suc d) k) l1 c.in_ok-at.ensures.reads in
     let l3 = then_reads s (start_test a (suc d) k) l2 (deeper (λ i. StartPart a i k) d c.in_ok-start.ensures.reads) in
@@ -243,9 +243,9 @@ pub if_stmt-returns-in_err-test-clause-reads : goal.if_stmt-returns-in_err-test-
 if_stmt-returns-in_err-test-clause-reads h c =
     let t = c.args.tokens.now in
     let s = t.spots.items in
-    let a = c.args.actor in
-    let d = c.args.depth in
-    let k = counts_of c.args.counts in
+    let a = c.args.around.actor in
+    let d = c.args.around.depth in
+    let k = counts_of c.args.around.counts in
     let l1 = then_reads s (if_word a (suc d) k) (if_left t c.args.at a d k c.requires.within c.requires.here) (tok_reads t c.args.at (token.Word word.If) c.requires.here) in
     let e = c.in_err-test.field-0.0 in
     let p = err_from_is_err_and c.from_residual.result c.from_residual.ensures.1 in
@@ -255,9 +255,9 @@ pub if_stmt-returns-in_err-then-clause-reads : goal.if_stmt-returns-in_err-then-
 if_stmt-returns-in_err-then-clause-reads h c =
     let t = c.args.tokens.now in
     let s = t.spots.items in
-    let a = c.args.actor in
-    let d = c.args.depth in
-    let k = counts_of c.args.counts in
+    let a = c.args.around.actor in
+    let d = c.args.around.depth in
+    let k = counts_of c.args.around.counts in
     let l1 = then_reads s (if_word a (suc d) k) (if_left t c.args.at a d k c.requires.within c.requires.here) (tok_reads t c.args.at (token.Word word.If) c.requires.here) in
     let l2 = then_reads s (if_test a (suc d) k) l1 (deeper Test d c.in_ok-test.ensures.reads) in
     let e = c.in_err-then.field-0.0 in
@@ -268,9 +268,9 @@ pub if_stmt-returns-then-then-clause-reads : goal.if_stmt-returns-then-then-clau
 if_stmt-returns-then-then-clause-reads h c =
     let t = c.args.tokens.now in
     let s = t.spots.items in
-    let a = c.args.actor in
-    let d = c.args.depth in
-    let k = counts_of c.args.counts in
+    let a = c.args.around.actor in
+    let d = c.args.around.depth in
+    let k = counts_of c.args.around.counts in
     let l1 = then_reads s (if_word a (suc d) k) (if_left t c.args.at a d k c.requires.within c.requires.here) (tok_reads t c.args.at (token.Word word.If) c.requires.here) in
     let l2 = then_reads s (if_test a (suc d) k) l1 (deeper Test d c.in_ok-test.ensures.reads) in
     let l3 = then_reads s (then_else a (suc d) k) l2 (deeper (λ i. BodyPart a i k) d c.in_ok-then.ensures.reads) in
@@ -286,9 +286,9 @@ pub if_stmt-returns-in_err-other-clause-reads : goal.if_stmt-returns-in_err-othe
 if_stmt-returns-in_err-other-clause-reads h c =
     let t = c.args.tokens.now in
     let s = t.spots.items in
-    let a = c.args.actor in
-    let d = c.args.depth in
-    let k = counts_of c.args.counts in
+    let a = c.args.around.actor in
+    let d = c.args.around.depth in
+    let k = counts_of c.args.around.counts in
     let l1 = then_reads s (if_word a (suc d) k) (if_left t c.args.at a d k c.requires.within c.requires.here) (tok_reads t c.args.at (token.Word word.If) c.requires.here) in
     let l2 = then_reads s (if_test a (suc d) k) l1 (deeper Test d c.in_ok-test.ensures.reads) in
     let l3 = then_reads s (then_else a (suc d) k) l2 (deeper (λ i. BodyPart a i k) d c.in_ok-then.ensures.reads) in
@@ -303,9 +303,9 @@ pub if_stmt-returns-clause-reads : goal.if_stmt-returns-clause-reads
 if_stmt-returns-clause-reads h c =
     let t = c.args.tokens.now in
     let s = t.spots.items in
-    let a = c.args.actor in
-    let d = c.args.depth in
-    let k = counts_of c.args.counts in
+    let a = c.args.around.actor in
+    let d = c.args.around.depth in
+    let k = counts_of c.args.around.counts in
     let l1 = then_reads s (if_word a (suc d) k) (if_left t c.args.at a d k c.requires.within c.requires.here) (tok_reads t c.args.at (token.Word word.If) c.requires.here) in
     let l2 = then_reads s (if_test a (suc d) k) l1 (deeper Test d c.in_ok-test.ensures.reads) in
     let l3 = then_reads s (then_else a (suc d) k) l2 (deeper (λ i. BodyPart a i k) d c.in_ok-then.ensures.reads) in
@@ -318,9 +318,9 @@ pub loop_stmt-returns-in_err-read-clause-reads : goal.loop_stmt-returns-in_err-r
 loop_stmt-returns-in_err-read-clause-reads h c =
     let t = c.args.tokens.now in
     let s = t.spots.items in
-    let a = c.args.actor in
-    let d = c.args.depth in
-    let k = counts_of c.args.counts in
+    let a = c.args.around.actor in
+    let d = c.args.around.depth in
+    let k = counts_of c.args.around.counts in
     let l = then_reads s (body_link a (suc d) k (Tok (token.Word word.Loop))) (loop_left t c.args.at a d k c.requires.within c.requires.here) (tok_reads t c.args.at (token.Word word.Loop) c.requires.here) in
     let e = c.in_err-read.field-0.0 in
     let p = err_from_is_err_and c.from_residual.result c.from_residual.ensures.1 in
@@ -330,9 +330,9 @@ pub loop_stmt-returns-clause-reads : goal.loop_stmt-returns-clause-reads
 loop_stmt-returns-clause-reads h c =
     let t = c.args.tokens.now in
     let s = t.spots.items in
-    let a = c.args.actor in
-    let d = c.args.depth in
-    let k = counts_of c.args.counts in
+    let a = c.args.around.actor in
+    let d = c.args.around.depth in
+    let k = counts_of c.args.around.counts in
     let l = then_reads s (body_link a (suc d) k (Tok (token.Word word.Loop))) (loop_left t c.args.at a d k c.requires.within c.requires.here) (tok_reads t c.args.at (token.Word word.Loop) c.requires.here) in
     rw (c.loop_stmt.ensures.is End, c.place-here.ensures) (done s l (deeper (λ i. BodyPart a i k) d c.in_ok-read.ensures.reads))
 
@@ -340,9 +340,9 @@ pub while_stmt-returns-in_err-test-clause-reads : goal.while_stmt-returns-in_err
 while_stmt-returns-in_err-test-clause-reads h c =
     let t = c.args.tokens.now in
     let s = t.spots.items in
-    let a = c.args.actor in
-    let d = c.args.depth in
-    let k = counts_of c.args.counts in
+    let a = c.args.around.actor in
+    let d = c.args.around.depth in
+    let k = counts_of c.args.around.counts in
     let l = then_reads s (while_word a (suc d) k) (while_left t c.args.at a d k c.requires.within c.requires.here) (tok_reads t c.args.at (token.Word word.While) c.requires.here) in
     let e = c.in_err-test.field-0.0 in
     let p = err_from_is_err_and c.from_residual.result c.from_residual.ensures.1 in
@@ -352,9 +352,9 @@ pub while_stmt-returns-in_err-read-clause-reads : goal.while_stmt-returns-in_err
 while_stmt-returns-in_err-read-clause-reads h c =
     let t = c.args.tokens.now in
     let s = t.spots.items in
-    let a = c.args.actor in
-    let d = c.args.depth in
-    let k = counts_of c.args.counts in
+    let a = c.args.around.actor in
+    let d = c.args.around.depth in
+    let k = counts_of c.args.around.counts in
     let l = then_reads s (while_word a (suc d) k) (while_left t c.args.at a d k c.requires.within c.requires.here) (tok_reads t c.args.at (token.Word word.While) c.requires.here) in
     let m = then_reads s (test_body a (suc d) k) l (deeper Test d c.in_ok-test.ensures.reads) in
     let e = c.in_err-read.field-0.0 in
@@ -365,9 +365,9 @@ pub while_stmt-returns-clause-reads : goal.while_stmt-returns-clause-reads
 while_stmt-returns-clause-reads h c =
     let t = c.args.tokens.now in
     let s = t.spots.items in
-    let a = c.args.actor in
-    let d = c.args.depth in
-    let k = counts_of c.args.counts in
+    let a = c.args.around.actor in
+    let d = c.args.around.depth in
+    let k = counts_of c.args.around.counts in
     let l = then_reads s (while_word a (suc d) k) (while_left t c.args.at a d k c.requires.within c.requires.here) (tok_reads t c.args.at (token.Word word.While) c.requires.here) in
     let m = then_reads s (test_body a (suc d) k) l (deeper Test d c.in_ok-test.ensures.reads) in
     rw (c.while_stmt.ensures.is End, c.place-here.ensures) (done s m (deeper (λ i. BodyPart a i k) d c.in_ok-read.ensures.reads))
@@ -376,9 +376,9 @@ pub plain-returns-in_err-read-clause-reads : goal.plain-returns-in_err-read-clau
 plain-returns-in_err-read-clause-reads h c =
     let t = c.args.tokens.now in
     let s = t.spots.items in
-    let a = c.args.actor in
-    let d = c.args.depth in
-    let k = counts_of c.args.counts in
+    let a = c.args.around.actor in
+    let d = c.args.around.depth in
+    let k = counts_of c.args.around.counts in
     let n = no_keyword (token_at s c.args.at) (λ e. not_true (c.if-is_word.ensures.word.1 e)) (λ e. not_true (c.if-is_word-2.ensures.word.1 e)) (λ e. not_true (c.if-is_word-3.ensures.word.1 e)) (λ e. not_true (c.if-is_word-4.ensures.word.1 e)) (λ e. not_true (c.if-is_word-5.ensures.word.1 e)) (λ e. not_true (c.if-is_word-6.ensures.word.1 e)) (λ e. not_true (c.if-is_word-7.ensures.word.1 e)) (λ e. not_true (c.if-is_word-8.ensures.word.1 e)) (λ e. not_true (c.if-is_word-9.ensures.word.1 e)) (λ e. not_true (c.if-is_word-10.ensures.word.1 e)) in
     let e = c.in_err-read.field-0.0 in
     let p = err_from_is_err_and c.from_residual.result c.from_residual.ensures.1 in
@@ -388,9 +388,9 @@ pub plain-returns-clause-reads : goal.plain-returns-clause-reads
 plain-returns-clause-reads h c =
     let t = c.args.tokens.now in
     let s = t.spots.items in
-    let a = c.args.actor in
-    let d = c.args.depth in
-    let k = counts_of c.args.counts in
+    let a = c.args.around.actor in
+    let d = c.args.around.depth in
+    let k = counts_of c.args.around.counts in
     let n = no_keyword (token_at s c.args.at) (λ e. not_true (c.if-is_word.ensures.word.1 e)) (λ e. not_true (c.if-is_word-2.ensures.word.1 e)) (λ e. not_true (c.if-is_word-3.ensures.word.1 e)) (λ e. not_true (c.if-is_word-4.ensures.word.1 e)) (λ e. not_true (c.if-is_word-5.ensures.word.1 e)) (λ e. not_true (c.if-is_word-6.ensures.word.1 e)) (λ e. not_true (c.if-is_word-7.ensures.word.1 e)) (λ e. not_true (c.if-is_word-8.ensures.word.1 e)) (λ e. not_true (c.if-is_word-9.ensures.word.1 e)) (λ e. not_true (c.if-is_word-10.ensures.word.1 e)) in
     let r = become s refl (simple_turns a d k (token_at s c.args.at) n) c.in_ok-read.ensures.reads in
     rw c.ended.ensures.is (subst (λ b. Reads (Plain a d k) NoElse s c.args.at (record { body = stmt_of c.in_ok-read.read.stmt End; counts = counts_of c.in_ok-read.read.counts; ends_if = b }) c.in_ok-read.read.to) c.in_ok-read.ensures.closed r)
@@ -398,17 +398,17 @@ plain-returns-clause-reads h c =
 pub stmt-returns-then-not-begins_stmt-clause-reads : goal.stmt-returns-then-not-begins_stmt-clause-reads
 stmt-returns-then-not-begins_stmt-clause-reads h c =
     let t = c.args.tokens.now in
-    let a = c.args.actor in
-    let d = c.args.depth in
-    let k = counts_of c.args.counts in
+    let a = c.args.around.actor in
+    let d = c.args.around.depth in
+    let k = counts_of c.args.around.counts in
     rw c.refused.ensures (one_none t c.args.at a d k (λ e. not_true (c.if-not-begins_stmt.ensures.begins.1 e)))
 
 pub stmt-returns-in_err-counts-clause-reads : goal.stmt-returns-in_err-counts-clause-reads
 stmt-returns-in_err-counts-clause-reads h c =
     let t = c.args.tokens.now in
-    let a = c.args.actor in
-    let d = c.args.depth in
-    let k = counts_of c.args.counts in
+    let a = c.args.around.actor in
+    let d = c.args.around.depth in
+    let k = counts_of c.args.around.counts in
     let e = c.in_err-counts.field-0.0 in
     let p = err_from_is_err_and c.from_residual.result c.from_residual.ensures.1 in
     rw (p.1, p.2) (one_beyond t c.args.at a d k c.if-not-begins_stmt.ensures.within (c.if-not-begins_stmt.ensures.begins.0 refl) e c.in_err-counts.ensures.beyond)
@@ -417,9 +417,9 @@ pub stmt-returns-then-not-is_sign-clause-reads : goal.stmt-returns-then-not-is_s
 stmt-returns-then-not-is_sign-clause-reads h c =
     let t = c.args.tokens.now in
     let s = t.spots.items in
-    let a = c.args.actor in
-    let d = c.args.depth in
-    let k = counts_of c.args.counts in
+    let a = c.args.around.actor in
+    let d = c.args.around.depth in
+    let k = counts_of c.args.around.counts in
     let r = subst (λ i. Answer (Plain a d i) NoElse stmt_out (λ r. r.to) t c.args.at c.plain.result) c.in_ok-counts.ensures.one c.plain.ensures.reads in
     let b = answer_begun (Plain a d (one_statement k)) NoElse stmt_out (λ r. r.to) t c.args.at k d c.requires.within c.in_ok-counts.ensures.within.1 c.in_ok-counts.ensures.within.0 c.plain.result r in
     answer_become stmt_out (λ r. r.to) t c.args.at c.requires.within refl (one_plain a d k (token_at s c.args.at) (λ e. not_true (c.if-not-is_sign.ensures.sign.1 e))) c.plain.result b
@@ -428,9 +428,9 @@ pub stmt-returns-in_err-read-clause-reads : goal.stmt-returns-in_err-read-clause
 stmt-returns-in_err-read-clause-reads h c =
     let t = c.args.tokens.now in
     let s = t.spots.items in
-    let a = c.args.actor in
-    let d = c.args.depth in
-    let k = counts_of c.args.counts in
+    let a = c.args.around.actor in
+    let d = c.args.around.depth in
+    let k = counts_of c.args.around.counts in
     let l = narrow s (c.if-not-is_sign.ensures.sign.0 refl) (one_block a d k) (nothing s (One a d k) NoElse c.args.at c.requires.within) in
     let e = c.in_err-read.field-0.0 in
     let p = err_from_is_err_and c.from_residual-in_err-read.result c.from_residual-in_err-read.ensures.1 in
@@ -441,9 +441,9 @@ pub stmt-returns-clause-reads : goal.stmt-returns-clause-reads
 stmt-returns-clause-reads h c =
     let t = c.args.tokens.now in
     let s = t.spots.items in
-    let a = c.args.actor in
-    let d = c.args.depth in
-    let k = counts_of c.args.counts in
+    let a = c.args.around.actor in
+    let d = c.args.around.depth in
+    let k = counts_of c.args.around.counts in
     let l = narrow s (c.if-not-is_sign.ensures.sign.0 refl) (one_block a d k) (nothing s (One a d k) NoElse c.args.at c.requires.within) in
     let r = moved (Block a (suc d)) c.in_ok-counts.ensures.one (deeper (λ i. Block a i (counts_of c.in_ok-counts.counts)) d c.in_ok-read.ensures.reads) in
     let p = placed_reads t c.args.at c.in_ok-read.read.to c.in_ok-read.ensures.moves.0 r in
@@ -454,9 +454,9 @@ pub stmts-items-init : goal.stmts-items-init
 stmts-items-init h c =
     let t = c.args.tokens.now in
     let s = t.spots.items in
-    let a = c.args.actor in
-    let d = c.args.depth in
-    let k = counts_of c.args.counts in
+    let a = c.args.around.actor in
+    let d = c.args.around.depth in
+    let k = counts_of c.args.around.counts in
     let l = means s (closing_before c.new-body.result.items) (λ o. ap (λ z. closing_before z o) (sym c.new-body.ensures.items)) (nothing s (Closing a d k) Any c.args.at c.requires.within) in
     (omega arith, c.requires.within, l)
 
@@ -464,9 +464,9 @@ pub stmts-items-preserved : goal.stmts-items-preserved
 stmts-items-preserved h c =
     let t = c.args.tokens.now in
     let s = t.spots.items in
-    let a = c.args.actor in
-    let d = c.args.depth in
-    let k = counts_of c.args.counts in
+    let a = c.args.around.actor in
+    let d = c.args.around.depth in
+    let k = counts_of c.args.around.counts in
     let l = stmts_step s a d k c.args.at c.items.at c.in_ok-read.read.to (counts_of c.items.counts) c.in_ok-read.read.stmt (counts_of c.in_ok-read.read.counts) c.in_ok-read.read.ends_if c.items.body.items c.push.new.self.items c.in_ok-push.ensures.items c.in_ok-read.ensures.stands (λ e. not_true (c.items-test.ensures.sign.1 e)) c.items.invariant.2 c.in_ok-read.ensures.reads in
     (omega (arith, c.items.invariant.0, c.in_ok-read.ensures.moves.0), c.in_ok-read.ensures.moves.1, l)
 
@@ -474,8 +474,8 @@ pub stmts-returns-in_err-read-clause-reads : goal.stmts-returns-in_err-read-clau
 stmts-returns-in_err-read-clause-reads h c =
     let t = c.args.tokens.now in
     let s = t.spots.items in
-    let a = c.args.actor in
-    let d = c.args.depth in
+    let a = c.args.around.actor in
+    let d = c.args.around.depth in
     let e = c.in_err-read.field-0.0 in
     let p = err_from_is_err_and c.from_residual.result c.from_residual.ensures.1 in
     rw (p.1, p.2) (first_fails t (stmt_more a d (counts_of c.items.counts)) (stmt_left s (λ e. not_true (c.items-test.ensures.sign.1 e)) c.items.invariant.2) e c.in_err-read.ensures.reads)
@@ -484,9 +484,9 @@ pub stmts-returns-clause-reads : goal.stmts-returns-clause-reads
 stmts-returns-clause-reads h c =
     let t = c.args.tokens.now in
     let s = t.spots.items in
-    let a = c.args.actor in
-    let d = c.args.depth in
-    let k = counts_of c.args.counts in
+    let a = c.args.around.actor in
+    let d = c.args.around.depth in
+    let k = counts_of c.args.around.counts in
     let f = c.items-test.ensures.sign.0 refl in
     rw c.place.ensures (stmts_done s a d k c.args.at c.items.at (c.items.at + 1) (place_at t c.items.at) (counts_of c.items.counts) c.items.body.items f c.items.invariant.2 (tok_reads t c.items.at (token.Sign sign.CloseCurly) f))
 
@@ -494,9 +494,9 @@ pub try_stmt-returns-in_err-inner-clause-reads : goal.try_stmt-returns-in_err-in
 try_stmt-returns-in_err-inner-clause-reads h c =
     let t = c.args.tokens.now in
     let s = t.spots.items in
-    let a = c.args.actor in
-    let d = c.args.depth in
-    let k = counts_of c.args.counts in
+    let a = c.args.around.actor in
+    let d = c.args.around.depth in
+    let k = counts_of c.args.around.counts in
     let l1 = then_reads s (try_word a (suc d) k) (try_left t c.args.at a d k c.requires.within c.requires.here) (tok_reads t c.args.at (token.Word word.Try) c.requires.here) in
     let e = c.in_err-inner.field-0.0 in
     let p = err_from_is_err_and c.from_residual.result c.from_residual.ensures.1 in
@@ -506,9 +506,9 @@ pub try_stmt-returns-in_err-catch_at-clause-reads : goal.try_stmt-returns-in_err
 try_stmt-returns-in_err-catch_at-clause-reads h c =
     let t = c.args.tokens.now in
     let s = t.spots.items in
-    let a = c.args.actor in
-    let d = c.args.depth in
-    let k = counts_of c.args.counts in
+    let a = c.args.around.actor in
+    let d = c.args.around.depth in
+    let k = counts_of c.args.around.counts in
     let l1 = then_reads s (try_word a (suc d) k) (try_left t c.args.at a d k c.requires.within c.requires.here) (tok_reads t c.args.at (token.Word word.Try) c.requires.here) in
     let l2 = then_reads s (try_inner a (suc d) k) l1 (deeper (λ i. Block a i k) d c.in_ok-inner.ensures.reads) in
     let k1 = counts_of c.in_ok-inner.inner.counts in
@@ -520,9 +520,9 @@ pub try_stmt-returns-in_err-handler-clause-reads : goal.try_stmt-returns-in_err-
 try_stmt-returns-in_err-handler-clause-reads h c =
     let t = c.args.tokens.now in
     let s = t.spots.items in
-    let a = c.args.actor in
-    let d = c.args.depth in
-    let k = counts_of c.args.counts in
+    let a = c.args.around.actor in
+    let d = c.args.around.depth in
+    let k = counts_of c.args.around.counts in
     let l1 = then_reads s (try_word a (suc d) k) (try_left t c.args.at a d k c.requires.within c.requires.here) (tok_reads t c.args.at (token.Word word.Try) c.requires.here) in
     let l2 = then_reads s (try_inner a (suc d) k) l1 (deeper (λ i. Block a i k) d c.in_ok-inner.ensures.reads) in
     let k1 = counts_of c.in_ok-inner.inner.counts in
@@ -535,9 +535,9 @@ pub try_stmt-returns-clause-reads : goal.try_stmt-returns-clause-reads
 try_stmt-returns-clause-reads h c =
     let t = c.args.tokens.now in
     let s = t.spots.items in
-    let a = c.args.actor in
-    let d = c.args.depth in
-    let k = counts_of c.args.counts in
+    let a = c.args.around.actor in
+    let d = c.args.around.depth in
+    let k = counts_of c.args.around.counts in
     let l1 = then_reads s (try_word a (suc d) k) (try_left t c.args.at a d k c.requires.within c.requires.here) (tok_reads t c.args.at (token.Word word.Try) c.requires.here) in
     let l2 = then_reads s (try_inner a (suc d) k) l1 (deeper (λ i. Block a i k) d c.in_ok-inner.ensures.reads) in
     let k1 = counts_of c.in_ok-inner.inner.counts in
@@ -547,46 +547,46 @@ try_stmt-returns-clause-reads h c =
 pub when-returns-then-not-is_word-clause-reads : goal.when-returns-then-not-is_word-clause-reads
 when-returns-then-not-is_word-clause-reads h c =
     let t = c.args.tokens.now in
-    let a = c.args.actor in
-    let d = c.args.depth in
-    let k = counts_of c.args.counts in
+    let a = c.args.around.actor in
+    let d = c.args.around.depth in
+    let k = counts_of c.args.around.counts in
     let n = c.args.number in
     let l = when_left t c.args.at a d k c.requires.within n in
     rw c.refused.ensures (first_fails t (when_word a d k n) l (Refused (rule.S 5) (place_at t c.args.at)) (opening_none (Branch n ∷ Node d ∷ []) (token.Word word.When) t c.args.at (λ e. not_true (c.if-not-is_word.ensures.word.1 e))))
 
-pub when-returns-then-depth-gt-DEPTH-clause-reads : goal.when-returns-then-depth-gt-DEPTH-clause-reads
-when-returns-then-depth-gt-DEPTH-clause-reads h c =
+pub when-returns-then-around-gt-DEPTH-clause-reads : goal.when-returns-then-around-gt-DEPTH-clause-reads
+when-returns-then-around-gt-DEPTH-clause-reads h c =
     let t = c.args.tokens.now in
-    let a = c.args.actor in
-    let d = c.args.depth in
-    let k = counts_of c.args.counts in
+    let a = c.args.around.actor in
+    let d = c.args.around.depth in
+    let k = counts_of c.args.around.counts in
     let n = c.args.number in
     let l = when_left t c.args.at a d k c.requires.within n in
     let q = c.if-not-is_word.ensures.word.0 refl in
-    rw c.refused-then-depth-gt-DEPTH.ensures (first_fails t (when_word a d k n) l (Refused (rule.L 5) (place_at t c.args.at)) (opening_beyond (Branch n ∷ Node d ∷ []) (token.Word word.When) 5 t c.args.at (omega arith) (omega arith) q (λ x. omega (arith, x.1.0 (omega arith), c.if-depth-gt-DEPTH.true)) (λ m i. ((λ j. absurd (omega (arith, i, j))), ((λ j. absurd (omega (arith, i, j))), tt)))))
+    rw c.refused-then-around-gt-DEPTH.ensures (first_fails t (when_word a d k n) l (Refused (rule.L 5) (place_at t c.args.at)) (opening_beyond (Branch n ∷ Node d ∷ []) (token.Word word.When) 5 t c.args.at (omega arith) (omega arith) q (λ x. omega (arith, x.1.0 (omega arith), c.if-around-gt-DEPTH.true)) (λ m i. ((λ j. absurd (omega (arith, i, j))), ((λ j. absurd (omega (arith, i, j))), tt)))))
 
 pub when-returns-then-number-gt-BRANCHES-clause-reads : goal.when-returns-then-number-gt-BRANCHES-clause-reads
 when-returns-then-number-gt-BRANCHES-clause-reads h c =
     let t = c.args.tokens.now in
-    let a = c.args.actor in
-    let d = c.args.depth in
-    let k = counts_of c.args.counts in
+    let a = c.args.around.actor in
+    let d = c.args.around.depth in
+    let k = counts_of c.args.around.counts in
     let n = c.args.number in
     let l = when_left t c.args.at a d k c.requires.within n in
     let q = c.if-not-is_word.ensures.word.0 refl in
-    rw c.refused-then-number-gt-BRANCHES.ensures (first_fails t (when_word a d k n) l (Refused (rule.L 7) (place_at t c.args.at)) (opening_beyond (Branch n ∷ Node d ∷ []) (token.Word word.When) 7 t c.args.at (omega arith) (omega arith) q (λ x. omega (arith, x.0 (omega arith), c.if-number-gt-BRANCHES.true)) (λ m i. ((λ j. absurd (omega (arith, i, j))), ((λ j. c.if-depth-gt-DEPTH.false), tt)))))
+    rw c.refused-then-number-gt-BRANCHES.ensures (first_fails t (when_word a d k n) l (Refused (rule.L 7) (place_at t c.args.at)) (opening_beyond (Branch n ∷ Node d ∷ []) (token.Word word.When) 7 t c.args.at (omega arith) (omega arith) q (λ x. omega (arith, x.0 (omega arith), c.if-number-gt-BRANCHES.true)) (λ m i. ((λ j. absurd (omega (arith, i, j))), ((λ j. c.if-around-gt-DEPTH.false), tt)))))
 
 pub when-returns-in_err-at-clause-reads : goal.when-returns-in_err-at-clause-reads
 when-returns-in_err-at-clause-reads h c =
     let t = c.args.tokens.now in
     let s = t.spots.items in
-    let a = c.args.actor in
-    let d = c.args.depth in
-    let k = counts_of c.args.counts in
+    let a = c.args.around.actor in
+    let d = c.args.around.depth in
+    let k = counts_of c.args.around.counts in
     let n = c.args.number in
     let l = when_left t c.args.at a d k c.requires.within n in
     let q = c.if-not-is_word.ensures.word.0 refl in
-    let w = opening_reads t c.args.at (Branch n ∷ Node d ∷ []) (token.Word word.When) q ((λ l. c.if-number-gt-BRANCHES.false), ((λ l. c.if-depth-gt-DEPTH.false), tt)) in
+    let w = opening_reads t c.args.at (Branch n ∷ Node d ∷ []) (token.Word word.When) q ((λ l. c.if-number-gt-BRANCHES.false), ((λ l. c.if-around-gt-DEPTH.false), tt)) in
     let l1 = then_reads s (when_word a d k n) l w in
     let e = c.in_err-at.field-0.0 in
     let p = err_from_is_err_and c.from_residual.result c.from_residual.ensures.1 in
@@ -596,13 +596,13 @@ pub when-returns-in_err-read-clause-reads : goal.when-returns-in_err-read-clause
 when-returns-in_err-read-clause-reads h c =
     let t = c.args.tokens.now in
     let s = t.spots.items in
-    let a = c.args.actor in
-    let d = c.args.depth in
-    let k = counts_of c.args.counts in
+    let a = c.args.around.actor in
+    let d = c.args.around.depth in
+    let k = counts_of c.args.around.counts in
     let n = c.args.number in
     let l = when_left t c.args.at a d k c.requires.within n in
     let q = c.if-not-is_word.ensures.word.0 refl in
-    let w = opening_reads t c.args.at (Branch n ∷ Node d ∷ []) (token.Word word.When) q ((λ l. c.if-number-gt-BRANCHES.false), ((λ l. c.if-depth-gt-DEPTH.false), tt)) in
+    let w = opening_reads t c.args.at (Branch n ∷ Node d ∷ []) (token.Word word.When) q ((λ l. c.if-number-gt-BRANCHES.false), ((λ l. c.if-around-gt-DEPTH.false), tt)) in
     let l1 = then_reads s (when_word a d k n) l w in
     let l2 = then_reads s (when_open a d k) l1 c.in_ok-at.ensures.reads in
     let e = c.in_err-read.field-0.0 in
@@ -613,13 +613,13 @@ pub when-returns-in_err-at-2-clause-reads : goal.when-returns-in_err-at-2-clause
 when-returns-in_err-at-2-clause-reads h c =
     let t = c.args.tokens.now in
     let s = t.spots.items in
-    let a = c.args.actor in
-    let d = c.args.depth in
-    let k = counts_of c.args.counts in
+    let a = c.args.around.actor in
+    let d = c.args.around.depth in
+    let k = counts_of c.args.around.counts in
     let n = c.args.number in
     let l = when_left t c.args.at a d k c.requires.within n in
     let q = c.if-not-is_word.ensures.word.0 refl in
-    let w = opening_reads t c.args.at (Branch n ∷ Node d ∷ []) (token.Word word.When) q ((λ l. c.if-number-gt-BRANCHES.false), ((λ l. c.if-depth-gt-DEPTH.false), tt)) in
+    let w = opening_reads t c.args.at (Branch n ∷ Node d ∷ []) (token.Word word.When) q ((λ l. c.if-number-gt-BRANCHES.false), ((λ l. c.if-around-gt-DEPTH.false), tt)) in
     let l1 = then_reads s (when_word a d k n) l w in
     let l2 = then_reads s (when_open a d k) l1 c.in_ok-at.ensures.reads in
     let l3 = then_reads s (when_waiting a d k) l2 c.in_ok-read.ensures.reads in
@@ -632,13 +632,13 @@ pub when-returns-in_err-inner-clause-reads : goal.when-returns-in_err-inner-clau
 when-returns-in_err-inner-clause-reads h c =
     let t = c.args.tokens.now in
     let s = t.spots.items in
-    let a = c.args.actor in
-    let d = c.args.depth in
-    let k = counts_of c.args.counts in
+    let a = c.args.around.actor in
+    let d = c.args.around.depth in
+    let k = counts_of c.args.around.counts in
     let n = c.args.number in
     let l = when_left t c.args.at a d k c.requires.within n in
     let q = c.if-not-is_word.ensures.word.0 refl in
-    let w = opening_reads t c.args.at (Branch n ∷ Node d ∷ []) (token.Word word.When) q ((λ l. c.if-number-gt-BRANCHES.false), ((λ l. c.if-depth-gt-DEPTH.false), tt)) in
+    let w = opening_reads t c.args.at (Branch n ∷ Node d ∷ []) (token.Word word.When) q ((λ l. c.if-number-gt-BRANCHES.false), ((λ l. c.if-around-gt-DEPTH.false), tt)) in
     let l1 = then_reads s (when_word a d k n) l w in
     let l2 = then_reads s (when_open a d k) l1 c.in_ok-at.ensures.reads in
     let l3 = then_reads s (when_waiting a d k) l2 c.in_ok-read.ensures.reads in
@@ -652,13 +652,13 @@ pub when-returns-clause-reads : goal.when-returns-clause-reads
 when-returns-clause-reads h c =
     let t = c.args.tokens.now in
     let s = t.spots.items in
-    let a = c.args.actor in
-    let d = c.args.depth in
-    let k = counts_of c.args.counts in
+    let a = c.args.around.actor in
+    let d = c.args.around.depth in
+    let k = counts_of c.args.around.counts in
     let n = c.args.number in
     let l = when_left t c.args.at a d k c.requires.within n in
     let q = c.if-not-is_word.ensures.word.0 refl in
-    let w = opening_reads t c.args.at (Branch n ∷ Node d ∷ []) (token.Word word.When) q ((λ l. c.if-number-gt-BRANCHES.false), ((λ l. c.if-depth-gt-DEPTH.false), tt)) in
+    let w = opening_reads t c.args.at (Branch n ∷ Node d ∷ []) (token.Word word.When) q ((λ l. c.if-number-gt-BRANCHES.false), ((λ l. c.if-around-gt-DEPTH.false), tt)) in
     let l1 = then_reads s (when_word a d k n) l w in
     let l2 = then_reads s (when_open a d k) l1 c.in_ok-at.ensures.reads in
     let l3 = then_reads s (when_waiting a d k) l2 c.in_ok-read.ensures.reads in
@@ -669,9 +669,9 @@ when-returns-clause-reads h c =
 pub whens-returns-in_err-first-clause-reads : goal.whens-returns-in_err-first-clause-reads
 whens-returns-in_err-first-clause-reads h c =
     let t = c.args.tokens.now in
-    let a = c.args.actor in
-    let d = c.args.depth in
-    let k = counts_of c.args.counts in
+    let a = c.args.around.actor in
+    let d = c.args.around.depth in
+    let k = counts_of c.args.around.counts in
     let e = c.in_err-first.field-0.0 in
     let p = err_from_is_err_and c.from_residual.result c.from_residual.ensures.1 in
     rw (p.1, p.2) (first_fails t (when_more a d k 1) (whens_left t c.args.at a d k c.requires.within) e c.in_err-first.ensures.reads)
@@ -679,9 +679,9 @@ whens-returns-in_err-first-clause-reads h c =
 pub whens-branches-init : goal.whens-branches-init
 whens-branches-init h c =
     let t = c.args.tokens.now in
-    let a = c.args.actor in
-    let d = c.args.depth in
-    let k = counts_of c.args.counts in
+    let a = c.args.around.actor in
+    let d = c.args.around.depth in
+    let k = counts_of c.args.around.counts in
     let q = one_pushed c.new-branches.result.items c.push.new.self.items c.when_branch.result c.in_ok-push.ensures.items c.new-branches.ensures.items in
     let l = whens_init t c.args.at a d k c.in_ok-first.first.to (when_out c.in_ok-first.first) c.when_branch.result c.push.new.self.items c.requires.within q c.when_branch.ensures c.in_ok-first.ensures.reads in
     (c.in_ok-first.ensures.moves.0, c.in_ok-first.ensures.moves.1, omega arith, l)
@@ -690,9 +690,9 @@ pub whens-branches-preserved : goal.whens-branches-preserved
 whens-branches-preserved h c =
     let t = c.args.tokens.now in
     let s = t.spots.items in
-    let a = c.args.actor in
-    let d = c.args.depth in
-    let k = counts_of c.args.counts in
+    let a = c.args.around.actor in
+    let d = c.args.around.depth in
+    let k = counts_of c.args.around.counts in
     let i = c.branches.invariant in
     let n = c.branches.number in
     let e : n + 1 ≡ suc n = omega arith in
@@ -704,8 +704,8 @@ pub whens-returns-in_err-read-clause-reads : goal.whens-returns-in_err-read-clau
 whens-returns-in_err-read-clause-reads h c =
     let t = c.args.tokens.now in
     let s = t.spots.items in
-    let a = c.args.actor in
-    let d = c.args.depth in
+    let a = c.args.around.actor in
+    let d = c.args.around.depth in
     let e = c.in_err-read.field-0.0 in
     let p = err_from_is_err_and c.from_residual-in_err-read.result c.from_residual-in_err-read.ensures.1 in
     rw (p.1, p.2) (first_fails t (when_more a d (counts_of c.branches.counts) c.branches.number) (more_left s (c.branches-test.ensures.word.0 refl) c.branches.invariant.3) e c.in_err-read.ensures.reads)
@@ -722,7 +722,7 @@ pub whens-returns-clause-reads : goal.whens-returns-clause-reads
 whens-returns-clause-reads h c =
     let t = c.args.tokens.now in
     let s = t.spots.items in
-    let a = c.args.actor in
-    let d = c.args.depth in
-    let k = counts_of c.args.counts in
+    let a = c.args.around.actor in
+    let d = c.args.around.depth in
+    let k = counts_of c.args.around.counts in
     whens_done s a d k c.args.at c.branches.at c.in_ok-to.to c.branches.number _ (counts_of c.branches.counts) c.branches.branches.items (λ e. not_true (c.branches-test.ensures.word.1 e)) c.branches.invariant.3 c.in_ok-to.ensures.reads

@@ -1,0 +1,11 @@
+// Steps of actors.
+
+ghost use Rattle.flow_allowed.specs.Allowing.{StepAllowed, MakingAllowed, ValuesThere};
+
+/// An actor of valid classes that takes its next step may do so by what it stands at, and what it evaluates refers to what is
+/// there; so may a process make what it asks for.
+pub fn steps_allowed()
+    ensures step { StepAllowed }
+    ensures values { ValuesThere }
+    ensures making { MakingAllowed }
+{}

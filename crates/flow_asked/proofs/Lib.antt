@@ -1,0 +1,4 @@
+pub mod Changing
+pub mod Remaining
+pub mod Worlds
+pub mod Answers

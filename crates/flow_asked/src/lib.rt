@@ -1,0 +1,7 @@
+//! What steps in memory ask, joined: what an actor asks is asked in the class machine, and the ports of the process of the class
+//! machine are those that memory tells. The definitions stand in `specs/`; the
+//! functions of this crate have empty bodies: each contract is a law.
+#![tactic(auto)]
+
+pub mod next;
+pub mod ports;

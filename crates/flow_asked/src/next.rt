@@ -1,0 +1,20 @@
+// What actors ask.
+
+ghost use Rattle.std.specs.Prelude.{ℕ};
+ghost use Rattle.flow_class.specs.Classes.{RawTree};
+ghost use Rattle.flow_code.specs.declared.program.Code.{Code};
+ghost use Rattle.flow_follows.specs.Placing.{ForActors};
+ghost use Rattle.flow_asked.specs.Next as law;
+
+use flow_machine::host::Host;
+
+/// A step of an actor in memory by an effect, a call statement or an operand by an effect is a step of the class machine.
+pub fn asks_follow()
+    ensures { ForActors law.AskFollows }
+{}
+
+/// What such a step asks of the world is asked in the class machine, and what the host does for it is what the world does.
+pub fn world_is_asked<H: Host>()
+    ensures { (code : Code) (processes : ℕ) (r : RawTree)
+        → law.WorldAsked H.serves H.shows H.wrote code processes r }
+{}

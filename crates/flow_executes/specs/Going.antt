@@ -1,0 +1,101 @@
+-- What an actor in memory does by an instruction is a row of steps of the class machine.
+use Rattle.std.specs.Prelude.{◌≡◌, ℕ, true, false, List, slice_get}
+use Rattle.std.specs.declared.option.Option.{Option}
+use Rattle.std.specs.declared.option.Option.TheVariants.{None, Some}
+use Rattle.flow_class.specs.Classes.{RawTree}
+use Rattle.flow_code.specs.declared.program.Code.{Code}
+use Rattle.flow_trace.specs.declared.line.Line.{Line}
+use Rattle.flow_meaning.specs.Asks.{Supply}
+use Rattle.flow_meaning.specs.Process.{Run, Entry, Proc}
+use Rattle.flow_meaning.specs.Occ.{Scan}
+use Rattle.flow_meaning.specs.Work.{pushed}
+use Rattle.flow_meaning.specs.Step.{silent, step, on_core}
+use Rattle.flow_meaning.specs.Class.{classes}
+use Rattle.flow_meaning.specs.Frame.{Frame}
+use Rattle.flow_steps.specs.declared.call.Call.{Call}
+use Rattle.flow_steps.specs.declared.call.Call.TheVariants as call
+use Rattle.flow_steps.specs.declared.frames.Stand.{Stand}
+use Rattle.flow_steps.specs.declared.next.Pace.{Pace}
+use Rattle.flow_steps.specs.declared.next.Pace.TheVariants.{On, Off}
+use Rattle.flow_steps.specs.declared.process.Process.{Process}
+use Rattle.flow_steps.specs.Stepping as stepping
+use Rattle.flow_follows.specs.Shown.{Follows}
+use Rattle.flow_follows.specs.Placing.{Stood}
+use Rattle.flow_follows.specs.Taking.{Standing, AtWait, MayGo}
+use Rattle.flow_follows.specs.Going.{MayBeStale}
+
+-- steps of the class machine, one after another, that ask nothing of the world
+pub data Silent (r : RawTree) (w : Supply) : Proc Frame → Proc Frame → Type 0 where
+  no_more : (p : Proc Frame) → Silent r w p p
+  then_on : (p between q : Proc Frame) → step (classes r) w p ≡ Some (silent between) → Silent r w between q
+      → Silent r w p q
+
+-- An actor that runs at its wait, with the operands kept so far: its frame in memory says so.
+pub record AtOperands (r : RawTree) (ls : List Line) (x : Scan) (s : Stand) (m : Process) (p : Proc Frame)
+    (i : ℕ) (e : Entry) (f : Frame)
+    : Type 0 where
+  pub group : ℕ
+  pub stood : Stood r ls x m p i e f
+  pub runs : stood.acts.memory.state ≡ 0
+  pub noted : s.noted ≡ true
+  pub standing : Standing s i f
+  pub instruction : s.instruction ≡ f.instr
+  pub wait : AtWait s f group
+  pub go : MayGo i e p.core
+  pub awake : e.suspended ≡ false
+
+-- An actor that takes its next step, with its own task off: where it has no operand its frame in memory
+-- may be stale; where that isn't, it is in no state of a wait.
+pub data MayStep (r : RawTree) (ls : List Line) (x : Scan) (s : Stand) (m : Process) (p : Proc Frame)
+    (i : ℕ) (e : Entry) (f : Frame)
+    : Type 0 where
+  moves : (st : MayBeStale r ls x s m p i e f) → (s.noted ≡ true → st.stood.acts.memory.state ≡ 0)
+      → MayStep r ls x s m p i e f
+  chooses : AtOperands r ls x s m p i e f → MayStep r ls x s m p i e f
+
+-- After it the actor goes on at once, where its own task is the newest of the process; or other tasks come
+-- first.
+pub record GoesAtOnce (r : RawTree) (ls : List Line) (x : Scan) (i class : ℕ) (t : Stand) (n : Process)
+    (q : Proc Frame) : Type 0 where
+  pub process : Proc Frame
+  pub entry : Entry
+  pub frame : Frame
+  pub runs : q ≡ on_core (pushed (Run i)) process
+  pub same : entry.class ≡ class
+  pub next : MayStep r ls x t n process i entry frame
+
+abbrev pub Onward : RawTree → List Line → Scan → (actor class : ℕ) → Pace → Process → Proc Frame → Type 0
+Onward r ls x i k (On t) n q = GoesAtOnce r ls x i k t n q
+Onward r ls x i k Off n q = Follows r ls x n q
+
+-- From a process of the definitions a row of its steps leads to one that memory shows.
+pub record GoesBy (r : RawTree) (ls : List Line) (x : Scan) (w : Supply) (i class : ℕ) (start : Proc Frame)
+    (pace : Pace) (n : Process)
+    : Type 0 where
+  pub after : Proc Frame
+  pub steps : Silent r w start after
+  pub onward : Onward r ls x i class pace n after
+
+-- An actor stands in a block of the class with this number.
+pub record InClass (code : Code) (number : ℕ) (s : Stand) : Type 0 where
+  pub class : slice_get code.classes.items number ≡ Some s.class.now
+  pub block : slice_get s.class.now.blocks.items s.place ≡ Some s.block.now
+
+-- what a step asks where it asks nothing of an actor's: nothing, that a line be written, or that a port be heard
+-- no more
+abbrev pub OnlyTells : Option Call → Type 0
+OnlyTells None = Unit {0}
+OnlyTells (Some (call.Line l)) = Unit {0}
+OnlyTells (Some (call.Unlisten k)) = Unit {0}
+OnlyTells _ = ⊥
+
+-- and the actor's further steps in memory follow
+pub record GoesFurther (code : Code) (r : RawTree) (ls : List Line) (x : Scan) (w : Supply) (i class : ℕ)
+    (start : Proc Frame) (n : Process)
+    : Type 0 where
+  pub pace : Pace
+  pub between : Process
+  pub goes : GoesBy r ls x w i class start pace between
+  pub stands : (t : Stand) → pace ≡ On t → InClass code class t
+  pub told : pace ≡ Off → OnlyTells between.asked
+  pub further : stepping.GoesOn code pace between n

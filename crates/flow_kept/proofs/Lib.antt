@@ -1,0 +1,11 @@
+pub mod Keeping
+pub mod Homes
+pub mod Theres
+pub mod Off
+pub mod Acting
+pub mod MayDo
+pub mod Tasks
+pub mod Rising
+pub mod Quiet
+pub mod Stays
+pub mod Once

@@ -1,0 +1,5 @@
+pub mod Aside
+pub mod Framed
+pub mod Steps
+pub mod Tasks
+pub mod Next
