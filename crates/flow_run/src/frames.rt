@@ -1,9 +1,12 @@
 // The lines of frames.
 
-ghost use Rattle.std.specs.Prelude.{◌≡◌, ◌≤◌, length, IsErrOf};
-ghost use Rattle.std.specs.List.{AllWithin};
+ghost use Rattle.std.specs.Prelude.{◌≡◌, ◌≤◌, length, map, slice_get, IfOk, OnOk, IsErrOf};
 ghost use Rattle.flow_machine.specs.Cause.{RunCause};
 ghost use Rattle.flow_machine.specs.declared.host.RunFault.TheVariants.{Failed};
+ghost use Rattle.flow_world.specs.Around.{Puts};
+ghost use Rattle.flow_world.specs.Worlds.{world_seen};
+ghost use Rattle.flow_run.specs.Tracing.{name_of, own_count, callback_line, frames_lines};
+ghost use Rattle.flow_run.specs.Tracing.{process_lines, world_lines, lines_if};
 
 use flow_base::ids::{ActorId, ProcId};
 use flow_base::name::Name;
@@ -15,35 +18,74 @@ use flow_world::World;
 use flow_world::put::put;
 use std::alloc::Global;
 
+/// Puts the frames of the unfinished actors where they are asked for.
+pub fn put_frames_if<L: LineOut>(
+    with_frames: bool,
+    alloc: Global,
+    world: &World,
+    out: &mut L,
+) -> Result<(), RunFault>
+    ensures puts { OnOk result
+        (Puts L.puts out.old (lines_if with_frames (world_seen world.now)) out.new) }
+    ensures cause { RunCause (L.faults out.old) (L.faults out.new) result }
+    ensures kept { L.kept out.new ≡ L.kept out.old }
+{
+    if with_frames {
+        put_frames(alloc, world, out)
+    } else {
+        Ok(())
+    }
+}
+
 #[tactic(auto, using(flow_machine::proofs::Causes::cause_before))]
 /// Puts the frames of the unfinished actors, by process and actor, each with its callbacks by number.
-pub fn put_frames<L: LineOut>(alloc: Global, world: &World, out: &mut L) -> Result<(), RunFault>
+fn put_frames<L: LineOut>(alloc: Global, world: &World, out: &mut L) -> Result<(), RunFault>
+    ensures puts { OnOk result (Puts L.puts out.old (world_lines (world_seen world.now)) out.new) }
     ensures cause { RunCause (L.faults out.old) (L.faults out.new) result }
     ensures kept { L.kept out.new ≡ L.kept out.old }
 {
     for number in 0..world.processes() {
         let p = ProcId(number);
-        let callbacks = world.callbacks(p)?;
-        put_process(alloc, world, p, &callbacks, out)?;
+        put_process(alloc, world, p, out)?;
     }
     Ok(())
 }
 
 #[tactic(auto, using(flow_machine::proofs::Causes::cause_before))]
-/// Puts the frames of a process, each with its own of these callbacks, which stand in the order of their actors.
+/// Puts the frames of a process, each with its callbacks.
 fn put_process<L: LineOut>(
     alloc: Global,
     world: &World,
     p: ProcId,
+    out: &mut L,
+) -> Result<(), RunFault>
+    ensures puts { OnOk result (Puts L.puts out.old (process_lines (world_seen world.now) p) out.new) }
+    ensures cause { RunCause (L.faults out.old) (L.faults out.new) result }
+    ensures kept { L.kept out.new ≡ L.kept out.old }
+{
+    let frames = world.frames(p)?;
+    let callbacks = world.callbacks(p)?;
+    put_each(alloc, world, p, &frames, &callbacks, out)
+}
+
+#[tactic(auto, using(flow_machine::proofs::Causes::cause_before))]
+/// Puts frames of a process, each with its own of these callbacks, which stand in the order of their actors.
+fn put_each<L: LineOut>(
+    alloc: Global,
+    world: &World,
+    p: ProcId,
+    frames: &[FrameView],
     callbacks: &[CallbackView],
     out: &mut L,
 ) -> Result<(), RunFault>
+    ensures puts { let classes = world.now.code.program.classes.items in OnOk result
+        (Puts L.puts out.old (frames_lines classes p frames.now callbacks.now) out.new) }
     ensures cause { RunCause (L.faults out.old) (L.faults out.new) result }
     ensures kept { L.kept out.new ≡ L.kept out.old }
 {
     let mut rest = callbacks;
-    for frame in world.frames(p)? {
-        let name = class_name(alloc, world, &frame)?;
+    for frame in frames {
+        let name = class_name(alloc, world, frame)?;
         put(out, &Line::Frame(p, frame.actor, name, frame.state))?;
         let (own, others) = rest.split_at(own_part(rest, frame.actor));
         put_callbacks(p, own, out)?;
@@ -54,7 +96,9 @@ fn put_process<L: LineOut>(
 
 /// The name of the class of a frame.
 fn class_name(alloc: Global, world: &World, frame: &FrameView) -> Result<Name, RunFault>
-    ensures { ¬ IsErrOf result Failed }
+    ensures cause { ¬ IsErrOf result Failed }
+    ensures name { IfOk result (λ name. let classes = world.now.code.program.classes.items in
+        name ≡ name_of (slice_get classes frame.now.class)) }
 {
     let Some(class) = world.classes().raw().classes.get(frame.class as usize) else {
         return Err(RunFault::Astray);
@@ -64,8 +108,8 @@ fn class_name(alloc: Global, world: &World, frame: &FrameView) -> Result<Name, R
 
 /// How many of the first callbacks are those of an actor.
 fn own_part(callbacks: &[CallbackView], actor: ActorId) -> usize
+    ensures own { result ≡ own_count actor callbacks.now }
     ensures bound { result ≤ length callbacks.now }
-    ensures own { AllWithin (λ c. c.actor ≡ actor) callbacks.now 0 result }
 {
     for (place, callback) in callbacks.iter().enumerate() {
         if callback.actor != actor {
@@ -82,6 +126,8 @@ fn put_callbacks<L: LineOut>(
     callbacks: &[CallbackView],
     out: &mut L,
 ) -> Result<(), RunFault>
+    ensures puts { OnOk result
+        (Puts L.puts out.old (map (callback_line p) callbacks.now) out.new) }
     ensures cause { RunCause (L.faults out.old) (L.faults out.new) result }
     ensures kept { L.kept out.new ≡ L.kept out.old }
 {

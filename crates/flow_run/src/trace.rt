@@ -3,10 +3,12 @@
 ghost use Rattle.std.specs.Prelude.{◌≡◌, false, IfOk};
 ghost use Rattle.flow_machine.specs.Cause.{RunCause};
 ghost use Rattle.flow_worldfile.specs.Worlds.{IsInRange, seen};
+ghost use Rattle.flow_world.specs.Worlds.{world_seen};
 ghost use Rattle.flow_run.specs.Ends.{PutLast, end_line};
+ghost use Rattle.flow_run.specs.Tracing.{GoesTo, Traces};
 
 use crate::ending::Ending;
-use crate::frames::put_frames;
+use crate::frames::put_frames_if;
 use flow_machine::host::RunFault;
 use flow_trace::line::Line;
 use flow_trace::out::LineOut;
@@ -29,6 +31,8 @@ pub fn put_trace<L: LineOut>(
     requires { IsInRange (seen world) }
     ensures cause { RunCause (L.faults out.old) (L.faults out.new) result }
     ensures kept { L.kept out.new ≡ L.kept out.old }
+    ensures traces { IfOk result (λ ending.
+        Traces L.puts with_frames classes world out.old ending out.new) }
     ensures last { IfOk result (λ ending. PutLast L.puts (end_line ending) out.new) }
 {
     let mut world = World::start(alloc, classes, world)?;
@@ -47,16 +51,15 @@ fn put_events<L: LineOut>(
     out: &mut L,
 ) -> Result<Ending, RunFault>
     requires { world.old.ended ≡ false }
+    ensures goes { IfOk result (λ ending.
+        GoesTo L.puts with_frames
+        (world_seen world.old) out.old ending (world_seen world.new) out.new) }
     ensures cause { RunCause (L.faults out.old) (L.faults out.new) result }
     ensures kept { L.kept out.new ≡ L.kept out.old }
 {
     'events: for _ in 0..u64::MAX {
         match world.event(out)? {
-            Event::Ran => {
-                if with_frames {
-                    put_frames(alloc, world, out)?;
-                }
-            }
+            Event::Ran => put_frames_if(with_frames, alloc, world, out)?,
             Event::Idle => return Ok(Ending::Idle),
             Event::BoundReached => return Ok(Ending::Bound),
             Event::Spent => return Ok(Ending::Spent),

@@ -6,3 +6,7 @@ pub mod Events
 pub mod ServedAround
 pub mod Listening
 pub mod Numbers
+pub mod Moved
+pub mod Happenings
+pub mod Putting
+pub mod Beginnings

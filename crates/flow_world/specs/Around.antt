@@ -10,6 +10,13 @@ use Rattle.flow_world.specs.Changes.{Surroundings}
 use Rattle.flow_world.specs.Shows.{OutsideShows}
 use Rattle.flow_world.specs.Ports.{PortsShow}
 
+-- a process in its event: its number, its ports, what is outside, and where its lines go
+pub record Inside (A : Type 0) : Type 0 where
+  pub me : ProcId
+  pub ports : Ports
+  pub outside : Surroundings
+  pub out : A
+
 -- the process is the one of the event, and its ports and what is outside show
 pub record AroundShows (me : ProcId) (p : Ports) (m : Surroundings) (ps : Numbered ℕ) (w : Outside) : Type 0 where
   pub outside : OutsideShows m w
@@ -20,3 +27,9 @@ pub record AroundShows (me : ProcId) (p : Ports) (m : Surroundings) (ps : Number
 pub data Puts {A : Type 0} (puts : A → Line → Result (Unit {0}) OutFault → A → Type 0) : A → List Line → A → Type 0 where
   no_line : {a : A} → Puts puts a [] a
   more_lines : {a b c : A} {l : Line} {ls : List Line} → puts a l (Ok tt) b → Puts puts b ls c → Puts puts a (l ∷ ls) c
+
+abbrev pub shows : {A : Type 0} → Inside A → Numbered ℕ → Outside → Type 0
+shows h ps w = AroundShows h.me h.ports h.outside ps w
+
+abbrev pub wrote : {A : Type 0} → (A → Line → Result (Unit {0}) OutFault → A → Type 0) → Inside A → List Line → Inside A → Type 0
+wrote puts g ls h = Puts puts g.out ls h.out

@@ -1,6 +1,7 @@
 -- What is outside of the processes of a world, as contracts see it, and what the calls of the world make of it.
-use Rattle.std.specs.Prelude.{◌≡◌, ℕ, ◌+◌, Bool, false, not, List, map, filter, nat_eq, slice_get, slice_set}
-use Rattle.std.specs.declared.option.Option.TheVariants.{Some}
+use Rattle.std.specs.Prelude.{◌≡◌, ℕ, ◌+◌, Bool, false, not, List, [], ◌∷◌, map, filter, nat_eq, slice_get, slice_set}
+use Rattle.std.specs.declared.option.Option.{Option}
+use Rattle.std.specs.declared.option.Option.TheVariants.{None, Some}
 use Rattle.flow_base.specs.declared.ids.ProcId.{ProcId}
 use Rattle.flow_draw.specs.Words.{Drawn, next_word, one_taken}
 use Rattle.std.specs.List.{fold}
@@ -32,6 +33,17 @@ seen w = record { time = w.time; timers = w.timers; net = w.net; disks = w.disks
 -- one more pending event
 abbrev pub with_pending : Surroundings → (time : ℕ) → What → Surroundings
 with_pending w t what = record w { timers = with_event w.timers t what }
+
+-- other events are pending
+abbrev pub with_events : List (Pending What) → Surroundings → Surroundings
+with_events es w = record w { timers = record w.timers { pending = es } }
+
+-- the first pending event is taken, if there is one
+abbrev pub FirstTaken : List (Pending What) → Option What → (before after : Surroundings) → Type 0
+FirstTaken [] None before after = after ≡ before
+FirstTaken [] (Some x) before after = ⊥
+FirstTaken (e ∷ es) None before after = ⊥
+FirstTaken (e ∷ es) (Some x) before after = (x ≡ e.what) × (after ≡ with_events es before)
 
 -- one more word is drawn
 abbrev pub with_word : Surroundings → Surroundings

@@ -1,7 +1,13 @@
 pub mod Around
+pub mod Brought
 pub mod Changes
+pub mod Deeds
 pub mod Ending
+pub mod Happening
 pub mod Laws
 pub mod Ports
 pub mod Shows
 pub mod Standing
+pub mod Views
+pub mod Starting
+pub mod Worlds

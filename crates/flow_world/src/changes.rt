@@ -5,7 +5,7 @@ ghost use Rattle.flow_draw.specs.Words.{next_word, scaled};
 ghost use Rattle.flow_machine.specs.Requests.{call_of};
 ghost use Rattle.flow_machine.specs.declared.host.RunFault.TheVariants.{Failed};
 ghost use Rattle.flow_world.specs.Changes.{seen, with_pending, with_word, next_delay, fate_of, letter};
-ghost use Rattle.flow_world.specs.Changes.{sent_by, DiskServes, DiskLoses, is_request_of};
+ghost use Rattle.flow_world.specs.Changes.{sent_by, DiskServes, DiskLoses, is_request_of, FirstTaken};
 ghost use Rattle.flow_world.specs.Changes.{request_keys, without_keys, without_requests};
 ghost use Rattle.flow_world.specs.Shows.{NumbersOnce};
 
@@ -22,6 +22,14 @@ use flow_simnet::Fate;
 const LAST_NUMBER: u64 = (1 << 63) - 1;
 
 impl Outside {
+    /// Takes the first pending event, if there is one.
+    pub fn take_first(&mut self) -> Option<What>
+        ensures { FirstTaken (seen self.old).timers.pending result (seen self.old) (seen self.new) }
+    {
+        let (time, number) = self.timers.first()?;
+        self.timers.remove(time, number)
+    }
+
     /// One more pending event. Want of memory too where its number would be past the last.
     pub fn add(&mut self, time: u64, what: What) -> Result<(), NoMemory>
         ensures net { self.new.net ≡ self.old.net }

@@ -3,13 +3,17 @@
 
 mod around;
 mod asked;
+mod brought;
 mod changes;
+mod deed;
 mod event;
 pub mod laws;
 mod outside;
+mod place;
 mod ports;
 pub mod put;
 mod script;
+mod starting;
 pub mod world;
 
 pub use event::Event;

@@ -1,11 +1,15 @@
 // Putting lines.
 
-ghost use Rattle.std.specs.Prelude.{◌≡◌, Ok, OnOk};
+ghost use Rattle.std.specs.Prelude.{◌≡◌, Ok, map, OnOk};
+ghost use Rattle.flow_meaning.specs.World.{kept_line};
 ghost use Rattle.flow_machine.specs.Cause.{RunCause};
+ghost use Rattle.flow_world.specs.Around.{Puts};
 
 use flow_machine::host::RunFault;
+use flow_simdisk::Kept;
 use flow_trace::line::Line;
 use flow_trace::out::LineOut;
+use std::alloc::Global;
 
 /// Puts a line. `Failed` comes only where the count of faults rose.
 pub fn put<L: LineOut>(out: &mut L, line: &Line) -> Result<(), RunFault>
@@ -17,4 +21,27 @@ pub fn put<L: LineOut>(out: &mut L, line: &Line) -> Result<(), RunFault>
         Ok(()) => Ok(()),
         Err(fault) => Err(RunFault::from(fault)),
     }
+}
+
+#[tactic(auto, using(flow_machine::proofs::Causes::cause_before))]
+/// Puts a line for each write of which a disk kept something or nothing.
+pub fn put_kept<L: LineOut>(alloc: Global, fates: &[Kept], out: &mut L) -> Result<(), RunFault>
+    ensures puts { OnOk result (Puts L.puts out.old (map kept_line fates.now) out.new) }
+    ensures cause { RunCause (L.faults out.old) (L.faults out.new) result }
+    ensures kept { L.kept out.new ≡ L.kept out.old }
+{
+    for kept in fates {
+        put_one(alloc, kept, out)?;
+    }
+    Ok(())
+}
+
+// Puts the line of a write.
+fn put_one<L: LineOut>(alloc: Global, kept: &Kept, out: &mut L) -> Result<(), RunFault>
+    ensures puts { OnOk result (L.puts out.old (kept_line kept.now) (Ok tt) out.new) }
+    ensures cause { RunCause (L.faults out.old) (L.faults out.new) result }
+    ensures kept { L.kept out.new ≡ L.kept out.old }
+{
+    let name = kept.name.copy(alloc)?;
+    put(out, &Line::Kept(name, kept.offset, kept.length, kept.kept))
 }

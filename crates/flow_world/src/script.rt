@@ -1,7 +1,8 @@
 // The script of a world.
 
-ghost use Rattle.std.specs.Prelude.{◌≡◌};
-ghost use Rattle.flow_world.specs.Ending.{script_time};
+ghost use Rattle.std.specs.Prelude.{◌≡◌, IfOk};
+ghost use Rattle.flow_world.specs.Ending.{script_time, first_act, lines_after};
+ghost use Rattle.flow_world.specs.Starting.{InOrder};
 
 use flow_base::memory::NoMemory;
 use flow_worldfile::{Act, At};
@@ -26,7 +27,9 @@ impl Model for Script {
 
 impl Script {
     /// These lines, in the order of the file.
-    pub fn new(lines: Vec<At>) -> Result<Script, NoMemory> {
+    pub fn new(lines: Vec<At>) -> Result<Script, NoMemory>
+        ensures { IfOk result (λ s. InOrder lines.items s) }
+    {
         let mut lines = lines;
         lines.sort_by_key(|line| line.time)?;
         Ok(Script { lines, done: 0 })
@@ -44,7 +47,10 @@ impl Script {
     }
 
     /// Takes the next line's act, where one is left.
-    pub fn next(&mut self) -> Option<Act> {
+    pub fn next(&mut self) -> Option<Act>
+        ensures act { result ≡ first_act self.old }
+        ensures left { self.new ≡ lines_after self.old }
+    {
         if self.done < self.lines.len() {
             let act = self.lines[self.done].act;
             self.done += 1;

@@ -1,52 +1,49 @@
 // The world.
 
-ghost use Rattle.std.specs.Prelude.{◌≡◌, false, IfOk, IsErrOf};
-ghost use Rattle.flow_machine.specs.declared.host.RunFault.TheVariants.{Failed};
+ghost use Rattle.std.specs.Prelude.{◌≡◌, ◌+◌, ◌-◌, ◌^◌, ◌<◌, false, true, min, slice_get, IfOk, OnOk, IsErrOf};
 ghost use Rattle.flow_worldfile.specs.Worlds.{IsInRange, seen};
+ghost use Rattle.flow_worldfile.specs.declared.world.Act.TheVariants as act;
+ghost use Rattle.flow_simnet.specs.Links.{cut, healed};
+ghost use Rattle.flow_machine.specs.declared.host.Burst.TheVariants.{Rested};
+ghost use Rattle.flow_machine.specs.declared.host.RunFault.TheVariants.{Failed};
 ghost use Rattle.flow_machine.specs.Cause.{RunCause};
-ghost use Rattle.flow_world.specs.Ending.{MeansEvent, WithinEvent};
+ghost use Rattle.flow_world.specs.Ending.{MeansEvent, WithinEvent, next};
+ghost use Rattle.flow_world.specs.Worlds.{world_seen};
+ghost use Rattle.flow_world.specs.Happening.{EventDoes, Comes, LineComes, EventComes, Ordered, Happened};
+ghost use Rattle.flow_world.specs.Happening.{Killed, Arrived, Taken, Answered, Runs, Fails, HeardIn};
+ghost use Rattle.flow_world.specs.Happening.{Vanishes, HeldAt, ActsAt, begins, with_net};
+ghost use Rattle.flow_world.specs.Starting.{Starts};
+ghost use Rattle.flow_world.specs.Views.{frames_at, callbacks_at, live_in};
 
-use crate::around::Around;
 use crate::asked::Asked;
+use crate::brought::{disk_line, disk_outcome, packet_value};
+use crate::deed::{Deed, acts, holds_already};
 use crate::event::Event;
 use crate::outside::{LAST_TIME, Outside, What};
-use crate::ports::Ports;
-use crate::put::put;
+use crate::place::Place;
+use crate::put::{put, put_kept};
 use crate::script::Script;
-use flow_base::errors::DISK_FAILED;
+use crate::starting::{first_boots, fresh_disks, fresh_places};
 use flow_base::ids::{CellId, ProcId};
 use flow_base::memory::NoMemory;
-use flow_base::text::Text;
 use flow_code::program::Code;
 use flow_draw::Draws;
-use flow_machine::host::{Burst, Host, RunFault};
-use flow_machine::machine::Machine;
+use flow_machine::host::{Burst, RunFault};
 use flow_machine::views::{CallbackView, FrameView};
-use flow_simdisk::{Disk, DiskAsk, DiskReply};
 use flow_simnet::{Net, Packet};
-use flow_timers::Timers;
 use flow_trace::line::Line;
 use flow_trace::out::LineOut;
 use flow_valid::program::ClassProgram;
-use flow_value::value::{Outcome, RecordId, Value};
+use flow_value::value::{Outcome, Value};
 use flow_worldfile::{Act, World0};
 use std::alloc::Global;
-use std::marker::Model;
-
-/// A process: whether it is up, what it holds, and its ports.
-#[derive(Drop)]
-struct Process {
-    up: bool,
-    machine: Machine,
-    ports: Ports,
-}
 
 /// A world: its classes, its processes and what is outside of them, and how far its run has come.
 #[derive(Drop)]
 pub struct World {
     alloc: Global,
     code: Code,
-    processes: Vec<Process>,
+    places: Vec<Place>,
     outside: Outside,
     script: Script,
     ran: u32,
@@ -55,63 +52,28 @@ pub struct World {
     ended: bool,
 }
 
-impl Model for World {
-    ghost use Rattle.flow_timers.specs.Pending.{next_event};
-    ghost use Rattle.flow_world.specs.Ending.{Seen, next_of, script_time};
-
-    ghost Value = { Seen };
-
-    ghost view = { λ w. record {
-      next = next_of (script_time w.script) (next_event w.outside.timers.pending);
-      ran = w.ran;
-      bound = w.events;
-      ended = w.ended;
-    } };
-}
-
-/// What an event does to its process, once its line is put.
-#[derive(Drop)]
-enum Deed {
-    Boots,
-    Stops,
-    Delivers(CellId, Outcome),
-    Brings(CellId, Value),
-}
-
 impl World {
     /// A world before its first event: each process is down, and a boot of each is pending at time 0.
     pub fn start(alloc: Global, classes: ClassProgram, world: World0) -> Result<World, NoMemory>
         requires { IsInRange (seen world) }
+        ensures starts { IfOk result (λ w. Starts classes world (world_seen w)) }
         ensures ran { IfOk result (λ w. w.ran ≡ 0) }
-        ensures bound { IfOk result (λ w. w.bound ≡ world.events) }
+        ensures bound { IfOk result (λ w. w.events ≡ world.events) }
         ensures ended { IfOk result (λ w. w.ended ≡ false) }
     {
-        let mut processes = Vec::new(alloc);
-        let mut disks = Vec::new(alloc);
-        let mut timers = Timers::new(alloc)?;
-        for number in 0..world.processes {
-            let me = ProcId(number);
-            processes.push(Process {
-                up: false,
-                machine: Machine::new(alloc, me, world.processes)?,
-                ports: Ports::new(alloc),
-            })?;
-            disks.push(Disk::new(alloc)?)?;
-            timers.add(0, What::Boots(me))?;
-        }
         let outside = Outside {
             alloc,
             time: 0,
-            timers,
+            timers: first_boots(alloc, world.processes)?,
             net: Net::new(alloc, world.processes, world.latency, world.loss)?,
-            disks,
+            disks: fresh_disks(alloc, world.processes)?,
             draws: Draws::new(world.seed, world.words),
             disk_delay: world.diskdelay,
         };
         Ok(World {
             alloc,
             code: Code::new(alloc, classes)?,
-            processes,
+            places: fresh_places(alloc, world.processes)?,
             outside,
             script: Script::new(world.script)?,
             ran: 0,
@@ -122,12 +84,16 @@ impl World {
     }
 
     /// The classes that run in it.
-    pub fn classes(&self) -> &ClassProgram {
+    pub fn classes(&self) -> &ClassProgram
+        ensures { result.now ≡ self.now.code.program }
+    {
         self.code.program()
     }
 
     /// How many processes there are.
-    pub fn processes(&self) -> u8 {
+    pub fn processes(&self) -> u8
+        ensures { result ≡ self.now.outside.net.processes }
+    {
         self.outside.net.processes()
     }
 
@@ -143,7 +109,9 @@ impl World {
     /// with as many events run as the bound, the bound is reached; neither puts a line, and both are answered again.
     pub fn event<L: LineOut>(&mut self, out: &mut L) -> Result<Event, RunFault>
         requires { self.old.ended ≡ false }
-        ensures means { MeansEvent self.old result self.new }
+        ensures means { MeansEvent (world_seen self.old) result (world_seen self.new) }
+        ensures does { IfOk result (λ e. EventDoes L.puts e
+            (world_seen self.old) out.old (world_seen self.new) out.new) }
         ensures cause { RunCause (L.faults out.old) (L.faults out.new) result }
         ensures kept { L.kept out.new ≡ L.kept out.old }
     {
@@ -153,28 +121,19 @@ impl World {
         if self.ran >= self.events {
             return Ok(Event::BoundReached);
         }
-        self.ended = true;
-        if time > LAST_TIME {
-            return Err(RunFault::OutOfMemory);
+        match self.comes(time, scripted, out)? {
+            Burst::Spent => Ok(Event::Spent),
+            Burst::Rested => {
+                self.ended = false;
+                Ok(Event::Ran)
+            }
         }
-        self.outside.time = time;
-        self.ran += 1;
-        let burst = if scripted {
-            self.scripted(out)?
-        } else {
-            self.pending(out)?
-        };
-        if let Burst::Spent = burst {
-            return Ok(Event::Spent);
-        }
-        self.ended = false;
-        Ok(Event::Ran)
     }
 
     /// The time of what comes next, and whether it is a line of the script: one comes before all pending events of the
     /// same time.
     fn next_time(&self) -> Option<(u64, bool)>
-        ensures { result ≡ self.now.next }
+        ensures { result ≡ next (world_seen self.now) }
     {
         match (self.script.first(), self.outside.timers.first()) {
             (None, None) => None,
@@ -189,20 +148,78 @@ impl World {
     }
 
     /// The number of the event in progress.
-    fn number(&self) -> u64 {
+    fn number(&self) -> u64
+        ensures { result ≡ self.now.ran }
+    {
         u64::from(self.ran)
     }
 
-    #[tactic(auto, using(flow_machine::proofs::Causes::cause_before))]
-    /// A line of the script.
-    fn scripted<L: LineOut>(&mut self, out: &mut L) -> Result<Burst, RunFault>
-        ensures within { WithinEvent self.old self.new }
+    /// What comes next happens at its time. The world has ended until the event is over.
+    fn comes<L: LineOut>(
+        &mut self,
+        time: u64,
+        scripted: bool,
+        out: &mut L,
+    ) -> Result<Burst, RunFault>
+        requires { self.old.ran < self.old.events }
+        ensures comes { IfOk result (λ e. Comes L.puts scripted
+            (begins time (world_seen self.old)) out.old e (world_seen self.new) out.new) }
+        ensures ended { self.new.ended ≡ true }
+        ensures bound { self.new.events ≡ self.old.events }
+        ensures ran { OnOk result (self.new.ran ≡ self.old.ran + 1) }
         ensures cause { RunCause (L.faults out.old) (L.faults out.new) result }
         ensures kept { L.kept out.new ≡ L.kept out.old }
     {
-        let Some(act) = self.script.next() else {
-            return Err(RunFault::Astray);
-        };
+        self.ended = true;
+        if time > LAST_TIME {
+            return Err(RunFault::OutOfMemory);
+        }
+        self.outside.time = time;
+        self.ran += 1;
+        if scripted {
+            self.scripted(out)
+        } else {
+            self.pending(out)
+        }
+    }
+
+    /// The next line of the script.
+    fn scripted<L: LineOut>(&mut self, out: &mut L) -> Result<Burst, RunFault>
+        ensures comes { IfOk result (λ e. LineComes L.puts self.old.script
+            (world_seen self.old) out.old e (world_seen self.new) out.new) }
+        ensures within { WithinEvent (world_seen self.old) (world_seen self.new) }
+        ensures cause { RunCause (L.faults out.old) (L.faults out.new) result }
+        ensures kept { L.kept out.new ≡ L.kept out.old }
+    {
+        match self.script.next() {
+            Some(act) => self.orders(act, out),
+            None => Err(RunFault::Astray),
+        }
+    }
+
+    /// The next pending event.
+    fn pending<L: LineOut>(&mut self, out: &mut L) -> Result<Burst, RunFault>
+        ensures comes { IfOk result (λ e. EventComes L.puts self.old.outside.timers.pending
+            (world_seen self.old) out.old e (world_seen self.new) out.new) }
+        ensures within { WithinEvent (world_seen self.old) (world_seen self.new) }
+        ensures cause { RunCause (L.faults out.old) (L.faults out.new) result }
+        ensures kept { L.kept out.new ≡ L.kept out.old }
+    {
+        match self.outside.take_first() {
+            Some(what) => self.happens(what, out),
+            None => Err(RunFault::Astray),
+        }
+    }
+
+    #[tactic(auto, using(flow_machine::proofs::Causes::cause_before))]
+    /// What a line of the script orders.
+    fn orders<L: LineOut>(&mut self, act: Act, out: &mut L) -> Result<Burst, RunFault>
+        ensures ordered { IfOk result (λ e. Ordered L.puts act
+            (world_seen self.old) out.old e (world_seen self.new) out.new) }
+        ensures within { WithinEvent (world_seen self.old) (world_seen self.new) }
+        ensures cause { RunCause (L.faults out.old) (L.faults out.new) result }
+        ensures kept { L.kept out.new ≡ L.kept out.old }
+    {
         let n = self.number();
         let t = self.outside.time;
         match act {
@@ -228,22 +245,19 @@ impl World {
     }
 
     #[tactic(auto, using(flow_machine::proofs::Causes::cause_before))]
-    /// The next pending event.
-    fn pending<L: LineOut>(&mut self, out: &mut L) -> Result<Burst, RunFault>
-        ensures within { WithinEvent self.old self.new }
+    /// What happens when a pending event comes.
+    fn happens<L: LineOut>(&mut self, what: What, out: &mut L) -> Result<Burst, RunFault>
+        ensures happened { IfOk result (λ e. Happened L.puts what
+            (world_seen self.old) out.old e (world_seen self.new) out.new) }
+        ensures within { WithinEvent (world_seen self.old) (world_seen self.new) }
         ensures cause { RunCause (L.faults out.old) (L.faults out.new) result }
         ensures kept { L.kept out.new ≡ L.kept out.old }
     {
-        let Some((time, number)) = self.outside.timers.first() else {
-            return Err(RunFault::Astray);
-        };
-        let Some(what) = self.outside.timers.remove(time, number) else {
-            return Err(RunFault::Astray);
-        };
         match what {
             What::Boots(p) => self.boots(p, out),
             What::Rings(p, cell) => {
-                put(out, &Line::Timer(self.number(), time, p, cell))?;
+                let n = self.number();
+                put(out, &Line::Timer(n, self.outside.time, p, cell))?;
                 self.runs(p, Deed::Delivers(cell, Outcome::Value(Value::Void)), out)
             }
             What::Arrives(p, packet) => self.arrives(p, packet, out),
@@ -254,7 +268,9 @@ impl World {
     #[tactic(auto, using(flow_machine::proofs::Causes::cause_before))]
     /// A process boots, unless it holds its `main`.
     fn boots<L: LineOut>(&mut self, p: ProcId, out: &mut L) -> Result<Burst, RunFault>
-        ensures within { WithinEvent self.old self.new }
+        ensures happens { IfOk result (λ e. Ordered L.puts (act.Boot p)
+            (world_seen self.old) out.old e (world_seen self.new) out.new) }
+        ensures within { WithinEvent (world_seen self.old) (world_seen self.new) }
         ensures cause { RunCause (L.faults out.old) (L.faults out.new) result }
         ensures kept { L.kept out.new ≡ L.kept out.old }
     {
@@ -264,8 +280,12 @@ impl World {
 
     /// A link is cut.
     fn cuts(&mut self, p: ProcId, q: ProcId) -> Result<Burst, RunFault>
+        ensures rests { IfOk result (λ e. e ≡ Rested) }
+        ensures cut { let net = self.old.outside.net in OnOk result
+            (world_seen self.new ≡ with_net (record net { cuts = cut net.cuts p.0 q.0 })
+            (world_seen self.old)) }
         ensures cause { ¬ IsErrOf result Failed }
-        ensures within { WithinEvent self.old self.new }
+        ensures within { WithinEvent (world_seen self.old) (world_seen self.new) }
     {
         let count = self.outside.net.processes();
         if p.0 >= count || q.0 >= count {
@@ -277,8 +297,12 @@ impl World {
 
     /// A link heals.
     fn heals(&mut self, p: ProcId, q: ProcId) -> Result<Burst, RunFault>
+        ensures rests { IfOk result (λ e. e ≡ Rested) }
+        ensures healed { let net = self.old.outside.net in OnOk result
+            (world_seen self.new ≡ with_net (record net { cuts = healed net.cuts p.0 q.0 })
+            (world_seen self.old)) }
         ensures cause { ¬ IsErrOf result Failed }
-        ensures within { WithinEvent self.old self.new }
+        ensures within { WithinEvent (world_seen self.old) (world_seen self.new) }
     {
         let count = self.outside.net.processes();
         if p.0 >= count || q.0 >= count {
@@ -290,8 +314,10 @@ impl World {
 
     /// So many of the next requests to the disk of a process fail.
     fn fails(&mut self, p: ProcId, count: u32) -> Result<Burst, RunFault>
+        ensures rests { IfOk result (λ e. e ≡ Rested) }
+        ensures fails { OnOk result (Fails p count (world_seen self.old) (world_seen self.new)) }
         ensures cause { ¬ IsErrOf result Failed }
-        ensures within { WithinEvent self.old self.new }
+        ensures within { WithinEvent (world_seen self.old) (world_seen self.new) }
     {
         let Some(disk) = self.outside.disks.get_mut(usize::from(p.0)) else {
             return Err(RunFault::Astray);
@@ -303,25 +329,33 @@ impl World {
     #[tactic(auto, using(flow_machine::proofs::Causes::cause_before))]
     /// A loss of power: the disk of the process loses what it may, and the process is gone with its timers and requests.
     fn kills<L: LineOut>(&mut self, p: ProcId, out: &mut L) -> Result<Burst, RunFault>
-        ensures within { WithinEvent self.old self.new }
+        ensures happens { IfOk result (λ e. Killed L.puts p
+            (world_seen self.old) out.old e (world_seen self.new) out.new) }
+        ensures within { WithinEvent (world_seen self.old) (world_seen self.new) }
         ensures cause { RunCause (L.faults out.old) (L.faults out.new) result }
         ensures kept { L.kept out.new ≡ L.kept out.old }
     {
         put(out, &Line::Kill(self.number(), self.outside.time, p))?;
-        for kept in self.outside.lose_disk(p)? {
-            put(
-                out,
-                &Line::Kept(kept.name, kept.offset, kept.length, kept.kept),
-            )?;
-        }
+        let fates = self.outside.lose_disk(p)?;
+        put_kept(self.alloc, &fates, out)?;
         self.outside.forget(p)?;
-        let Some(process) = self.processes.get_mut(usize::from(p.0)) else {
+        self.vanishes(p)?;
+        Ok(Burst::Rested)
+    }
+
+    /// A process is gone, with all that it held.
+    fn vanishes(&mut self, p: ProcId) -> Result<(), RunFault>
+        ensures vanishes { OnOk result (Vanishes p (world_seen self.old) (world_seen self.new)) }
+        ensures within { WithinEvent (world_seen self.old) (world_seen self.new) }
+        ensures cause { ¬ IsErrOf result Failed }
+    {
+        let Some(place) = self.places.get_mut(usize::from(p.0)) else {
             return Err(RunFault::Astray);
         };
-        process.up = false;
-        process.machine.vanish();
-        process.ports.clear();
-        Ok(Burst::Rested)
+        place.up = false;
+        place.machine.vanish();
+        place.ports.clear();
+        Ok(())
     }
 
     #[tactic(auto, using(flow_machine::proofs::Causes::cause_before))]
@@ -333,18 +367,37 @@ impl World {
         packet: u64,
         out: &mut L,
     ) -> Result<Burst, RunFault>
-        ensures within { WithinEvent self.old self.new }
+        ensures arrived { IfOk result (λ e. Arrived L.puts p packet
+            (world_seen self.old) out.old e (world_seen self.new) out.new) }
+        ensures within { WithinEvent (world_seen self.old) (world_seen self.new) }
         ensures cause { RunCause (L.faults out.old) (L.faults out.new) result }
         ensures kept { L.kept out.new ≡ L.kept out.old }
     {
-        put(
-            out,
-            &Line::Arrival(self.number(), self.outside.time, p, packet),
-        )?;
+        let n = self.number();
+        put(out, &Line::Arrival(n, self.outside.time, p, packet))?;
         let Some(packet) = self.outside.net.arrive(packet) else {
             return Err(RunFault::Astray);
         };
-        let Some(cell) = self.listener(p, packet.port) else {
+        let heard = self.listener(p, packet.port);
+        self.takes(heard, p, packet, out)
+    }
+
+    #[tactic(auto, using(flow_machine::proofs::Causes::cause_before))]
+    /// A packet goes to a stream as a value, or is discarded.
+    fn takes<L: LineOut>(
+        &mut self,
+        heard: Option<CellId>,
+        p: ProcId,
+        packet: Packet,
+        out: &mut L,
+    ) -> Result<Burst, RunFault>
+        ensures taken { IfOk result (λ e. Taken L.puts heard p packet
+            (world_seen self.old) out.old e (world_seen self.new) out.new) }
+        ensures within { WithinEvent (world_seen self.old) (world_seen self.new) }
+        ensures cause { RunCause (L.faults out.old) (L.faults out.new) result }
+        ensures kept { L.kept out.new ≡ L.kept out.old }
+    {
+        let Some(cell) = heard else {
             put(out, &Line::Discard(packet.number))?;
             return Ok(Burst::Rested);
         };
@@ -353,8 +406,10 @@ impl World {
     }
 
     /// The stream of a port of a process that is up.
-    fn listener(&self, p: ProcId, port: u16) -> Option<CellId> {
-        let process = self.processes.get(usize::from(p.0))?;
+    fn listener(&self, p: ProcId, port: u16) -> Option<CellId>
+        ensures { HeardIn (slice_get self.now.places.items p.0) port result }
+    {
+        let process = self.places.get(usize::from(p.0))?;
         if process.up {
             process.ports.stream(port)
         } else {
@@ -371,170 +426,96 @@ impl World {
         asked: &Asked,
         out: &mut L,
     ) -> Result<Burst, RunFault>
-        ensures within { WithinEvent self.old self.new }
+        ensures happens { IfOk result (λ e. Answered L.puts p cell asked.now
+            (world_seen self.old) out.old e (world_seen self.new) out.new) }
+        ensures within { WithinEvent (world_seen self.old) (world_seen self.new) }
         ensures cause { RunCause (L.faults out.old) (L.faults out.new) result }
         ensures kept { L.kept out.new ≡ L.kept out.old }
     {
         let reply = self.outside.serve(p, asked)?;
-        let line = disk_line(
-            self.alloc,
-            asked.ask(),
-            &reply,
-            self.number(),
-            self.outside.time,
-            p,
-            cell,
-        )?;
+        let (n, t) = (self.number(), self.outside.time);
+        let line = disk_line(self.alloc, asked.ask(), &reply, n, t, p, cell)?;
         put(out, &line)?;
-        self.runs(
-            p,
-            Deed::Delivers(cell, disk_outcome(self.alloc, reply)?),
-            out,
-        )
+        let outcome = disk_outcome(self.alloc, reply)?;
+        self.runs(p, Deed::Delivers(cell, outcome), out)
     }
 
+    #[tactic(auto, using(flow_machine::proofs::Causes::cause_before))]
     /// A process does what follows of a deed.
     fn runs<L: LineOut>(&mut self, p: ProcId, deed: Deed, out: &mut L) -> Result<Burst, RunFault>
-        ensures within { WithinEvent self.old self.new }
+        ensures happens { IfOk result (λ e. Runs L.puts p deed
+            (world_seen self.old) out.old e (world_seen self.new) out.new) }
+        ensures within { WithinEvent (world_seen self.old) (world_seen self.new) }
         ensures cause { RunCause (L.faults out.old) (L.faults out.new) result }
         ensures kept { L.kept out.new ≡ L.kept out.old }
     {
-        let Some(process) = self.processes.get_mut(usize::from(p.0)) else {
+        if self.holds_already(p, &deed)? {
+            return Ok(Burst::Rested);
+        }
+        self.acts(p, deed, out)
+    }
+
+    /// Whether a process has nothing to do for a deed.
+    fn holds_already(&self, p: ProcId, deed: &Deed) -> Result<bool, RunFault>
+        ensures cause { ¬ IsErrOf result Failed }
+        ensures held { IfOk result (λ held. HeldAt p deed.now self.now.places.items held) }
+    {
+        match self.places.get(usize::from(p.0)) {
+            Some(place) => Ok(holds_already(deed, &place.machine)),
+            None => Err(RunFault::Astray),
+        }
+    }
+
+    /// A process of the world does what follows of a deed.
+    fn acts<L: LineOut>(&mut self, p: ProcId, deed: Deed, out: &mut L) -> Result<Burst, RunFault>
+        ensures acts { IfOk result (λ e. ActsAt L.puts p deed
+            (world_seen self.old) out.old e (world_seen self.new) out.new) }
+        ensures within { WithinEvent (world_seen self.old) (world_seen self.new) }
+        ensures cause { RunCause (L.faults out.old) (L.faults out.new) result }
+        ensures kept { L.kept out.new ≡ L.kept out.old }
+    {
+        let Some(place) = self.places.get_mut(usize::from(p.0)) else {
             return Err(RunFault::Astray);
         };
         let count = self.outside.net.processes();
-        if p.0 >= count || process.machine.processes() != count {
+        if p.0 >= count || place.machine.processes() != count {
             return Err(RunFault::Astray);
         }
-        if let Deed::Boots = deed {
-            if process.machine.holds_main() {
-                return Ok(Burst::Rested);
-            }
-            process.up = true;
-        }
-        let now = self.outside.time;
-        let mut around = Around {
-            me: p,
-            ports: &mut process.ports,
-            outside: &mut self.outside,
-            out,
-        };
-        let burst = does(
-            deed,
-            &mut process.machine,
-            &self.code,
-            now,
-            self.turns,
-            &mut around,
-        );
-        let Around {
-            me: _,
-            ports: _,
-            outside: _,
-            out,
-        } = around;
-        // No effect at run time. The proof reads what the lines are from this use of `out`.
-        let _ = &*out;
-        burst
+        let outside = &mut self.outside;
+        acts(p, deed, place, outside, &self.code, self.turns, out)
     }
 
     /// The frames of the unfinished actors of a process, by rising number. Empty where there is no such process.
-    pub fn frames(&self, p: ProcId) -> Result<Vec<FrameView>, NoMemory> {
-        match self.processes.get(usize::from(p.0)) {
-            Some(process) => process.machine.frames(),
+    pub fn frames(&self, p: ProcId) -> Result<Vec<FrameView>, NoMemory>
+        ensures { IfOk result (λ views.
+            views.items ≡ frames_at (slice_get self.now.places.items p.0)) }
+    {
+        match self.places.get(usize::from(p.0)) {
+            Some(place) => place.machine.frames(),
             None => Ok(Vec::new(self.alloc)),
         }
     }
 
     /// The callbacks of the unfinished actors of a process, by rising number, those of an actor in order. Empty where there
     /// is no such process.
-    pub fn callbacks(&self, p: ProcId) -> Result<Vec<CallbackView>, NoMemory> {
-        match self.processes.get(usize::from(p.0)) {
-            Some(process) => process.machine.callbacks(),
+    pub fn callbacks(&self, p: ProcId) -> Result<Vec<CallbackView>, NoMemory>
+        ensures { IfOk result (λ views.
+            views.items ≡ callbacks_at (slice_get self.now.places.items p.0)) }
+    {
+        match self.places.get(usize::from(p.0)) {
+            Some(place) => place.machine.callbacks(),
             None => Ok(Vec::new(self.alloc)),
         }
     }
 
-    /// How many actors are unfinished.
-    pub fn live(&self) -> u64 {
+    /// How many actors are unfinished; 2^64 - 1 where there are more.
+    pub fn live(&self) -> u64
+        ensures { result ≡ min (live_in self.now.places.items) (2 ^ 64 - 1) }
+    {
         let mut count: u64 = 0;
-        for process in self.processes.iter() {
+        for process in self.places.iter() {
             count = count.saturating_add(process.machine.live());
         }
         count
-    }
-}
-
-/// A process does what follows of a deed, in the world around it.
-fn does<H: Host>(
-    deed: Deed,
-    machine: &mut Machine,
-    code: &Code,
-    now: u64,
-    turns: u32,
-    host: &mut H,
-) -> Result<Burst, RunFault>
-    requires { H.processes (H.kept host.old) ≡ machine.old.processes }
-    ensures cause { RunCause (H.faults host.old) (H.faults host.new) result }
-    ensures kept { H.kept host.new ≡ H.kept host.old }
-{
-    match deed {
-        Deed::Boots => machine.start_main(code, now, turns, host),
-        Deed::Stops => machine.stop(code, now, turns, host),
-        Deed::Delivers(cell, outcome) => machine.deliver(code, cell, outcome, now, turns, host),
-        Deed::Brings(cell, item) => machine.arrive(code, cell, item, now, turns, host),
-    }
-}
-
-/// A packet as a value.
-fn packet_value(alloc: Global, packet: Packet) -> Result<Value, NoMemory> {
-    let mut fields = Vec::new(alloc);
-    fields.push(Value::Int(i64::from(packet.from.0)))?;
-    fields.push(Value::Int(i64::from(packet.port)))?;
-    fields.push(Value::text(alloc, packet.text)?)?;
-    Value::record(alloc, RecordId::Packet, fields)
-}
-
-/// What a cell gets of an answer of a disk.
-fn disk_outcome(alloc: Global, reply: DiskReply) -> Result<Outcome, NoMemory> {
-    Ok(match reply {
-        DiskReply::Text(text) => Outcome::Value(Value::text(alloc, text)?),
-        DiskReply::Done => Outcome::Value(Value::Void),
-        DiskReply::Size(size) => Outcome::Value(Value::Int(i64::from(size))),
-        DiskReply::Failed => Outcome::Error(DISK_FAILED),
-    })
-}
-
-/// The line of an answer of a disk.
-fn disk_line(
-    alloc: Global,
-    ask: &DiskAsk,
-    reply: &DiskReply,
-    n: u64,
-    t: u64,
-    p: ProcId,
-    cell: CellId,
-) -> Result<Line, NoMemory> {
-    Ok(match ask {
-        DiskAsk::Read(..) => Line::Read(n, t, p, cell, text_in(alloc, reply)?),
-        DiskAsk::Write(..) => Line::Write(n, t, p, cell, matches!(reply, DiskReply::Done)),
-        DiskAsk::Sync(_) => Line::Sync(n, t, p, cell, matches!(reply, DiskReply::Done)),
-        DiskAsk::Size(_) => Line::Size(n, t, p, cell, size_in(reply)),
-    })
-}
-
-/// The bytes of an answer.
-fn text_in(alloc: Global, reply: &DiskReply) -> Result<Option<Text>, NoMemory> {
-    match reply {
-        DiskReply::Text(text) => Ok(Some(text.copy(alloc)?)),
-        _ => Ok(None),
-    }
-}
-
-/// The size of an answer.
-fn size_in(reply: &DiskReply) -> Option<u32> {
-    match reply {
-        DiskReply::Size(size) => Some(*size),
-        _ => None,
     }
 }

@@ -1,6 +1,6 @@
-use Rattle.std.proofs.Common.{◌≡◌}
-use Rattle.std.specs.List.{AllWithin}
+use Rattle.std.proofs.Common.{◌≡◌, ◌+◌, drop}
+use Rattle.flow_run.specs.Tracing.{own_count}
 use Rattle.flow_run.proofs.frames.own_part.Given as goal
 
 abbrev pub invariant-loop-place : goal.invariant-loop-place
-invariant-loop-place l = AllWithin (λ c. c.actor ≡ l.actor) l.callbacks 0 l.place
+invariant-loop-place l = own_count l.actor l.callbacks ≡ l.place + own_count l.actor (drop l.place l.callbacks)

@@ -1,0 +1,47 @@
+-- What comes next, by what it is.
+use Rattle.std.proofs.Common.{◌≡◌, ℕ, true, List, [], ◌∷◌, Some, None, refl, ap, subst, sym, arith, if◌then◌else◌}
+use Rattle.std.proofs.lemmas.Bool.Decides.{nat_tests}
+use Rattle.std.specs.Prelude.{Result}
+use Rattle.flow_base.specs.declared.fault.OutFault.{OutFault}
+use Rattle.flow_trace.specs.declared.line.Line.{Line}
+use Rattle.flow_worldfile.specs.declared.world.Act.{Act}
+use Rattle.flow_worldfile.specs.declared.world.At.{At}
+use Rattle.flow_timers.specs.Pending.{Pending, is_at, next_event, event_at, without_event}
+use Rattle.flow_machine.specs.declared.host.Burst.{Burst}
+use Rattle.flow_world.specs.declared.outside.What.{What}
+use Rattle.flow_world.specs.Changes.{Surroundings, FirstTaken, with_events}
+use Rattle.flow_world.specs.Ending.{Seen, first_act, lines_after}
+use Rattle.flow_world.specs.Happening.{Ordered, Happened, LineComes, EventComes, with_outside}
+
+module _ {A : Type 0} (puts : A → Line → Result (Unit {0}) OutFault → A → Type 0) where
+  pub line_comes : (ls : List At) (x : Act) (w v : Seen) (a b : A) (e : Burst) → Some x ≡ first_act ls
+      → Ordered puts x (record w { script = lines_after ls }) a e v b → LineComes puts ls w a e v b
+  line_comes [] x w v a b e h o = absurd (cc)
+  line_comes (l ∷ ls) x w v a b e h o = subst (λ y. Ordered puts y (record w { script = ls }) a e v b) (some h) o
+    where
+      some : {Y : Type 0} {s t : Y} → Some s ≡ Some t → s ≡ t
+      some g = cc
+
+  pub event_comes : (es : List (Pending What)) (x : What) (m : Surroundings) (w v : Seen) (a b : A) (e : Burst) → FirstTaken es (Some x) w.outside m
+      → Happened puts x (with_outside m w) a e v b → EventComes puts es w a e v b
+  event_comes [] x m w v a b e t h = absurd t
+  event_comes (y ∷ ys) x m w v a b e t h =
+      subst (λ n. Happened puts y.what (with_outside n w) a e v b) t.1 (subst (λ z. Happened puts z (with_outside m w) a e v b) t.0 h)
+
+-- the first pending event is found by its time and number
+pub first_taken : (es : List (Pending What)) (m n : Surroundings) (t k : ℕ) → Some (t, k) ≡ next_event es → n ≡ with_events (without_event t k es) m
+    → FirstTaken es (event_at t k es) m n
+first_taken [] m n t k h e = absurd (cc)
+first_taken (x ∷ xs) m n t k h e =
+    let same : (t, k) ≡ (x.time, x.number) = some h in
+    let time : t ≡ x.time = ap (λ p. p.0) same in
+    let number : k ≡ x.number = ap (λ p. p.1) same in
+    let here : is_at t k x ≡ true = grind (arith, nat_tests) in
+    subst (λ b. n ≡ with_events (if b then xs else x ∷ without_event t k xs) m → FirstTaken (x ∷ xs) (if b then Some x.what else event_at t k xs) m n) (sym here) (λ g. (refl, g)) e
+  where
+    some : {Y : Type 0} {s t : Y} → Some s ≡ Some t → s ≡ t
+    some g = cc
+
+pub none_taken : (es : List (Pending What)) (m : Surroundings) → None ≡ next_event es → FirstTaken es None m m
+none_taken [] m h = refl
+none_taken (x ∷ xs) m h = absurd (cc)

@@ -1,0 +1,27 @@
+use Rattle.std.proofs.Common.{rules, ◌≡◌, ap, ◌∙◌}
+use Rattle.std.proofs.lemmas.Result.{IfOk-weaker}
+use Rattle.flow_meaning.specs.Outside as meaning
+use Rattle.flow_world.specs.Around.{shows, wrote}
+use Rattle.flow_world.specs.Changes.{seen}
+use Rattle.flow_world.proofs.Moved.{does_to}
+use Rattle.flow_world.proofs.deed.acts.Goals as goal
+
+pub returns-clause-acts : goal.returns-clause-acts
+returns-clause-acts g c =
+    let h = c.does-burst.new.host in
+    let ports : h.ports.now ≡ c.place-2-1.given.0 = search rules in
+    let outside : h.outside.now ≡ c.outside-1.given.0 = search rules in
+    let out : h.out.now ≡ c.out-1.given.0 = search rules in
+    IfOk-weaker c.does-burst.result _ _
+    (λ e does.
+    let same =
+    ap (λ q. record { me = h.me; ports = q; outside = seen h.outside.now; out = h.out.now }) ports
+    ∙ ap (λ q. record { me = h.me; ports = c.place-2-1.given.0; outside = seen q; out = h.out.now }) outside
+    ∙ ap (λ q. record { me = h.me; ports = c.place-2-1.given.0; outside = seen c.outside-1.given.0; out = q }) out
+    in
+    record {
+      me = h.me;
+      does = does_to (λ k. record { me = k.me; ports = k.ports.now; outside = seen k.outside.now; out = k.out.now }) meaning.host shows (wrote g.L.LineOut.puts) _ _ _ _ _ _ _ _ _ _ same does;
+      up = c.up_after-place.ensures;
+    })
+    c.does-burst.ensures.does
