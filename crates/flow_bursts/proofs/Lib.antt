@@ -1,4 +1,5 @@
 pub mod Ports
 pub mod Service
+pub mod Standing
 pub mod Reached
 pub mod Rows

@@ -7,6 +7,7 @@ use Rattle.flow_class.specs.Classes.{RawTree}
 use Rattle.flow_code.specs.declared.program.Code.{Code}
 use Rattle.flow_trace.specs.declared.line.Line.{Line}
 use Rattle.flow_cancel.specs.Heap.{has_number, next_cell}
+use Rattle.flow_cancel.specs.declared.task.Task as stack
 use Rattle.flow_meaning.specs.Numbered.{Numbered}
 use Rattle.flow_meaning.specs.Asks.{Request}
 use Rattle.flow_meaning.specs.Process.{Spent, Proc}
@@ -25,7 +26,7 @@ use Rattle.flow_steps.specs.declared.process.Next.{Next}
 use Rattle.flow_steps.specs.declared.process.Next.TheVariants as next
 use Rattle.flow_steps.specs.declared.process.Process.{Process}
 use Rattle.flow_steps.specs.Doing.{unasked}
-use Rattle.flow_steps.specs.Tasks.{Tasks, all_spent, no_task, task_asks, task_done}
+use Rattle.flow_steps.specs.Tasks.{TopTaken, IsDone, Tasks, all_spent, no_task, task_asks, task_done}
 use Rattle.flow_machine.specs.declared.host.Burst.{Burst}
 use Rattle.flow_machine.specs.declared.host.Burst.TheVariants as burst
 use Rattle.flow_machine.specs.Serving.{Served, ServedIf}
@@ -43,7 +44,10 @@ use Rattle.flow_kept.proofs.Stays.{task_stays}
 use Rattle.flow_bursts.specs.Bursting as law
 use Rattle.flow_bursts.specs.Bursting.{IsTold, ports_left, Steadfast, Abroad, AsksWorld, TaskGoes, by_itself, by_the_world, TasksGo, Wrote, no_line, and_more, EndsAs, Follows}
 use Rattle.flow_bursts.proofs.Ports.{no_port}
+use Rattle.flow_poised.specs.Poised.{Poised, Branched}
+use Rattle.flow_poised.proofs.Tasks.{task_keeps}
 use Rattle.flow_bursts.proofs.Service.{Serves, served_serves}
+use Rattle.flow_bursts.proofs.Standing.{served_poised}
 use Rattle.flow_bursts.proofs.Reached.{reaches_then, then_burst, stopped_rests, no_task_rests, reaches_keep}
 
 some_none : {A : Type 0} (o : Option A) → is_some o ≡ false → o ≡ None
@@ -65,7 +69,7 @@ three : (xs ys zs : List Line) → (xs ++ ys) ++ zs ≡ xs ++ (ys ++ zs)
 three [] ys zs = refl
 three (x ∷ xs) ys zs = ap (λ k. x ∷ k) (three xs ys zs)
 
-module _ {A W : Type 0} (serves : Host W) (shown_by : A → Numbered ℕ → W → Type 0) (wrote : A → List Line → A → Type 0) (code : Code) (processes : ℕ) (r : RawTree) (run : IsRun r code) (steady : Steadfast serves) (go : TasksGo serves shown_by wrote code processes r) where
+module _ {A W : Type 0} (serves : Host W) (shown_by : A → Numbered ℕ → W → Type 0) (wrote : A → List Line → A → Type 0) (code : Code) (processes : ℕ) (r : RawTree) (run : IsRun r code) (branched : Branched code.classes.items) (steady : Steadfast serves) (go : TasksGo serves shown_by wrote code processes r) where
   abbrev In : List Line → Process → A → Proc Frame → W → Type 0
   In ls m a p w = Abroad serves shown_by wrote code processes r ls m a p w
 
@@ -76,9 +80,9 @@ module _ {A W : Type 0} (serves : Host W) (shown_by : A → Numbered ℕ → W �
   data TasksEnd (ls : List Line) (m : Process) (a : A) (p : Proc Frame) (w : W) : Next → Process → Type 0 where
     rested : (n : Process) (q : Proc Frame) → To p w q w → In ls n a q w → q.core.tasks ≡ [] → TasksEnd ls m a p w next.Rested n
     spent : (n : Process) (q : Proc Frame) → To p w q w → AreSpent ls n q → n.asked ≡ None → TasksEnd ls m a p w next.Spent n
-    told_last : (n k : Process) (o q : Proc Frame) → To p w o w → In ls k a o w → Stays k n → To o w q w → memory.Follows r ls nothing_in_hand n q
-        → IsTold n.asked → q.core.ports ≡ ports_left n.asked o.core.ports → is_some n.asked ≡ true → TasksEnd ls m a p w next.Asks n
-    asked_last : (n k : Process) (o q : Proc Frame) → To p w o w → In ls k a o w → Stays k n → To o w q w → AsksWorld serves shown_by wrote code processes r ls n a q w
+    told_last : (n k : Process) (o q : Proc Frame) → To p w o w → In ls k a o w → Stays k n → Poised n.heap → To o w q w → memory.Follows r ls nothing_in_hand n q
+        → IsTold n.asked → (n.spent ≡ false → q.core.ports ≡ ports_left n.asked o.core.ports) → is_some n.asked ≡ true → TasksEnd ls m a p w next.Asks n
+    asked_last : (n k : Process) (o q : Proc Frame) → To p w o w → In ls k a o w → Stays k n → Poised n.heap → To o w q w → AsksWorld serves shown_by wrote code processes r ls n a q w
         → TasksEnd ls m a p w next.Asks n
 
   -- what holds between tasks
@@ -86,20 +90,21 @@ module _ {A W : Type 0} (serves : Host W) (shown_by : A → Numbered ℕ → W �
   kept_then p q w u k here_goes goes reach =
       subst (λ x. UnlessStopped x (Kept r q)) goes (reaches_keep serves r run.valid (live p w) (live q u) (subst (λ x. UnlessStopped x (Kept r p)) (sym here_goes) k) reach)
 
-  in_then : (ls : List Line) (m n : Process) (a : A) (p q : Proc Frame) (w : W) → In ls m a p w → Stays m n → To p w q w → Shown r ls nothing_in_hand n q → n.asked ≡ None → q.core.ports ≡ ports_left n.asked p.core.ports → In ls n a q w
-  in_then ls m n a p q w now stays reach s none ports = record {
+  in_then : (ls : List Line) (m n : Process) (a : A) (p q : Proc Frame) (w : W) → In ls m a p w → Stays m n → Poised n.heap → To p w q w → Shown r ls nothing_in_hand n q → n.asked ≡ None → (n.spent ≡ false → q.core.ports ≡ ports_left n.asked p.core.ports) → In ls n a q w
+  in_then ls m n a p q w now stays poised reach s none ports = record {
     between = record { shown = s; sorted = sorted_stays m n stays now.between.sorted; kept = kept_then p q w w now.between.kept now.between.shown.goes s.goes reach };
     asked = none;
-    world = subst (λ ps. shown_by a ps w) (sym (ports ∙ ap (λ o. ports_left o p.core.ports) none)) now.world;
+    world = subst (λ ps. shown_by a ps w) (sym (ports s.unspent ∙ ap (λ o. ports_left o p.core.ports) none)) now.world;
     time = stays.time ∙ now.time;
     among = now.among;
+    poised = poised;
   }
 
   onward_end : (ls : List Line) (m k : Process) (a : A) (p q : Proc Frame) (w : W) (e : Next) (n : Process) → To p w q w → TasksEnd ls k a q w e n → TasksEnd ls m a p w e n
   onward_end ls m k a p q w _ n reach (rested _ o more now none) = rested n o (reaches_then serves r (live p w) (live q w) (live o w) reach more) now none
   onward_end ls m k a p q w _ n reach (spent _ o more are none) = spent n o (reaches_then serves r (live p w) (live q w) (live o w) reach more) are none
-  onward_end ls m k a p q w _ n reach (told_last _ j o x more now stays last s is ports some) = told_last n j o x (reaches_then serves r (live p w) (live q w) (live o w) reach more) now stays last s is ports some
-  onward_end ls m k a p q w _ n reach (asked_last _ j o x more now stays last world) = asked_last n j o x (reaches_then serves r (live p w) (live q w) (live o w) reach more) now stays last world
+  onward_end ls m k a p q w _ n reach (told_last _ j o x more now stays poised last s is ports some) = told_last n j o x (reaches_then serves r (live p w) (live q w) (live o w) reach more) now stays poised last s is ports some
+  onward_end ls m k a p q w _ n reach (asked_last _ j o x more now stays poised last world) = asked_last n j o x (reaches_then serves r (live p w) (live q w) (live o w) reach more) now stays poised last world
 
   -- a spent event goes on with nothing
   spent_tasks : (m n : Process) (e : Next) → m.spent ≡ true → Tasks code m e n → (e ≡ next.Spent) × (n ≡ m)
@@ -108,6 +113,9 @@ module _ {A W : Type 0} (serves : Host W) (shown_by : A → Numbered ℕ → W �
   spent_tasks m n e s (task_asks _ start _ t un taken done some) = absurd (not_both s un)
   spent_tasks m n e s (task_done _ start between _ t _ un taken done none more) = absurd (not_both s un)
 
+  still_poised : (ls : List Line) (m start n : Process) (a : A) (p : Proc Frame) (w : W) (t : stack.Task) → In ls m a p w → TopTaken t m start → IsDone code t start n → Poised n.heap
+  still_poised ls m start n a p w t now taken done = task_keeps code t m start n branched now.between.sorted.frames now.poised taken done
+
   tasks_end : (ls : List Line) (m n : Process) (e : Next) (a : A) (p : Proc Frame) (w : W) → In ls m a p w → Tasks code m e n → TasksEnd ls m a p w e n
   tasks_end ls m n e a p w now (all_spent _ t) = absurd (not_both t now.between.shown.unspent)
   tasks_end ls m n e a p w now (no_task _ un none) = rested m p here now (no_tasks_shown r m.heap p now.between.shown.holds.shows none)
@@ -115,8 +123,8 @@ module _ {A W : Type 0} (serves : Host W) (shown_by : A → Numbered ℕ → W �
       by_goes (go ls m start n a p w t now taken done)
     where
       by_goes : TaskGoes serves shown_by wrote code processes r ls n a p w → TasksEnd ls m a p w next.Asks n
-      by_goes (by_itself q reach s is ports) = told_last n m p q here now (task_stays code t m start n now.asked taken done) reach s is ports some
-      by_goes (by_the_world q reach world) = asked_last n m p q here now (task_stays code t m start n now.asked taken done) reach world
+      by_goes (by_itself q reach s is ports) = told_last n m p q here now (task_stays code t m start n now.asked taken done) (still_poised ls m start n a p w t now taken done) reach s is ports some
+      by_goes (by_the_world q reach world) = asked_last n m p q here now (task_stays code t m start n now.asked taken done) (still_poised ls m start n a p w t now taken done) reach world
   tasks_end ls m n e a p w now (task_done _ start between _ t _ un taken done quiet more) =
       by_goes (go ls m start between a p w t now taken done) (λ q here_now. tasks_end ls between n e a q w here_now more)
     where
@@ -126,7 +134,7 @@ module _ {A W : Type 0} (serves : Host W) (shown_by : A → Numbered ℕ → W �
       by_goes : TaskGoes serves shown_by wrote code processes r ls between a p w → ((q : Proc Frame) → In ls between a q w → TasksEnd ls between a q w e n) → TasksEnd ls m a p w e n
       by_goes (by_itself q reach (shows s) is ports) further =
           onward_end ls m between a p q w e n reach
-          (further q (in_then ls m between a p q w now (task_stays code t m start between now.asked taken done) reach s none ports))
+          (further q (in_then ls m between a p q w now (task_stays code t m start between now.asked taken done) (still_poised ls m start between a p w t now taken done) reach s none ports))
       by_goes (by_itself q reach (ends s) is ports) further =
           let last = spent_tasks between n e s.spent more in
           subst (λ z. TasksEnd ls m a p w z n) (sym last.0) (subst (TasksEnd ls m a p w next.Spent) (sym last.1) (spent between q reach s none))
@@ -178,9 +186,9 @@ module _ {A W : Type 0} (serves : Host W) (shown_by : A → Numbered ℕ → W �
   }
 
   -- what a step told is served
-  module _ (ls : List Line) (k n j : Process) (a b c : A) (o q : Proc Frame) (w : W) (e : Burst) (m : Process) (now : In ls k a o w) (stays : Stays k n) (reach : To o w q w) where
-    told_in : (more : List Line) → serving.Lives serves shown_by wrote r nothing_in_hand more j b q w → Serves (unasked n) j → In more j b q w
-    told_in more lives s = record {
+  module _ (ls : List Line) (k n j : Process) (a b c : A) (o q : Proc Frame) (w : W) (e : Burst) (m : Process) (now : In ls k a o w) (stays : Stays k n) (poised : Poised n.heap) (reach : To o w q w) where
+    told_in : (more : List Line) → serving.Lives serves shown_by wrote r nothing_in_hand more j b q w → Serves (unasked n) j → Poised j.heap → In more j b q w
+    told_in more lives s after = record {
       between = record {
         shown = lives.shown;
         sorted = let z = sorted_stays k n stays now.between.sorted in s.sorted (record { cells = z.cells; streams = z.streams; actors = z.actors; frames = z.frames; ports = z.ports });
@@ -190,6 +198,7 @@ module _ {A W : Type 0} (serves : Host W) (shown_by : A → Numbered ℕ → W �
       world = lives.world;
       time = s.time ∙ stays.time ∙ now.time;
       among = now.among;
+      poised = after;
     }
 
     free : Shown r ls nothing_in_hand n q → has_number (unasked n).heap.ports (next_cell (unasked n).heap) ≡ false
@@ -204,15 +213,15 @@ module _ {A W : Type 0} (serves : Host W) (shown_by : A → Numbered ℕ → W �
         (subst (λ z. Goes (ls ++ more) b q w burst.Spent z c) (sym x.same) (subst (Goes (ls ++ more) b q w burst.Spent j) (sym x.host) (spent_goes (ls ++ more) b q w j s halted lines))))
 
     -- where it told nothing more than a line, or that a port is heard no more
-    told_goes : (some : is_some n.asked ≡ true) (x : Option Call) → n.asked ≡ x → IsTold x → q.core.ports ≡ ports_left x o.core.ports → memory.Follows r ls nothing_in_hand n q → ServedIf serves shown_by wrote processes x (unasked n) a j b
+    told_goes : (some : is_some n.asked ≡ true) (x : Option Call) → n.asked ≡ x → IsTold x → (n.spent ≡ false → q.core.ports ≡ ports_left x o.core.ports) → memory.Follows r ls nothing_in_hand n q → ServedIf serves shown_by wrote processes x (unasked n) a j b
         → ((ks : List Line) → In ks j b q w → Goes ks b q w e m c) → Bursts serves shown_by wrote code processes j b e m c → Goes ls a o w e m c
     told_goes some None is fits ports f served further more = absurd (none_some n.asked some is)
     told_goes some (Some (call.Line l)) is fits ports (shows s) served further more =
-        let x = line_written serves shown_by wrote r nothing_in_hand ls n j a b q w processes l s is (subst (λ ps. shown_by a ps w) (sym ports) now.world) served in
-        before ls (l ∷ []) a b c o q w w e m reach (serving.told x.0) (further (ls ++ l ∷ []) (told_in (ls ++ l ∷ []) x.1 (served_serves serves shown_by wrote (unasked n) j a b (free s) processes (call.Line l) served)))
+        let x = line_written serves shown_by wrote r nothing_in_hand ls n j a b q w processes l s is (subst (λ ps. shown_by a ps w) (sym (ports s.unspent)) now.world) served in
+        before ls (l ∷ []) a b c o q w w e m reach (serving.told x.0) (further (ls ++ l ∷ []) (told_in (ls ++ l ∷ []) x.1 (served_serves serves shown_by wrote (unasked n) j a b (free s) processes (call.Line l) served) (served_poised serves shown_by wrote (unasked n) j a b processes (call.Line l) served poised)))
     told_goes some (Some (call.Unlisten k)) is fits ports (shows s) served further more =
-        let x = port_unheard serves shown_by wrote r nothing_in_hand ls n j a b q w processes k o.core.ports s is now.world (sym ports) served in
-        before ls [] a b c o q w w e m reach (serving.told x.0) (subst (λ ks. Goes ks b q w e m c) (sym (no_more ls)) (further ls (told_in ls x.1 (served_serves serves shown_by wrote (unasked n) j a b (free s) processes (call.Unlisten k) served))))
+        let x = port_unheard serves shown_by wrote r nothing_in_hand ls n j a b q w processes k o.core.ports s is now.world (sym (ports s.unspent)) served in
+        before ls [] a b c o q w w e m reach (serving.told x.0) (subst (λ ks. Goes ks b q w e m c) (sym (no_more ls)) (further ls (told_in ls x.1 (served_serves serves shown_by wrote (unasked n) j a b (free s) processes (call.Unlisten k) served) (served_poised serves shown_by wrote (unasked n) j a b processes (call.Unlisten k) served poised))))
     told_goes some (Some (call.Line l)) is fits ports (ends s) served further more =
         spent_after (l ∷ []) (serving.told served.1.0) (ap (λ (z : Process). z.spent) served.0 ∙ s.spent) s.halted (s.lines ∙ ap (λ z. ls ++ told z) is) more
     told_goes some (Some (call.Unlisten k)) is fits ports (ends s) served further more =
@@ -245,6 +254,7 @@ module _ {A W : Type 0} (serves : Host W) (shown_by : A → Numbered ℕ → W �
           world = d.lives.world;
           time = s.time ∙ stays.time ∙ now.time ∙ sym (kept world.after.0).0;
           among = now.among ∙ sym (kept world.after.0).1;
+          poised = served_poised serves shown_by wrote (unasked n) j a b processes world.called served poised;
         }))
       where
         world_keeps : (x : Option Request) (t : Proc Frame) → ((serves.supply (serve serves x t w).out).now ≡ (serves.supply w).now) × ((serves.supply (serve serves x t w).out).processes ≡ (serves.supply w).processes)
@@ -278,10 +288,10 @@ module _ {A W : Type 0} (serves : Host W) (shown_by : A → Numbered ℕ → W �
       by_end (tasks_end ls m k next.Asks a p w now tasks) (λ ks q u here_now. burst_goes ks j n d b q u e here_now more)
     where
       by_end : TasksEnd ls m a p w next.Asks k → ((ks : List Line) (q : Proc Frame) (u : W) → In ks j d q u → Goes ks d q u e n b) → Goes ls a p w e n b
-      by_end (told_last _ z o q reach last stays step f is ports some) further =
-          reach_goes ls a b p o w e n reach (told_goes ls z k j a d b o q w e n last stays step some k.asked refl is ports f served (λ ks. further ks q w) more)
-      by_end (asked_last _ z o q reach last stays step world) further =
-          reach_goes ls a b p o w e n reach (asked_goes ls z k j a d b o q w e n last stays step world (subst (λ x. ServedIf serves shown_by wrote processes x (unasked k) a j d) world.asked served) further)
+      by_end (told_last _ z o q reach last stays poised step f is ports some) further =
+          reach_goes ls a b p o w e n reach (told_goes ls z k j a d b o q w e n last stays poised step some k.asked refl is ports f served (λ ks. further ks q w) more)
+      by_end (asked_last _ z o q reach last stays poised step world) further =
+          reach_goes ls a b p o w e n reach (asked_goes ls z k j a d b o q w e n last stays poised step world (subst (λ x. ServedIf serves shown_by wrote processes x (unasked k) a j d) world.asked served) further)
 
 pub burst_follows : {A W : Type 0} (serves : Host W) (shown_by : A → Numbered ℕ → W → Type 0) (wrote : A → List Line → A → Type 0) (code : Code) (processes : ℕ) (r : RawTree) → law.BurstFollows serves shown_by wrote code processes r
-burst_follows serves shown_by wrote code processes r run steady go ls m n a b p w e now bursts = burst_goes serves shown_by wrote code processes r run steady go ls m n a b p w e now bursts
+burst_follows serves shown_by wrote code processes r run branched steady go ls m n a b p w e now bursts = burst_goes serves shown_by wrote code processes r run branched steady go ls m n a b p w e now bursts

@@ -1,5 +1,5 @@
 -- A burst in memory is a burst of the class machine, where each task that is done is a row of its steps.
-use Rattle.std.specs.Prelude.{◌≡◌, ℕ, true, List, [], ◌++◌}
+use Rattle.std.specs.Prelude.{◌≡◌, ℕ, true, false, List, [], ◌++◌}
 use Rattle.std.specs.declared.option.Option.{Option}
 use Rattle.std.specs.declared.option.Option.TheVariants.{None, Some}
 use Rattle.flow_class.specs.Classes.{RawTree}
@@ -30,6 +30,7 @@ use Rattle.flow_machine.specs.Bursts.{Bursts}
 use Rattle.flow_follows.specs.Shown.{Shown}
 use Rattle.flow_follows.specs.Shown as memory
 use Rattle.flow_served.specs.Serving.{Told, Done}
+use Rattle.flow_poised.specs.Poised.{Poised, Branched}
 use Rattle.flow_kept.specs.Allowed.{IsRun, BetweenTasks}
 
 -- what a process asks that the world serves by writing a line, or by hearing a port no more
@@ -52,13 +53,14 @@ Steadfast {W} h =
 
 module _ {A W : Type 0} (serves : Host W) (shows : A → Numbered ℕ → W → Type 0) (wrote : A → List Line → A → Type 0) (code : Code) (processes : ℕ) (r : RawTree) where
   -- A process in memory between two tasks and the host around it, and what they show: a process in its world, at the world's time
-  -- and one of as many.
+  -- and one of as many. No actor is in the state of a wait that doesn't wait, unless it is thrown an error or ends.
   pub record Abroad (ls : List Line) (m : Process) (a : A) (p : Proc Frame) (w : W) : Type 0 where
     pub between : BetweenTasks r ls m p
     pub asked : m.asked ≡ None
     pub world : shows a p.core.ports w
     pub time : m.time ≡ (serves.supply w).now
     pub among : processes ≡ (serves.supply w).processes
+    pub poised : Poised m.heap
 
   -- A step that asks something else of the world: memory shows the process that asks, and where its call is served, the class
   -- machine's step is, and both show what comes of it.
@@ -76,7 +78,7 @@ module _ {A W : Type 0} (serves : Host W) (shows : A → Numbered ℕ → W → 
   -- A task that is done in memory is a row of steps; the last of them may ask something of the world.
   pub data TaskGoes (ls : List Line) (n : Process) (a : A) (p : Proc Frame) (w : W) : Type 0 where
     by_itself : (q : Proc Frame) → Reaches (classes r) serves (live p w) (live q w) → memory.Follows r ls nothing_in_hand n q
-        → IsTold n.asked → q.core.ports ≡ ports_left n.asked p.core.ports → TaskGoes ls n a p w
+        → IsTold n.asked → (n.spent ≡ false → q.core.ports ≡ ports_left n.asked p.core.ports) → TaskGoes ls n a p w
     by_the_world : (q : Proc Frame) → Reaches (classes r) serves (live p w) (live q w) → AsksWorld ls n a q w
         → TaskGoes ls n a p w
 
@@ -106,5 +108,5 @@ module _ {A W : Type 0} (serves : Host W) (shows : A → Numbered ℕ → W → 
 
   abbrev pub BurstFollows : Type 0
   BurstFollows =
-      (run : IsRun r code) → Steadfast serves → TasksGo → (ls : List Line) (m n : Process) (a b : A) (p : Proc Frame) (w : W) (e : Burst)
+      (run : IsRun r code) → Branched code.classes.items → Steadfast serves → TasksGo → (ls : List Line) (m n : Process) (a b : A) (p : Proc Frame) (w : W) (e : Burst)
       → Abroad ls m a p w → Bursts serves shows wrote code processes m a e n b → Follows ls a p w e n b
