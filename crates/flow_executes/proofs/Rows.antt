@@ -104,7 +104,7 @@ module _ (r : RawTree) (ls : List Line) (x : Scan) (w : Supply) (holds : Proc Fr
     in_program s m p e f held may here = record {
       program = program;
       standing = in_code_of r code e.class s f (coded_by program) here (class_of r ls x s m p i e f may);
-      few = allows.few (on_core (pushed (Run i)) p) i f held (acting r ls x s m p i e f may);
+      few = allows.few (on_core (pushed (Run i)) p) i e f held (entered r ls x s m p i e f may) (acting r ls x s m p i e f may);
     }
 
     -- after one step the actor goes on with the others

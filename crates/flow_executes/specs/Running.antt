@@ -31,7 +31,8 @@ pub record Allows (r : RawTree) (w : Supply) (holds : Proc Frame → Type 0) : T
   pub next : (p : Proc Frame) (i : ℕ) (e : Entry) (f : Frame) → holds (on_core (pushed (Run i)) p)
       → thing p.core.entries i ≡ Some e → thing p.actors i ≡ Some f
       → MayDoNext r w p i e f (fetch f.code f.block f.instr)
-  pub few : (p : Proc Frame) (i : ℕ) (f : Frame) → holds p → thing p.actors i ≡ Some f
+  pub few : (p : Proc Frame) (i : ℕ) (e : Entry) (f : Frame) → holds p → thing p.core.entries i ≡ Some e
+      → thing p.actors i ≡ Some f
       → length f.code.slots + length f.mem.locals ≤ 2 ^ 32
 
 module _ (r : RawTree) (ls : List Line) (x : Scan) (w : Supply) (holds : Proc Frame → Type 0)
