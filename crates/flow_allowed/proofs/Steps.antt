@@ -112,24 +112,24 @@ module _ (r : RawTree) (w : Supply) (p : Proc Frame) (i : ℕ) (e : Entry) (f : 
   same_frame : actor.frame ≡ f
   same_frame = same_of (sym actor.stands ∙ run.acting)
 
-  standing : Rattle.flow_unstuck.specs.Fitting.Standing r k.types f
+  pub standing : Rattle.flow_unstuck.specs.Fitting.Standing r k.types f
   standing = subst (Rattle.flow_unstuck.specs.Fitting.Standing r k.types) same_frame actor.doing.1
 
-  class_is : slice_get r.classes e.class ≡ Some f.code
+  pub class_is : slice_get r.classes e.class ≡ Some f.code
   class_is =
       ap (λ (y : Entry). slice_get r.classes y.class) (sym same_entry) ∙ actor.owner.is ∙ ap (λ c. Some c) (sym actor.doing.0 ∙ ap (λ (y : Frame). y.code) same_frame)
 
   operands : OperandsFit r k.types f 0 e.operands
   operands = subst (λ (y : Entry). OperandsFit r k.types f 0 y.operands) same_entry (subst (λ y. OperandsFit r k.types y 0 actor.entry.operands) same_frame actor.doing.2)
 
-  rules : ClassRules r (heads r)
+  pub rules : ClassRules r (heads r)
   rules = class_rules r run.whole.valid.valid run.whole.valid.written (functions_kept r run.whole.valid.valid run.whole.valid.functions)
 
   own_rules : KeepsRules r (heads r) f.code (class_vars f.code)
   own_rules = rules.classes e.class f.code class_is
 
   -- what stands in its places and in cells refers to what is there
-  holds_there : HoldsThere p f
+  pub holds_there : HoldsThere p f
   holds_there q v at =
       let x = held_some r.records (typed_by k.types) f.code f.mem q v standing.holds at in there.value_there r k.types p k.fits.cells v x.0 x.1
 
@@ -150,7 +150,7 @@ module _ (r : RawTree) (w : Supply) (p : Proc Frame) (i : ℕ) (e : Entry) (f : 
   gives_there t = value_there r p f w i t holds_there set_there
 
   -- what it asks for fits
-  asks_fit : (o : Fetched) → fetch f.code f.block f.instr ≡ o → AsksFit r (class_vars f.code) (typed_by k.types) f.code (kept_by (thing p.core.entries i)) (fetched (class_names r) (view w i p.core) f o)
+  pub asks_fit : (o : Fetched) → fetch f.code f.block f.instr ≡ o → AsksFit r (class_vars f.code) (typed_by k.types) f.code (kept_by (thing p.core.entries i)) (fetched (class_names r) (view w i p.core) f o)
   asks_fit o at =
       subst (λ z. AsksFit r (class_vars f.code) (typed_by k.types) f.code (kept_by (thing p.core.entries i)) (fetched (class_names r) (view w i p.core) f z)) at
       (next_fits r (heads r) (class_vars f.code) (typed_by k.types) (view w i p.core) f own_rules rules.functions (cells_seen r k.types w i full.core full.actors k.fits) standing)

@@ -5,12 +5,18 @@ ghost use Rattle.flow_class.specs.Classes.{RawTree};
 ghost use Rattle.flow_code.specs.declared.program.Code.{Code};
 ghost use Rattle.flow_follows.specs.Placing.{ForActors};
 ghost use Rattle.flow_asked.specs.Next as law;
+ghost use Rattle.flow_asked.specs.Allowing.{AskAllowed};
 
 use flow_machine::host::Host;
 
 /// A step of an actor in memory by an effect, a call statement or an operand by an effect is a step of the class machine.
 pub fn asks_follow()
     ensures { ForActors law.AskFollows }
+{}
+
+/// What a process of valid classes keeps allows each actor that takes its next step what it asks there.
+pub fn asks_are_allowed()
+    ensures { AskAllowed }
 {}
 
 /// What such a step asks of the world is asked in the class machine, and what the host does for it is what the world does.
