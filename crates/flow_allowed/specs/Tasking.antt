@@ -47,4 +47,4 @@ module _ (r : RawTree) (code : Code) (program : IsProgram r code) (ls : List Lin
   abbrev pub AnyGoes : Type 0
   AnyGoes =
       (w : Supply) (t : stack.Task) (start n : Process) → m.asked ≡ None → TopTaken t m start → InNoWait m.heap t
-      → IsDone code t start n → TaskGoes code r ls w p n
+      → IsDone code t start n → TaskGoes code r ls w p start n

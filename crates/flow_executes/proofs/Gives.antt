@@ -49,7 +49,7 @@ use Rattle.flow_follows.proofs.Parting.{acts_by, no_keep_under}
 use Rattle.flow_follows.proofs.Kept.{operand_follows}
 use Rattle.flow_follows.proofs.Moving.{goes_in}
 use Rattle.flow_follows.proofs.Gone.{value_bound}
-use Rattle.flow_executes.specs.Going.{no_more, then_on, moves, chooses, Onward, InClass}
+use Rattle.flow_executes.specs.Going.{no_more, then_on, moves, chooses, Onward, InClass, by_value, by_operand}
 use Rattle.flow_executes.specs.Giving as law
 use Rattle.flow_executes.proofs.Onward.{same_memory, goes_after}
 use Rattle.flow_executes.proofs.Paths.{path_put}
@@ -160,6 +160,7 @@ module _ (r : RawTree) (ls : List Line) (m : Process) (p : Proc Frame) (i : ℕ)
       ∙ ap (λ k. Some (replaced i k ran)) (taken_by may.callback u) in record {
         pace = is.pace;
         between = is.between;
+        began = by_value is.goes _ i is.branch.into v is.after;
         goes = record {
           after = after;
           steps = then_on start after after one (no_more after);
@@ -268,6 +269,7 @@ module _ (r : RawTree) (ls : List Line) (m : Process) (p : Proc Frame) (i : ℕ)
       let first : Proc Frame = on_core (pushed (Keep i (wait_spot f) q)) ran in record {
         pace = is.pace;
         between = is.between;
+        began = by_operand is.stand _ is.start (actor_id i) is.next is.keeps;
         goes = goes_kept r ls start p i e f x is.stand w q group first is.pace is.between st1.shown.goes st1.acts is.stands.stands.noted
             (stands_here r start p i e f code is.stand st1.acts state is.stands) may (no_more first) after;
         stands = λ t on.

@@ -22,7 +22,8 @@ use Rattle.flow_steps.specs.Sights.{program_time}
 use Rattle.flow_steps.specs.Stepping.{GoesOn, StepsOn, Runs, runs_on, runs_off}
 use Rattle.flow_follows.specs.Shown.{Follows}
 use Rattle.flow_follows.specs.Seeing.{IsCodeOf}
-use Rattle.flow_executes.specs.Going.{Silent, no_more, then_on, MayStep, moves, chooses, GoesBy, InClass, GoesFurther, OnlyTells}
+use Rattle.flow_executes.specs.Going as going
+use Rattle.flow_executes.specs.Going.{Silent, no_more, then_on, MayStep, moves, chooses, GoesBy, Leads, InClass, GoesFurther, OnlyTells}
 use Rattle.flow_executes.specs.Executing.{coded_by, InProgram, Asks, by_effect, by_act, by_method, by_operand}
 use Rattle.flow_executes.specs.Running as law
 use Rattle.flow_executes.specs.Running.{Allows, AsksAtLast, RanOff}
@@ -76,19 +77,20 @@ module _ (r : RawTree) (ls : List Line) (x : Scan) (s : Stand) (m : Process) (p 
   class_of (chooses at) = ap (slice_get r.classes) at.stood.acts.class ∙ at.stood.acts.stands.code
 
 module _ (r : RawTree) (ls : List Line) (x : Scan) (w : Supply) (holds : Proc Frame → Type 0) (code : Code) (program : IsCodeOf r code) (allows : Allows r w holds) where
-  abbrev ending : ℕ → Proc Frame → Process → Type 0
-  ending i start n = RanOff r ls x w holds code start n ⊎ AsksAtLast r ls x w holds code program i start n
+  abbrev ending : ℕ → Proc Frame → (m n : Process) → Type 0
+  ending i start m n = RanOff r ls x w holds code start n ⊎ AsksAtLast r ls x w holds code program i start m n
 
   -- after steps that were taken already
-  later : (i : ℕ) (start q : Proc Frame) (n : Process) → Silent r w start q → ending i q n → ending i start n
-  later i start q n row (inl a) = inl (record { after = a.after; steps = joined r w start q a.after row a.steps; follows = a.follows; told = a.told })
-  later i start q n row (inr a) = inr (record {
+  later : (i : ℕ) (start q : Proc Frame) (m between n : Process) → Silent r w start q → ((z : Process) → Leads code between z → Leads code m z) → ending i q between n → ending i start m n
+  later i start q m between n row lead (inl a) = inl (record { after = a.after; steps = joined r w start q a.after row a.steps; follows = a.follows; told = a.told })
+  later i start q m between n row lead (inr a) = inr (record {
     stand = a.stand;
     memory = a.memory;
     process = a.process;
     entry = a.entry;
     frame = a.frame;
     steps = joined r w start q _ row a.steps;
+    leads = lead a.memory a.leads;
     held = a.held;
     may = a.may;
     standing = a.standing;
@@ -102,32 +104,32 @@ module _ (r : RawTree) (ls : List Line) (x : Scan) (w : Supply) (holds : Proc Fr
     in_program s m p e f held may here = record {
       program = program;
       standing = in_code_of r code e.class s f (coded_by program) here (class_of r ls x s m p i e f may);
-      few = allows.few (on_core (pushed (Run i)) p) i f held (acting r ls x s m p i e f may);
+      few = allows.few (on_core (pushed (Run i)) p) i e f held (entered r ls x s m p i e f may) (acting r ls x s m p i e f may);
     }
 
     -- after one step the actor goes on with the others
     goes_further : (s : Stand) (m n : Process) (p : Proc Frame) (e : Entry) (f : Frame) (t : Stand) (between : Process) → holds (on_core (pushed (Run i)) p) → InClass code e.class s → m.asked ≡ None
         → program_time m.time ≡ pos w.now → StepsOn code s m (On t) between → GoesBy r ls x w i e.class (on_core (pushed (Run i)) p) (On t) between ⊎ Asks code s m (On t) between
         → ((q : Proc Frame) (d : Entry) (g : Frame) → holds (on_core (pushed (Run i)) q) → MayStep r ls x t between q i d g → InClass code d.class t → between.asked ≡ None
-        → program_time between.time ≡ pos w.now → ending i (on_core (pushed (Run i)) q) n)
-        → ending i (on_core (pushed (Run i)) p) n
+        → program_time between.time ≡ pos w.now → ending i (on_core (pushed (Run i)) q) between n)
+        → ending i (on_core (pushed (Run i)) p) m n
     goes_further s m n p e f t between held here none time steps (inr a) rest = absurd (asks_off code s m (On t) between t refl a)
     goes_further s m n p e f t between held here none time steps (inl g) rest =
         let quiet = step_quiet code s m between t (On t) refl steps in
         let a = g.onward in
         let row = subst (Silent r w (on_core (pushed (Run i)) p)) a.runs g.steps in
         let held2 = holds_then r w holds allows (on_core (pushed (Run i)) p) (on_core (pushed (Run i)) a.process) row held (goes_on r ls x t between a.process i a.entry a.frame a.next) in
-        later i (on_core (pushed (Run i)) p) (on_core (pushed (Run i)) a.process) n row
+        later i (on_core (pushed (Run i)) p) (on_core (pushed (Run i)) a.process) m between n row (λ z. going.goes_on s t m between z steps)
         (rest a.process a.entry a.frame held2 a.next (subst (λ k. InClass code k t) (sym a.same) (in_class_stays code e.class s t m between here steps))
         (quiet.asked ∙ none) (ap program_time quiet.time ∙ time))
 
     runs : (s : Stand) (m n : Process) (p : Proc Frame) (e : Entry) (f : Frame) → holds (on_core (pushed (Run i)) p) → MayStep r ls x s m p i e f → InClass code e.class s → m.asked ≡ None
-        → program_time m.time ≡ pos w.now → Runs code s m n → ending i (on_core (pushed (Run i)) p) n
+        → program_time m.time ≡ pos w.now → Runs code s m n → ending i (on_core (pushed (Run i)) p) m n
     runs s m n p e f held may here none time (runs_off a b c steps) =
         by_step (step_follows r ls m p i e f x s w code Off n may (in_program s m p e f held may here) none time
         (allows.next p i e f held (entered r ls x s m p i e f may) (acting r ls x s m p i e f may)) steps) (step_told code s m n Off none steps)
       where
-        asks_last : Asks code s m Off n → ending i (on_core (pushed (Run i)) p) n
+        asks_last : Asks code s m Off n → ending i (on_core (pushed (Run i)) p) m n
         asks_last a = inr (record {
           stand = s;
           memory = m;
@@ -135,6 +137,7 @@ module _ (r : RawTree) (ls : List Line) (x : Scan) (w : Supply) (holds : Proc Fr
           entry = e;
           frame = f;
           steps = no_more (on_core (pushed (Run i)) p);
+          leads = going.stays_there m;
           held = held;
           may = may;
           standing = in_program s m p e f held may here;
@@ -143,7 +146,7 @@ module _ (r : RawTree) (ls : List Line) (x : Scan) (w : Supply) (holds : Proc Fr
           asks = a;
         })
 
-        by_step : GoesBy r ls x w i e.class (on_core (pushed (Run i)) p) Off n ⊎ Asks code s m Off n → OnlyTells n.asked ⊎ Asks code s m Off n → ending i (on_core (pushed (Run i)) p) n
+        by_step : GoesBy r ls x w i e.class (on_core (pushed (Run i)) p) Off n ⊎ Asks code s m Off n → OnlyTells n.asked ⊎ Asks code s m Off n → ending i (on_core (pushed (Run i)) p) m n
         by_step (inl g) (inl t) = inl (record { after = g.after; steps = g.steps; follows = g.onward; told = t })
         by_step (inl g) (inr a) = asks_last a
         by_step (inr a) t = asks_last a
@@ -153,11 +156,11 @@ module _ (r : RawTree) (ls : List Line) (x : Scan) (w : Supply) (holds : Proc Fr
         (allows.next p i e f held (entered r ls x s m p i e f may) (acting r ls x s m p i e f may)) steps)
         (λ q d g held may here none time. runs t between n q d g held may here none time rest)
 
-    further : (number : ℕ) (start : Proc Frame) (n : Process) → holds start → (g : GoesFurther code r ls x w i number start n) → g.between.asked ≡ None ⊎ (g.pace ≡ Off) → program_time g.between.time ≡ pos w.now
-        → ending i start n
-    further number start n held g quiet time = by_pace g.pace g.goes g.stands g.told g.further quiet
+    further : (number : ℕ) (start : Proc Frame) (m n : Process) → holds start → (g : GoesFurther code r ls x w i number start m n) → g.between.asked ≡ None ⊎ (g.pace ≡ Off) → program_time g.between.time ≡ pos w.now
+        → ending i start g.between n
+    further number start m n held g quiet time = by_pace g.pace g.goes g.stands g.told g.further quiet
       where
-        by_pace : (pace : Pace) → GoesBy r ls x w i number start pace g.between → ((t : Stand) → pace ≡ On t → InClass code number t) → (pace ≡ Off → OnlyTells g.between.asked) → GoesOn code pace g.between n → g.between.asked ≡ None ⊎ (pace ≡ Off) → ending i start n
+        by_pace : (pace : Pace) → GoesBy r ls x w i number start pace g.between → ((t : Stand) → pace ≡ On t → InClass code number t) → (pace ≡ Off → OnlyTells g.between.asked) → GoesOn code pace g.between n → g.between.asked ≡ None ⊎ (pace ≡ Off) → ending i start g.between n
         by_pace Off goes stands told is quiet = inl (record {
           after = goes.after;
           steps = goes.steps;
@@ -169,11 +172,11 @@ module _ (r : RawTree) (ls : List Line) (x : Scan) (w : Supply) (holds : Proc Fr
             let a = goes.onward in
             let row = subst (Silent r w start) a.runs goes.steps in
             let held2 = holds_then r w holds allows start (on_core (pushed (Run i)) a.process) row held (goes_on r ls x t g.between a.process i a.entry a.frame a.next) in
-            later i start (on_core (pushed (Run i)) a.process) n row
+            later i start (on_core (pushed (Run i)) a.process) g.between g.between n row (λ z l. l)
             (runs t g.between n a.process a.entry a.frame held2 a.next (subst (λ k. InClass code k t) (sym a.same) (stands t refl)) none time is)
 
 pub runs_follow : (r : RawTree) (ls : List Line) (x : Scan) (w : Supply) (holds : Proc Frame → Type 0) (code : Code) → law.RunsFollow r ls x w holds code
 runs_follow r ls x w holds code m p i e f s n program allows held may here none time is = runs r ls x w holds code program allows i s m n p e f held may here none time is
 
 pub further_follows : (r : RawTree) (ls : List Line) (x : Scan) (w : Supply) (holds : Proc Frame → Type 0) (code : Code) → law.FurtherFollows r ls x w holds code
-further_follows r ls x w holds code i number start n program allows held g quiet time = further r ls x w holds code program allows i number start n held g quiet time
+further_follows r ls x w holds code i number start m n program allows held g quiet time = further r ls x w holds code program allows i number start m n held g quiet time

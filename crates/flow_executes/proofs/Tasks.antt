@@ -48,16 +48,16 @@ module _ (r : RawTree) (ls : List Line) (p : Proc Frame) (code : Code) (w : Supp
   whole : (u : Task) (below : List Task) → p.core.tasks ≡ u ∷ below → on_core (pushed u) (popped below p) ≡ p
   whole u below h = ap (λ ts. proc (record p.core { tasks = ts }) p.actors) (sym h)
 
-  from_step : (u : Task) (below : List Task) → p.core.tasks ≡ u ∷ below → TaskSteps r ls nothing_in_hand w (on_core (pushed u) (popped below p)) n → OnlyTells n.asked → TaskGoes code r ls w p n
+  from_step : (u : Task) (below : List Task) → p.core.tasks ≡ u ∷ below → TaskSteps r ls nothing_in_hand w (on_core (pushed u) (popped below p)) n → OnlyTells n.asked → TaskGoes code r ls w p start n
   from_step u below h s told =
       let t = subst (λ q. TaskSteps r ls nothing_in_hand w q n) (whole u below h) s in is_step (record { after = t.after; steps = t.steps; follows = t.follows }) told
 
-  from_row : (i k : ℕ) (u : Task) (below : List Task) → p.core.tasks ≡ u ∷ below → GoesFurther code r ls nothing_in_hand w i k (on_core (pushed u) (popped below p)) n → TaskGoes code r ls w p n
-  from_row i k u below h g = goes_further i k (subst (λ q. GoesFurther code r ls nothing_in_hand w i k q n) (whole u below h) g)
+  from_row : (i k : ℕ) (u : Task) (below : List Task) → p.core.tasks ≡ u ∷ below → GoesFurther code r ls nothing_in_hand w i k (on_core (pushed u) (popped below p)) start n → TaskGoes code r ls w p start n
+  from_row i k u below h g = goes_further i k (subst (λ q. GoesFurther code r ls nothing_in_hand w i k q start n) (whole u below h) g)
 
   -- the actor takes its steps
   run_follows : (i : ActorId) (below : List Task) → p.core.tasks ≡ Run i.0 ∷ below → Shown r ls (with_task (Run i.0) nothing_in_hand) start (popped below p) → MayGo code r ls start (popped below p) i.0
-      → IsDone code (task.Run i) start n → TaskGoes code r ls w p n
+      → IsDone code (task.Run i) start n → TaskGoes code r ls w p start n
   run_follows i below h shown (is_free e f acts zero_state may) is =
       let q : Proc Frame = popped below p in
       let st : Stood r ls nothing_in_hand start q i.0 e f = record {
@@ -65,16 +65,16 @@ module _ (r : RawTree) (ls : List Line) (p : Proc Frame) (code : Code) (w : Supp
         acts = acts;
       } in
       let a = run_begins r ls start q i.0 e f nothing_in_hand code n st zero_state may is in
-      runs i.0 start q e f (sym (whole (Run i.0) below h)) a
+      runs i.0 q e f (sym (whole (Run i.0) below h)) a
   run_follows i below h shown (has_operands e f at) is =
       let q : Proc Frame = popped below p in
       let a = run_at_wait r ls start q i.0 e f nothing_in_hand code n at is in
-      runs i.0 start q e f (sym (whole (Run i.0) below h)) a
+      runs i.0 q e f (sym (whole (Run i.0) below h)) a
 
   -- a branch gets what it took
   give_follows : (i : ActorId) (b : ℕ) (o : Outcome) (below : List Task) → p.core.tasks ≡ Give i.0 b (outcome_of o) ∷ below
       → Shown r ls (with_task (Give i.0 b (outcome_of o)) nothing_in_hand) start (popped below p) → MayGet code r ls start (popped below p) i.0 b o
-      → start.asked ≡ None → Given code i b o start n → TaskGoes code r ls w p n
+      → start.asked ≡ None → Given code i b o start n → TaskGoes code r ls w p start n
   give_follows i b (outcome.Value v) below h shown may none is =
       let q : Proc Frame = popped below p in
       let u = Give i.0 b (GoodOutcome (value_of v)) in
@@ -95,7 +95,7 @@ module _ (r : RawTree) (ls : List Line) (p : Proc Frame) (code : Code) (w : Supp
   -- an operand is kept
   keep_follows : (i : ActorId) (m k : ℕ) (kd : Kind) (below : List Task) (u : Task) → p.core.tasks ≡ u ∷ below → (may : MayKeepOne code r start (popped below p) i.0 k u)
       → u ≡ Keep i.0 (wait_spot may.frame) (kd, k) → m ≡ next_callback may.entry may.frame → Shown r ls (with_task u nothing_in_hand) start (popped below p) → start.asked ≡ None
-      → IsKept code i (record { callback = m; cell = record { 0 = k } }) start n → TaskGoes code r ls w p n
+      → IsKept code i (record { callback = m; cell = record { 0 = k } }) start n → TaskGoes code r ls w p start n
   keep_follows i m k kd below u h may is_keep number shown none is =
       let q : Proc Frame = popped below p in
       let ran : Proc Frame = on_core (pushed (Run i.0)) may.rest in
@@ -110,11 +110,11 @@ module _ (r : RawTree) (ls : List Line) (p : Proc Frame) (code : Code) (w : Supp
       let goes = keep_goes r ls start may.rest i.0 may.entry may.frame nothing_in_hand code w may.group kd (record { 0 = k }) n st may.state none
       (λ s before same now. may.may kd (wait_spot may.frame) s before is_keep same now) kept in
       from_row i.0 may.entry.class u below h
-      (subst (λ y. GoesFurther code r ls nothing_in_hand w i.0 may.entry.class (on_core (pushed y) q) n) (sym is_keep)
-      (subst (λ y. GoesFurther code r ls nothing_in_hand w i.0 may.entry.class (on_core (pushed v) y) n) (sym may.next) goes))
+      (subst (λ y. GoesFurther code r ls nothing_in_hand w i.0 may.entry.class (on_core (pushed y) q) start n) (sym is_keep)
+      (subst (λ y. GoesFurther code r ls nothing_in_hand w i.0 may.entry.class (on_core (pushed v) y) start n) (sym may.next) goes))
 
   keep_task : (i : ActorId) (m : ℕ) (k : CellId) (below : List Task) (u : Task) → p.core.tasks ≡ u ∷ below → SameTask p (task.Keep i m k) u → MayKeepOne code r start (popped below p) i.0 k.0 u
-      → Shown r ls (with_task u nothing_in_hand) start (popped below p) → start.asked ≡ None → IsKept code i (record { callback = m; cell = k }) start n → TaskGoes code r ls w p n
+      → Shown r ls (with_task u nothing_in_hand) start (popped below p) → start.asked ≡ None → IsKept code i (record { callback = m; cell = k }) start n → TaskGoes code r ls w p start n
   keep_task i m k below u h same may shown none is =
       let acting : thing p.actors i.0 ≡ Some may.frame = ap (λ (y : Proc Frame). thing y.actors i.0) may.next ∙ may.acts.acting in
       let entered : thing p.core.entries i.0 ≡ Some may.entry = ap (λ (y : Proc Frame). thing y.core.entries i.0) may.next ∙ may.acts.entered in
@@ -125,7 +125,7 @@ module _ (r : RawTree) (ls : List Line) (p : Proc Frame) (code : Code) (w : Supp
 
   -- the result of an effect is stored
   store_follows : (i : ActorId) (v : Value) (below : List Task) → p.core.tasks ≡ Store i.0 (value_of v) ∷ below → Shown r ls (with_task (Store i.0 (value_of v)) nothing_in_hand) start (popped below p)
-      → (may : (e : Entry) × ((f : Frame) × (Acts r start.heap (popped below p) i.0 e f × MayStore code r start (popped below p) i.0 (value_of v) e f))) → start.asked ≡ None → Stored code i v start n → TaskGoes code r ls w p n
+      → (may : (e : Entry) × ((f : Frame) × (Acts r start.heap (popped below p) i.0 e f × MayStore code r start (popped below p) i.0 (value_of v) e f))) → start.asked ≡ None → Stored code i v start n → TaskGoes code r ls w p start n
   store_follows i v below h shown may none is =
       let q : Proc Frame = popped below p in
       let u = Store i.0 (value_of v) in
@@ -138,7 +138,7 @@ module _ (r : RawTree) (ls : List Line) (p : Proc Frame) (code : Code) (w : Supp
 module _ (r : RawTree) (ls : List Line) (m : Process) (p : Proc Frame) where
   -- the tasks that need no step of an actor
   other : (code : Code) (w : Supply) (t : stack.Task) (start n : Process) → Shown r ls nothing_in_hand m p → m.asked ≡ None → TopTaken t m start
-      → ((below : List Task) (u : Task) → p.core.tasks ≡ u ∷ below → Doable code r start (popped below p) t) → IsDone code t start n → OnlyTells n.asked → TaskGoes code r ls w p n
+      → ((below : List Task) (u : Task) → p.core.tasks ≡ u ∷ below → Doable code r start (popped below p) t) → IsDone code t start n → OnlyTells n.asked → TaskGoes code r ls w p start n
   other code w t start n shown none taken may done told = is_step (stepped.task_follows r ls m p code w t start n shown none taken may done) told
 
   pub task_follows : law.TaskFollows r ls m p
@@ -148,7 +148,7 @@ module _ (r : RawTree) (ls : List Line) (m : Process) (p : Proc Frame) where
       asks_none t taken = ap (λ (y : Process). y.asked) taken.rest ∙ none
 
       by_task : (t : stack.Task) → TopTaken t m start → TopOff r ls t start p → ((below : List Task) (u : Task) → p.core.tasks ≡ u ∷ below → MayBeDone code r ls start (popped below p) t u)
-          → IsDone code t start n → TaskGoes code r ls w p n
+          → IsDone code t start n → TaskGoes code r ls w p start n
       by_task (task.Run i) taken o may done =
           let tasks = o.tasks ∙ ap (λ y. y ∷ o.below) o.same in
           run_follows r ls p code w start n i o.below tasks (subst (λ y. Shown r ls (with_task y nothing_in_hand) start (popped o.below p)) o.same o.shown) (may o.below o.top o.tasks).may done

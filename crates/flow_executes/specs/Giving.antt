@@ -119,7 +119,7 @@ module _ (r : RawTree) (ls : List Line) (m : Process) (p : Proc Frame) (i : ℕ)
       (x : Scan) (code : Code) (w : Supply) (number : ℕ) (v : Value) (n : Process)
       → Stood r ls (with_refs (value_refs v) x) m p i e f → m.asked ≡ None
       → MayBranch code r ls m p i number e f → ValueGiven code (actor_id i) number v m n
-      → GoesFurther code r ls x w i e.class (on_core (pushed (Give i number (GoodOutcome (value_of v)))) p) n
+      → GoesFurther code r ls x w i e.class (on_core (pushed (Give i number (GoodOutcome (value_of v)))) p) m n
 
   -- or is thrown an error
   abbrev pub GiveThrows : Type 0
@@ -145,4 +145,4 @@ module _ (r : RawTree) (ls : List Line) (m : Process) (p : Proc Frame) (i : ℕ)
       → ((s : Stand) (start : Process) → start.heap.frames ≡ m.heap.frames
       → StandsNow code.classes.items (actor_id i) start s → MayKeep s p i group (kd, k.0) e f)
       → IsKept code (actor_id i) (record { callback = next_callback e f; cell = k }) m n
-      → GoesFurther code r ls x w i e.class (on_core (pushed (Keep i (wait_spot f) (kd, k.0))) (on_core (pushed (Run i)) p)) n
+      → GoesFurther code r ls x w i e.class (on_core (pushed (Keep i (wait_spot f) (kd, k.0))) (on_core (pushed (Run i)) p)) m n

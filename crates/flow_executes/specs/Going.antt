@@ -2,9 +2,13 @@
 use Rattle.std.specs.Prelude.{◌≡◌, ℕ, true, false, List, slice_get}
 use Rattle.std.specs.declared.option.Option.{Option}
 use Rattle.std.specs.declared.option.Option.TheVariants.{None, Some}
+use Rattle.flow_base.specs.declared.ids.ActorId.{ActorId}
+use Rattle.flow_value.specs.declared.value.Value.{Value}
 use Rattle.flow_class.specs.Classes.{RawTree}
 use Rattle.flow_code.specs.declared.program.Code.{Code}
 use Rattle.flow_trace.specs.declared.line.Line.{Line}
+use Rattle.flow_frame.specs.declared.held.Held.{Held}
+use Rattle.flow_cancel.specs.declared.task.Task.TheVariants as task
 use Rattle.flow_meaning.specs.Asks.{Supply}
 use Rattle.flow_meaning.specs.Process.{Run, Entry, Proc}
 use Rattle.flow_meaning.specs.Occ.{Scan}
@@ -18,7 +22,10 @@ use Rattle.flow_steps.specs.declared.frames.Stand.{Stand}
 use Rattle.flow_steps.specs.declared.next.Pace.{Pace}
 use Rattle.flow_steps.specs.declared.next.Pace.TheVariants.{On, Off}
 use Rattle.flow_steps.specs.declared.process.Process.{Process}
+use Rattle.flow_steps.specs.Holding.{on_heap}
+use Rattle.flow_steps.specs.Waiting.{Keeps}
 use Rattle.flow_steps.specs.Stepping as stepping
+use Rattle.flow_steps.specs.Tasks.{TopTaken, bound}
 use Rattle.flow_follows.specs.Shown.{Follows}
 use Rattle.flow_follows.specs.Placing.{Stood}
 use Rattle.flow_follows.specs.Taking.{Standing, AtWait, MayGo}
@@ -76,6 +83,12 @@ pub record GoesBy (r : RawTree) (ls : List Line) (x : Scan) (w : Supply) (i clas
   pub steps : Silent r w start after
   pub onward : Onward r ls x i class pace n after
 
+-- steps of an actor in memory, one after another, with which it goes on
+pub data Leads (code : Code) : Process → Process → Type 0 where
+  stays_there : (m : Process) → Leads code m m
+  goes_on : (s t : Stand) (m between n : Process) → stepping.StepsOn code s m (On t) between
+      → Leads code between n → Leads code m n
+
 -- An actor stands in a block of the class with this number.
 pub record InClass (code : Code) (number : ℕ) (s : Stand) : Type 0 where
   pub class : slice_get code.classes.items number ≡ Some s.class.now
@@ -89,12 +102,21 @@ OnlyTells (Some (call.Line l)) = Unit {0}
 OnlyTells (Some (call.Unlisten k)) = Unit {0}
 OnlyTells _ = ⊥
 
+-- An actor begins its steps in memory with a value in its place, where what that held is left over; or with an
+-- operand kept.
+pub data Began (m : Process) (pace : Pace) (between : Process) : Type 0 where
+  by_value : (t : Stand) (vs : List Value) (i : ℕ) (into : Option ℕ) (v : Value)
+      → stepping.OnAfter t vs (on_heap (bound i into v) m) pace between → Began m pace between
+  by_operand : (s : Stand) (x : Held) (start : Process) (i : ActorId) → TopTaken (task.Run i) m start
+      → Keeps s x start pace between → Began m pace between
+
 -- and the actor's further steps in memory follow
 pub record GoesFurther (code : Code) (r : RawTree) (ls : List Line) (x : Scan) (w : Supply) (i class : ℕ)
-    (start : Proc Frame) (n : Process)
+    (start : Proc Frame) (m n : Process)
     : Type 0 where
   pub pace : Pace
   pub between : Process
+  pub began : Began m pace between
   pub goes : GoesBy r ls x w i class start pace between
   pub stands : (t : Stand) → pace ≡ On t → InClass code class t
   pub told : pace ≡ Off → OnlyTells between.asked

@@ -20,7 +20,7 @@ use Rattle.flow_steps.specs.Sights.{program_time}
 use Rattle.flow_steps.specs.Stepping.{Runs}
 use Rattle.flow_follows.specs.Shown.{Follows}
 use Rattle.flow_follows.specs.Seeing.{IsCodeOf}
-use Rattle.flow_executes.specs.Going.{MayStep, Silent, InClass, OnlyTells, GoesFurther}
+use Rattle.flow_executes.specs.Going.{MayStep, Silent, Leads, InClass, OnlyTells, GoesFurther}
 use Rattle.flow_executes.specs.Executing.{MayDoNext, InProgram, Asks}
 
 -- What holds of each process of an event is kept by its steps, and allows the next step of an actor whose
@@ -31,19 +31,22 @@ pub record Allows (r : RawTree) (w : Supply) (holds : Proc Frame → Type 0) : T
   pub next : (p : Proc Frame) (i : ℕ) (e : Entry) (f : Frame) → holds (on_core (pushed (Run i)) p)
       → thing p.core.entries i ≡ Some e → thing p.actors i ≡ Some f
       → MayDoNext r w p i e f (fetch f.code f.block f.instr)
-  pub few : (p : Proc Frame) (i : ℕ) (f : Frame) → holds p → thing p.actors i ≡ Some f
+  pub few : (p : Proc Frame) (i : ℕ) (e : Entry) (f : Frame) → holds p → thing p.core.entries i ≡ Some e
+      → thing p.actors i ≡ Some f
       → length f.code.slots + length f.mem.locals ≤ 2 ^ 32
 
 module _ (r : RawTree) (ls : List Line) (x : Scan) (w : Supply) (holds : Proc Frame → Type 0)
     (code : Code) where
   -- The actor has come to a step that asks something, with its own task the newest of the process.
-  pub record AsksAtLast (program : IsCodeOf r code) (i : ℕ) (start : Proc Frame) (n : Process) : Type 0 where
+  pub record AsksAtLast (program : IsCodeOf r code) (i : ℕ) (start : Proc Frame) (m n : Process)
+      : Type 0 where
     pub stand : Stand
     pub memory : Process
     pub process : Proc Frame
     pub entry : Entry
     pub frame : Frame
     pub steps : Silent r w start (on_core (pushed (Run i)) process)
+    pub leads : Leads code m memory
     pub held : holds (on_core (pushed (Run i)) process)
     pub may : MayStep r ls x stand memory process i entry frame
     pub standing : InProgram r code stand frame
@@ -64,12 +67,12 @@ module _ (r : RawTree) (ls : List Line) (x : Scan) (w : Supply) (holds : Proc Fr
       → (program : IsCodeOf r code)
       → Allows r w holds → holds (on_core (pushed (Run i)) p) → MayStep r ls x s m p i e f
       → InClass code e.class s → m.asked ≡ None → program_time m.time ≡ pos w.now → Runs code s m n
-      → RanOff (on_core (pushed (Run i)) p) n ⊎ AsksAtLast program i (on_core (pushed (Run i)) p) n
+      → RanOff (on_core (pushed (Run i)) p) n ⊎ AsksAtLast program i (on_core (pushed (Run i)) p) m n
 
   -- so it is after a task with which an actor goes on
   abbrev pub FurtherFollows : Type 0
   FurtherFollows =
-      (i number : ℕ) (start : Proc Frame) (n : Process) → (program : IsCodeOf r code) → Allows r w holds
+      (i number : ℕ) (start : Proc Frame) (m n : Process) → (program : IsCodeOf r code) → Allows r w holds
       → holds start
-      → (g : GoesFurther code r ls x w i number start n) → g.between.asked ≡ None ⊎ (g.pace ≡ Off)
-      → program_time g.between.time ≡ pos w.now → RanOff start n ⊎ AsksAtLast program i start n
+      → (g : GoesFurther code r ls x w i number start m n) → g.between.asked ≡ None ⊎ (g.pace ≡ Off)
+      → program_time g.between.time ≡ pos w.now → RanOff start n ⊎ AsksAtLast program i start g.between n

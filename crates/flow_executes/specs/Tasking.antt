@@ -29,14 +29,14 @@ use Rattle.flow_follows.specs.Stepped.{MayDo, Steps}
 use Rattle.flow_executes.specs.Going.{AtOperands, GoesFurther, OnlyTells}
 use Rattle.flow_executes.specs.Giving.{Begins, MayRun, MayBranch, MayStore}
 
--- what a task that was the newest leads to
-pub data TaskGoes (code : Code) (r : RawTree) (ls : List Line) (w : Supply) (p : Proc Frame) (n : Process)
+-- what a task that was the newest leads to, when it is off
+pub data TaskGoes (code : Code) (r : RawTree) (ls : List Line) (w : Supply) (p : Proc Frame) (m n : Process)
     : Type 0 where
-  is_step : Steps r ls w p n → OnlyTells n.asked → TaskGoes code r ls w p n
-  goes_further : (i class : ℕ) → GoesFurther code r ls nothing_in_hand w i class p n
-      → TaskGoes code r ls w p n
-  runs : (i : ℕ) (start : Process) (q : Proc Frame) (e : Entry) (f : Frame) → p ≡ on_core (pushed (Run i)) q
-      → Begins r ls start q i e f nothing_in_hand code n → TaskGoes code r ls w p n
+  is_step : Steps r ls w p n → OnlyTells n.asked → TaskGoes code r ls w p m n
+  goes_further : (i class : ℕ) → GoesFurther code r ls nothing_in_hand w i class p m n
+      → TaskGoes code r ls w p m n
+  runs : (i : ℕ) (q : Proc Frame) (e : Entry) (f : Frame) → p ≡ on_core (pushed (Run i)) q
+      → Begins r ls m q i e f nothing_in_hand code n → TaskGoes code r ls w p m n
 
 -- an actor that takes its next step: it is free to go on, or it is at its wait with operands
 pub data MayGo (code : Code) (r : RawTree) (ls : List Line) (m : Process) (p : Proc Frame) (i : ℕ)
@@ -88,4 +88,4 @@ TaskFollows r ls m p =
     → m.asked ≡ None
     → TopTaken t m start
     → ((below : List Task) (u : Task) → p.core.tasks ≡ u ∷ below → MayBeDone code r ls start (popped below p) t u)
-    → IsDone code t start n → TaskGoes code r ls w p n
+    → IsDone code t start n → TaskGoes code r ls w p start n

@@ -3,3 +3,4 @@ pub mod Framed
 pub mod Steps
 pub mod Tasks
 pub mod Next
+pub mod Branches

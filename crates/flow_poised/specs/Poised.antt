@@ -5,7 +5,7 @@ use Rattle.std.specs.declared.option.Option.TheVariants.{Some}
 use Rattle.flow_base.specs.declared.ids.ActorId.{ActorId}
 use Rattle.flow_base.specs.declared.ids.ProcId.{ProcId}
 use Rattle.flow_value.specs.declared.value.Value.{Value}
-use Rattle.flow_class.specs.Classes.{RawTree}
+use Rattle.flow_class.specs.Classes.{CallbackTree, ClassTree, RawTree}
 use Rattle.flow_code.specs.declared.class.Class.{Class}
 use Rattle.flow_code.specs.declared.class.Group.{Group}
 use Rattle.flow_code.specs.declared.program.Code.{Code}
@@ -26,6 +26,7 @@ use Rattle.flow_steps.specs.declared.process.Process.{Process}
 use Rattle.flow_steps.specs.Holding.{Gives}
 use Rattle.flow_steps.specs.Tasks.{TopTaken, IsDone, MainCalled}
 use Rattle.flow_follows.specs.Placing.{Acts}
+use Rattle.flow_follows.specs.Coded.{CodedBy}
 
 -- a task by which an actor is thrown an error, or ends; and whether there is one
 abbrev pub Ends : (actor : ℕ) → Task → Type 0
@@ -51,6 +52,14 @@ Branched classes =
     (k : ℕ) (c : Class) (number : ℕ) (g : Group) → slice_get classes k ≡ Some c
     → group_numbered number c.groups.items ≡ Some g
     → g.branches.items ≡ [] → ⊥
+
+-- It has, where the classes are coded from ones in which each group has a callback.
+abbrev pub GroupsBranched : Type 0
+GroupsBranched =
+    (r : RawTree) (classes : List Class) → CodedBy r classes
+    → ((k : ℕ) (c : ClassTree) (n : ℕ) (g : List CallbackTree) → slice_get r.classes k ≡ Some c
+    → slice_get c.groups n ≡ Some g
+    → g ≡ [] → ⊥) → Branched classes
 
 -- Each task, done in memory, keeps it.
 abbrev pub TaskKeeps : Type 0

@@ -1,5 +1,6 @@
 use Rattle.flow_poised.proofs.Tasks.{task_keeps, aside_keeps, gives_keeps, main_keeps}
 use Rattle.flow_poised.proofs.Next.{at_next_step}
+use Rattle.flow_poised.proofs.Branches.{branched}
 use Rattle.flow_poised.proofs.poising.actors_are_poised.Goals as goal
 
 pub returns-clause-tasks : goal.returns-clause-tasks
@@ -16,3 +17,6 @@ returns-clause-main c = main_keeps
 
 pub returns-clause-next : goal.returns-clause-next
 returns-clause-next c = at_next_step
+
+pub returns-clause-branched : goal.returns-clause-branched
+returns-clause-branched c = branched
