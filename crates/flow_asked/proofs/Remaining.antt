@@ -15,7 +15,7 @@ use Rattle.flow_meaning.specs.Process.{Core, Proc}
 use Rattle.flow_meaning.specs.Dropping.{port_of}
 use Rattle.flow_meaning.specs.Step.{silent}
 use Rattle.flow_meaning.specs.Frame.{Frame}
-use Rattle.flow_picture.specs.Rested.{PortsRise}
+use Rattle.flow_picture.specs.Rested.{PortsRise, InNumbers}
 use Rattle.flow_picture.proofs.Beside.{one_each, port_gone}
 use Rattle.flow_steps.specs.declared.call.Call.{Call}
 use Rattle.flow_steps.specs.declared.call.Call.TheVariants as call
@@ -201,3 +201,9 @@ ports_remain r s h g p q told sh sg numbers once steps is_told streams = by_told
     by_told (Some (call.Line l)) t e = all_left e
     by_told (Some (call.Unlisten k)) t e = one_gone k.0 e
     by_told (Some c) t e = absurd t
+
+-- Where as many streams have a port before and after such steps, the ports are the same.
+pub ports_stay : (r : RawTree) (s : Supply) (p q : Proc Frame) → InNumbers p.core → Silent r s p q → ((k : ℕ) → is_some (port_of k q.core.ports) ≡ is_some (port_of k p.core.ports)) → q.core.ports ≡ p.core.ports
+ports_stay r s p q numbers steps many =
+    same_left 0 p.core.made p.core.ports q.core.ports p.core.ports numbers.ports (steps_thin r s p.core.made p.core.ports p q (omega arith) (whole p.core.made p.core.ports) steps) (whole p.core.made p.core.ports)
+    (λ k l. none_over 0 p.core.made k p.core.ports l numbers.ports) many

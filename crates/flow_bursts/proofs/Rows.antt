@@ -1,6 +1,6 @@
 -- A burst in memory is a burst of the class machine.
 use Rattle.std.proofs.Common.{◌≡◌, ℕ, Bool, true, false, List, [], ◌∷◌, ◌++◌, refl, sym, ap, subst, ◌∙◌}
-use Rattle.std.specs.Prelude.{is_some}
+use Rattle.std.specs.Prelude.{is_some, pos}
 use Rattle.std.specs.declared.option.Option.{Option}
 use Rattle.std.specs.declared.option.Option.TheVariants.{None, Some}
 use Rattle.flow_class.specs.Classes.{RawTree}
@@ -26,6 +26,7 @@ use Rattle.flow_steps.specs.declared.process.Next.{Next}
 use Rattle.flow_steps.specs.declared.process.Next.TheVariants as next
 use Rattle.flow_steps.specs.declared.process.Process.{Process}
 use Rattle.flow_steps.specs.Doing.{unasked}
+use Rattle.flow_steps.specs.Sights.{program_time}
 use Rattle.flow_steps.specs.Tasks.{TopTaken, IsDone, Tasks, all_spent, no_task, task_asks, task_done}
 use Rattle.flow_machine.specs.declared.host.Burst.{Burst}
 use Rattle.flow_machine.specs.declared.host.Burst.TheVariants as burst
@@ -96,6 +97,7 @@ module _ {A W : Type 0} (serves : Host W) (shown_by : A → Numbered ℕ → W �
     asked = none;
     world = subst (λ ps. shown_by a ps w) (sym (ports s.unspent ∙ ap (λ o. ports_left o p.core.ports) none)) now.world;
     time = stays.time ∙ now.time;
+    clock = subst (λ t. program_time t ≡ pos t) (sym stays.time) now.clock;
     among = now.among;
     poised = poised;
   }
@@ -197,6 +199,7 @@ module _ {A W : Type 0} (serves : Host W) (shown_by : A → Numbered ℕ → W �
       asked = lives.served;
       world = lives.world;
       time = s.time ∙ stays.time ∙ now.time;
+      clock = subst (λ t. program_time t ≡ pos t) (sym (s.time ∙ stays.time)) now.clock;
       among = now.among;
       poised = after;
     }
@@ -253,6 +256,7 @@ module _ {A W : Type 0} (serves : Host W) (shown_by : A → Numbered ℕ → W �
           asked = d.lives.served;
           world = d.lives.world;
           time = s.time ∙ stays.time ∙ now.time ∙ sym (kept world.after.0).0;
+          clock = subst (λ t. program_time t ≡ pos t) (sym (s.time ∙ stays.time)) now.clock;
           among = now.among ∙ sym (kept world.after.0).1;
           poised = served_poised serves shown_by wrote (unasked n) j a b processes world.called served poised;
         }))

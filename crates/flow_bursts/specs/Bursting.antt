@@ -1,5 +1,5 @@
 -- A burst in memory is a burst of the class machine, where each task that is done is a row of its steps.
-use Rattle.std.specs.Prelude.{◌≡◌, ℕ, true, false, List, [], ◌++◌}
+use Rattle.std.specs.Prelude.{◌≡◌, ℕ, pos, true, false, List, [], ◌++◌}
 use Rattle.std.specs.declared.option.Option.{Option}
 use Rattle.std.specs.declared.option.Option.TheVariants.{None, Some}
 use Rattle.flow_class.specs.Classes.{RawTree}
@@ -21,6 +21,7 @@ use Rattle.flow_steps.specs.declared.call.Call.{Call}
 use Rattle.flow_steps.specs.declared.call.Call.TheVariants as call
 use Rattle.flow_steps.specs.declared.process.Process.{Process}
 use Rattle.flow_steps.specs.Doing.{unasked}
+use Rattle.flow_steps.specs.Sights.{program_time}
 use Rattle.flow_steps.specs.Tasks.{TopTaken, IsDone}
 use Rattle.flow_machine.specs.declared.host.Burst.{Burst}
 use Rattle.flow_machine.specs.declared.host.Burst.TheVariants as burst
@@ -52,13 +53,14 @@ Steadfast {W} h =
     → ((h.supply (h.serve q w).1).now ≡ (h.supply w).now) × ((h.supply (h.serve q w).1).processes ≡ (h.supply w).processes)
 
 module _ {A W : Type 0} (serves : Host W) (shows : A → Numbered ℕ → W → Type 0) (wrote : A → List Line → A → Type 0) (code : Code) (processes : ℕ) (r : RawTree) where
-  -- A process in memory between two tasks and the host around it, and what they show: a process in its world, at the world's time
-  -- and one of as many. No actor is in the state of a wait that doesn't wait, unless it is thrown an error or ends.
+  -- A process in memory between two tasks and the host around it, and what they show: a process in its world, at the world's time,
+  -- which programs tell, and one of as many. No actor is in the state of a wait that doesn't wait, unless it is thrown an error or ends.
   pub record Abroad (ls : List Line) (m : Process) (a : A) (p : Proc Frame) (w : W) : Type 0 where
     pub between : BetweenTasks r ls m p
     pub asked : m.asked ≡ None
     pub world : shows a p.core.ports w
     pub time : m.time ≡ (serves.supply w).now
+    pub clock : program_time m.time ≡ pos m.time
     pub among : processes ≡ (serves.supply w).processes
     pub poised : Poised m.heap
 

@@ -175,7 +175,7 @@ raises_quiet i None e m n h =
     quiet_is m n _ h.fails (on_heap_quiet (failed i h.task) m (and_then m.heap one _ (push_stays h.task m.heap) (and_then one two _ (lost_from_stays i.0 0 one) (withdrawn_stays i.0 two))))
 
 -- a value is given
-bound_stays : (i : ℕ) (o : Option ℕ) (v : Value) (h : HeapTree) → HeapStays h (bound i o v h)
+pub bound_stays : (i : ℕ) (o : Option ℕ) (v : Value) (h : HeapTree) → HeapStays h (bound i o v h)
 bound_stays i None v h = still h
 bound_stays i (Some n) v h = frame_stays _ i h
 
@@ -187,7 +187,7 @@ given_speaks code i b (outcome.Value v) m n none h =
     let quiet = on_heap_quiet f m (bound_stays i.0 h.branch.into v m.heap) in
     then_speaks m a n quiet.calm (goes_on_speak code h.pace a h.between n (quiet.asked ∙ none) (left_over _ _ a h.between h.pace none h.after) h.further)
 
-popped_quiet : (t : stack.Task) (m start : Process) → TopTaken t m start → Quiet m start
+pub popped_quiet : (t : stack.Task) (m start : Process) → TopTaken t m start → Quiet m start
 popped_quiet t m start taken = quiet_is m start _ taken.rest (on_heap_quiet (λ (h : HeapTree). record h { tasks = taken.tasks }) m (other_tasks m.heap taken.tasks))
 
 fires_stay : (code : Code) (kd : Kind) (k : CellId) (w : Option Waiter) (m n : Process) → m.asked ≡ None → FiresAt code kd k w m n → Stays m n

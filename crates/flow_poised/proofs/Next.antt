@@ -5,12 +5,17 @@ use Rattle.std.specs.declared.option.Option.{Option}
 use Rattle.std.specs.declared.option.Option.TheVariants.{None, Some}
 use Rattle.flow_cancel.specs.declared.task.Task as stack
 use Rattle.flow_cancel.specs.declared.task.Task.TheVariants as task
+use Rattle.flow_class.specs.Classes.{RawTree}
+use Rattle.flow_cancel.specs.Heap.{HeapTree}
 use Rattle.flow_meaning.specs.Numbered.{thing}
+use Rattle.flow_meaning.specs.Cells.{Ref}
 use Rattle.flow_meaning.specs.Asks.{Spot}
-use Rattle.flow_meaning.specs.Process.{Task, Run, Give, Throw, Catch, Store, Keep, Close, Fire, Drop}
-use Rattle.flow_meaning.specs.Orderly.{Proceeds, is_suspended, is_of, tasks_of, steps, stores, keeps, takes, throws, catches, ends}
+use Rattle.flow_meaning.specs.Process.{Proc, Entry, Task, Run, Give, Throw, Catch, Store, Keep, Close, Fire, Drop}
+use Rattle.flow_meaning.specs.Frame.{Frame}
+use Rattle.flow_meaning.specs.Orderly.{Orderly, Proceeds, is_suspended, is_of, tasks_of, steps, stores, keeps, takes, throws, catches, ends}
 use Rattle.flow_meaning.specs.Orderly as orderly
-use Rattle.flow_picture.specs.Shows.{TaskShows, TasksShow}
+use Rattle.flow_picture.specs.Shows.{Shows, TaskShows, TasksShow}
+use Rattle.flow_follows.specs.Placing.{Acts}
 use Rattle.flow_poised.specs.Poised as law
 use Rattle.flow_poised.specs.Poised.{Ends, IsEnding, Fine, in_no_state, is_waiting, is_ending}
 
@@ -93,4 +98,35 @@ at_next_step r h p q i e f ts shows in_order poised tasks a awake = by_fine (poi
     by_fine (is_waiting w) = let b = a.stands.suspended in absurd (cc (b, w, awake))
     by_fine (is_ending end) =
         absurd (no_end_by i (is_suspended (thing p.core.entries i)) (tasks_of i p.core.tasks) (tasks_of i ts) (in_order.actors i) first
+        (among_its i p.core.tasks (ending_there _ _ i h.tasks p.core.tasks shows.tasks end)))
+
+-- nor does who is to keep an operand
+no_end_kept : (i : ℕ) (spot : Spot) (q : Ref) (xs ys : List Task) → Proceeds i xs → xs ≡ Keep i spot q ∷ ys → HasEnd i xs → ⊥
+no_end_kept i spot q xs ys keeps e (inl end) = end
+no_end_kept i spot q xs ys keeps e (inr (inl end)) = end
+no_end_kept i spot q xs ys keeps e (inr (inr end)) = end
+no_end_kept i spot q xs ys steps e end = cc (e)
+no_end_kept i spot q xs ys stores e end = cc (e)
+no_end_kept i spot q xs ys takes e end = cc (e)
+no_end_kept i spot q xs ys throws e end = cc (e)
+no_end_kept i spot q xs ys catches e end = cc (e)
+no_end_kept i spot q xs ys ends e end = cc (e)
+
+no_end_kept_by : (i : ℕ) (spot : Spot) (q : Ref) (o : Option Bool) (xs ys : List Task) → orderly.Stands i o xs → xs ≡ Keep i spot q ∷ ys → HasEnd i xs → ⊥
+no_end_kept_by i spot q None xs ys stands e end = cc (stands, e)
+no_end_kept_by i spot q (Some true) xs ys stands e end = cc (stands, e)
+no_end_kept_by i spot q (Some false) xs ys stands e end = no_end_kept i spot q xs ys stands e end
+
+pub at_kept_operand : (r : RawTree) (h : HeapTree) (p q : Proc Frame) (i : ℕ) (spot : Spot) (x : Ref) (e : Entry) (f : Frame) (ts : List Task) → Shows r h p → Orderly p.core → law.Poised h
+    → p.core.tasks ≡ Keep i spot x ∷ ts → (a : Acts r h q i e f) → e.suspended ≡ false → a.memory.state ≡ 0
+at_kept_operand r h p q i spot x e f ts shows in_order poised tasks a awake = by_fine (poised i a.memory a.framed)
+  where
+    first : tasks_of i p.core.tasks ≡ Keep i spot x ∷ tasks_of i ts
+    first = ap (tasks_of i) tasks ∙ ap (λ b. if b then Keep i spot x ∷ tasks_of i ts else tasks_of i ts) (same_number i i refl)
+
+    by_fine : Fine i a.memory h.tasks → a.memory.state ≡ 0
+    by_fine (in_no_state z) = z
+    by_fine (is_waiting w) = let b = a.stands.suspended in absurd (cc (b, w, awake))
+    by_fine (is_ending end) =
+        absurd (no_end_kept_by i spot x (is_suspended (thing p.core.entries i)) (tasks_of i p.core.tasks) (tasks_of i ts) (in_order.actors i) first
         (among_its i p.core.tasks (ending_there _ _ i h.tasks p.core.tasks shows.tasks end)))
