@@ -1,6 +1,6 @@
 -- The burst of an event that was brought to a process in memory is a burst of the class machine.
 use Rattle.std.proofs.Common.{◌≡◌, ◌⊎◌, inl, inr, ℕ, true, false, List, [], ◌++◌, refl, sym, ap, subst, ◌∙◌}
-use Rattle.std.specs.Prelude.{Bool}
+use Rattle.std.specs.Prelude.{Bool, pos}
 use Rattle.std.specs.declared.option.Option.TheVariants.{None}
 use Rattle.flow_class.specs.Classes.{RawTree}
 use Rattle.flow_code.specs.declared.program.Code.{Code}
@@ -13,6 +13,7 @@ use Rattle.flow_steps.specs.declared.process.Next.{Next}
 use Rattle.flow_steps.specs.declared.process.Next.TheVariants as next
 use Rattle.flow_steps.specs.declared.process.Process.{Process}
 use Rattle.flow_steps.specs.Tasks.{Tasks, all_spent, no_task, task_asks, task_done}
+use Rattle.flow_steps.specs.Sights.{program_time}
 use Rattle.flow_machine.specs.declared.host.Burst.{Burst}
 use Rattle.flow_machine.specs.declared.host.Burst.TheVariants as burst
 use Rattle.flow_machine.specs.Bursts.{Bursts, rests, runs_out, asks}
@@ -54,10 +55,10 @@ module _ {A W : Type 0} (serves : Host W) (shows : A → Numbered ℕ → W → 
   spent_follows m n a b p w e are none (asks _ k j _ _ d _ _ tasks served more) = let x = (spent_tasks code m k next.Asks are.spent tasks).0 in absurd cc
 
   pub event_follows : law.EventFollows serves shows wrote code processes r
-  event_follows program steady now m n a b p w e is kept world time among bursts = by_begin (burst_begins r now m p is kept)
+  event_follows program steady now m n a b p w e is kept world clock time among bursts = by_begin (burst_begins r now m p is kept)
     where
       by_begin : BetweenTasks r [] m p ⊎ AreSpent [] m p → Follows serves shows wrote code processes r [] a p w e n b
       by_begin (inl between) =
           program_follows serves shows wrote code processes r program steady [] m n a b p w e
-          (record { between = between; asked = is.asked; world = world; time = is.time ∙ time; among = among; poised = is.poised }) bursts
+          (record { between = between; asked = is.asked; world = world; time = is.time ∙ time; clock = subst (λ t. program_time t ≡ pos t) (sym is.time) clock; among = among; poised = is.poised }) bursts
       by_begin (inr are) = spent_follows m n a b p w e are is.asked bursts

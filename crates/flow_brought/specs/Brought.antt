@@ -1,5 +1,5 @@
 -- The burst of an event that was brought to a process in memory is a burst of the class machine.
-use Rattle.std.specs.Prelude.{◌≡◌, ℕ, List, []}
+use Rattle.std.specs.Prelude.{◌≡◌, ℕ, pos, List, []}
 use Rattle.flow_class.specs.Classes.{RawTree}
 use Rattle.flow_code.specs.declared.program.Code.{Code}
 use Rattle.flow_trace.specs.declared.line.Line.{Line}
@@ -9,6 +9,7 @@ use Rattle.flow_meaning.specs.Orderly.{UnlessStopped}
 use Rattle.flow_meaning.specs.Burst.{Host}
 use Rattle.flow_meaning.specs.Frame.{Frame}
 use Rattle.flow_steps.specs.declared.process.Process.{Process}
+use Rattle.flow_steps.specs.Sights.{program_time}
 use Rattle.flow_machine.specs.declared.host.Burst.{Burst}
 use Rattle.flow_machine.specs.Bursts.{Bursts}
 use Rattle.flow_allowed.specs.Tasking.{IsProgram}
@@ -22,6 +23,6 @@ module _ {A W : Type 0} (serves : Host W) (shows : A → Numbered ℕ → W → 
   EventFollows =
       IsProgram r code → Steadfast serves → (now : ℕ) (m n : Process) (a b : A) (p : Proc Frame) (w : W)
       (e : Burst) → IsBrought r now m p → UnlessStopped p.core.halted (Kept r p) → shows a p.core.ports w
-      → now ≡ (serves.supply w).now → processes ≡ (serves.supply w).processes
+      → program_time now ≡ pos now → now ≡ (serves.supply w).now → processes ≡ (serves.supply w).processes
       → Bursts serves shows wrote code processes m a e n b
       → Follows serves shows wrote code processes r [] a p w e n b
