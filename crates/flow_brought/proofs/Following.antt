@@ -1,5 +1,5 @@
 -- The burst of an event that was brought to a process in memory is a burst of the class machine.
-use Rattle.std.proofs.Common.{◌≡◌, ◌⊎◌, inl, inr, ℕ, true, false, List, [], ◌++◌, refl, sym, ap, subst, ◌∙◌}
+use Rattle.std.proofs.Common.{◌≡◌, ◌⊎◌, inl, inr, ℕ, true, false, List, [], ◌∷◌, ◌++◌, refl, sym, ap, subst, ◌∙◌}
 use Rattle.std.specs.Prelude.{Bool, pos}
 use Rattle.std.specs.declared.option.Option.TheVariants.{None}
 use Rattle.flow_class.specs.Classes.{RawTree}
@@ -35,6 +35,10 @@ spent_tasks code m n e s (no_task _ un none) = absurd (both_ways s un)
 spent_tasks code m n e s (task_asks _ start _ t un taken done some) = absurd (both_ways s un)
 spent_tasks code m n e s (task_done _ start between _ t _ un taken done none more) = absurd (both_ways s un)
 
+and_nothing : (ls : List Line) → ls ++ [] ≡ ls
+and_nothing [] = refl
+and_nothing (l ∷ ls) = ap (λ k. l ∷ k) (and_nothing ls)
+
 module _ {A W : Type 0} (serves : Host W) (shows : A → Numbered ℕ → W → Type 0) (wrote : A → List Line → A → Type 0) (code : Code) (processes : ℕ) (r : RawTree) where
   -- nothing is left to do in either
   nothing_more : (m : Process) (a : A) (p : Proc Frame) (w : W) → AreSpent [] m p → m.asked ≡ None → Follows serves shows wrote code processes r [] a p w burst.Spent m a
@@ -62,3 +66,15 @@ module _ {A W : Type 0} (serves : Host W) (shows : A → Numbered ℕ → W → 
           program_follows serves shows wrote code processes r program steady [] m n a b p w e
           (record { between = between; asked = is.asked; world = world; time = is.time ∙ time; clock = subst (λ t. program_time t ≡ pos t) (sym is.time) clock; among = among; poised = is.poised }) bursts
       by_begin (inr are) = spent_follows m n a b p w e are is.asked bursts
+
+  pub event_rests : law.EventRests serves shows wrote code processes r
+  event_rests n a b p w f =
+      let last = f.ends.0 in
+      let s = last.between.shown in
+      record {
+        resting = record { shown = record { holds = s.holds; asked = last.asked }; sorted = last.between.sorted; poised = last.poised };
+        goes = s.goes;
+        tasks = f.ends.1;
+        lines = s.lines ∙ ap (λ o. f.lines ++ told o) last.asked ∙ and_nothing f.lines;
+        world = last.world;
+      }

@@ -1,5 +1,6 @@
 -- The burst of an event that was brought to a process in memory is a burst of the class machine.
 use Rattle.std.specs.Prelude.{◌≡◌, ℕ, pos, List, []}
+use Rattle.std.specs.declared.option.Option.TheVariants.{None}
 use Rattle.flow_class.specs.Classes.{RawTree}
 use Rattle.flow_code.specs.declared.program.Code.{Code}
 use Rattle.flow_trace.specs.declared.line.Line.{Line}
@@ -11,11 +12,12 @@ use Rattle.flow_meaning.specs.Frame.{Frame}
 use Rattle.flow_steps.specs.declared.process.Process.{Process}
 use Rattle.flow_steps.specs.Sights.{program_time}
 use Rattle.flow_machine.specs.declared.host.Burst.{Burst}
+use Rattle.flow_machine.specs.declared.host.Burst.TheVariants as burst
 use Rattle.flow_machine.specs.Bursts.{Bursts}
 use Rattle.flow_allowed.specs.Tasking.{IsProgram}
 use Rattle.flow_bursts.specs.Bursting.{Steadfast, Follows}
 use Rattle.flow_kept.specs.Kept.{Kept}
-use Rattle.flow_boundaries.specs.Bringing.{IsBrought}
+use Rattle.flow_boundaries.specs.Bringing.{Resting, IsBrought}
 
 module _ {A W : Type 0} (serves : Host W) (shows : A → Numbered ℕ → W → Type 0)
     (wrote : A → List Line → A → Type 0) (code : Code) (processes : ℕ) (r : RawTree) where
@@ -26,3 +28,17 @@ module _ {A W : Type 0} (serves : Host W) (shows : A → Numbered ℕ → W → 
       → program_time now ≡ pos now → now ≡ (serves.supply w).now → processes ≡ (serves.supply w).processes
       → Bursts serves shows wrote code processes m a e n b
       → Follows serves shows wrote code processes r [] a p w e n b
+
+  -- A process in memory that rests after a burst rests for the next event, and its lines are those that were written.
+  pub record RestsOn (n : Process) (b : A) (q : Proc Frame) (u : W) (ls : List Line) : Type 0 where
+    pub resting : Resting r n q
+    pub goes : q.core.halted ≡ None
+    pub tasks : q.core.tasks ≡ []
+    pub lines : q.core.lines ≡ ls
+    pub world : shows b q.core.ports u
+
+  abbrev pub EventRests : Type 0
+  EventRests =
+      (n : Process) (a b : A) (p : Proc Frame) (w : W)
+      → (f : Follows serves shows wrote code processes r [] a p w burst.Rested n b)
+      → RestsOn n b f.after f.out f.lines
