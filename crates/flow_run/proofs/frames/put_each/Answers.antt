@@ -18,7 +18,7 @@ loop-frame-preserved g c =
           c.loop-frame.invariant.puts after
           (subst (λ fs. Puts g.L.LineOut.puts c.loop-frame.out (frames_lines classes c.args.p fs c.loop-frame.rest.now) after) (sym split)
           (puts_more g.L.LineOut.puts _ _ _ _ _ c.in_ok-rest.ensures.puts
-          (subst (λ hs. Puts g.L.LineOut.puts _ (frames_lines classes c.args.p (drop (i + 1) all) hs) after) c.in_ok-rest.ensures.others rest)));
+          (subst (λ hs. Puts g.L.LineOut.puts c.put_frame.new.out (frames_lines classes c.args.p (drop (i + 1) all) hs) after) c.in_ok-rest.ensures.others rest)));
     }
 
 pub returns-clause-puts : goal.returns-clause-puts
