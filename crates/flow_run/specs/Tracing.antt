@@ -40,11 +40,14 @@ frame_line cs p f = line.Frame p f.actor (name_of (slice_get cs f.class)) f.stat
 abbrev pub callback_line : ProcId → CallbackView → Line
 callback_line p c = line.Callback p c.actor c.callback c.cell
 
+-- a frame with its own of these callbacks, which are the first ones
+abbrev pub own_lines : List Class → ProcId → FrameView → List CallbackView → List Line
+own_lines cs p f held = frame_line cs p f ∷ map (callback_line p) (take (own_count f.actor held) held)
+
 -- the frames of a process, each with its own of these callbacks, which stand in the order of their actors
 abbrev pub frames_lines : List Class → ProcId → List FrameView → List CallbackView → List Line
 frames_lines cs p [] held = []
-frames_lines cs p (f ∷ fs) held =
-    frame_line cs p f ∷ (map (callback_line p) (take (own_count f.actor held) held) ++ frames_lines cs p fs (drop (own_count f.actor held) held))
+frames_lines cs p (f ∷ fs) held = own_lines cs p f held ++ frames_lines cs p fs (drop (own_count f.actor held) held)
 
 abbrev pub process_lines : Seen → ProcId → List Line
 process_lines w p = frames_lines w.code.program.classes.items p (frames_at (slice_get w.places p.0)) (callbacks_at (slice_get w.places p.0))

@@ -1,11 +1,11 @@
 // The lines of frames.
 
-ghost use Rattle.std.specs.Prelude.{◌≡◌, ◌≤◌, length, map, slice_get, IfOk, OnOk, IsErrOf};
+ghost use Rattle.std.specs.Prelude.{◌≡◌, ◌≤◌, drop, length, map, slice_get, IfOk, OnOk, IsErrOf};
 ghost use Rattle.flow_machine.specs.Cause.{RunCause};
 ghost use Rattle.flow_machine.specs.declared.host.RunFault.TheVariants.{Failed};
 ghost use Rattle.flow_world.specs.Around.{Puts};
 ghost use Rattle.flow_world.specs.Worlds.{world_seen};
-ghost use Rattle.flow_run.specs.Tracing.{name_of, own_count, callback_line, frames_lines};
+ghost use Rattle.flow_run.specs.Tracing.{name_of, own_count, callback_line, frames_lines, own_lines};
 ghost use Rattle.flow_run.specs.Tracing.{process_lines, world_lines, lines_if};
 
 use flow_base::ids::{ActorId, ProcId};
@@ -85,13 +85,33 @@ fn put_each<L: LineOut>(
 {
     let mut rest = callbacks;
     for frame in frames {
-        let name = class_name(alloc, world, frame)?;
-        put(out, &Line::Frame(p, frame.actor, name, frame.state))?;
-        let (own, others) = rest.split_at(own_part(rest, frame.actor));
-        put_callbacks(p, own, out)?;
-        rest = others;
+        rest = put_frame(alloc, world, p, frame, rest, out)?;
     }
     Ok(())
+}
+
+#[tactic(auto, using(flow_machine::proofs::Causes::cause_before, crate::proofs::Framing::line_before))]
+/// Puts a frame of a process with its own of these callbacks, which are the first ones, and gives the others.
+fn put_frame<'c, L: LineOut>(
+    alloc: Global,
+    world: &World,
+    p: ProcId,
+    frame: &FrameView,
+    callbacks: &'c [CallbackView],
+    out: &mut L,
+) -> Result<&'c [CallbackView], RunFault>
+    ensures puts { let classes = world.now.code.program.classes.items in OnOk result
+        (Puts L.puts out.old (own_lines classes p frame.now callbacks.now) out.new) }
+    ensures others { IfOk result (λ others.
+        others.now ≡ drop (own_count frame.now.actor callbacks.now) callbacks.now) }
+    ensures cause { RunCause (L.faults out.old) (L.faults out.new) result }
+    ensures kept { L.kept out.new ≡ L.kept out.old }
+{
+    let name = class_name(alloc, world, frame)?;
+    put(out, &Line::Frame(p, frame.actor, name, frame.state))?;
+    let own = own_part(callbacks, frame.actor);
+    put_callbacks(p, &callbacks[..own], out)?;
+    Ok(&callbacks[own..])
 }
 
 /// The name of the class of a frame.
