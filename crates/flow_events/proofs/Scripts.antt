@@ -1,5 +1,5 @@
 -- A script that is sorted by time, lines of one time in their order, shows the script in the order of the file.
-use Rattle.std.proofs.Common.{◌≡◌, ℕ, zero, suc, ◌+◌, ◌<◌, ◌≤◌, Bool, true, false, List, [], ◌∷◌, Option, Some, None, length, map, nat_lt, nat_eq, refl, sym, ap, ap₂, ◌∙◌, subst, arith, if◌then◌else◌}
+use Rattle.std.proofs.Common.{◌≡◌, ℕ, zero, suc, ◌+◌, ◌<◌, ◌≤◌, Bool, true, false, List, [], ◌∷◌, Option, Some, None, length, get_or, map, nat_lt, nat_eq, refl, sym, ap, ap₂, ◌∙◌, subst, arith, if◌then◌else◌}
 use Rattle.std.specs.Prelude.{not, ◌&&◌}
 use Rattle.std.specs.List.{filter}
 use Rattle.std.specs.List.Sorted.{IsSortedByKey, IsStableByKey}
@@ -78,7 +78,7 @@ none_below t k (x ∷ ls) r l =
     let e : nat_eq x.time t ≡ false = grind (arith, nat_tests, r.0, l) in
     rw e (none_below t x.time ls r.1 (omega (arith, r.0, l)))
 
-SameTimes : List At → List At → Type 0
+abbrev SameTimes : List At → List At → Type 0
 SameTimes ls xs = (t : ℕ) → of_time t ls ≡ of_time t xs
 
 not_empty : (x : At) (xs : List At) → of_time x.time (x ∷ xs) ≡ [] → ⊥
@@ -88,7 +88,7 @@ pub script_shows : (k : ℕ) (ls xs : List At) → Rise k ls → SameTimes ls xs
 script_shows k [] [] r s = refl
 script_shows k [] (x ∷ xs) r s = absurd (not_empty x xs (sym (s x.time)))
 script_shows k (l ∷ ls) [] r s = absurd (not_empty l ls (s l.time))
-script_shows k (l ∷ ls) (x ∷ xs) r s = by_first (has_first (x ∷ xs))
+script_shows k (l ∷ ls) (x ∷ xs) r s = by_first (has_first (x ∷ xs)) (λ ys t. script_shows l.time ls ys r.1 t)
   where
     head : {y z : At} {ys zs : List At} → y ∷ ys ≡ z ∷ zs → y ≡ z
     head e = cc
@@ -106,12 +106,12 @@ script_shows k (l ∷ ls) (x ∷ xs) r s = by_first (has_first (x ∷ xs))
         absurd (cc (sym none ∙ s y.time ∙ h.own))
     by_order y ys h false false e f = grind (arith, nat_tests)
 
-    by_first : HasFirst (x ∷ xs) → ScriptShows (l ∷ ls) (map timed (x ∷ xs))
-    by_first (first y ys h) =
+    by_first : HasFirst (x ∷ xs) → ((ys : List At) → SameTimes ls ys → ScriptShows ls (map timed ys)) → ScriptShows (l ∷ ls) (map timed (x ∷ xs))
+    by_first (first y ys h) others =
         let time : l.time ≡ y.time = by_order y ys h (nat_lt l.time y.time) (nat_lt y.time l.time) refl refl in
         let both : l ∷ of_time l.time ls ≡ y ∷ of_time y.time ys = sym own_time ∙ s l.time ∙ ap (λ t. of_time t (x ∷ xs)) time ∙ h.own in
         let same : l ≡ y = head both in
-        (map timed ys, h.soonest_is ∙ ap (λ z. Some (timed z, map timed ys)) (sym same), script_shows l.time ls ys r.1 (λ t. by_time t (nat_eq l.time t) refl))
+        (map timed ys, h.soonest_is ∙ ap (λ z. Some (timed z, map timed ys)) (sym same), others ys (λ t. by_time t (nat_eq l.time t) refl))
       where
         by_time : (t : ℕ) (b : Bool) → nat_eq l.time t ≡ b → of_time t ls ≡ of_time t ys
         by_time t true e =
@@ -137,7 +137,7 @@ cmp_lt a b = by_test (nat_lt a b) refl
     by_test true e = rw e refl
     by_test false e = rw e (not_less _)
 
-at_time : ℕ → At
+abbrev at_time : ℕ → At
 at_time t = record { time = t; act = Boot (record { 0 = 0 }) }
 
 abbrev tied : ℕ → At → Bool
@@ -160,8 +160,12 @@ rises : (k : ℕ) (l : At) (ls : List At) → k ≤ l.time → IsSortedByKey (λ
 rises k l [] le s = (le, tt)
 rises k l (m ∷ ls) le s =
     let not_less : nat_lt m.time l.time ≡ false = sym (cmp_lt m.time l.time) ∙ s 0 l (omega arith) (omega arith) in
-    let rise : l.time ≤ m.time = grind (arith, nat_tests) in
-    (le, rises l.time m ls rise (λ j d low high. let e : suc j ≡ j + 1 = omega arith in s (suc j) d (omega arith) (omega (arith, high))))
+    let rise : l.time ≤ m.time = grind (arith, nat_tests) in (
+      le,
+      rises l.time m ls rise (λ j d low high.
+          let e : suc j + 1 ≡ suc (j + 1) = omega arith in
+          subst (λ k. is_lt (nat_cmp (get_or (l ∷ m ∷ ls) k d).time (get_or (l ∷ m ∷ ls) (suc j) d).time) ≡ false) e (s (suc j) d (omega arith) (omega (arith, high)))),
+    )
 
 rise : (ls : List At) → IsSortedByKey (λ x. x.time) nat_cmp ls → Rise 0 ls
 rise [] s = tt

@@ -1,8 +1,8 @@
 -- What stands before the first event shows.
-use Rattle.std.proofs.Common.{◌≡◌, ℕ, zero, suc, ◌+◌, ◌<◌, ◌≤◌, Bool, true, false, List, [], ◌∷◌, length, map, replicate, nat_eq, refl, sym, ap, ◌∙◌, subst, arith, if◌then◌else◌}
+use Rattle.std.proofs.Common.{◌≡◌, ℕ, zero, suc, ◌+◌, ◌<◌, ◌≤◌, Bool, true, false, List, [], ◌∷◌, length, map, replicate, get_or, nat_eq, refl, sym, ap, ◌∙◌, subst, arith, if◌then◌else◌}
 use Rattle.std.specs.List.{range_with_len}
 use Rattle.std.proofs.lemmas.Bool.Decides.{nat_tests}
-use Rattle.std.proofs.lemmas.List.{length-replicate, get_or-replicate}
+use Rattle.std.proofs.lemmas.List.{length-replicate}
 use Rattle.std.specs.declared.alloc.Global.{Global}
 use Rattle.flow_worldfile.specs.declared.world.World0.{World0}
 use Rattle.flow_worldfile.specs.Worlds.{seen}
@@ -53,29 +53,36 @@ events_show k (suc n) = (record { time = refl; number = refl; what = refl }, eve
 
 none_coming : (m k n : ℕ) → coming m (map boot_of (range_with_len k n)) ≡ 0
 none_coming m k zero = refl
-none_coming m k (suc n) = none_coming m (k + 1) n
+none_coming m k (suc n) = omega (arith, none_coming m (k + 1) n)
 
 none_before : (m k n : ℕ) → m ≤ k → having m (map boot_of (range_with_len k n)) ≡ 0
 none_before m k zero le = refl
 none_before m k (suc n) le =
     let other : nat_eq m (suc k) ≡ false = grind (arith, nat_tests) in
-    rw other (none_before m (k + 1) n (omega arith))
+    rw other (omega (arith, none_before m (k + 1) n (omega arith)))
 
 none_behind : (m k n : ℕ) → k + n < m → having m (map boot_of (range_with_len k n)) ≡ 0
 none_behind m k zero lt = refl
 none_behind m k (suc n) lt =
     let other : nat_eq m (suc k) ≡ false = grind (arith, nat_tests) in
-    rw other (none_behind m (k + 1) n (omega arith))
+    rw other (omega (arith, none_behind m (k + 1) n (omega arith)))
 
 at_most_one : (m k n : ℕ) → having m (map boot_of (range_with_len k n)) ≤ 1
 at_most_one m k zero = omega arith
-at_most_one m k (suc n) = by_test (nat_eq m (suc k)) refl
+at_most_one m k (suc n) = by_test (nat_eq m (suc k)) refl (at_most_one m (k + 1) n)
   where
-    by_test : (b : Bool) → nat_eq m (suc k) ≡ b → (if b then 1 else 0) + having m (map boot_of (range_with_len (k + 1) n)) ≤ 1
-    by_test true e =
+    by_test :
+        (b : Bool) → nat_eq m (suc k) ≡ b → having m (map boot_of (range_with_len (k + 1) n)) ≤ 1
+        → (if b then 1 else 0) + having m (map boot_of (range_with_len (k + 1) n)) ≤ 1
+    by_test true e rest =
         let le : m ≤ k + 1 = grind (arith, nat_tests) in
         omega (arith, none_before m (k + 1) n le)
-    by_test false e = omega (arith, at_most_one m (k + 1) n)
+    by_test false e rest = omega (arith, rest)
+
+none_cut : (n i : ℕ) → get_or (replicate n false) i false ≡ false
+none_cut zero i = refl
+none_cut (suc n) zero = refl
+none_cut (suc n) (suc i) = none_cut n i
 
 outside_shows : (file : World0) → OutsideShows (start.outside_at_start file) (outside_at_start (seen file))
 outside_shows file = record {
@@ -93,12 +100,9 @@ outside_shows file = record {
   packets = λ m. (omega (arith, none_coming m 0 file.processes), λ _. none_coming m 0 file.processes);
   numbers = λ m. (at_most_one m 0 file.processes, λ lt. none_behind m 0 file.processes (omega (arith, lt)));
   table = length-replicate 4096 false;
-  cuts = λ p q j k. no_cut p q;
+  cuts = λ p q j k. none_cut 4096 (table.link p q);
   disks = refl;
 }
-  where
-    no_cut : (p q : ℕ) → table.is_cut (replicate 4096 false) p q ≡ false
-    no_cut p q = grind (arith)
 
 pub start_shown : (Rests : Process → Proc Frame → Type 0) → StartShown Rests
 start_shown Rests classes file w fresh s = record {

@@ -50,10 +50,11 @@ module _ (Rests : Process → Proc Frame → Type 0) where
   abbrev pub SameNext : Type 0
   SameNext = (w : Seen) (m : meaning_world.World Frame) → WorldShows Rests w m → NextShows w (next w) (meaning_world.next_of m.out) m.out
 
-  -- A run is idle, and comes to its bound, where the definitions say so.
+module _ (Rests : Process → Proc Frame → Type 0) {A : Type 0} (puts : A → Line → Result (Unit {0}) OutFault → A → Type 0) where
+  -- A run is idle, and comes to its bound, where the definitions say so; and where an event ran or was spent, they have one.
   abbrev pub SameEnd : Type 0
   SameEnd =
-      {A : Type 0} (puts : A → Line → Result (Unit {0}) OutFault → A → Type 0) (w v : Seen) (m : meaning_world.World Frame) (a b : A) → WorldShows Rests w m
+      (w v : Seen) (m : meaning_world.World Frame) (a b : A) → WorldShows Rests w m
       → (EventDoes puts event.Idle w a v b → meaning_world.ending m.out (meaning_world.next_of m.out) ≡ Some line.EndIdle)
       × (EventDoes puts event.BoundReached w a v b → meaning_world.ending m.out (meaning_world.next_of m.out) ≡ Some line.EndBound)
       × (EventDoes puts event.Ran w a v b → meaning_world.ending m.out (meaning_world.next_of m.out) ≡ None)

@@ -1,8 +1,9 @@
-use Rattle.flow_events.proofs.Next.{same_next, same_end}
+use Rattle.flow_events.proofs.Next.{same_next}
+use Rattle.flow_events.proofs.Started.{start_shown}
 use Rattle.flow_events.proofs.laws.comes_shown.Goals as goal
 
-pub returns-clause-next : goal.returns-clause-next
-returns-clause-next c = λ Rests. same_next Rests
+pub returns-clause-start : goal.returns-clause-start
+returns-clause-start g c = start_shown g.R.Resting.rests
 
-pub returns-clause-ends : goal.returns-clause-ends
-returns-clause-ends c = λ Rests. same_end Rests
+pub returns-clause-next : goal.returns-clause-next
+returns-clause-next g c = same_next g.R.Resting.rests
