@@ -7,7 +7,7 @@ use Rattle.flow_trace.specs.declared.line.Line.{Line}
 use Rattle.flow_trace.specs.declared.line.Line.TheVariants as line
 use Rattle.flow_worldfile.specs.declared.world.At.{At}
 use Rattle.flow_worldfile.specs.declared.directive.Order.{Order}
-use Rattle.flow_worldfile.specs.Worlds.{timed, order_of}
+use Rattle.flow_worldfile.specs.Worlds.{order_of}
 use Rattle.flow_timers.specs.Pending.{Pending, next_event}
 use Rattle.flow_meaning.specs.Frame.{Frame}
 use Rattle.flow_meaning.specs.Process.{Proc}
@@ -17,7 +17,6 @@ use Rattle.flow_steps.specs.declared.process.Process.{Process}
 use Rattle.flow_world.specs.declared.outside.What.{What}
 use Rattle.flow_world.specs.Ending.{Seen, script_time}
 use Rattle.flow_world.specs.Ending as memory
-use Rattle.flow_world.specs.Happening.{Happens}
 use Rattle.flow_world.specs.Shows.{EventsShow}
 use Rattle.flow_events.specs.Showing.{ScriptShows, WorldShows}
 use Rattle.flow_events.specs.Coming.{LineNext, EventNext, NextShows, SameNext, SameEnd}

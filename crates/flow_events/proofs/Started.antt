@@ -1,5 +1,5 @@
 -- What stands before the first event shows.
-use Rattle.std.proofs.Common.{◌≡◌, ℕ, zero, suc, ◌+◌, ◌<◌, ◌≤◌, Bool, true, false, List, [], ◌∷◌, length, map, replicate, get_or, nat_eq, refl, sym, ap, ◌∙◌, subst, arith, if◌then◌else◌}
+use Rattle.std.proofs.Common.{◌≡◌, ℕ, zero, suc, ◌+◌, ◌<◌, ◌≤◌, Bool, true, false, List, [], ◌∷◌, length, map, replicate, get_or, nat_eq, refl, sym, subst, arith, if◌then◌else◌}
 use Rattle.std.specs.List.{range_with_len}
 use Rattle.std.proofs.lemmas.Bool.Decides.{nat_tests}
 use Rattle.std.proofs.lemmas.List.{length-replicate}
@@ -13,14 +13,14 @@ use Rattle.flow_meaning.specs.Process.{Proc}
 use Rattle.flow_meaning.specs.Deliver.{idle}
 use Rattle.flow_meaning.specs.Outside.{Outside}
 use Rattle.flow_meaning.specs.Outside as meaning
-use Rattle.flow_meaning.specs.World.{Place, at_start, outside_at_start}
+use Rattle.flow_meaning.specs.World.{Place, outside_at_start}
 use Rattle.flow_steps.specs.declared.process.Process.{Process}
 use Rattle.flow_steps.specs.Doing.{never_ran}
 use Rattle.flow_world.specs.declared.place.Place as memory
-use Rattle.flow_world.specs.Shows.{EventsShow, OutsideShows, PacketsOnce, NumbersOnce, coming, having}
+use Rattle.flow_world.specs.Shows.{EventsShow, OutsideShows, coming, having}
 use Rattle.flow_world.specs.Starting.{AreFresh, boot_of}
 use Rattle.flow_world.specs.Starting as start
-use Rattle.flow_events.specs.Showing.{PlacesShow, WorldShows}
+use Rattle.flow_events.specs.Showing.{PlacesShow}
 use Rattle.flow_events.specs.Beginning.{StartShown}
 use Rattle.flow_events.proofs.Scripts.{sorted_shows}
 
