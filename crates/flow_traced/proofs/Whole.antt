@@ -7,6 +7,8 @@ use Rattle.flow_trace.specs.declared.line.Line.{Line}
 use Rattle.flow_trace.specs.declared.line.Line.TheVariants as line
 use Rattle.flow_class.specs.Classes.{RawTree}
 use Rattle.flow_class.specs.View.{raw_of}
+use Rattle.flow_code.specs.declared.program.Code.{Code}
+use Rattle.flow_machine.specs.declared.host.Burst.TheVariants.{Rested}
 use Rattle.flow_worldfile.specs.Worlds.{seen}
 use Rattle.flow_meaning.specs.Class.{classes}
 use Rattle.flow_meaning.specs.Frame.{Frame}
@@ -26,13 +28,16 @@ use Rattle.flow_run.specs.declared.ending.Ending.{Ending}
 use Rattle.flow_run.specs.declared.ending.Ending.TheVariants.{Idle, Bound, Spent}
 use Rattle.flow_run.specs.Ends.{end_line}
 use Rattle.flow_run.specs.Tracing.{Goes, no_event, one_more, last_answer}
-use Rattle.flow_traced.specs.Traced.{EventsFollow, SpentFollows, EventShown, TraceFollows}
+use Rattle.flow_traced.specs.Traced.{EventsFollow, SpentFollows, KeepsOn, TraceFollows}
+use Rattle.flow_traced.proofs.Codes.{code_stays}
 
-module _ (Rests : Process → Proc Frame → Type 0) {A : Type 0} (puts : A → Line → Result (Unit {0}) OutFault → A → Type 0) (r : RawTree) where
+module _ (Rests : Process → Proc Frame → Type 0) (Keeps : World Frame → Type 0) (IsCode : Code → Type 0) {A : Type 0} (puts : A → Line → Result (Unit {0}) OutFault → A → Type 0) (r : RawTree) where
   -- so many events ran: the world of the definitions that is shown then, and how a run from it is one from the first
   record Went (m : World Frame) (a : A) (u : Seen) (b : A) : Type 0 where
     last : World Frame
     shows : WorldShows Rests u last
+    keeps : Keeps last
+    code : IsCode u.code
     states : List (World Frame)
     lines : List Line
     put : Puts puts a lines b
@@ -41,18 +46,20 @@ module _ (Rests : Process → Proc Frame → Type 0) {A : Type 0} (puts : A → 
   same_place : {a b : A} → Puts puts a [] b → a ≡ b
   same_place no_line = refl
 
-  went : EventsFollow Rests puts r → (w u : Seen) (m : World Frame) (a b : A) → WorldShows Rests w m → Goes puts false w a u b → Went m a u b
-  went law w _ m a _ s no_event = record {
+  went : EventsFollow Rests Keeps IsCode puts r → KeepsOn Rests Keeps IsCode r → (w u : Seen) (m : World Frame) (a b : A) → IsCode w.code → WorldShows Rests w m → Keeps m → Goes puts false w a u b → Went m a u b
+  went law on w _ m a _ code s k no_event = record {
     last = m;
     shows = s;
+    keeps = k;
+    code = code;
     states = [];
     lines = [];
     put = no_line;
     goes = λ later rest run. run;
   }
-  went law w v m a d s (one_more {u = u} {b = b} {c = c} before does frames) =
-      let so_far = went law w u m a b s before in
-      let shown = law u v so_far.last b c so_far.shows does in
+  went law on w v m a d code s k (one_more {u = u} {b = b} {c = c} before does frames) =
+      let so_far = went law on w u m a b code s k before in
+      let shown = law u v so_far.last b c so_far.code so_far.shows so_far.keeps does in
       let begun = shown.event.begun in
       let left = shown.event.left in
       let own = lines_of begun left in
@@ -61,6 +68,8 @@ module _ (Rests : Process → Proc Frame → Type 0) {A : Type 0} (puts : A → 
       record {
         last = next;
         shows = shown.shows;
+        keeps = on so_far.last begun left so_far.keeps shown.event.begins shown.event.follows shown.rests;
+        code = subst IsCode (sym (code_stays puts u v b c Rested does)) so_far.code;
         states = so_far.states ++ next ∷ [];
         lines = so_far.lines ++ own;
         put = subst (λ z. Puts puts a (so_far.lines ++ own) z) (same_place frames) (puts_more puts a b c so_far.lines own so_far.put shown.event.lines);
@@ -76,31 +85,33 @@ module _ (Rests : Process → Proc Frame → Type 0) {A : Type 0} (puts : A → 
     put : Puts puts a own b
     runs : Runs (classes r) m [] (own ++ end_line e ∷ [])
 
-  ended : SpentFollows Rests puts r → (w v : Seen) (m : World Frame) (a b : A) (e : Ending) → WorldShows Rests w m → EventDoes puts (last_answer e) w a v b → Ended m a e b
-  ended law w v m a b Idle s does = record {
+  ended : SpentFollows Rests Keeps IsCode puts r → (w v : Seen) (m : World Frame) (a b : A) (e : Ending) → IsCode w.code → WorldShows Rests w m → Keeps m → EventDoes puts (last_answer e) w a v b → Ended m a e b
+  ended law w v m a b Idle code s k does = record {
     own = [];
     put = subst (λ z. Puts puts a [] z) (sym does.2) no_line;
     runs = ends line.EndIdle ((same_end Rests puts w v m a b s).0 does);
   }
-  ended law w v m a b Bound s does = record {
+  ended law w v m a b Bound code s k does = record {
     own = [];
     put = subst (λ z. Puts puts a [] z) (sym does.3) no_line;
     runs = ends line.EndBound ((same_end Rests puts w v m a b s).1 does);
   }
-  ended law w v m a b Spent s does =
-      let shown = law w v m a b s does in
+  ended law w v m a b Spent code s k does =
+      let shown = law w v m a b code s k does in
       record {
         own = lines_of shown.event.begun shown.event.left;
         put = shown.event.lines;
         runs = spent shown.event.begun shown.event.left ((same_end Rests puts w v m a b s).3 does) shown.event.begins shown.event.follows shown.spent;
       }
 
-pub trace_follows : (Rests : Process → Proc Frame → Type 0) {A : Type 0} (puts : A → Line → Result (Unit {0}) OutFault → A → Type 0) → TraceFollows Rests puts
-trace_follows Rests {A} puts c file a b e fresh events spent_law t =
+pub trace_follows :
+    (Rests : Process → Proc Frame → Type 0) (Keeps : World Frame → Type 0) (IsCode : Code → Type 0) {A : Type 0} (puts : A → Line → Result (Unit {0}) OutFault → A → Type 0)
+    → TraceFollows Rests Keeps IsCode puts
+trace_follows Rests Keeps IsCode {A} puts c file a b e fresh code keeps on events spent_law t =
     let r = raw_of c in
     let first = start_shown Rests c file t.first fresh t.starts in
-    let so_far = went Rests puts r events t.first t.goes.last (at_start (seen file)) t.headed t.goes.before first t.goes.goes in
-    let over = ended Rests puts r spent_law t.goes.last t.left so_far.last t.goes.before t.before e so_far.shows t.goes.ends in
+    let so_far = went Rests Keeps IsCode puts r events on t.first t.goes.last (at_start (seen file)) t.headed t.goes.before (code t.first t.starts) first keeps t.goes.goes in
+    let over = ended Rests Keeps IsCode puts r spent_law t.goes.last t.left so_far.last t.goes.before t.before e so_far.code so_far.shows so_far.keeps t.goes.ends in
     let rest = so_far.lines ++ (over.own ++ end_line e ∷ []) in
     let run = so_far.goes [] (over.own ++ end_line e ∷ []) over.runs in
     let put_rest : Puts puts t.headed rest b =
