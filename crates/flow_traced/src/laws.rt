@@ -1,0 +1,34 @@
+// The law of a whole run.
+
+ghost use Rattle.flow_code.specs.declared.program.Code.{Code};
+ghost use Rattle.flow_meaning.specs.Frame.{Frame};
+ghost use Rattle.flow_meaning.specs.Process.{Proc};
+ghost use Rattle.flow_meaning.specs.World.{World};
+ghost use Rattle.flow_steps.specs.declared.process.Process.{Process};
+ghost use Rattle.flow_traced.specs.Traced.{CodeStays, TraceFollows};
+
+use flow_trace::out::LineOut;
+
+/// What is meant by a boundary of events.
+pub trait Boundary {
+    /// A process in memory rests, and shows one of the definitions.
+    ghost rests: { Process → Proc Frame → Type 0 };
+
+    /// What a world of the definitions keeps from event to event.
+    ghost keeps: { World Frame → Type 0 };
+
+    /// The code is that of the classes.
+    ghost is_code: { Code → Type 0 };
+}
+
+/// Whatever is meant by a boundary: where each event in memory is the next event of the definitions,
+/// with its lines, the lines that are put of classes in a world, from the first to the last, are a
+/// trace of these classes in it.
+pub fn trace_follows<B: Boundary, L: LineOut>()
+    ensures { TraceFollows B.rests B.keeps B.is_code L.puts }
+{}
+
+/// An event leaves the code as it is.
+pub fn code_stays<L: LineOut>()
+    ensures { CodeStays L.puts }
+{}
