@@ -16,7 +16,7 @@ use Rattle.flow_meaning.specs.Burst.{advance, live, rests}
 use Rattle.flow_meaning.specs.Class.{classes}
 use Rattle.flow_meaning.specs.Deliver.{idle}
 use Rattle.flow_meaning.specs.Frame.{Frame}
-use Rattle.flow_meaning.specs.Outside.{Outside, host}
+use Rattle.flow_meaning.specs.Outside.{Outside, host, healed}
 use Rattle.flow_meaning.specs.Process.{Proc}
 use Rattle.flow_meaning.specs.World.{World, Place, Next, Nothing, Script, Event, next_of, begun_by, ordered, counted, ready, alone, process_of}
 use Rattle.flow_steps.specs.declared.process.Process.{Process}
@@ -25,15 +25,16 @@ use Rattle.flow_world.specs.declared.place.Place as memory
 use Rattle.flow_world.specs.Changes.{Surroundings}
 use Rattle.flow_world.specs.Ending.{Seen, next}
 use Rattle.flow_simnet.specs.Links.{cut}
+use Rattle.flow_simnet.specs.Links as table
 use Rattle.flow_world.specs.Happening.{Happens, Ordered, LineComes, Comes, begins, with_net}
 use Rattle.flow_world.specs.Shows.{OutsideShows}
-use Rattle.flow_world.proofs.Events.{link_cut}
+use Rattle.flow_world.proofs.Events.{link_cut, link_healed}
 use Rattle.flow_world.proofs.Putting.{puts_one}
 use Rattle.flow_events.specs.Showing.{PlaceShows, PlacesShow, ScriptShows, WorldShows}
 use Rattle.flow_events.specs.Coming.{LineNext, NextShows}
 use Rattle.flow_events.proofs.Next.{same_next}
 use Rattle.flow_traced.specs.Traced.{EventShown}
-use Rattle.flow_traced.specs.Quiet.{begun_proc, StaysQuiet, CutFollows}
+use Rattle.flow_traced.specs.Quiet.{begun_proc, StaysQuiet, CutFollows, HealFollows}
 
 abbrev down : Place Frame
 down = record { up = false; proc = idle }
@@ -129,8 +130,27 @@ module _ (Rests : Process → Proc Frame → Type 0) (Keeps : World Frame → Ty
       some : {Y : Type 0} {x y : Y} → Some x ≡ Some y → x ≡ y
       some e = cc
 
-  pub cut_follows : CutFollows Rests Keeps IsCode r puts
-  cut_follows w v m a b t l ls p q still s few there pl ql next_is script cuts h =
+  -- what an order does to what is outside, with its line and nothing else
+  record IsQuiet (m : World Frame) (t : ℕ) (k : Order) (x : Line) (change : Outside → Outside) (left : List (ℕ × Order)) : Type 0 where
+    does : (at : Place Frame)
+        → ordered (classes r) k at (counted t (process_of k) (record m.out { script = left }))
+        ≡ alone x at (change (counted t (process_of k) (record m.out { script = left })))
+    active : (change (counted t (process_of k) (record m.out { script = left }))).active ≡ process_of k
+    file : (change (counted t (process_of k) (record m.out { script = left }))).file ≡ m.out.file
+    script : (change (counted t (process_of k) (record m.out { script = left }))).script ≡ left
+    ran : (change (counted t (process_of k) (record m.out { script = left }))).ran ≡ suc m.out.ran
+
+  -- the world after a line of the script that does nothing to a process
+  abbrev after_line : Seen → Surroundings → List At → Seen
+  after_line w sur ls = record w { outside = sur; script = ls; ran = w.ran + 1; ended = false }
+
+  -- a line of the script that does nothing to a process: what it does to what is outside shows
+  quiet_line :
+      (w v : Seen) (m : World Frame) (a b : A) (t : ℕ) (l : At) (ls : List At) (k : Order) (x : Line) (sur : Surroundings) (change : Outside → Outside)
+      → StaysQuiet Rests Keeps IsCode r → WorldShows Rests w m → process_of k < length m.places → next w ≡ Some (t, true) → w.script ≡ l ∷ ls → order_of l.act ≡ k
+      → ((left : List (ℕ × Order)) → IsQuiet m t k x change left × OutsideShows sur (change (counted t (process_of k) (record m.out { script = left }))))
+      → puts a x (Ok tt) b → v ≡ after_line w sur ls → EventShown Rests Keeps IsCode puts r m a v b
+  quiet_line w v m a b t l ls k x sur change still s there next_is script orders shows put is_now =
       by_next (next_of m.out) refl (subst (λ n. NextShows w n (next_of m.out) m.out) next_is (same_next Rests w m s))
     where
       head : {Y : Type 0} {x y : Y} {xs ys : List Y} → x ∷ xs ≡ y ∷ ys → x ≡ y
@@ -139,22 +159,48 @@ module _ (Rests : Process → Proc Frame → Type 0) (Keeps : World Frame → Ty
       tail : {Y : Type 0} {x y : Y} {xs ys : List Y} → x ∷ xs ≡ y ∷ ys → xs ≡ ys
       tail e = cc
 
-      by_next : (x : Next) → next_of m.out ≡ x → NextShows w (Some (t, true)) x m.out → EventShown Rests Keeps IsCode puts r m a v b
+      by_next : (y : Next) → next_of m.out ≡ y → NextShows w (Some (t, true)) y m.out → EventShown Rests Keeps IsCode puts r m a v b
       by_next Nothing e n = elim n [ ]
       by_next (Event y left) e n = elim n [ ]
       by_next (Script time o left) e n =
           let both = sym n.are ∙ script in
-          let is_cut : o ≡ order.Cut p.0 q.0 = sym n.orders ∙ ap (λ z. order_of z.act) (head both) ∙ ap order_of cuts in
-          let start : Seen = record (begins t w) { script = ls } in
-          let ordered_is = subst (λ x. Ordered puts x start a Rested h.left b) cuts (line_of w a b t l ls v next_is script h) in
+          let is_order : o ≡ k = sym n.orders ∙ ap (λ z. order_of z.act) (head both) ∙ orders in
+          let comes : next_of m.out ≡ Script t k left = e ∙ ap (λ z. Script z o left) (sym n.same) ∙ ap (λ z. Script t z left) is_order in
           let counts : w.ran + 1 ≡ suc m.out.ran = omega (arith, s.ran) in
-          let before : Outside = counted t p.0 (record m.out { script = left }) in
-          let out : Outside = record before { cuts = (p.0, q.0) ∷ m.out.cuts } in
-          let now : Seen = record (with_net (record start.outside.net { cuts = cut start.outside.net.cuts p.0 q.0 }) start) { ended = false } in
-          let is_now : v ≡ now = h.after ∙ ap {A = Seen} (λ z. record z { ended = false }) ordered_is.2 in
-          let put : puts a (line.Cut (suc m.out.ran) t p q) (Ok tt) b = subst (λ k. puts a (line.Cut k t p q) (Ok tt) b) counts ordered_is.0 in
-          let comes : next_of m.out ≡ Script t (order.Cut p.0 q.0) left = e ∙ ap (λ k. Script k o left) (sym n.same) ∙ ap (λ x. Script t x left) is_cut in
+          let out : Outside = change (counted t (process_of k) (record m.out { script = left })) in
+          let now = after_line w sur ls in
+          let own = (shows left).0 in
+          let begins_is : begun_by (classes r) m (next_of m.out) ≡ Some (alone x (ready m out.active) out) =
+          ap (begun_by (classes r) m) comes ∙ ap (λ z. Some z) (own.does (ready m (process_of k))) ∙ ap (λ z. Some (alone x (ready m z) out)) (sym own.active)
+          in
           subst (λ z. EventShown Rests Keeps IsCode puts r m a z b) (sym is_now)
-          (quietly Rests Keeps IsCode r still puts w now m a b (line.Cut (suc m.out.ran) t p q) out s there refl (ap (begun_by (classes r) m) comes) put refl
-          (link_cut (record w.outside { time = t }) before p.0 q.0 (at_time w.outside m.out t p.0 left s.outside) few pl ql)
-          (subst (λ zs. ScriptShows zs left) (tail both) n.shows) counts refl refl refl)
+          (quietly Rests Keeps IsCode r still puts w now m a b x out s (subst (λ z. z < length m.places) (sym own.active) there) own.file begins_is put refl
+          (shows left).1 (subst (λ zs. ScriptShows ls zs) (sym own.script) (subst (λ zs. ScriptShows zs left) (tail both) n.shows)) (counts ∙ sym own.ran) refl refl refl)
+
+  pub cut_follows : CutFollows Rests Keeps IsCode r puts
+  cut_follows w v m a b t l ls p q still s few there pl ql next_is script cuts h =
+      let start : Seen = record (begins t w) { script = ls } in
+      let done = subst (λ x. Ordered puts x start a Rested h.left b) cuts (line_of w a b t l ls v next_is script h) in
+      let counts : w.ran + 1 ≡ suc m.out.ran = omega (arith, s.ran) in
+      let sur : Surroundings = record start.outside { net = record start.outside.net { cuts = cut start.outside.net.cuts p.0 q.0 } } in
+      quiet_line w v m a b t l ls (order.Cut p.0 q.0) (line.Cut (suc m.out.ran) t p q) sur (λ o. record o { cuts = (p.0, q.0) ∷ o.cuts }) still s there next_is script (ap order_of cuts)
+      (λ left. (
+        record { does = λ at. refl; active = refl; file = refl; script = refl; ran = refl },
+        link_cut (record w.outside { time = t }) (counted t p.0 (record m.out { script = left })) p.0 q.0 (at_time w.outside m.out t p.0 left s.outside) few pl ql,
+      ))
+      (subst (λ k. puts a (line.Cut k t p q) (Ok tt) b) counts done.0)
+      (h.after ∙ ap {A = Seen} (λ z. record z { ended = false }) done.2)
+
+  pub heal_follows : HealFollows Rests Keeps IsCode r puts
+  heal_follows w v m a b t l ls p q still s few there pl ql next_is script heals h =
+      let start : Seen = record (begins t w) { script = ls } in
+      let done = subst (λ x. Ordered puts x start a Rested h.left b) heals (line_of w a b t l ls v next_is script h) in
+      let counts : w.ran + 1 ≡ suc m.out.ran = omega (arith, s.ran) in
+      let sur : Surroundings = record start.outside { net = record start.outside.net { cuts = table.healed start.outside.net.cuts p.0 q.0 } } in
+      quiet_line w v m a b t l ls (order.Heal p.0 q.0) (line.Heal (suc m.out.ran) t p q) sur (λ o. record o { cuts = healed o.cuts p.0 q.0 }) still s there next_is script (ap order_of heals)
+      (λ left. (
+        record { does = λ at. refl; active = refl; file = refl; script = refl; ran = refl },
+        link_healed (record w.outside { time = t }) (counted t p.0 (record m.out { script = left })) p.0 q.0 (at_time w.outside m.out t p.0 left s.outside) few pl ql,
+      ))
+      (subst (λ k. puts a (line.Heal k t p q) (Ok tt) b) counts done.0)
+      (h.after ∙ ap {A = Seen} (λ z. record z { ended = false }) done.2)
