@@ -1,13 +1,11 @@
 -- Events that do nothing to a process.
-use Rattle.std.proofs.Common.{◌≡◌, ℕ, zero, suc, ◌+◌, ◌<◌, ◌≤◌, true, false, List, [], ◌∷◌, Option, Some, None, length, refl, sym, ap, ◌∙◌, subst, arith}
-use Rattle.std.specs.Prelude.{Bool, Result, Ok, slice_set, slice_index_or}
-use Rattle.flow_base.specs.declared.ids.ProcId.{ProcId}
+use Rattle.std.proofs.Common.{◌≡◌, ℕ, zero, suc, ◌+◌, ◌<◌, true, false, List, [], ◌∷◌, Some, None, length, refl, sym, ap, ◌∙◌, subst, arith}
+use Rattle.std.specs.Prelude.{Result, Ok, slice_get, slice_set, slice_index_or}
 use Rattle.flow_base.specs.declared.fault.OutFault.{OutFault}
 use Rattle.flow_trace.specs.declared.line.Line.{Line}
 use Rattle.flow_trace.specs.declared.line.Line.TheVariants as line
 use Rattle.flow_class.specs.Classes.{RawTree}
 use Rattle.flow_code.specs.declared.program.Code.{Code}
-use Rattle.flow_worldfile.specs.declared.world.Act.TheVariants as act
 use Rattle.flow_worldfile.specs.declared.world.At.{At}
 use Rattle.flow_worldfile.specs.declared.directive.Order.{Order}
 use Rattle.flow_worldfile.specs.declared.directive.Order.TheVariants as order
@@ -18,23 +16,25 @@ use Rattle.flow_meaning.specs.Deliver.{idle}
 use Rattle.flow_meaning.specs.Frame.{Frame}
 use Rattle.flow_meaning.specs.Outside.{Outside, host, healed}
 use Rattle.flow_meaning.specs.Process.{Proc}
-use Rattle.flow_meaning.specs.World.{World, Place, Next, Nothing, Script, Event, next_of, begun_by, ordered, counted, ready, alone, process_of}
+use Rattle.flow_meaning.specs.World.{World, Place, Next, Nothing, Script, Event, next_of, begun_by, ordered, counted, ready, alone, process_of, disk_of, with_disk}
 use Rattle.flow_steps.specs.declared.process.Process.{Process}
 use Rattle.flow_machine.specs.declared.host.Burst.TheVariants.{Rested}
 use Rattle.flow_world.specs.declared.place.Place as memory
 use Rattle.flow_world.specs.Changes.{Surroundings}
+use Rattle.flow_world.specs.Changes as memory_disk
 use Rattle.flow_world.specs.Ending.{Seen, next}
+use Rattle.flow_simdisk.specs.Disk.{Disk}
 use Rattle.flow_simnet.specs.Links.{cut}
 use Rattle.flow_simnet.specs.Links as table
-use Rattle.flow_world.specs.Happening.{Happens, Ordered, LineComes, Comes, begins, with_net}
+use Rattle.flow_world.specs.Happening.{Happens, Ordered, LineComes, Comes, begins}
 use Rattle.flow_world.specs.Shows.{OutsideShows}
 use Rattle.flow_world.proofs.Events.{link_cut, link_healed}
 use Rattle.flow_world.proofs.Putting.{puts_one}
-use Rattle.flow_events.specs.Showing.{PlaceShows, PlacesShow, ScriptShows, WorldShows}
-use Rattle.flow_events.specs.Coming.{LineNext, NextShows}
+use Rattle.flow_events.specs.Showing.{PlacesShow, ScriptShows, WorldShows}
+use Rattle.flow_events.specs.Coming.{NextShows}
 use Rattle.flow_events.proofs.Next.{same_next}
 use Rattle.flow_traced.specs.Traced.{EventShown}
-use Rattle.flow_traced.specs.Quiet.{begun_proc, StaysQuiet, CutFollows, HealFollows}
+use Rattle.flow_traced.specs.Quiet.{begun_proc, StaysQuiet, CutFollows, HealFollows, FailureFollows}
 
 abbrev down : Place Frame
 down = record { up = false; proc = idle }
@@ -63,6 +63,35 @@ at_time m o t n left s = record {
   cuts = s.cuts;
   disks = s.disks;
 }
+
+-- a disk of a process is another
+disk_put : (m : Surroundings) (o : Outside) (p : ℕ) (d e : Disk) → OutsideShows m o → d ≡ e → OutsideShows (memory_disk.with_disk p d m) (with_disk o p e)
+disk_put m o p d e s same = record {
+  seed = s.seed;
+  words = s.words;
+  processes = s.processes;
+  latency = s.latency;
+  loss = s.loss;
+  diskdelay = s.diskdelay;
+  time = s.time;
+  sent = s.sent;
+  drawn = s.drawn;
+  made = s.made;
+  events = s.events;
+  packets = s.packets;
+  numbers = s.numbers;
+  table = s.table;
+  cuts = s.cuts;
+  disks = ap (λ ds. slice_set ds p d) s.disks ∙ ap (slice_set o.disks p) same;
+}
+
+found : {Y : Type 0} (xs : List Y) (i : ℕ) (x d : Y) → slice_get xs i ≡ Some x → slice_index_or xs i d ≡ x
+found [] i x d e = absurd (cc)
+found (y ∷ ys) zero x d e = some e
+  where
+    some : {Z : Type 0} {z u : Z} → Some z ≡ Some u → z ≡ u
+    some g = cc
+found (y ∷ ys) (suc i) x d e = found ys i x d e
 
 module _ (Rests : Process → Proc Frame → Type 0) (Keeps : World Frame → Type 0) (IsCode : Code → Type 0) (r : RawTree) (still : StaysQuiet Rests Keeps IsCode r) where
   places_quiet :
@@ -204,3 +233,22 @@ module _ (Rests : Process → Proc Frame → Type 0) (Keeps : World Frame → Ty
       ))
       (subst (λ k. puts a (line.Heal k t p q) (Ok tt) b) counts done.0)
       (h.after ∙ ap {A = Seen} (λ z. record z { ended = false }) done.2)
+
+  pub failure_follows : FailureFollows Rests Keeps IsCode r puts
+  failure_follows w v m a b t l ls p n still s there next_is script fails h =
+      let start : Seen = record (begins t w) { script = ls } in
+      let done = subst (λ x. Ordered puts x start a Rested h.left b) fails (line_of w a b t l ls v next_is script h) in
+      let failing = done.2 in
+      let counts : w.ran + 1 ≡ suc m.out.ran = omega (arith, s.ran) in
+      let failed : Disk = record { fails = n; files = failing.disk.files } in
+      let sur : Surroundings = memory_disk.with_disk p.0 failed start.outside in
+      let at_disk : disk_of m.out p.0 ≡ failing.disk = ap (λ ds. slice_index_or ds p.0 (record { fails = 0; files = [] })) (sym s.outside.disks) ∙ found w.outside.disks p.0 failing.disk _ failing.there in
+      let same : failed ≡ record { fails = n; files = (disk_of m.out p.0).files } = ap {A = Disk} (λ d. record { fails = n; files = d.files }) (sym at_disk) in
+      quiet_line w v m a b t l ls (order.DiskFail p.0 n) (line.DiskFail (suc m.out.ran) t p n) sur
+      (λ o. with_disk o p.0 (record { fails = n; files = (disk_of o p.0).files })) still s there next_is script (ap order_of fails)
+      (λ left. (
+        record { does = λ at. refl; active = refl; file = refl; script = refl; ran = refl },
+        disk_put (record w.outside { time = t }) (counted t p.0 (record m.out { script = left })) p.0 failed _ (at_time w.outside m.out t p.0 left s.outside) same,
+      ))
+      (subst (λ k. puts a (line.DiskFail k t p n) (Ok tt) b) counts done.0)
+      (h.after ∙ ap {A = Seen} (λ z. record z { ended = false }) failing.left)

@@ -6,7 +6,6 @@ use Rattle.flow_base.specs.declared.fault.OutFault.{OutFault}
 use Rattle.flow_trace.specs.declared.line.Line.{Line}
 use Rattle.flow_class.specs.Classes.{RawTree}
 use Rattle.flow_code.specs.declared.program.Code.{Code}
-use Rattle.flow_worldfile.specs.declared.world.Act.{Act}
 use Rattle.flow_worldfile.specs.declared.world.Act.TheVariants as act
 use Rattle.flow_worldfile.specs.declared.world.At.{At}
 use Rattle.flow_meaning.specs.Burst.{advance, live}
@@ -47,3 +46,10 @@ module _ (Rests : Process → Proc Frame → Type 0) (Keeps : World Frame → Ty
       (w v : Seen) (m : World Frame) (a b : A) (t : ℕ) (line : At) (rest : List At) (p q : ProcId) → StaysQuiet → WorldShows Rests w m
       → m.out.file.processes ≤ 64 → p.0 < length m.places → p.0 < m.out.file.processes → q.0 < m.out.file.processes → next w ≡ Some (t, true) → w.script ≡ line ∷ rest
       → line.act ≡ act.Heal p q → Happens puts w a Rested v b → EventShown Rests Keeps IsCode puts r m a v b
+
+  -- a disk of a process of the world is to fail so many of the next requests
+  abbrev pub FailureFollows : {A : Type 0} (puts : A → Line → Result (Unit {0}) OutFault → A → Type 0) → Type 0
+  FailureFollows {A} puts =
+      (w v : Seen) (m : World Frame) (a b : A) (t : ℕ) (line : At) (rest : List At) (p : ProcId) (n : ℕ) → StaysQuiet → WorldShows Rests w m
+      → p.0 < length m.places → next w ≡ Some (t, true) → w.script ≡ line ∷ rest → line.act ≡ act.DiskFail p n → Happens puts w a Rested v b
+      → EventShown Rests Keeps IsCode puts r m a v b
