@@ -1,7 +1,7 @@
 -- From events to a whole run.
-use Rattle.std.proofs.Common.{◌≡◌, false, List, [], ◌∷◌, ◌++◌, Some, None, refl, sym, ap, ◌∙◌, subst}
-use Rattle.std.specs.Prelude.{Result, Ok}
-use Rattle.std.proofs.lemmas.List.{append-nil, append_assoc}
+use Rattle.std.proofs.Common.{◌≡◌, false, List, [], ◌∷◌, ◌++◌, refl, sym, subst}
+use Rattle.std.specs.Prelude.{Result}
+use Rattle.std.proofs.lemmas.List.{append_assoc}
 use Rattle.flow_base.specs.declared.fault.OutFault.{OutFault}
 use Rattle.flow_trace.specs.declared.line.Line.{Line}
 use Rattle.flow_trace.specs.declared.line.Line.TheVariants as line
@@ -14,9 +14,8 @@ use Rattle.flow_meaning.specs.Class.{classes}
 use Rattle.flow_meaning.specs.Frame.{Frame}
 use Rattle.flow_meaning.specs.Process.{Proc}
 use Rattle.flow_meaning.specs.Runs.{Runs, ends, spent, event, after, lines_of}
-use Rattle.flow_meaning.specs.World.{World, at_start, ending, next_of}
+use Rattle.flow_meaning.specs.World.{World, at_start}
 use Rattle.flow_steps.specs.declared.process.Process.{Process}
-use Rattle.flow_world.specs.declared.event.Event.TheVariants as happened
 use Rattle.flow_world.specs.Around.{Puts, no_line, more_lines}
 use Rattle.flow_world.specs.Ending.{Seen}
 use Rattle.flow_world.specs.Happening.{EventDoes}

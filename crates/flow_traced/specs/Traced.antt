@@ -1,5 +1,5 @@
 -- A run in memory is a run of the definitions.
-use Rattle.std.specs.Prelude.{◌≡◌, ℕ, false, List, Result}
+use Rattle.std.specs.Prelude.{◌≡◌, false, List, Result}
 use Rattle.std.specs.declared.option.Option.TheVariants.{None, Some}
 use Rattle.std.specs.declared.alloc.Global.{Global}
 use Rattle.flow_base.specs.declared.fault.OutFault.{OutFault}

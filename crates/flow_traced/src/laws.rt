@@ -5,6 +5,8 @@ ghost use Rattle.flow_meaning.specs.Frame.{Frame};
 ghost use Rattle.flow_meaning.specs.Process.{Proc};
 ghost use Rattle.flow_meaning.specs.World.{World};
 ghost use Rattle.flow_steps.specs.declared.process.Process.{Process};
+ghost use Rattle.flow_class.specs.Classes.{RawTree};
+ghost use Rattle.flow_traced.specs.Quiet.{CutFollows, HealFollows, FailureFollows};
 ghost use Rattle.flow_traced.specs.Traced.{CodeStays, TraceFollows};
 
 use flow_trace::out::LineOut;
@@ -31,4 +33,12 @@ pub fn trace_follows<B: Boundary, L: LineOut>()
 /// An event leaves the code as it is.
 pub fn code_stays<L: LineOut>()
     ensures { CodeStays L.puts }
+{}
+
+/// Whatever is meant by a boundary: where a process that rests has nothing to do, a link of two processes
+/// that is cut by the script, or heals, is the next event of the definitions, and so is a disk that is to fail.
+pub fn quiet_follows<B: Boundary, L: LineOut>()
+    ensures cut { (r : RawTree) → CutFollows B.rests B.keeps B.is_code r L.puts }
+    ensures failure { (r : RawTree) → FailureFollows B.rests B.keeps B.is_code r L.puts }
+    ensures heal { (r : RawTree) → HealFollows B.rests B.keeps B.is_code r L.puts }
 {}

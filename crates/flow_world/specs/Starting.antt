@@ -7,6 +7,8 @@ use Rattle.std.specs.declared.alloc.Global.{Global}
 use Rattle.flow_worldfile.specs.declared.world.At.{At}
 use Rattle.flow_worldfile.specs.declared.world.World0.{World0}
 use Rattle.flow_class.specs.declared.class.RawClasses.{RawClasses}
+use Rattle.flow_class.specs.View.{raw_of}
+use Rattle.flow_code.specs.Coded.{IsCoded}
 use Rattle.flow_timers.specs.Pending.{Pending, Queue}
 use Rattle.flow_simnet.specs.Links.{open_links}
 use Rattle.flow_steps.specs.Doing.{never_ran}
@@ -54,9 +56,10 @@ pub record InOrder (written : List At) (lines : List At) : Type 0 where
   pub sorted : IsSortedByKey (λ line. line.time) nat_cmp lines
   pub stable : IsStableByKey (λ line. line.time) nat_cmp written lines
 
--- the world that a file describes, with these classes, before its first event
+-- the world that a file describes, with these classes and their code, before its first event
 pub record Starts (classes : RawClasses) (file : World0) (w : Seen) : Type 0 where
   pub program : w.code.program ≡ classes
+  pub coded : IsCoded (raw_of classes) w.code.fields w.code.classes.items w.code.main
   pub count : length w.places ≡ file.processes
   pub places : AreFresh file.processes 0 w.places
   pub outside : w.outside ≡ outside_at_start file
