@@ -14,8 +14,8 @@ ghost use Rattle.flow_allowed.specs.Tasking.{IsProgram, AnyAllowed, AnyGoes};
 /// shows, where the actor of a next step or of an operand is in no state of a wait. So it is a row of steps of the class machine,
 /// or its actor takes its steps.
 pub fn tasks_allowed()
-    ensures allowed { (r : RawTree) (code : Code) (program : IsProgram r code) (ls : List Line) (m : Process) (p : Proc Frame)
-        (now : BetweenTasks r ls m p) → AnyAllowed r code program ls m p now }
-    ensures goes { (r : RawTree) (code : Code) (program : IsProgram r code) (ls : List Line) (m : Process) (p : Proc Frame)
-        (now : BetweenTasks r ls m p) → AnyGoes r code program ls m p now }
+    ensures allowed { (r : RawTree) (code : Code) (program : IsProgram r code)
+        (ls : List Line) (m : Process) (p : Proc Frame) (now : BetweenTasks r ls m p) → AnyAllowed r code program ls m p now }
+    ensures goes { (r : RawTree) (code : Code) (program : IsProgram r code)
+        (ls : List Line) (m : Process) (p : Proc Frame) (now : BetweenTasks r ls m p) → AnyGoes r code program ls m p now }
 {}

@@ -34,7 +34,10 @@ impl<T> Model for Cells<T> {
     ghost use Rattle.flow_cell.specs.Lines.{links_of, newest_of};
     ghost use Rattle.flow_cell.specs.Seen.{seen, ends_in};
 
-    ghost view = { λ s. record { things = seen (links_of s.lists) s.cells.things; greatest = s.cells.greatest } };
+    ghost view = { λ s. record {
+      things = seen (links_of s.lists) s.cells.things;
+      greatest = s.cells.greatest;
+    } };
 
     ghost invariant = { λ s. AreQueues (ends_in s.cells.things) (links_of s.lists) (newest_of s.lists) };
 }

@@ -56,7 +56,8 @@ pub(crate) fn time_after(now: u64, ticks: i64) -> Option<u64>
 pub(crate) fn process(processes: u8, number: i64) -> Option<ProcId>
     ensures below { IfSome result (λ p. p.0 < processes) }
     ensures exact { option_map (λ p. p.0) result
-        ≡ (if int_le (pos 0) number && nat_lt (natural number) processes then Some (natural number) else None) }
+        ≡ (if int_le (pos 0) number && nat_lt (natural number) processes
+        then Some (natural number) else None) }
 {
     let number = u8::try_from(number).ok()?;
     if number >= processes {

@@ -30,7 +30,8 @@ impl<T> Model for Timers<T> {
 
     ghost view = { λ t. record { made = t.made; pending = events_of t.moments.entries } };
 
-    ghost invariant = { λ t. All (λ m. m.1 ≢ []) t.moments.entries × StandInOrder (events_of t.moments.entries) };
+    ghost invariant = { λ t.
+        All (λ m. m.1 ≢ []) t.moments.entries × StandInOrder (events_of t.moments.entries) };
 }
 
 impl<T: Drop> Timers<T> {

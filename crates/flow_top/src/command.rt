@@ -34,7 +34,8 @@ fn is_command(word: &str, command: &str) -> bool
 // The name of the program, where the words are this command and a name.
 fn program_words<'a>(words: &'a [String], command: &str) -> Option<&'a str>
     ensures { let given = map string_bytes words.now in
-        MatchOption result ((p : List ℕ) → AreOn command.now given p → ⊥) (λ p. AreOn command.now given p.now) }
+        MatchOption result ((p : List ℕ) → AreOn command.now given p → ⊥)
+        (λ p. AreOn command.now given p.now) }
 {
     if words.len() != 2 {
         return None;
@@ -52,7 +53,8 @@ fn program_words<'a>(words: &'a [String], command: &str) -> Option<&'a str>
 // The names of the program and of the world, where the words are `run` and two names.
 fn run_words<'a>(words: &'a [String]) -> Option<(&'a str, &'a str)>
     ensures { let given = map string_bytes words.now in
-        MatchOption result ((p w : List ℕ) → AreRun given p w false → ⊥) (λ x. AreRun given x.0.now x.1.now false) }
+        MatchOption result ((p w : List ℕ) → AreRun given p w false → ⊥)
+        (λ x. AreRun given x.0.now x.1.now false) }
 {
     if words.len() != 3 {
         return None;
@@ -74,7 +76,8 @@ fn run_words<'a>(words: &'a [String]) -> Option<(&'a str, &'a str)>
 // The names of the program and of the world, where the words are `run`, two names and `--frames`.
 fn framed_words<'a>(words: &'a [String]) -> Option<(&'a str, &'a str)>
     ensures { let given = map string_bytes words.now in
-        MatchOption result ((p w : List ℕ) → AreRun given p w true → ⊥) (λ x. AreRun given x.0.now x.1.now true) }
+        MatchOption result ((p w : List ℕ) → AreRun given p w true → ⊥)
+        (λ x. AreRun given x.0.now x.1.now true) }
 {
     if words.len() != 4 {
         return None;

@@ -43,9 +43,10 @@ fn words<'a>(
     fifth: Piece<'a>,
 ) -> Pieces<'a>
     ensures words { words_of result ≡ first.now
-        ∷ piece_words second.entry ++ piece_words third.entry ++ piece_words fourth.entry ++ piece_words fifth.entry ++ [] }
-    ensures room { room_of result ≡ length first.now + piece_room second.entry + piece_room
-        third.entry + piece_room fourth.entry + piece_room fifth.entry + 1 }
+        ∷ piece_words second.entry ++ piece_words third.entry ++ piece_words fourth.entry
+        ++ piece_words fifth.entry ++ [] }
+    ensures room { room_of result ≡ length first.now + piece_room second.entry
+        + piece_room third.entry + piece_room fourth.entry + piece_room fifth.entry + 1 }
 {
     Pieces {
         first,

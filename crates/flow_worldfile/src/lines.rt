@@ -20,7 +20,8 @@ fn first_place(text: &[u8], byte: u8) -> Option<usize>
 #[tactic(auto, using(crate::proofs::LineLemmas::one_part, crate::proofs::LineLemmas::two_parts))]
 fn split_once(text: &[u8], byte: u8) -> Option<(&[u8], &[u8])>
     ensures parts { MatchOption result (slice_split (λ b. b == byte) text.now ≡ text.now ∷ [])
-        (λ parts. slice_split (λ b. b == byte) text.now ≡ parts.0.now ∷ slice_split (λ b. b == byte) parts.1.now) }
+        (λ parts. slice_split (λ b. b == byte) text.now
+        ≡ parts.0.now ∷ slice_split (λ b. b == byte) parts.1.now) }
     ensures shorter { IfSome result (λ parts. length parts.1.now < length text.now) }
 {
     let Some(place) = first_place(text, byte) else {
