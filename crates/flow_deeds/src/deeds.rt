@@ -1,0 +1,13 @@
+// What events do to processes.
+
+ghost use Rattle.flow_class.specs.Classes.{RawTree};
+ghost use Rattle.flow_code.specs.declared.program.Code.{Code};
+ghost use Rattle.flow_deeds.specs.Deeds.{DeedFollows};
+
+use flow_trace::out::LineOut;
+
+/// A process in memory that boots, is stopped, gets an answer or an element, and then does all that follows, does what the
+/// process of the definitions does in a burst, with its lines.
+pub fn deeds_follow<L: LineOut>()
+    ensures { (r : RawTree) (code : Code) → DeedFollows L.puts r code }
+{}

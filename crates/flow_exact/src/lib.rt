@@ -1,0 +1,5 @@
+//! A run in memory of the classes of a program is the run that its text means. The definitions stand in `specs/`; the functions of
+//! this crate have empty bodies: each contract is a law.
+#![tactic(auto)]
+
+pub mod laws;

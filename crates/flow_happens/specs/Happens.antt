@@ -1,0 +1,17 @@
+-- Each event of a world in memory that runs valid classes is the next event of the definitions.
+use Rattle.std.specs.Prelude.{Result}
+use Rattle.flow_base.specs.declared.fault.OutFault.{OutFault}
+use Rattle.flow_trace.specs.declared.line.Line.{Line}
+use Rattle.flow_class.specs.Classes.{RawTree}
+use Rattle.flow_allowed.specs.Tasking.{IsProgram}
+use Rattle.flow_boundaries.specs.Boundaries.{WorldKeeps}
+use Rattle.flow_boundaries.specs.Bringing.{Resting}
+use Rattle.flow_traced.specs.Traced.{EventsFollow, SpentFollows}
+
+module _ {A : Type 0} (puts : A → Line → Result (Unit {0}) OutFault → A → Type 0) (r : RawTree) where
+  -- one that runs, and one that is spent
+  abbrev pub Happening : Type 0
+  Happening = EventsFollow (Resting r) (WorldKeeps r) (IsProgram r) puts r
+
+  abbrev pub SpentHappening : Type 0
+  SpentHappening = SpentFollows (Resting r) (WorldKeeps r) (IsProgram r) puts r
