@@ -21,24 +21,18 @@ use Rattle.flow_tree.specs.Decls.{ProgramTree}
 use Rattle.flow_class.specs.declared.class.RawClasses.{RawClasses}
 use Rattle.flow_class.specs.View.{raw_of}
 use Rattle.flow_staterule.specs.declared.sound.Sound.{Sound}
-use Rattle.flow_front.specs.Verdict.{Reading, Verdict}
+use Rattle.flow_front.specs.Verdict.{Reading, Verdict, IsSound}
 use Rattle.flow_lower.specs.Weighing.{first_heavy}
 use Rattle.flow_compile.specs.Right.{IsAccepted}
 use Rattle.flow_lower.specs.Compiled.{Has}
-use Rattle.flow_worldfile.specs.declared.world.World0.{World0}
-use Rattle.flow_top.specs.declared.outcome.Outcome.{Outcome}
+use Rattle.flow_worldfile.specs.Worlds.{IsInRange, seen}
 use Rattle.flow_top.specs.declared.outcome.Outcome.TheVariants.{Told, Run}
+use Rattle.flow_top.specs.declared.outcome.ProgramRun.{ProgramRun}
 use Rattle.flow_top.specs.declared.outcome.Told as told
-use Rattle.flow_top.specs.declared.outcome.Told.TheVariants.{Compiled, Formatted, Passed, Printed, OutOfMemory}
+use Rattle.flow_top.specs.declared.outcome.Told.TheVariants.{Compiled, Passed, OutOfMemory}
 use Rattle.flow_top.specs.Words.{AreOn, AreFormat, AreCheck, AreCompile, AreRun, JudgeProgram, of_check, of_run, NameProgram, of_format, of_judged}
-use Rattle.flow_top.specs.Form.{PrintsOnly}
-use Rattle.flow_top.specs.Run.{IsText, HasSound, HasPassing, HasWorld, IsNoPrint, AsksNames, unread, formatted, refused, lost, heavy, passed, compiled, no_world, printed, run, AskedSome, none, program, both, Decided, due, read_fault, no_memory, outcome_of, refusal_outcome_of, heavy_outcome}
-use Rattle.flow_top.specs.Steps.{FileRead, is_read, is_unread, unasked, starved, Loaded, is_loaded, is_refused, is_lost, no_text, no_room, ClassesOf, are_classes, is_heavy, no_classes, WorldOf, is_world, is_none, no_room_for_it, PrintedOf, are_texts, is_another, no_room_for_texts, RunIn, it_prints, it_runs, not_there, no_room_to_run}
-
--- a list without length
-pub nothing : (l : List ℕ) → length l ≤ 0 → l ≡ []
-nothing [] h = refl
-nothing (x ∷ l) h = absurd (omega arith)
+use Rattle.flow_top.specs.Run.{IsText, HasSound, HasPassing, MayRun, AsksNames, unread, formatted, refused, lost, heavy, passed, compiled, no_world, run, AskedSome, none, program, both, Decided, due, read_fault, no_memory, outcome_of, refusal_outcome_of, heavy_outcome}
+use Rattle.flow_top.specs.Steps.{FileRead, is_read, is_unread, unasked, starved, Loaded, is_loaded, is_refused, is_lost, no_text, no_room, ClassesOf, are_classes, is_heavy, no_classes, WorldOf, is_world, is_none, no_room_for_it}
 
 -- one name was asked for, or none
 pub asks : {before after : FilesSeen} {name : List ℕ} → after.asked ≡ before.asked ++ name ∷ [] → ReadsWithin (PROGRAM_BYTES + 1) name before after
@@ -217,40 +211,6 @@ asks_both name world before mid after b e = record {
   within = (first_within name world before mid after b, (second_within name world before mid after b, tt));
 }
 
--- the world isn't there, or the texts have no room, or what is done in it
-pub without_world_of : {frames : Bool} {text : List ℕ} {p : Program} {c : RawClasses} {o : told.Told} → WorldOf text (Err o) → RunIn frames text p c (Err o)
-without_world_of (is_none fault answered) = not_there fault answered
-without_world_of no_room_for_it = no_room_to_run
-
-pub without_printed : {frames : Bool} {text : List ℕ} {p : Program} {c : RawClasses} {o : told.Told} → PrintedOf frames text p (Err o) → RunIn frames text p c (Err o)
-without_printed no_room_for_texts = no_room_to_run
-
-pub prints_it : {frames : Bool} {text : List ℕ} {p : Program} {c : RawClasses} {texts : Vec (List ℕ) Global} → PrintedOf frames text p (Ok (Some texts))
-    → RunIn frames text p c (Ok (Told (Printed texts)))
-prints_it (are_texts texts f e prints) = it_prints texts f e prints
-
-pub runs_it : {frames : Bool} {text : List ℕ} {p : Program} {c : RawClasses} {w : World0} → WorldOf text (Ok w) → PrintedOf frames text p (Ok None)
-    → RunIn frames text p c (Ok (Run c w frames))
-runs_it (is_world w answered) (is_another other) = it_runs w answered other
-
--- what the form of a program says
-abbrev FormIs : Program → Option (Vec (List ℕ) Global) → Type 0
-FormIs p o = MatchOption o ((ts : List (List ℕ)) → PrintsOnly (program_of p) ts → ⊥) (λ v. PrintsOnly (program_of p) v.items)
-
--- whether a program only prints
-pub framed_world : {text : List ℕ} {p : Program} → PrintedOf true text p (Ok None)
-framed_world = is_another (λ f e texts prints. absurd (true≢false f))
-
-pub told_world : {frames : Bool} {text : List ℕ} {p : Program} → 0 < length text → PrintedOf frames text p (Ok None)
-told_world {text = text} l = is_another (λ f e texts prints. let z : length text ≡ 0 = ap length e in absurd (omega (arith, l, z)))
-
-pub by_form : {text : List ℕ} {p : Program} (o : Option (Vec (List ℕ) Global)) → length text ≤ 0 → FormIs p o → PrintedOf false text p (Ok o)
-by_form None l h = is_another (λ f e. h)
-by_form {text = text} (Some v) l h = are_texts v refl (nothing text l) h
-
-pub no_texts : {frames : Bool} {text : List ℕ} {p : Program} → PrintedOf frames text p (Err OutOfMemory)
-no_texts = no_room_for_texts
-
 -- one name, and no name, were asked for
 asked_only : {before after : FilesSeen} {name : List ℕ} → AsksNames before after (name ∷ []) → after.asked ≡ before.asked ++ name ∷ []
 asked_only a = a.asked
@@ -274,24 +234,35 @@ world_text : (content : List ℕ → Option (List ℕ)) {mid after : FilesSeen} 
     → IsText content world v.items
 world_text content {world = w} {v = v} e r = subst (λ k. IsText k w v.items) e (text_is r)
 
--- what a run in that world comes to
-pub ran : {words : List (List ℕ)} {name world : List ℕ} {before mid after : FilesSeen} {s : Sound} {frames : Bool} {c : RawClasses} {v : Vec ℕ Global} {o : Outcome}
-    → AreRun words name world frames → Loaded name before mid (Ok s) → ClassesOf (program_of s.typed.program) (Ok c) → Between name world before mid after
-    → FileRead world mid after (Ok v) → RunIn frames v.items s.typed.program c (Ok o) → Decided words before after o
-ran {words} {name = n} {world = w} {before = b} {mid = m} {after = a} {s = s} {v = v} are l cs bt r (it_prints texts f e prints) =
-    due _ _ (printed n w s.typed.program texts (subst (AreRun words n w) f are) (has_passing l (are_light cs)) prints (subst (IsText b.content w) e (world_text b.content bt.content r)))
-    (asks_both n w b m a bt (asked_it r).asked) (same_faults r ∙ no_fault l)
-ran {name = n} {world = w} {before = b} {mid = m} {after = a} {s = s} {frames = f} {c = c} {v = v} are l cs bt r (it_runs world answered other) =
-    due _ _ (run n w f s.typed.program c world are (has_passing l (are_light cs)) (has_classes cs) (record { text = v.items; is = world_text b.content bt.content r; answered = answered }) other)
-    (asks_both n w b m a bt (asked_it r).asked) (same_faults r ∙ no_fault l)
+-- the program is run in that world
+pub ran : {words : List (List ℕ)} {name file : List ℕ} {before mid after : FilesSeen} {s : Sound} {v : Vec ℕ Global} (r : ProgramRun) → r.program.value ≡ s.typed.program
+    → AreRun words name file r.frames → Loaded name before mid (Ok s) → ClassesOf (program_of s.typed.program) (Ok r.classes) → Between name file before mid after
+    → FileRead file mid after (Ok v) → WorldOf v.items (Ok r.world) → Decided words before after (Run r)
+ran {name = n} {file = f} {before = b} {mid = m} {after = a} {v = v} r same are l cs bt read (is_world world answered) =
+    due _ _
+    (run n f r are (subst (HasPassing b.content n) (sym same) (has_passing l (are_light cs))) (subst (λ p. Has (program_of p) (raw_of r.classes)) (sym same) (has_classes cs))
+        (record { text = v.items; is = world_text b.content bt.content read; answered = answered }))
+    (asks_both n f b m a bt (asked_it read).asked) (same_faults read ∙ no_fault l)
 
-pub not_ran : {words : List (List ℕ)} {name world : List ℕ} {before mid after : FilesSeen} {s : Sound} {frames : Bool} {c : RawClasses} {v : Vec ℕ Global} {o : told.Told}
-    → AreRun words name world frames → Loaded name before mid (Ok s) → ClassesOf (program_of s.typed.program) (Ok c)
-    → Between name world before mid after → FileRead world mid after (Ok v) → RunIn frames v.items s.typed.program c (Err o) → Decided words before after (Told o)
-not_ran {name = n} {world = w} {before = b} {mid = m} {after = a} {s = s} {frames = f} {v = v} are l cs bt r (not_there fault answered) =
+-- and that may be done
+pub may_run : {name : List ℕ} {before after : FilesSeen} {s : Sound} (r : ProgramRun) → r.program.value ≡ s.typed.program → Loaded name before after (Ok s)
+    → ClassesOf (program_of s.typed.program) (Ok r.classes) → IsInRange (seen r.world) → MayRun r
+may_run r same l cs in_range = record {
+  text = (has_sound l).text;
+  sound = subst (IsSound (has_sound l).text) (sym same) (has_sound l).sound;
+  light = subst (λ p. first_heavy (program_of p).decls ≡ None) (sym same) (are_light cs);
+  has = subst (λ p. Has (program_of p) (raw_of r.classes)) (sym same) (has_classes cs);
+  in_range = in_range;
+}
+
+-- the world is refused, or there is no memory for it
+pub not_ran : {words : List (List ℕ)} {name file : List ℕ} {before mid after : FilesSeen} {s : Sound} {frames : Bool} {c : RawClasses} {v : Vec ℕ Global} {o : told.Told}
+    → AreRun words name file frames → Loaded name before mid (Ok s) → ClassesOf (program_of s.typed.program) (Ok c)
+    → Between name file before mid after → FileRead file mid after (Ok v) → WorldOf v.items (Err o) → Decided words before after (Told o)
+not_ran {name = n} {file = w} {before = b} {mid = m} {after = a} {s = s} {frames = f} {v = v} are l cs bt r (is_none fault answered) =
     due _ _ (no_world n w f s.typed.program fault are (has_passing l (are_light cs)) (record { text = v.items; is = world_text b.content bt.content r; answered = answered }))
     (asks_both n w b m a bt (asked_it r).asked) (same_faults r ∙ no_fault l)
-not_ran {name = n} {world = w} {before = b} {mid = m} {after = a} {s = s} {frames = f} are l cs bt r no_room_to_run =
+not_ran {name = n} {file = w} {before = b} {mid = m} {after = a} {s = s} {frames = f} are l cs bt r no_room_for_it =
     no_memory (n ∷ (w ∷ [])) (both n w f s.typed.program are (has_passing l (are_light cs))) (asks_both n w b m a bt (asked_it r).asked) (same_faults r ∙ no_fault l)
 
 -- two words, and three

@@ -1,3 +1,2 @@
-pub mod Forms
 pub mod Deciding
 pub mod Reporting

@@ -1,4 +1,3 @@
 pub mod Words
-pub mod Form
 pub mod Run
 pub mod Steps

@@ -1,5 +1,5 @@
 -- What a command line comes to, and what is written and answered then.
-use Rattle.std.specs.Prelude.{◌≡◌, ℕ, Bool, false, ◌+◌, List, [], ◌∷◌, ◌++◌, map, codes, Result, Ok, Err}
+use Rattle.std.specs.Prelude.{◌≡◌, ℕ, Bool, ◌+◌, List, [], ◌∷◌, ◌++◌, codes, Result, Ok, Err}
 use Rattle.std.specs.Io.KnownBytes.{Appends}
 use Rattle.std.specs.declared.option.Option.{Option}
 use Rattle.std.specs.declared.option.Option.TheVariants.{None, Some}
@@ -17,12 +17,7 @@ use Rattle.flow_tree.specs.declared.fault.Rule.{Rule}
 use Rattle.flow_tree.specs.declared.fault.Rule.TheVariants.{L}
 use Rattle.flow_tree.specs.DeclView.{program_of}
 use Rattle.flow_tree.specs.Canon.{Canon}
-use Rattle.flow_trace.specs.Bytes.{Bytes}
 use Rattle.flow_trace.specs.declared.line.Line.{Line}
-use Rattle.flow_trace.specs.declared.line.Line.TheVariants.{Head, Boot, Start, PrintText, Finish, EndIdle}
-use Rattle.flow_base.specs.declared.ids.ActorId.{ActorId}
-use Rattle.std.specs.declared.vec.Vec.{Vec}
-use Rattle.std.specs.declared.alloc.Global.{Global}
 use Rattle.flow_worldfile.specs.Faults.{fault_text}
 use Rattle.flow_worldfile.specs.declared.world.World0.{World0}
 use Rattle.flow_worldfile.specs.declared.world.WorldFault.{WorldFault}
@@ -40,29 +35,17 @@ use Rattle.flow_lower.specs.Weighing.{first_heavy}
 use Rattle.flow_lower.specs.Compiled.{Has}
 use Rattle.flow_run.specs.declared.ending.Ending.{Ending}
 use Rattle.flow_run.specs.declared.ending.Ending.TheVariants.{Idle, Bound, Spent}
-use Rattle.flow_run.specs.Ends.{end_line}
-use Rattle.flow_trace.specs.Out.{Grows, GrowsTo}
+use Rattle.flow_run.specs.Ends.{end_line, LastIs}
+use Rattle.flow_run.specs.Written.{bytes_of}
+use Rattle.flow_trace.specs.Out.{Grows}
+use Rattle.flow_framed.specs.Framed.{SourceShown}
 use Rattle.flow_top.specs.declared.outcome.Outcome.{Outcome}
 use Rattle.flow_top.specs.declared.outcome.Outcome.TheVariants.{Told, Run}
+use Rattle.flow_top.specs.declared.outcome.ProgramRun.{ProgramRun}
 use Rattle.flow_top.specs.declared.outcome.Told as told
-use Rattle.flow_top.specs.declared.outcome.Told.TheVariants.{Usage, ReadFault, OutOfMemory, Refused, NoWorld, Passed, Compiled, Formatted, Printed}
+use Rattle.flow_top.specs.declared.outcome.Told.TheVariants.{Usage, ReadFault, OutOfMemory, Refused, NoWorld, Passed, Compiled, Formatted}
 use Rattle.flow_top.specs.Words.{AreFormat, AreCheck, AreCompile, AreRun, JudgeProgram, NameProgram}
-use Rattle.flow_top.specs.Form.{PrintsOnly}
 use Rattle.flow_refusal.specs.Refusal.{refusal_text, refusal_status, world_refusal}
-
--- the one actor
-abbrev pub main_actor : ActorId
-main_actor = record { 0 = 1 }
-
--- the trace of a program that prints these texts and returns
-abbrev pub trace_of : List (List ℕ) → List Line
-trace_of texts =
-    Head ∷ (Boot 1 0 (record { 0 = 0 }) ∷ (Start main_actor (codes "main") ∷ (map (PrintText main_actor) texts ++ Finish main_actor ∷ (EndIdle ∷ []))))
-
--- the bytes of lines, one after another
-abbrev pub bytes_of : List Line → List ℕ
-bytes_of [] = []
-bytes_of (line ∷ lines) = Bytes line ++ bytes_of lines
 
 -- what is written for an outcome that is no run
 abbrev pub text_of : told.Told → List ℕ
@@ -74,7 +57,6 @@ text_of (NoWorld fault) = world_refusal fault
 text_of Passed = codes "ok" ++ 10 ∷ []
 text_of (Compiled classes) = ClassText (raw_of classes)
 text_of (Formatted program) = Canon (program_of program)
-text_of (Printed texts) = bytes_of (trace_of texts.items)
 
 -- the status of a refusal of a world: 10 where it is too large
 abbrev pub world_status : WorldFault → ℕ
@@ -92,7 +74,6 @@ status_of (NoWorld fault) = world_status fault
 status_of Passed = 0
 status_of (Compiled classes) = 0
 status_of (Formatted program) = 0
-status_of (Printed texts) = 0
 
 -- the status of a run by its last line: 4 where an event needed more turns than it may take
 abbrev pub ending_status : Ending → ℕ
@@ -160,14 +141,18 @@ pub record HasWorld (content : List ℕ → Option (List ℕ)) (name : List ℕ)
   pub is : IsText content name text
   pub answered : reading.Answers text answer
 
--- it isn't that frames aren't asked for, the text of the world is empty, and the program prints texts and returns
-abbrev pub IsNoPrint : Bool → List ℕ → Program → Type 0
-IsNoPrint frames text p = frames ≡ false → text ≡ [] → (texts : List (List ℕ)) → PrintsOnly (program_of p) texts → ⊥
+-- A run that may be made: the program is that of a text, in which nothing is refused; the classes are its own; and the world is
+-- in range.
+pub record MayRun (r : ProgramRun) : Type 0 where
+  pub text : List ℕ
+  pub sound : IsSound text r.program.value
+  pub light : first_heavy (program_of r.program.value).decls ≡ None
+  pub has : Has (program_of r.program.value) (raw_of r.classes)
+  pub in_range : IsInRange (seen r.world)
 
--- a world in which classes are run is in range
-abbrev pub InRange : Outcome → Type 0
-InRange (Told outcome) = Unit {0}
-InRange (Run classes world frames) = IsInRange (seen world)
+abbrev pub MayTell : Outcome → Type 0
+MayTell (Told outcome) = Unit {0}
+MayTell (Run r) = MayRun r
 
 -- What the words come to, by the content of the files (where it isn't told, by bytes that were read), and the names that are
 -- asked for.
@@ -194,13 +179,9 @@ pub data Due (words : List (List ℕ)) (content : List ℕ → Option (List ℕ)
   -- the world is refused
   no_world : (name world : List ℕ) (frames : Bool) (p : Program) (fault : WorldFault) → AreRun words name world frames → HasPassing content name p
       → HasWorld content world (Err fault) → Due words content (Told (NoWorld fault)) (name ∷ (world ∷ []))
-  -- the program prints texts and returns, and the world is an empty file
-  printed : (name file : List ℕ) (p : Program) (texts : Vec (List ℕ) Global) → AreRun words name file false → HasPassing content name p
-      → PrintsOnly (program_of p) texts.items → IsText content file [] → Due words content (Told (Printed texts)) (name ∷ (file ∷ []))
-  -- another program, or in another world: its classes are run in the world
-  run : (name file : List ℕ) (frames : Bool) (p : Program) (classes : RawClasses) (world : World0) → AreRun words name file frames
-      → HasPassing content name p → Has (program_of p) (raw_of classes) → (has : HasWorld content file (Ok world)) → IsNoPrint frames has.text p
-      → Due words content (Run classes world frames) (name ∷ (file ∷ []))
+  -- the program is run in the world, by its classes
+  run : (name file : List ℕ) (r : ProgramRun) → AreRun words name file r.frames → HasPassing content name r.program.value
+      → Has (program_of r.program.value) (raw_of r.classes) → HasWorld content file (Ok r.world) → Due words content (Run r) (name ∷ (file ∷ []))
 
 -- each of these files was read to one byte past the limit at most
 abbrev pub AllWithin : List (List ℕ) → FilesSeen → FilesSeen → Type 0
@@ -238,19 +219,24 @@ pub data ReportedTold (outcome : told.Told) (before after : SinkSeen) : ℕ → 
       → ReportedTold outcome before after 6
   no_memory_told : AppendsPart before.written after.written (text_of outcome) → ReportedTold outcome before after 7
 
--- What was told of a run: lines up to its last one, which were handed on, with its status; or some bytes, with status 6 where
--- the sink failed, 7 where there was no memory, or 15 where the classes led where no valid class comes. What was written before
--- stays.
-pub data ReportedRun (before after : SinkSeen) : ℕ → Type 0 where
-  ended : (ending : Ending) → GrowsTo before.written after.written (Bytes (end_line ending)) → after.handed ≡ after.written
-      → ReportedRun before after (ending_status ending)
-  run_write_fault : Grows before.written after.written → Rose before.faults after.faults → ReportedRun before after 6
-  run_no_memory : Grows before.written after.written → ReportedRun before after 7
-  astray : Grows before.written after.written → ReportedRun before after 15
+-- The lines of a run are what is shown of the program in its world, by its text, up to the end of the run.
+pub record AreLines (r : ProgramRun) (ending : Ending) (lines : List Line) : Type 0 where
+  pub shown : SourceShown r.frames (program_of r.program.value) (seen r.world) lines
+  pub last : LastIs (end_line ending) lines
+
+-- What was told of a run that ended: the bytes of its lines, which were handed on, with the status of its end. Of a run that
+-- broke off what stands here is less: what was written before it stays, but not which bytes came then; with status 6 where the
+-- sink failed, which its count then shows, 7 where there was no memory, or 15 where the classes led where no valid class comes.
+pub data ReportedRun (r : ProgramRun) (before after : SinkSeen) : ℕ → Type 0 where
+  ended : (ending : Ending) (lines : List Line) → AreLines r ending lines → Appends before.written after.written (bytes_of lines)
+      → after.handed ≡ after.written → ReportedRun r before after (ending_status ending)
+  run_write_fault : Grows before.written after.written → Rose before.faults after.faults → ReportedRun r before after 6
+  run_no_memory : Grows before.written after.written → ReportedRun r before after 7
+  astray : Grows before.written after.written → ReportedRun r before after 15
 
 abbrev pub Reported : Outcome → SinkSeen → SinkSeen → ℕ → Type 0
 Reported (Told outcome) before after status = ReportedTold outcome before after status
-Reported (Run classes world frames) before after status = ReportedRun before after status
+Reported (Run r) before after status = ReportedRun r before after status
 
 -- The answer to a command line over files and a sink: an outcome was decided, and it was told.
 pub record Answers (words : List (List ℕ)) (files files' : FilesSeen) (sink sink' : SinkSeen) (status : ℕ) : Type 0 where

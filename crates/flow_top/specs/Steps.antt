@@ -1,6 +1,5 @@
 -- What the steps of a command come to.
-use Rattle.std.specs.Prelude.{◌≡◌, ℕ, Bool, false, ◌⊎◌, List, [], ◌∷◌, Result, Ok, Err}
-use Rattle.std.specs.declared.option.Option.{Option}
+use Rattle.std.specs.Prelude.{◌≡◌, ℕ, ◌⊎◌, List, [], ◌∷◌, Result, Ok, Err}
 use Rattle.std.specs.declared.option.Option.TheVariants.{None, Some}
 use Rattle.std.specs.declared.vec.Vec.{Vec}
 use Rattle.std.specs.declared.alloc.Global.{Global}
@@ -22,12 +21,9 @@ use Rattle.flow_staterule.specs.declared.rule.Lost.{Lost}
 use Rattle.flow_worldfile.specs.declared.world.World0.{World0}
 use Rattle.flow_worldfile.specs.declared.world.WorldFault.{WorldFault}
 use Rattle.flow_worldfile.specs.Reading as reading
-use Rattle.flow_top.specs.declared.outcome.Outcome.{Outcome}
-use Rattle.flow_top.specs.declared.outcome.Outcome.TheVariants.{Told, Run}
 use Rattle.flow_top.specs.declared.outcome.Told as told
-use Rattle.flow_top.specs.declared.outcome.Told.TheVariants.{ReadFault, OutOfMemory, Refused, NoWorld, Printed}
-use Rattle.flow_top.specs.Form.{PrintsOnly}
-use Rattle.flow_top.specs.Run.{IsText, HasSound, HasLost, AsksNames, IsNoPrint, heavy_outcome}
+use Rattle.flow_top.specs.declared.outcome.Told.TheVariants.{ReadFault, OutOfMemory, Refused, NoWorld}
+use Rattle.flow_top.specs.Run.{IsText, HasSound, HasLost, AsksNames, heavy_outcome}
 
 -- What reading the file of this name came to: a call of the files failed exactly where it is unread.
 pub data FileRead (name : List ℕ) (before after : FilesSeen) : Result (Vec ℕ Global) told.Told → Type 0 where
@@ -61,18 +57,3 @@ pub data WorldOf (text : List ℕ) : Result World0 told.Told → Type 0 where
   is_world : (w : World0) → reading.Answers text (Ok w) → WorldOf text (Ok w)
   is_none : (fault : WorldFault) → reading.Answers text (Err fault) → WorldOf text (Err (NoWorld fault))
   no_room_for_it : WorldOf text (Err OutOfMemory)
-
--- the texts that are printed, where that is all that is done
-pub data PrintedOf (frames : Bool) (world : List ℕ) (p : Program) : Result (Option (Vec (List ℕ) Global)) told.Told → Type 0 where
-  are_texts : (texts : Vec (List ℕ) Global) → frames ≡ false → world ≡ [] → PrintsOnly (program_of p) texts.items
-      → PrintedOf frames world p (Ok (Some texts))
-  is_another : IsNoPrint frames world p → PrintedOf frames world p (Ok None)
-  no_room_for_texts : PrintedOf frames world p (Err OutOfMemory)
-
--- what a run of classes in the world of a text comes to
-pub data RunIn (frames : Bool) (text : List ℕ) (p : Program) (classes : RawClasses) : Result Outcome told.Told → Type 0 where
-  it_prints : (texts : Vec (List ℕ) Global) → frames ≡ false → text ≡ [] → PrintsOnly (program_of p) texts.items
-      → RunIn frames text p classes (Ok (Told (Printed texts)))
-  it_runs : (w : World0) → reading.Answers text (Ok w) → IsNoPrint frames text p → RunIn frames text p classes (Ok (Run classes w frames))
-  not_there : (fault : WorldFault) → reading.Answers text (Err fault) → RunIn frames text p classes (Err (NoWorld fault))
-  no_room_to_run : RunIn frames text p classes (Err OutOfMemory)

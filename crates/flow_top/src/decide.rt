@@ -1,32 +1,29 @@
 // What the words and the files come to.
 
-ghost use Rattle.std.specs.Prelude.{◌≡◌, ◌+◌, ℕ, Bool, false, List, [], map, string_bytes, IfOk, MatchOption};
+ghost use Rattle.std.specs.Prelude.{◌≡◌, ◌+◌, ℕ, List, map, string_bytes, IfOk};
 ghost use Rattle.flow_tree.specs.declared.limits.TheConstants.{PROGRAM_BYTES};
 ghost use Rattle.flow_base.specs.Seen.{MovesOnly, ReadsWithin};
 ghost use Rattle.flow_tree.specs.DeclView.{program_of};
 ghost use Rattle.flow_compile.specs.Right.{IsAccepted};
-ghost use Rattle.flow_top.specs.Form.{PrintsOnly};
 ghost use Rattle.flow_top.specs.Words.{AreFormat, AreCheck, AreCompile, AreRun};
 ghost use Rattle.flow_worldfile.specs.Worlds.{IsInRange, seen};
-ghost use Rattle.flow_top.specs.Run.{Decided, InRange, outcome_of, refusal_outcome_of, heavy_outcome};
-ghost use Rattle.flow_top.specs.Steps.{FileRead, Loaded, ClassesOf, WorldOf, PrintedOf, RunIn};
+ghost use Rattle.flow_top.specs.Run.{Decided, MayTell, outcome_of, refusal_outcome_of, heavy_outcome};
+ghost use Rattle.flow_top.specs.Steps.{FileRead, Loaded, ClassesOf, WorldOf};
 
 use crate::command::{Command, command_of};
-use crate::form::printed_texts;
-use crate::outcome::{Outcome, Told};
+use crate::outcome::{Outcome, ProgramRun, Told};
 use flow_base::fault::OutFault;
 use flow_base::files::Files;
 use flow_base::input::read_file;
 use flow_base::place::Place;
-use flow_base::text::Text;
 use flow_compile::{CompileFault, compile, first_heavy, front, read_program};
 use flow_staterule::Sound;
-use flow_tree::decl::Program;
 use flow_tree::fault::{Rule, SourceFault};
 use flow_tree::limits::PROGRAM_BYTES;
 use flow_valid::program::ClassProgram;
 use flow_worldfile::{World0, WorldFault, read_world};
 use std::alloc::Global;
+use std::snapshot::Snapshot;
 
 // What a fault of the files comes to.
 fn fault_outcome(fault: OutFault) -> Told
@@ -158,58 +155,9 @@ fn world_of(alloc: Global, bytes: &[u8]) -> Result<World0, Told>
     }
 }
 
-// The texts of a program that prints them and returns, where the text of the world is empty.
-#[tactic(auto, using(crate::proofs::Deciding::told_world, crate::proofs::Deciding::by_form, crate::proofs::Deciding::no_texts))]
-fn printed(alloc: Global, program: &Program, world: &[u8]) -> Result<Option<Vec<Text>>, Told>
-    ensures { PrintedOf false world.now program.now result }
-{
-    if world.len() > 0 {
-        return Ok(None);
-    }
-    match printed_texts(alloc, program) {
-        Ok(texts) => Ok(texts),
-        Err(_) => Err(Told::OutOfMemory),
-    }
-}
-
-// The same, where frames aren't asked for.
-#[tactic(auto, using(crate::proofs::Deciding::framed_world))]
-fn printed_unframed(
-    alloc: Global,
-    program: &Program,
-    world: &[u8],
-    frames: bool,
-) -> Result<Option<Vec<Text>>, Told>
-    ensures { PrintedOf frames world.now program.now result }
-{
-    match frames {
-        true => Ok(None),
-        false => printed(alloc, program, world),
-    }
-}
-
-// What a run in the world of this text comes to.
-#[tactic(auto, using(crate::proofs::Deciding::without_world_of, crate::proofs::Deciding::without_printed, crate::proofs::Deciding::prints_it, crate::proofs::Deciding::runs_it))]
-fn run_in(
-    alloc: Global,
-    sound: &Sound,
-    classes: ClassProgram,
-    bytes: &[u8],
-    frames: bool,
-) -> Result<Outcome, Told>
-    ensures in_range { IfOk result InRange }
-    ensures run { RunIn frames bytes.now sound.now.typed.program classes result }
-{
-    let world = world_of(alloc, bytes)?;
-    match printed_unframed(alloc, sound.program(), bytes, frames)? {
-        Some(texts) => Ok(Outcome::Told(Told::Printed(texts))),
-        None => Ok(Outcome::Run(classes, world, frames)),
-    }
-}
-
 // What `run` on this program and this world comes to. The world is read only where the program passes all rules.
 fn run<F: Files>(alloc: Global, name: &str, world: &str, frames: bool, files: &mut F) -> Outcome
-    ensures in_range { InRange result }
+    ensures may_tell { MayTell result }
     ensures decided { (words : List (List ℕ)) → AreRun words name.now world.now frames
         → Decided words (F.seen files.old) (F.seen files.new) result }
 {
@@ -225,15 +173,20 @@ fn run<F: Files>(alloc: Global, name: &str, world: &str, frames: bool, files: &m
         Ok(bytes) => bytes,
         Err(told) => return Outcome::Told(told),
     };
-    match run_in(alloc, &sound, classes, &bytes, frames) {
-        Ok(outcome) => outcome,
+    match world_of(alloc, &bytes) {
+        Ok(world) => Outcome::Run(ProgramRun {
+            program: Snapshot::of(sound.program()),
+            classes,
+            world,
+            frames,
+        }),
         Err(told) => Outcome::Told(told),
     }
 }
 
 /// What the command line comes to.
 pub fn decide<F: Files>(alloc: Global, words: &[String], files: &mut F) -> Outcome
-    ensures in_range { InRange result }
+    ensures may_tell { MayTell result }
     ensures decided { Decided (map string_bytes words.now) (F.seen files.old) (F.seen files.new)
         result }
 {

@@ -5,7 +5,6 @@ mod command;
 #[cfg(test)]
 mod copies;
 mod decide;
-mod form;
 mod outcome;
 mod real;
 mod report;

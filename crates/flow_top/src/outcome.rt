@@ -1,18 +1,28 @@
 // What a command line comes to.
 
-use flow_base::text::Text;
 use flow_tree::decl::Program;
 use flow_tree::fault::SourceFault;
 use flow_valid::program::ClassProgram;
 use flow_worldfile::{World0, WorldFault};
+use std::snapshot::Snapshot;
 
 /// What a command line comes to, before any of it is told.
-#[derive(Drop, Debug)]
+#[derive(Drop)]
 pub enum Outcome {
     /// Its text, which is known before it is told.
     Told(Told),
-    /// The classes of the program are run in the world, with frames after each event or without.
-    Run(ClassProgram, World0, bool),
+    /// A program is run in a world.
+    Run(ProgramRun),
+}
+
+/// A program that is run in a world: its classes, and whether frames are told after each event. The program itself is read by
+/// clauses alone.
+#[derive(Drop)]
+pub struct ProgramRun {
+    pub program: Snapshot<Program>,
+    pub classes: ClassProgram,
+    pub world: World0,
+    pub frames: bool,
 }
 
 /// What a command line comes to where nothing is run.
@@ -34,6 +44,4 @@ pub enum Told {
     Compiled(ClassProgram),
     /// The program is written in its canonical text.
     Formatted(Program),
-    /// The program prints these texts and returns, in an empty world: its trace.
-    Printed(Vec<Text>),
 }

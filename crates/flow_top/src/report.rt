@@ -1,87 +1,27 @@
 // Telling what a command line came to.
 
-ghost use Rattle.std.specs.Prelude.{◌≡◌, ◌∷◌, [], ◌++◌, map, codes, OnOk, IfOk};
+ghost use Rattle.std.specs.Prelude.{◌≡◌, OnOk};
 ghost use Rattle.std.specs.Io.KnownBytes.{Appends};
 ghost use Rattle.flow_base.specs.Bytes.{AppendsPart};
 ghost use Rattle.flow_base.specs.Faults.{HasCause};
-ghost use Rattle.flow_trace.specs.Bytes.{Bytes};
 ghost use Rattle.flow_refusal.specs.Refusal.{refusal_text, world_refusal};
-ghost use Rattle.flow_worldfile.specs.Faults.{fault_text};
-ghost use Rattle.flow_worldfile.specs.Worlds.{IsInRange, seen};
-ghost use Rattle.flow_top.specs.Run.{trace_of, bytes_of, text_of, status_of, world_status, ending_status, fault_status_of, run_fault_status, InRange, ReportedTold, ReportedRun, Reported};
+ghost use Rattle.flow_top.specs.Run.{text_of, status_of, world_status, ending_status, fault_status_of, run_fault_status, MayRun, MayTell, ReportedTold, ReportedRun, Reported};
 
-use crate::outcome::{Outcome, Told};
+use crate::outcome::{Outcome, ProgramRun, Told};
 use flow_base::fault::OutFault;
-use flow_base::ids::{ActorId, ProcId};
-use flow_base::memory::NoMemory;
-use flow_base::name::Name;
 use flow_base::output::write_whole;
 use flow_base::sink::Sink;
-use flow_base::text::Text;
 use flow_classprint::write_classes;
 use flow_machine::host::RunFault;
 use flow_refusal::{refusal_line, refusal_status, world_line};
 use flow_run::{Ending, write_trace};
 use flow_show::show::show_lines;
-use flow_trace::buffer::{LineBuf, print_line};
-use flow_trace::line::Line;
 use flow_tree::fault::SourceFault;
-use flow_valid::program::ClassProgram;
-use flow_worldfile::{World0, WorldFault};
+use flow_worldfile::WorldFault;
 use std::alloc::Global;
-
-const ACTOR: ActorId = ActorId(1);
 
 /// The status where classes, which no rule judged, led where no valid class comes.
 const ASTRAY: u8 = 15;
-
-// The lines of the run of a program that prints these texts.
-fn trace_lines(alloc: Global, texts: Vec<Text>) -> Result<Vec<Line>, NoMemory>
-    ensures { IfOk result (λ v. v.items ≡ trace_of texts.items) }
-{
-    let mut lines = Vec::new(alloc);
-    lines.push(Line::Head)?;
-    lines.push(Line::Boot(1, 0, ProcId(0)))?;
-    lines.push(Line::Start(ACTOR, Name::new(alloc, b"main")?))?;
-    for text in texts {
-        lines.push(Line::PrintText(ACTOR, text))?;
-    }
-    lines.push(Line::Finish(ACTOR))?;
-    lines.push(Line::EndIdle)?;
-    Ok(lines)
-}
-
-// Writes the lines, each by one call where the sink takes it whole.
-fn put_lines<S: Sink>(alloc: Global, lines: &[Line], out: &mut S) -> Result<(), OutFault>
-    ensures whole { OnOk result (Appends (S.seen out.old).written (S.seen out.new).written
-        (bytes_of lines.now)) }
-    ensures part { AppendsPart (S.seen out.old).written (S.seen out.new).written
-        (bytes_of lines.now) }
-    ensures cause { HasCause (S.seen out.old).faults (S.seen out.new).faults result }
-{
-    let Ok(mut buffer) = LineBuf::new(alloc) else {
-        return Err(OutFault::OutOfMemory);
-    };
-    for line in lines {
-        print_line(line, &mut buffer);
-        write_whole(out, buffer.bytes())?;
-    }
-    Ok(())
-}
-
-// Writes the trace of the texts.
-fn put_trace<S: Sink>(alloc: Global, texts: Vec<Text>, out: &mut S) -> Result<(), OutFault>
-    ensures whole { OnOk result (Appends (S.seen out.old).written (S.seen out.new).written
-        (bytes_of (trace_of texts.items))) }
-    ensures part { AppendsPart (S.seen out.old).written (S.seen out.new).written
-        (bytes_of (trace_of texts.items)) }
-    ensures cause { HasCause (S.seen out.old).faults (S.seen out.new).faults result }
-{
-    let Ok(lines) = trace_lines(alloc, texts) else {
-        return Err(OutFault::OutOfMemory);
-    };
-    put_lines(alloc, &lines, out)
-}
 
 // Writes the line of a refusal.
 fn put_refusal<S: Sink>(alloc: Global, fault: &SourceFault, out: &mut S) -> Result<(), OutFault>
@@ -127,7 +67,6 @@ fn put<S: Sink>(alloc: Global, outcome: Told, out: &mut S) -> Result<(), OutFaul
         Told::Passed => write_whole(out, b"ok\n"),
         Told::Compiled(classes) => write_classes(alloc, classes.raw(), out),
         Told::Formatted(program) => show_lines(alloc, &program, out),
-        Told::Printed(texts) => put_trace(alloc, texts, out),
     }
 }
 
@@ -153,7 +92,6 @@ fn status(outcome: &Told) -> u8
         Told::Passed => 0,
         Told::Compiled(_) => 0,
         Told::Formatted(_) => 0,
-        Told::Printed(_) => 0,
         Told::Usage => 2,
         Told::ReadFault => 5,
         Told::OutOfMemory => 7,
@@ -208,17 +146,17 @@ fn run_fault_status(fault: RunFault) -> u8
     }
 }
 
-// Runs the classes in the world, writes the lines as they are made and flushes them, and gives the status.
-fn report_run<S: Sink>(
-    alloc: Global,
-    classes: ClassProgram,
-    world: World0,
-    frames: bool,
-    out: &mut S,
-) -> u8
-    requires { IsInRange (seen world) }
-    ensures { ReportedRun (S.seen out.old) (S.seen out.new) result }
+// Runs the program in the world by its classes, writes the lines as they are made and flushes them, and gives the status.
+fn report_run<S: Sink>(alloc: Global, run: ProgramRun, out: &mut S) -> u8
+    requires { MayRun run }
+    ensures { ReportedRun run (S.seen out.old) (S.seen out.new) result }
 {
+    let ProgramRun {
+        program: _,
+        classes,
+        world,
+        frames,
+    } = run;
     let ending = match write_trace(alloc, classes, world, frames, out) {
         Ok(ending) => ending,
         Err(fault) => return run_fault_status(fault),
@@ -232,11 +170,11 @@ fn report_run<S: Sink>(
 /// Writes the text of an outcome and flushes it, and gives the status: the outcome's own, or 6 or 7
 /// where the sink failed or there was no memory on the way.
 pub fn report<S: Sink>(alloc: Global, outcome: Outcome, out: &mut S) -> u8
-    requires { InRange outcome }
+    requires { MayTell outcome }
     ensures { Reported outcome (S.seen out.old) (S.seen out.new) result }
 {
     match outcome {
         Outcome::Told(told) => report_told(alloc, told, out),
-        Outcome::Run(classes, world, frames) => report_run(alloc, classes, world, frames, out),
+        Outcome::Run(run) => report_run(alloc, run, out),
     }
 }

@@ -380,7 +380,7 @@ fn limit_of_tokens(rt: HostRuntime) -> Result<(), AllocError> {
     Ok(())
 }
 
-// A program of the form that prints `a` so many times.
+// A program that prints `a` so many times.
 fn printing(alloc: Global, prints: usize) -> Result<Vec<u8>, AllocError> {
     let inside = repeated(alloc, b"trace(\"a\");", prints)?;
     joined(
@@ -435,7 +435,23 @@ fn other_words_are_usage(rt: HostRuntime) -> Result<(), AllocError> {
     Ok(())
 }
 
-// Whether these words, with the listed calls of the sink failing, end with status 6 and this text.
+// Whether these words, on a program and a world, with this call of the sink failing, end with status 6 and this text.
+fn breaks_off_in(
+    alloc: Global,
+    texts: &[&str],
+    program: &[u8],
+    world: &[u8],
+    failing: u64,
+    text: &[u8],
+) -> Result<bool, AllocError> {
+    let mut files = two_files(alloc, program, world, Vec::new(alloc))?;
+    let mut out = MemSink::new(alloc, vec![in alloc; failing]?);
+    let words = words(alloc, texts)?;
+    let told = flow_main(alloc, &words, &mut files, &mut out);
+    Ok(told == 6 && out.bytes() == text)
+}
+
+// Whether these words, on a program and a world without a byte, end so.
 fn breaks_off(
     alloc: Global,
     texts: &[&str],
@@ -443,11 +459,7 @@ fn breaks_off(
     failing: u64,
     text: &[u8],
 ) -> Result<bool, AllocError> {
-    let mut files = two_files(alloc, program, b"", Vec::new(alloc))?;
-    let mut out = MemSink::new(alloc, vec![in alloc; failing]?);
-    let words = words(alloc, texts)?;
-    let told = flow_main(alloc, &words, &mut files, &mut out);
-    Ok(told == 6 && out.bytes() == text)
+    breaks_off_in(alloc, texts, program, b"", failing, text)
 }
 
 // Each line goes out in one call, and after them comes one more, which flushes.
@@ -456,6 +468,7 @@ fn failing_sink(rt: HostRuntime) -> Result<(), AllocError> {
     let alloc = rt.alloc();
     let head = b"trace 1\nevent 1 0 boot 0\nstart 1 main\n";
     assert!(rt; breaks_off(alloc, &["run", "p", "w"], HELLO, 4, head)?);
+    assert!(rt; breaks_off(alloc, &["run", "p", "w"], HELLO, 7, HELLO_TRACE)?);
     let lines = b"ACTOR Future<Void> main(int p) {\n    trace(\"hello\");\n";
     assert!(rt; breaks_off(alloc, &["format", "p"], HELLO, 3, lines)?);
     assert!(rt; breaks_off(alloc, &["format", "p"], b"#", 1, b"")?);
@@ -472,6 +485,34 @@ fn streams_to_the_sink(rt: HostRuntime) -> Result<(), AllocError> {
     assert!(rt; breaks_off(alloc, &words, REQUEST_SERVER, 2, first)?);
     let head = b"trace 1\nevent 1 0 boot 0\nstart 1 main\n";
     assert!(rt; breaks_off(alloc, &words, REQUEST_SERVER, 4, head)?);
+    Ok(())
+}
+
+// Fifty actors wait, and each of a million events is followed by two lines of each: too many for any memory.
+const LONG: &[u8] = b"\
+ACTOR Future<Void> nested(int n) {
+    if (n > 0) {
+        wait(nested(n - 1));
+    }
+    wait(Never());
+    return Void();
+}
+ACTOR Future<Void> main(int p) {
+    state Future<Void> held = nested(50);
+    loop {
+        wait(delay(1));
+    }
+}
+";
+
+// A trace isn't gathered before it is written: the first lines of one that is too long for that go out, and there is an end of it.
+#[test]
+fn gathers_no_trace(rt: HostRuntime) -> Result<(), AllocError> {
+    let alloc = rt.alloc();
+    let words = ["run", "p", "w", "--frames"];
+    let world = b"events 1000000\n";
+    let head = b"trace 1\nevent 1 0 boot 0\nstart 1 main\n";
+    assert!(rt; breaks_off_in(alloc, &words, LONG, world, 4, head)?);
     Ok(())
 }
 

@@ -11,8 +11,8 @@ use std::alloc::Global;
 
 /// Does what the words of the command line say, without the program's name: reads files by their
 /// names, writes the output, and gives the status. `format P` writes the canonical text of the program
-/// of the file P; `run P W` runs the program of the file P in the world of the file W and writes the
-/// trace.
+/// of the file P; `run P W` runs the program of the file P in the world of the file W and writes what is
+/// shown of it by its text: the trace, and with `--frames` the frames and callbacks after each event.
 pub fn flow_main<F: Files, S: Sink>(
     alloc: Global,
     words: &[String],
