@@ -1,6 +1,6 @@
 -- What an event does, and the trace of classes in a world, are the same where what is written is seen as something else, if each
 -- line that is put is put there too.
-use Rattle.std.proofs.Common.{◌≡◌, ℕ, ap}
+use Rattle.std.proofs.Common.{ℕ, ap}
 use Rattle.std.specs.Prelude.{Bool, true, false, List, [], ◌∷◌, Result, Ok}
 use Rattle.std.specs.declared.option.Option.{Option}
 use Rattle.std.specs.declared.option.Option.TheVariants.{None, Some}
@@ -29,9 +29,9 @@ use Rattle.flow_world.specs.declared.place.Place.{Place}
 use Rattle.flow_world.specs.Around.{Inside, Puts, no_line, more_lines, shows, wrote}
 use Rattle.flow_world.specs.Changes.{Surroundings}
 use Rattle.flow_world.specs.Ending.{Seen}
-use Rattle.flow_world.specs.Happening.{Told, Acts, Acted, ActsAt, RunsUnless, Runs, Killed, Ordered, Taken, Arrived, Answered, Happened, LineComes, EventComes, Comes, Happens, EventDoes}
+use Rattle.flow_world.specs.Happening.{Acts, RunsUnless, Runs, Killed, Ordered, Taken, Arrived, Answered, Happened, LineComes, EventComes, Comes, Happens, EventDoes}
 use Rattle.flow_run.specs.declared.ending.Ending.{Ending}
-use Rattle.flow_run.specs.Tracing.{Goes, no_event, one_more, GoesTo, Traces}
+use Rattle.flow_run.specs.Tracing.{Goes, no_event, one_more, Traces}
 use Rattle.flow_run.proofs.MovedHosts.{does_by}
 
 module _ {A B : Type 0} (f : A → B) (puts : A → Line → Result (Unit {0}) OutFault → A → Type 0) (puts_there : B → Line → Result (Unit {0}) OutFault → B → Type 0)
@@ -40,7 +40,7 @@ module _ {A B : Type 0} (f : A → B) (puts : A → Line → Result (Unit {0}) O
   lines_by a _ [] no_line = no_line
   lines_by a b (l ∷ ls) (more_lines {b = c} t rest) = more_lines (there a c l t) (lines_by c b ls rest)
 
-  inside_by : Inside A → Inside B
+  abbrev inside_by : Inside A → Inside B
   inside_by g = record { me = g.me; ports = g.ports; outside = g.outside; out = f g.out }
 
   acts_by : (code : Code) (turns : ℕ) (p : ProcId) (d : Deed) (at : Place) (m : Surroundings) (a : A) (e : Burst) (left : Place) (n : Surroundings) (b : A)
@@ -54,7 +54,7 @@ module _ {A B : Type 0} (f : A → B) (puts : A → Line → Result (Unit {0}) O
 
   runs_unless_by : (held : Bool) (p : ProcId) (d : Deed) (w : Seen) (a : A) (e : Burst) (v : Seen) (b : A)
       → RunsUnless puts held p d w a e v b → RunsUnless puts_there held p d w (f a) e v (f b)
-  runs_unless_by true p d w a e v b t = (t.0, t.1.0, ap f t.1.1)
+  runs_unless_by true p d w a e v b t = (t.0, t.1, ap f t.2)
   runs_unless_by false p d w a e v b t =
       let acted = t.acted in
       record {
@@ -89,14 +89,14 @@ module _ {A B : Type 0} (f : A → B) (puts : A → Line → Result (Unit {0}) O
   ordered_by (act.Boot p) w a e v b t = record { between = f t.between; told = there a t.between _ t.told; rest = runs_by p _ w t.between e v b t.rest }
   ordered_by (act.Stop p) w a e v b t = record { between = f t.between; told = there a t.between _ t.told; rest = runs_by p _ w t.between e v b t.rest }
   ordered_by (act.Kill p) w a e v b t = killed_by p w a e v b t
-  ordered_by (act.Cut p q) w a e v b t = (there a b _ t.0, t.1)
-  ordered_by (act.Heal p q) w a e v b t = (there a b _ t.0, t.1)
-  ordered_by (act.DiskFail p n) w a e v b t = (there a b _ t.0, t.1)
+  ordered_by (act.Cut p q) w a e v b t = (there a b _ t.0, t.1, t.2)
+  ordered_by (act.Heal p q) w a e v b t = (there a b _ t.0, t.1, t.2)
+  ordered_by (act.DiskFail p n) w a e v b t = (there a b _ t.0, t.1, t.2)
 
   taken_by : (heard : Option CellId) (p : ProcId) (l : Packet) (w : Seen) (a : A) (e : Burst) (v : Seen) (b : A)
       → Taken puts heard p l w a e v b → Taken puts_there heard p l w (f a) e v (f b)
-  taken_by None p l w a e v b t = (there a b _ t.0, t.1)
-  taken_by (Some k) p l w a e v b t = (t.0, t.1.0, runs_by p _ w a e v b t.1.1)
+  taken_by None p l w a e v b t = (there a b _ t.0, t.1, t.2)
+  taken_by (Some k) p l w a e v b t = (t.0, t.1, runs_by p _ w a e v b t.2)
 
   arrived_by : (p : ProcId) (n : ℕ) (w : Seen) (a : A) (e : Burst) (v : Seen) (b : A) → Arrived puts p n w a e v b → Arrived puts_there p n w (f a) e v (f b)
   arrived_by p n w a e v b t = record {
@@ -154,8 +154,8 @@ module _ {A B : Type 0} (f : A → B) (puts : A → Line → Result (Unit {0}) O
   does_event_by : (e : Event) (w : Seen) (a : A) (v : Seen) (b : A) → EventDoes puts e w a v b → EventDoes puts_there e w (f a) v (f b)
   does_event_by Ran w a v b t = happens_by w a Rested v b t
   does_event_by Spent w a v b t = happens_by w a SpentBurst v b t
-  does_event_by Idle w a v b t = (t.0, t.1.0, ap f t.1.1)
-  does_event_by BoundReached w a v b t = (t.0, t.1.0, t.1.1.0, ap f t.1.1.1)
+  does_event_by Idle w a v b t = (t.0, t.1, ap f t.2)
+  does_event_by BoundReached w a v b t = (t.0, t.1, t.2, ap f t.3)
 
   goes_by : (frames : Bool) (w : Seen) (a : A) (v : Seen) (b : A) → Goes puts frames w a v b → Goes puts_there frames w (f a) v (f b)
   goes_by frames w a _ _ no_event = no_event

@@ -1,5 +1,5 @@
 -- Lines put one after another are their bytes.
-use Rattle.std.proofs.Common.{ℕ, List, [], ◌∷◌, ◌≡◌, sym, subst, Option}
+use Rattle.std.proofs.Common.{ℕ, List, [], ◌∷◌, Option}
 use Rattle.std.specs.Io.KnownBytes.{Appends}
 use Rattle.std.proofs.KnownBytes.{Appends-nil, Appends-trans}
 use Rattle.flow_trace.specs.Bytes.{Bytes}

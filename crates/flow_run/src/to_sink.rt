@@ -1,11 +1,13 @@
 // Traces that go out as they are made.
 
 ghost use Rattle.std.specs.Prelude.{IfOk};
+ghost use Rattle.flow_trace.specs.Bytes.{Bytes};
 ghost use Rattle.flow_machine.specs.Cause.{RunCause};
 ghost use Rattle.flow_worldfile.specs.Worlds.{IsInRange, seen};
+ghost use Rattle.flow_run.specs.Ends.{end_line};
 ghost use Rattle.flow_run.specs.Tracing.{Traces};
 ghost use Rattle.flow_run.specs.Written.{put_bytes};
-ghost use Rattle.flow_trace.specs.Out.{Grows};
+ghost use Rattle.flow_trace.specs.Out.{Grows, GrowsTo};
 
 use crate::ending::Ending;
 use crate::trace::put_trace;
@@ -33,6 +35,8 @@ pub fn write_trace<S: Sink>(
     ensures grows { Grows (S.seen out.old).written (S.seen out.new).written }
     ensures traces { IfOk result (λ ending. Traces put_bytes with_frames classes world
         (S.seen out.old).written ending (S.seen out.new).written) }
+    ensures last { IfOk result (λ ending. GrowsTo
+        (S.seen out.old).written (S.seen out.new).written (Bytes (end_line ending))) }
 {
     let buffer = LineBuf::new(alloc)?;
     let before = Snapshot::of(&*out);

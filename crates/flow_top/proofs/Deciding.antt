@@ -1,6 +1,6 @@
 -- What was decided, from what was read.
-use Rattle.std.proofs.Common.{◌≡◌, ◌≢◌, ℕ, ◌+◌, ◌≤◌, ◌<◌, List, [], ◌∷◌, ◌++◌, ◌⊎◌, Bool, true≢false, map, length, get_or, refl, sym, ap, ap₂, ◌∙◌, subst, arith, rules, true, false, append_assoc, inl, inr, Result, Ok, Err, Option, None, Some, Vec, Global}
-use Rattle.std.specs.Prelude.{MatchOption, bytes_eq}
+use Rattle.std.proofs.Common.{◌≡◌, ◌≢◌, ℕ, ◌+◌, List, [], ◌∷◌, ◌++◌, ◌⊎◌, Bool, true≢false, map, length, get_or, refl, sym, ap, ap₂, ◌∙◌, subst, arith, rules, true, false, append_assoc, inl, inr, Ok, Err, Option, None, Some, Vec, Global}
+use Rattle.std.specs.Prelude.{bytes_eq}
 use Rattle.std.specs.Io.KnownBytes.{Consumes}
 use Rattle.std.specs.Prelude.{Decides}
 use Rattle.std.proofs.lemmas.Slice.Eq.{bytes_eq-Decides}
@@ -13,7 +13,6 @@ use Rattle.flow_base.specs.declared.fault.OutFault.{OutFault}
 use Rattle.flow_base.specs.declared.fault.OutFault.TheVariants as fault
 use Rattle.flow_base.specs.declared.fault.OutFault.TheVariants.{Failed}
 use Rattle.flow_base.specs.declared.place.Place.{Place}
-use Rattle.flow_tree.specs.declared.decl.Program.{Program}
 use Rattle.flow_tree.specs.declared.fault.SourceFault.{SourceFault}
 use Rattle.flow_tree.specs.declared.fault.SourceFault.TheVariants as source
 use Rattle.flow_tree.specs.DeclView.{program_of}
@@ -30,8 +29,8 @@ use Rattle.flow_top.specs.declared.outcome.Outcome.TheVariants.{Told, Run}
 use Rattle.flow_top.specs.declared.outcome.ProgramRun.{ProgramRun}
 use Rattle.flow_top.specs.declared.outcome.Told as told
 use Rattle.flow_top.specs.declared.outcome.Told.TheVariants.{Compiled, Passed, OutOfMemory}
-use Rattle.flow_top.specs.Words.{AreOn, AreFormat, AreCheck, AreCompile, AreRun, JudgeProgram, of_check, of_run, NameProgram, of_format, of_judged}
-use Rattle.flow_top.specs.Run.{IsText, HasSound, HasPassing, MayRun, AsksNames, unread, formatted, refused, lost, heavy, passed, compiled, no_world, run, AskedSome, none, program, both, Decided, due, read_fault, no_memory, outcome_of, refusal_outcome_of, heavy_outcome}
+use Rattle.flow_top.specs.Words.{AreOn, AreFormat, AreCheck, AreCompile, AreRun, JudgeProgram, of_run, NameProgram, of_format, of_judged}
+use Rattle.flow_top.specs.Run.{IsText, HasSound, HasPassing, MayRun, AsksNames, unread, refused, lost, heavy, passed, compiled, no_world, run, AskedSome, none, program, both, Decided, due, read_fault, no_memory, outcome_of, refusal_outcome_of, heavy_outcome}
 use Rattle.flow_top.specs.Steps.{FileRead, is_read, is_unread, unasked, starved, Loaded, is_loaded, is_refused, is_lost, no_text, no_room, ClassesOf, are_classes, is_heavy, no_classes, WorldOf, is_world, is_none, no_room_for_it}
 
 -- one name was asked for, or none
@@ -241,7 +240,7 @@ pub ran : {words : List (List ℕ)} {name file : List ℕ} {before mid after : F
 ran {name = n} {file = f} {before = b} {mid = m} {after = a} {v = v} r same are l cs bt read (is_world world answered) =
     due _ _
     (run n f r are (subst (HasPassing b.content n) (sym same) (has_passing l (are_light cs))) (subst (λ p. Has (program_of p) (raw_of r.classes)) (sym same) (has_classes cs))
-        (record { text = v.items; is = world_text b.content bt.content read; answered = answered }))
+    (record { text = v.items; is = world_text b.content bt.content read; answered = answered }))
     (asks_both n f b m a bt (asked_it read).asked) (same_faults read ∙ no_fault l)
 
 -- and that may be done

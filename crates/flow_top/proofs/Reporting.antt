@@ -35,8 +35,8 @@ pub came_to_end : (r : ProgramRun) (before between after : SinkSeen) (ending : E
     → after.written ≡ between.written → after.handed ≡ after.written → ReportedRun r before after (ending_status ending)
 came_to_end r before between after ending may traces same handed =
     let shown = program_shown put_bytes may.text r.program.value r.classes r.world r.frames before.written between.written ending may.sound may.light may.has may.in_range traces in
-    let bytes = subst (λ w. Appends before.written w (bytes_of shown.0)) (sym same) (bytes_put _ _ shown.0 shown.1.1.0) in
-    ended ending shown.0 (record { shown = shown.1.0; last = shown.1.1.1 }) bytes handed
+    let bytes = subst (λ w. Appends before.written w (bytes_of shown.0)) (sym same) (bytes_put _ _ shown.0 shown.2) in
+    ended ending shown.0 (record { shown = shown.1; last = shown.3 }) bytes handed
 
 -- a run broke off
 pub broke_off : (r : ProgramRun) (before after : SinkSeen) (fault : RunFault) → Grows before.written after.written → (fault ≡ broken.Failed → Rose before.faults after.faults)
