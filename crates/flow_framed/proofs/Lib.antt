@@ -1,0 +1,3 @@
+mod Traces
+mod Alike
+mod Carried
