@@ -30,6 +30,7 @@ module _ {A : Type 0} (e : Engine A) (spot : A → Spot) where
 
   -- without frames its lines are those shown
   all_lines : (w : World A) (lines : List Line) → (s : Shows e spot false w lines) → (run_of false w lines s).lines ≡ lines
+  unfolding run_of
   all_lines w ls (ends last g) = refl
   all_lines w ls (spent b l g k r x) = refl
   all_lines w ls (event {lines = more} b l g k r x rest) = ap (λ ms. lines_of b l ++ ms) (all_lines (after w b l) more rest)

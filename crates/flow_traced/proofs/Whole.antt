@@ -118,4 +118,5 @@ trace_follows Rests Keeps IsCode {A} puts with_frames c file a b e fresh code ke
       line.Head ∷ rest,
       record { rest = rest; shows = so_far.goes (over.own ++ end_line e ∷ []) over.shows; with_head = refl },
       more_lines t.head put_rest,
+      (line.Head ∷ (so_far.lines ++ over.own), ap (λ ls. line.Head ∷ ls) (sym (append_assoc so_far.lines over.own (end_line e ∷ [])))),
     )

@@ -29,6 +29,7 @@ use Rattle.flow_world.specs.Happening.{Happens}
 use Rattle.flow_world.specs.Starting.{Starts}
 use Rattle.flow_events.specs.Showing.{WorldShows}
 use Rattle.flow_run.specs.declared.ending.Ending.{Ending}
+use Rattle.flow_run.specs.Ends.{end_line, LastIs}
 use Rattle.flow_run.specs.Tracing.{Traces, lines_if}
 use Rattle.flow_framed.specs.Framed.{ClassShown, seen_if}
 
@@ -75,13 +76,13 @@ module _ (Rests : Process → Proc Frame → Type 0) (Keeps : World Frame → Ty
   FramesShown with_frames r =
       (w : Seen) (m : World Frame) → IsCode w.code → WorldShows Rests w m → Keeps m → lines_if with_frames w ≡ seen_if (classes r) frame_spot with_frames m
 
-  -- Where that is so, the lines that are put of classes in a world are what is shown of these classes in it.
+  -- Where that is so, the lines that are put of classes in a world are what is shown of these classes in it, and end as the run does.
   abbrev pub TraceFollows : {A : Type 0} (puts : A → Line → Result (Unit {0}) OutFault → A → Type 0) → Type 0
   TraceFollows {A} puts =
       (with_frames : Bool) (c : RawClasses) (file : World0) (a b : A) (e : Ending) → ((memory : Global) → Rests (never_ran memory) idle)
       → ((w : Seen) → Starts c file w → IsCode w.code) → Keeps (at_start (seen file)) → KeepsOn (raw_of c) → FramesShown with_frames (raw_of c)
       → EventsFollow puts (raw_of c) → SpentFollows puts (raw_of c) → Traces puts with_frames c file a e b
-      → (lines : List Line) × ClassShown with_frames (raw_of c) (seen file) lines × Puts puts a lines b
+      → (lines : List Line) × ClassShown with_frames (raw_of c) (seen file) lines × Puts puts a lines b × LastIs (end_line e) lines
 
 -- an event leaves the code as it is
 abbrev pub CodeStays : {A : Type 0} (puts : A → Line → Result (Unit {0}) OutFault → A → Type 0) → Type 0
