@@ -39,22 +39,24 @@ module _ (Rests : Process → Proc Frame → Type 0) (Keeps : World Frame → Ty
     shows : WorldShows Rests u last
     keeps : Keeps last
     code : IsCode u.code
+    text : raw_of u.code.program ≡ r
     lines : List Line
     put : Puts puts a lines b
     goes : (rest : List Line) → Shows (classes r) frame_spot with_frames last rest → Shows (classes r) frame_spot with_frames m (lines ++ rest)
 
-  went : EventsFollow Rests Keeps IsCode puts r → KeepsOn Rests Keeps IsCode r → FramesShown Rests Keeps IsCode with_frames r → (w u : Seen) (m : World Frame) (a b : A) → IsCode w.code → WorldShows Rests w m → Keeps m → Goes puts with_frames w a u b → Went m a u b
-  went law on seen_law w _ m a _ code s k no_event = record {
+  went : EventsFollow Rests Keeps IsCode puts r → KeepsOn Rests Keeps IsCode r → FramesShown Rests Keeps IsCode with_frames r → (w u : Seen) (m : World Frame) (a b : A) → IsCode w.code → raw_of w.code.program ≡ r → WorldShows Rests w m → Keeps m → Goes puts with_frames w a u b → Went m a u b
+  went law on seen_law w _ m a _ code text s k no_event = record {
     last = m;
     shows = s;
     keeps = k;
     code = code;
+    text = text;
     lines = [];
     put = no_line;
     goes = λ rest run. run;
   }
-  went law on seen_law w v m a d code s k (one_more {u = u} {b = b} {c = c} before does frames) =
-      let so_far = went law on seen_law w u m a b code s k before in
+  went law on seen_law w v m a d code text s k (one_more {u = u} {b = b} {c = c} before does frames) =
+      let so_far = went law on seen_law w u m a b code text s k before in
       let shown = law u v so_far.last b c so_far.code so_far.shows so_far.keeps does in
       let begun = shown.event.begun in
       let left = shown.event.left in
@@ -62,14 +64,16 @@ module _ (Rests : Process → Proc Frame → Type 0) (Keeps : World Frame → Ty
       let next = after so_far.last begun left in
       let ongoing = (same_end Rests puts u v so_far.last b c so_far.shows).2 does in
       let kept = on so_far.last begun left so_far.keeps shown.event.begins shown.event.follows shown.rests in
-      let same_code = subst IsCode (sym (code_stays puts u v b c Rested does)) so_far.code in
+      let stays = code_stays puts u v b c Rested does in
+      let same_text = ap (λ (x : Code). raw_of x.program) stays ∙ so_far.text in
       let views = seen_if (classes r) frame_spot with_frames next in
-      let put_views = subst (λ ls. Puts puts c ls d) (seen_law v next same_code shown.shows kept) frames in
+      let put_views = subst (λ ls. Puts puts c ls d) (seen_law v next same_text shown.shows kept) frames in
       record {
         last = next;
         shows = shown.shows;
         keeps = kept;
-        code = same_code;
+        code = subst IsCode (sym stays) so_far.code;
+        text = same_text;
         lines = so_far.lines ++ (own ++ views);
         put = puts_more puts a b d so_far.lines (own ++ views) so_far.put (puts_more puts b c d own views shown.event.lines put_views);
         goes = λ rest run.
@@ -108,7 +112,7 @@ pub trace_follows :
 trace_follows Rests Keeps IsCode {A} puts with_frames c file a b e fresh code keeps on seen_law events spent_law t =
     let r = raw_of c in
     let first = start_shown Rests c file t.first fresh t.starts in
-    let so_far = went Rests Keeps IsCode puts r with_frames events on seen_law t.first t.goes.last (at_start (seen file)) t.headed t.goes.before (code t.first t.starts) first keeps t.goes.goes in
+    let so_far = went Rests Keeps IsCode puts r with_frames events on seen_law t.first t.goes.last (at_start (seen file)) t.headed t.goes.before (code t.first t.starts) (ap raw_of t.starts.program) first keeps t.goes.goes in
     let over = ended Rests Keeps IsCode puts r with_frames spent_law t.goes.last t.left so_far.last t.goes.before t.before e so_far.code so_far.shows so_far.keeps t.goes.ends in
     let rest = so_far.lines ++ (over.own ++ end_line e ∷ []) in
     let put_rest : Puts puts t.headed rest b =

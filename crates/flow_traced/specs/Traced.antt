@@ -71,10 +71,11 @@ module _ (Rests : Process → Proc Frame → Type 0) (Keeps : World Frame → Ty
       (m : World Frame) (b : Begun Frame) (l : Live Outside Frame) → Keeps m → begun_by (classes r) m (next_of m.out) ≡ Some b
       → Burst (classes r) host (before b) l → l.proc.core.halted ≡ None → Keeps (after m b l)
 
-  -- Where frames are asked for, those of a world in memory are those that are seen of the world that it shows.
+  -- Where frames are asked for, those of a world in memory that runs classes of this text are those that are seen of the world
+  -- that it shows.
   abbrev pub FramesShown : (with_frames : Bool) → RawTree → Type 0
   FramesShown with_frames r =
-      (w : Seen) (m : World Frame) → IsCode w.code → WorldShows Rests w m → Keeps m → lines_if with_frames w ≡ seen_if (classes r) frame_spot with_frames m
+      (w : Seen) (m : World Frame) → raw_of w.code.program ≡ r → WorldShows Rests w m → Keeps m → lines_if with_frames w ≡ seen_if (classes r) frame_spot with_frames m
 
   -- Where that is so, the lines that are put of classes in a world are what is shown of these classes in it, and end as the run does.
   abbrev pub TraceFollows : {A : Type 0} (puts : A → Line → Result (Unit {0}) OutFault → A → Type 0) → Type 0
