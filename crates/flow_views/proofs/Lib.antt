@@ -1,0 +1,8 @@
+mod Steps
+mod Itself
+pub mod Waiting
+mod Paired
+pub mod Views
+mod Lines
+pub mod Worlds
+pub mod Traced
