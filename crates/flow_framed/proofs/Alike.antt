@@ -17,7 +17,7 @@ use Rattle.flow_meaning.specs.Law.{BothOrNone, Simulates, Related, AtRest}
 use Rattle.flow_meaning.specs.Numbered.{Numbered, thing}
 use Rattle.flow_meaning.specs.Orderly.{Phase, Waiting, phase_by, is_suspended, tasks_of}
 use Rattle.flow_meaning.specs.Outside.{Outside, host}
-use Rattle.flow_meaning.specs.Process.{Entry, Task, Core, Engine, Spent}
+use Rattle.flow_meaning.specs.Process.{Entry, Task, Core, Engine}
 use Rattle.flow_meaning.specs.RunLaw.{SamePlace, SamePlaces, SameWorld, SameStates}
 use Rattle.flow_meaning.specs.Runs.{Runs, IsRun, before, after, lines_of}
 use Rattle.flow_meaning.specs.Runs as run

@@ -1,9 +1,9 @@
 -- Each frame does what it does, and one that waits is in the state of the wait at which it stands.
-use Rattle.std.proofs.Common.{◌≡◌, ℕ, ◌<◌, List, [], ◌∷◌, inl, refl, ap, subst}
+use Rattle.std.proofs.Common.{◌≡◌, ◌<◌, inl, refl, ap, subst}
 use Rattle.std.specs.declared.option.Option.{Option}
 use Rattle.std.specs.declared.option.Option.TheVariants.{None, Some}
 use Rattle.flow_class.specs.Classes.{RawTree}
-use Rattle.flow_meaning.specs.Asks.{Act, Waits, Ask}
+use Rattle.flow_meaning.specs.Asks.{Act, Waits}
 use Rattle.flow_meaning.specs.Process.{View}
 use Rattle.flow_meaning.specs.Evaluating.{StepOf}
 use Rattle.flow_meaning.specs.Orderly.{Phase, Free, Risky, Due, Waiting}

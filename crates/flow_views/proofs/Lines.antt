@@ -1,17 +1,15 @@
 -- The lines of a process's views, each frame with its own callbacks.
-use Rattle.std.proofs.Common.{◌≡◌, ℕ, zero, suc, ◌+◌, ◌<◌, ◌≤◌, nat_eq, Bool, true, false, List, [], ◌∷◌, ◌++◌, map, length, if◌then◌else◌, refl, sym, ap, ap₂, ◌∙◌, subst, arith, nat_tests}
+use Rattle.std.proofs.Common.{◌≡◌, ℕ, suc, ◌+◌, ◌≤◌, nat_eq, false, List, [], ◌∷◌, ◌++◌, map, length, if◌then◌else◌, refl, ap, ap₂, ◌∙◌, arith}
+use Rattle.std.proofs.lemmas.Bool.Decides.{nat_tests}
 use Rattle.std.specs.Prelude.{take, drop, slice_get}
 use Rattle.std.proofs.lemmas.List.{map-append}
 use Rattle.std.specs.List.{flat_map}
-use Rattle.std.specs.declared.option.Option.{Option}
-use Rattle.std.specs.declared.option.Option.TheVariants.{None, Some}
 use Rattle.flow_base.specs.declared.ids.ProcId.{ProcId}
-use Rattle.flow_trace.specs.declared.line.Line.{Line}
 use Rattle.flow_trace.specs.declared.line.Line.TheVariants as line
 use Rattle.flow_class.specs.declared.class.Class.{Class}
 use Rattle.flow_steps.specs.declared.views.CallbackView.{CallbackView}
 use Rattle.flow_cancel.specs.Heap.{actor_id}
-use Rattle.flow_run.specs.Tracing.{name_of, own_count, callback_line, frame_line, own_lines, frames_lines}
+use Rattle.flow_run.specs.Tracing.{name_of, own_count, callback_line, own_lines, frames_lines}
 use Rattle.flow_meaning.specs.Asks.{Spot}
 use Rattle.flow_meaning.specs.Cells.{Ref}
 use Rattle.flow_meaning.specs.Numbered.{Numbered, thing}
@@ -54,11 +52,11 @@ module _ {A : Type 0} (e : Engine A) (spot : A → Spot) (cs : List Class) (labe
   none_before above n i [] h le = refl
   none_before above n i (x ∷ es) h le =
       ap (own_count (actor_id i)) (map-append told_callback (branches_from x.0 (spot_at spot (thing xs x.0)).first x.1.operands) (waiting spot xs es))
-      ∙ by_own (spot_at spot (thing xs x.0)).first x.1.operands
+      ∙ by_own (spot_at spot (thing xs x.0)).first x.1.operands (none_before x.0 n i es h.2 (omega (arith, h.0, le)))
     where
-      by_own : (k : ℕ) (rs : List Ref) → own_count (actor_id i) (told_from x.0 k rs ++ branches es) ≡ 0
-      by_own k [] = none_before x.0 n i es h.2 (omega (arith, h.0, le))
-      by_own k (q ∷ rs) =
+      by_own : (k : ℕ) (rs : List Ref) → own_count (actor_id i) (branches es) ≡ 0 → own_count (actor_id i) (told_from x.0 k rs ++ branches es) ≡ 0
+      by_own k [] later = later
+      by_own k (q ∷ rs) later =
           let other : nat_eq x.0 i ≡ false = grind (arith, nat_tests, h.0, le) in
           ap (λ t. if t then suc (own_count (actor_id i) (told_from x.0 (suc k) rs ++ branches es)) else 0) other
 

@@ -1,5 +1,5 @@
 -- A run in memory puts what is shown of its classes, with frames and callbacks where they are asked for.
-use Rattle.std.proofs.Common.{◌≡◌, Bool, true, false, List, refl}
+use Rattle.std.proofs.Common.{Bool, true, false, refl}
 use Rattle.std.specs.Prelude.{Result}
 use Rattle.flow_base.specs.declared.fault.OutFault.{OutFault}
 use Rattle.flow_trace.specs.declared.line.Line.{Line}
@@ -11,7 +11,7 @@ use Rattle.flow_meaning.specs.Frame.{Frame}
 use Rattle.flow_meaning.specs.Process.{Proc}
 use Rattle.flow_meaning.specs.World.{World}
 use Rattle.flow_steps.specs.declared.process.Process.{Process}
-use Rattle.flow_traced.specs.Traced.{EventBegan, EventShown, SpentShown, EventsFollow, SpentFollows, KeepsOn, FramesShown}
+use Rattle.flow_traced.specs.Traced.{EventBegan, EventsFollow, SpentFollows, KeepsOn, FramesShown}
 use Rattle.flow_traced.proofs.Whole.{trace_follows}
 use Rattle.flow_views.specs.Waiting.{WorldWaits}
 use Rattle.flow_views.specs.Shown.{RestsShow, KeepsCount, FramesTraced}
@@ -28,11 +28,13 @@ module _ (Rests : Process → Proc Frame → Type 0) (Keeps : World Frame → Ty
     began m a b e = record { begun = e.begun; left = e.left; begins = e.begins; follows = e.follows; lines = e.lines }
 
     events : EventsFollow Rests Keeps IsCode puts r → EventsFollow Rests Waits IsCode puts r
+    unfolding began
     events law w v m a b code s k h =
         let e = law w v m a b code s k.0 h in
         record { event = began m a b e.event; rests = e.rests; shows = e.shows }
 
     spent : SpentFollows Rests Keeps IsCode puts r → SpentFollows Rests Waits IsCode puts r
+    unfolding began
     spent law w v m a b code s k h = let e = law w v m a b code s k.0 h in record { event = began m a b e.event; spent = e.spent }
 
   keeps_on : (r : RawTree) → KeepsOn Rests Keeps IsCode r → KeepsOn Rests Waits IsCode r

@@ -1,8 +1,7 @@
 -- What is told of a heap are the views of the process that it shows.
-use Rattle.std.proofs.Common.{◌≡◌, ℕ, zero, suc, true, false, List, [], ◌∷◌, ◌++◌, map, refl, sym, ap, ap₂, ◌∙◌, subst}
+use Rattle.std.proofs.Common.{◌≡◌, ℕ, suc, true, false, List, [], ◌∷◌, ◌++◌, map, refl, sym, ap, ap₂, ◌∙◌, subst}
 use Rattle.std.proofs.lemmas.List.{map-append}
 use Rattle.std.specs.List.{flat_map}
-use Rattle.std.specs.declared.option.Option.{Option}
 use Rattle.std.specs.declared.option.Option.TheVariants.{None, Some}
 use Rattle.flow_value.specs.declared.value.Value.{Value}
 use Rattle.flow_numbered.specs.Numbered as stored
@@ -11,7 +10,7 @@ use Rattle.flow_frame.specs.Frames.{FrameTree}
 use Rattle.flow_class.specs.Classes.{RawTree}
 use Rattle.flow_cancel.specs.Heap.{HeapTree}
 use Rattle.flow_cancel.specs.Leaving.{waits}
-use Rattle.flow_steps.specs.Views.{frame_view, callback_view, callback_views, frames_in, callbacks_in}
+use Rattle.flow_steps.specs.Views.{frame_view, callback_view, callback_views}
 use Rattle.flow_meaning.specs.Asks.{Spot}
 use Rattle.flow_meaning.specs.Cells.{Ref}
 use Rattle.flow_meaning.specs.Frame.{Frame}
@@ -19,8 +18,7 @@ use Rattle.flow_meaning.specs.Law.{AtRest}
 use Rattle.flow_meaning.specs.Numbered.{Numbered, thing}
 use Rattle.flow_meaning.specs.Process.{Entry, Proc}
 use Rattle.flow_meaning.specs.Views.{spot_at, frame_spot, unfinished, branches_from, waiting}
-use Rattle.flow_picture.specs.Shows.{Shows, Stands, Ended, FrameShows, stands, ended, here, at_wait, Position, ActorShows, nobody, somebody, Somebody, wait_spot, held_from}
-use Rattle.flow_picture.specs.Rested.{Sorted}
+use Rattle.flow_picture.specs.Shows.{Shows, FrameShows, stands, ended, here, at_wait, Position, ActorShows, nobody, somebody, Somebody, wait_spot, held_from}
 use Rattle.flow_views.specs.Waiting.{InState}
 use Rattle.flow_views.specs.Views.{told_frame, told_callback, ViewsShown}
 use Rattle.flow_views.proofs.Paired.{Both, Paired, paired}

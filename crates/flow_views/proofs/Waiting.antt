@@ -1,24 +1,23 @@
 -- Waiting frames keep the state of their wait, from event to event.
-use Rattle.std.proofs.Common.{◌≡◌, ℕ, zero, suc, Bool, true, false, List, [], ◌∷◌, refl, sym, ap, ◌∙◌, subst}
+use Rattle.std.proofs.Common.{◌≡◌, ℕ, zero, suc, Bool, true, false, List, [], ◌∷◌, refl, ap, ◌∙◌, subst}
 use Rattle.std.specs.Prelude.{pos, replicate, slice_index_or, slice_set}
 use Rattle.std.specs.List.{AllByRecursion}
 use Rattle.std.specs.declared.option.Option.{Option}
 use Rattle.std.specs.declared.option.Option.TheVariants.{None, Some}
-use Rattle.flow_trace.specs.declared.line.Line.{Line}
 use Rattle.flow_worldfile.specs.Worlds as file
 use Rattle.flow_worldfile.specs.declared.directive.Order.{Order}
 use Rattle.flow_worldfile.specs.declared.directive.Order.TheVariants.{Kill, Stop, Boot, Cut, Heal, DiskFail}
-use Rattle.flow_value.specs.Values.{ValueTree, IntValue, VoidValue, OutcomeTree, GoodOutcome}
+use Rattle.flow_value.specs.Values.{IntValue, VoidValue, OutcomeTree, GoodOutcome}
 use Rattle.flow_class.specs.Classes.{RawTree}
 use Rattle.flow_meaning.specs.Numbered.{Numbered, thing}
-use Rattle.flow_meaning.specs.Process.{Task, Run, Give, Throw, Catch, Store, Keep, Close, Fire, Drop, Entry, Core, Proc}
+use Rattle.flow_meaning.specs.Process.{Task, Run, Give, Throw, Catch, Store, Keep, Close, Fire, Drop, Entry, Core}
 use Rattle.flow_meaning.specs.Step.{proc}
-use Rattle.flow_meaning.specs.Deliver.{idle_core, idle, begin, boot_core, boot_with, boot, stop, deliver, arrive}
+use Rattle.flow_meaning.specs.Deliver.{idle, boot_core, boot_with, stop, deliver, arrive}
 use Rattle.flow_meaning.specs.Burst.{Live, Burst}
-use Rattle.flow_meaning.specs.Orderly.{Orderly, InOrder, UnlessStopped, Phase, Free, Waiting, phase_by, phase_first, phase_of, is_suspended, tasks_of}
+use Rattle.flow_meaning.specs.Orderly.{Orderly, InOrder, UnlessStopped, Free, Waiting, phase_by, phase_first, phase_of, is_suspended, tasks_of}
 use Rattle.flow_meaning.specs.Law.{BothOrNone, AllRelated, Related, AtRest, Same}
 use Rattle.flow_meaning.specs.Outside.{What, Boots, Rings, Arrives, Answers, Outside, host}
-use Rattle.flow_meaning.specs.World.{Place, World, Begun, Next, Nothing, Script, Event, next_of, with_core, booted, ordered, packet, arrived, listener, happened, process_of, process_in, ready, counted, with_left, begun_by, at_start}
+use Rattle.flow_meaning.specs.World.{Place, World, Begun, Next, Nothing, Script, Event, next_of, booted, ordered, packet, arrived, listener, happened, process_of, process_in, ready, counted, with_left, begun_by}
 use Rattle.flow_meaning.specs.Runs.{before, after}
 use Rattle.flow_meaning.specs.Frame.{Frame}
 use Rattle.flow_meaning.specs.Class.{classes}
@@ -98,16 +97,16 @@ module _ (r : RawTree) where
       unless_both (Orderly k) _ k.halted (boot_in_order e.main (e.label e.main) c o)
       (unless_map k.halted (λ n. related_new e e Itself (itself r) (suc c.started) c k xs xs f f own n.0 n.1 h) (booted_enrolled e.main (e.label e.main) c o.numbered))
 
-  booted_begins : (p : ℕ) (up : Bool) (c : Core) (xs : Numbered Frame) (held : Option ℕ) (head : List Line) (w : Outside) → Orderly c → Own c xs
-      → Begins (record { head = head; place = booted (classes r) p (record { up = up; proc = proc c xs }) held; out = w })
-  booted_begins p up c xs (Some held) head w o own = unchanged c xs o own
-  booted_begins p up c xs None head w o own =
+  booted_fine : (p : ℕ) (up : Bool) (c : Core) (xs : Numbered Frame) (held : Option ℕ) → Orderly c → Own c xs
+      → Fine (booted (classes r) p (record { up = up; proc = proc c xs }) held).proc.core (booted (classes r) p (record { up = up; proc = proc c xs }) held).proc.actors
+  booted_fine p up c xs (Some held) o own = unchanged c xs o own
+  booted_fine p up c xs None o own =
       let e = classes r in
       let vs = IntValue (pos p) ∷ [] in
       boot_with_fine (e.fresh e.main vs) c xs o own ((itself r).fresh e.main vs)
 
   ordered_begins : (x : Order) (up : Bool) (c : Core) (xs : Numbered Frame) (w : Outside) → Orderly c → Own c xs → Begins (ordered (classes r) x (record { up = up; proc = proc c xs }) w)
-  ordered_begins (Boot p) up c xs w o own = booted_begins p up c xs c.main _ w o own
+  ordered_begins (Boot p) up c xs w o own = booted_fine p up c xs c.main o own
   ordered_begins (Stop p) up c xs w o own = delivered c (stop c) xs (unless (stop c).halted (stop_in_order c o)) (unless (stop c).halted (stop_eases c)) own
   ordered_begins (Kill p) up c xs w o own = (idle_orderly c.made c.started, record { all = tt; phases = λ i. tt })
   ordered_begins (Cut p q) up c xs w o own = unchanged c xs o own

@@ -1,14 +1,10 @@
 -- The lines of a world.
-use Rattle.std.proofs.Common.{◌≡◌, ℕ, zero, suc, ◌+◌, true, List, [], ◌∷◌, ◌++◌, map, length, refl, sym, ap, ap₂, ◌∙◌, subst, arith}
+use Rattle.std.proofs.Common.{◌≡◌, ℕ, zero, suc, ◌+◌, List, [], ◌∷◌, ◌++◌, map, length, refl, sym, ap, ap₂, ◌∙◌, arith}
 use Rattle.std.specs.Prelude.{slice_get, unwrap_or}
-use Rattle.std.specs.Option.{option_map}
-use Rattle.std.proofs.lemmas.Option.{slice_get-map}
 use Rattle.std.specs.List.{flat_map, range_with_len, AllByRecursion}
-use Rattle.std.specs.declared.option.Option.{Option}
-use Rattle.std.specs.declared.option.Option.TheVariants.{None, Some}
+use Rattle.std.specs.declared.option.Option.TheVariants.{Some}
 use Rattle.flow_base.specs.declared.ids.ProcId.{ProcId}
-use Rattle.flow_trace.specs.declared.line.Line.{Line}
-use Rattle.flow_class.specs.Classes.{ClassTree, RawTree}
+use Rattle.flow_class.specs.Classes.{RawTree}
 use Rattle.flow_class.specs.View.{class_of, raw_of}
 use Rattle.flow_class.specs.declared.class.Class.{Class}
 use Rattle.flow_class.specs.declared.class.RawClasses.{RawClasses}
@@ -83,7 +79,10 @@ module _ (Rests : Process → Proc Frame → Type 0) (Keeps : World Frame → Ty
       h.outside.processes ∙ sym (count m keeps) ∙ sym (places_length m.out.file.processes 0 w.places m.places h.places)
       in
       ap (λ n. flat_map (λ i. memory.process_lines w (record { 0 = i })) (range_with_len 0 n)) processes
-      ∙ from_lines w text m.out.file.processes 0 0 w.places m.places refl (λ i. refl) h.places (waits m keeps)
+      ∙ from_lines w text m.out.file.processes 0 0 w.places m.places refl (λ i. ap (slice_get w.places) (from_none i)) h.places (waits m keeps)
+    where
+      from_none : (i : ℕ) → 0 + i ≡ i
+      from_none i = omega arith
 
 pub frames_follow : (Rests : Process → Proc Frame → Type 0) (Keeps : World Frame → Type 0) (IsCode : Code → Type 0) (r : RawTree) → FramesFollow Rests Keeps IsCode r
 frames_follow Rests Keeps IsCode r shows count waits = frames_shown Rests Keeps IsCode r shows count waits
