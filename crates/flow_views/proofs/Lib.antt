@@ -4,5 +4,6 @@ pub mod Waiting
 mod Paired
 pub mod Views
 mod Lines
+pub mod Told
 pub mod Worlds
 pub mod Traced

@@ -1,5 +1,5 @@
 -- The lines of a process's views, each frame with its own callbacks.
-use Rattle.std.proofs.Common.{◌≡◌, ℕ, suc, ◌+◌, ◌≤◌, nat_eq, false, List, [], ◌∷◌, ◌++◌, map, length, if◌then◌else◌, refl, ap, ap₂, ◌∙◌, arith}
+use Rattle.std.proofs.Common.{◌≡◌, ℕ, suc, ◌≤◌, nat_eq, false, List, [], ◌∷◌, ◌++◌, map, length, if◌then◌else◌, refl, ap, ap₂, ◌∙◌, arith}
 use Rattle.std.proofs.lemmas.Bool.Decides.{nat_tests}
 use Rattle.std.specs.Prelude.{take, drop, slice_get}
 use Rattle.std.proofs.lemmas.List.{map-append}

@@ -27,7 +27,8 @@ use Rattle.flow_framed.specs.Framed.{ClassShown}
 use Rattle.flow_traced.specs.Traced.{KeepsOn, FramesShown, EventsFollow, SpentFollows}
 use Rattle.flow_views.specs.Waiting.{WorldWaits}
 
-module _ (Rests : Process → Proc Frame → Type 0) (Keeps : World Frame → Type 0) (IsCode : Code → Type 0) where
+module _ (Rests : Process → Proc Frame → Type 0) (Keeps : World Frame → Type 0)
+    (IsCode : Code → Type 0) where
   -- a process in memory that rests shows the other, its numbers in order
   abbrev pub RestsShow : RawTree → Type 0
   RestsShow r = (m : Process) (p : Proc Frame) → Rests m p → Shows r m.heap p × Sorted m.heap
@@ -38,14 +39,19 @@ module _ (Rests : Process → Proc Frame → Type 0) (Keeps : World Frame → Ty
 
   -- Where frames wait in the state of their wait, those that are put are those that are seen.
   abbrev pub FramesFollow : RawTree → Type 0
-  FramesFollow r = RestsShow r → KeepsCount → ((m : World Frame) → Keeps m → WorldWaits m) → FramesShown Rests Keeps IsCode true r
+  FramesFollow r =
+      RestsShow r → KeepsCount → ((m : World Frame) → Keeps m → WorldWaits m)
+      → FramesShown Rests Keeps IsCode true r
 
-  -- So the lines that are put of classes in a world, with frames and callbacks if they are asked for, are what is shown of these
-  -- classes in it, and end as the run does.
-  abbrev pub FramesTraced : {A : Type 0} (puts : A → Line → Result (Unit {0}) OutFault → A → Type 0) → Type 0
+  -- So the lines that are put of classes in a world, with frames and callbacks if they are asked for, are what
+  -- is shown of these classes in it, and end as the run does.
+  abbrev pub FramesTraced : {A : Type 0} (puts : A → Line → Result (Unit {0}) OutFault → A → Type 0)
+      → Type 0
   FramesTraced {A} puts =
-      (with_frames : Bool) (c : RawClasses) (file : World0) (a b : A) (e : Ending) → ((memory : Global) → Rests (never_ran memory) idle)
-      → ((w : Seen) → Starts c file w → IsCode w.code) → Keeps (at_start (seen file)) → KeepsOn Rests Keeps IsCode (raw_of c)
-      → RestsShow (raw_of c) → KeepsCount → EventsFollow Rests Keeps IsCode puts (raw_of c) → SpentFollows Rests Keeps IsCode puts (raw_of c)
-      → Traces puts with_frames c file a e b
-      → (lines : List Line) × ClassShown with_frames (raw_of c) (seen file) lines × Puts puts a lines b × LastIs (end_line e) lines
+      (with_frames : Bool) (c : RawClasses) (file : World0) (a b : A) (e : Ending)
+      → ((memory : Global) → Rests (never_ran memory) idle) → ((w : Seen) → Starts c file w → IsCode w.code)
+      → Keeps (at_start (seen file)) → KeepsOn Rests Keeps IsCode (raw_of c)
+      → RestsShow (raw_of c) → KeepsCount → EventsFollow Rests Keeps IsCode puts (raw_of c)
+      → SpentFollows Rests Keeps IsCode puts (raw_of c) → Traces puts with_frames c file a e b
+      → (lines : List Line) × ClassShown with_frames (raw_of c) (seen file) lines
+      × Puts puts a lines b × LastIs (end_line e) lines

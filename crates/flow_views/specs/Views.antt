@@ -20,8 +20,8 @@ told_frame u = record { actor = actor_id u.actor; class = u.class; state = u.gro
 abbrev pub told_callback : WaitingBranch → CallbackView
 told_callback b = record { actor = actor_id b.actor; callback = b.branch; cell = cell_id b.cell }
 
--- The frames of a heap in order that shows a process at rest are the unfinished actors of the process, in the order of their
--- numbers, and its callbacks are the branches at which these wait.
+-- The frames of a heap in order that shows a process at rest are the unfinished actors of the process, in the
+-- order of their numbers, and its callbacks are the branches at which these wait.
 abbrev pub ViewsShown : Type 0
 ViewsShown =
     (r : RawTree) (h : HeapTree) (p : Proc Frame) → Shows r h p → Sorted h → AtRest p.core → InState p

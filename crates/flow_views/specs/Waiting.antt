@@ -18,7 +18,9 @@ use Rattle.flow_picture.specs.Shows.{wait_spot}
 
 -- By its state it waits where it stands, at each suspended actor.
 abbrev pub InState : Proc Frame → Type 0
-InState p = (i : ℕ) (e : Entry) (f : Frame) → thing p.core.entries i ≡ Some e → thing p.actors i ≡ Some f → e.suspended ≡ true → frame_spot f ≡ wait_spot f
+InState p =
+    (i : ℕ) (e : Entry) (f : Frame) → thing p.core.entries i ≡ Some e → thing p.actors i ≡ Some f
+    → e.suspended ≡ true → frame_spot f ≡ wait_spot f
 
 -- So it is in each process of a world at rest.
 abbrev pub PlaceWaits : Place Frame → Type 0
@@ -33,5 +35,6 @@ StartWaits = (w : file.World) → WorldWaits (at_start w)
 
 abbrev pub EventWaits : RawTree → Type 0
 EventWaits r =
-    (w : World Frame) (b : Begun Frame) (l : Live Outside Frame) → WorldWaits w → begun_by (classes r) w (next_of w.out) ≡ Some b
-    → Burst (classes r) host (before b) l → l.proc.core.halted ≡ None → WorldWaits (after w b l)
+    (w : World Frame) (b : Begun Frame) (l : Live Outside Frame) → WorldWaits w
+    → begun_by (classes r) w (next_of w.out) ≡ Some b → Burst (classes r) host (before b) l
+    → l.proc.core.halted ≡ None → WorldWaits (after w b l)
