@@ -151,6 +151,22 @@ module _ (r : RawTree) (ns : Names) (n : ℕ) (le : n ≤ TOKENS) (sized : AllSi
       let t = named_and_typed r c k.0 in
       (class_writable r c (class_few ns a n le f.0 l.0) sized t.0 t.1 (class_said ns a n le f.0 h.0), classes_writable ds h.1 f.1 l.1 k.1)
 
+-- the few places of a class
+places_few : (ns : Names) (a : RoutineTree) (n : ℕ) → n ≤ TOKENS → Formed n a → let c = class_in ns a in length c.slots + length c.locals ≤ 2 ^ 32
+places_few ns a n le formed =
+    omega (arith, formed.few, le, length-append (map param_slot a.params) (body_slots a.body), length-map a.params param_slot, slots_count a.body, locals_count a.body)
+
+classes_few : (ns : Names) (n : ℕ) → n ≤ TOKENS → (ds : List DeclTree) → EachActor (Formed n) ds → (k : ℕ) (c : ClassTree)
+    → slice_get (map (class_in ns) (actors_in ds)) k ≡ Some c → length c.slots + length c.locals ≤ 2 ^ 32
+classes_few ns n le [] f k c e = absurd (some_none (sym e))
+classes_few ns n le (StructDecl q ∷ ds) f k c e = classes_few ns n le ds f k c e
+classes_few ns n le (FunctionDecl q ∷ ds) f k c e = classes_few ns n le ds f k c e
+classes_few ns n le (ActorDecl a ∷ ds) f zero c e = subst (λ (x : ClassTree). length x.slots + length x.locals ≤ 2 ^ 32) (some_injective e) (places_few ns a n le f.0)
+classes_few ns n le (ActorDecl a ∷ ds) f (suc k) c e = classes_few ns n le ds f.1 k c e
+
+few_tokens : (m n : ℕ) → m ≡ n → n ≤ TOKENS → m ≤ TOKENS
+few_tokens m n e le = omega (arith, e, le)
+
 pub compiled_written : (text : List ℕ) (program : Program) → IsSound text program → AreLight program → IsWritten (compiled (program_of program))
 compiled_written text program sound light =
     let t = program_of program in
@@ -166,6 +182,11 @@ compiled_written text program sound light =
       functions = functions_written t.decls said;
       classes = classes_writable r (names_of t) (length d.marked) few (classes_sized r valid.declarations) t.decls said (decls_formed decls) (all_light t.decls light) kept;
     })
-  where
-    few_tokens : (m n : ℕ) → m ≡ n → n ≤ TOKENS → m ≤ TOKENS
-    few_tokens m n e le = omega (arith, e, le)
+
+pub compiled_few : CompilesFew
+compiled_few text program sound light =
+    let t = program_of program in
+    let d = sound.typed.read.parsed.1 in
+    let decls = program_decls _ d.marked t d.rule in
+    let few : length d.marked ≤ TOKENS = few_tokens (length d.marked) _ (sym (as_many d.marked) ∙ ap length d.is) sound.typed.read.parsed.0 in
+    classes_few (names_of t) (length d.marked) few t.decls (decls_formed decls)
