@@ -1,5 +1,5 @@
 -- Some class text derives the classes of a program that the front accepts and that isn't too heavy.
-use Rattle.std.proofs.Common.{◌≡◌, ℕ, suc, ◌^◌, ◌≤◌, nat_lt, Bool, true, false, List, [], ◌∷◌, length, map, slice_get, if◌then◌else◌, refl, ap, sym, ◌∙◌, arith, length-append}
+use Rattle.std.proofs.Common.{◌≡◌, ℕ, zero, suc, ◌+◌, ◌^◌, ◌≤◌, nat_lt, Bool, true, false, List, [], ◌∷◌, length, map, slice_get, if◌then◌else◌, refl, ap, subst, sym, ◌∙◌, arith, length-append}
 use Rattle.std.specs.List.{AllByRecursion}
 use Rattle.std.proofs.lemmas.Bool.Decides.{nat_tests}
 use Rattle.std.proofs.lemmas.List.{length-map}
@@ -34,7 +34,7 @@ use Rattle.flow_faithful.proofs.Grammar.{slots_count}
 use Rattle.flow_faithful.proofs.Whole.{EachActor, Formed, decls_formed, program_decls, as_many}
 use Rattle.flow_lawful.proofs.Filled.{all_valid}
 use Rattle.flow_classprint.specs.ClassGrammar.{IsWritten}
-use Rattle.flow_written.specs.Laws.{AreLight}
+use Rattle.flow_written.specs.Laws.{AreLight, CompilesFew}
 use Rattle.flow_written.proofs.Writable.{ClassWritable}
 use Rattle.flow_written.proofs.Texts.{text_written}
 use Rattle.flow_written.proofs.Lexed.{program_fine}
@@ -161,7 +161,10 @@ classes_few : (ns : Names) (n : ℕ) → n ≤ TOKENS → (ds : List DeclTree) �
 classes_few ns n le [] f k c e = absurd (some_none (sym e))
 classes_few ns n le (StructDecl q ∷ ds) f k c e = classes_few ns n le ds f k c e
 classes_few ns n le (FunctionDecl q ∷ ds) f k c e = classes_few ns n le ds f k c e
-classes_few ns n le (ActorDecl a ∷ ds) f zero c e = subst (λ (x : ClassTree). length x.slots + length x.locals ≤ 2 ^ 32) (some_injective e) (places_few ns a n le f.0)
+classes_few ns n le (ActorDecl a ∷ ds) f zero c e = subst (λ (x : ClassTree). length x.slots + length x.locals ≤ 2 ^ 32) (same e) (places_few ns a n le f.0)
+  where
+    same : {X : Type 0} {x y : X} → Some x ≡ Some y → x ≡ y
+    same h = cc
 classes_few ns n le (ActorDecl a ∷ ds) f (suc k) c e = classes_few ns n le ds f.1 k c e
 
 few_tokens : (m n : ℕ) → m ≡ n → n ≤ TOKENS → m ≤ TOKENS
