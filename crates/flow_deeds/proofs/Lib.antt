@@ -1,0 +1,6 @@
+pub mod Steadily
+pub mod Settling
+pub mod Mains
+pub mod SamePorts
+pub mod Booting
+pub mod Doing
