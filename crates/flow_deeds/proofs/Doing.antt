@@ -29,7 +29,8 @@ use Rattle.flow_bursts.specs.Bursting as bursting
 use Rattle.flow_bursts.specs.Bursting.{Wrote, no_line, and_more}
 use Rattle.flow_kept.specs.Kept.{Kept}
 use Rattle.flow_boundaries.specs.Bringing.{IsBrought}
-use Rattle.flow_boundaries.proofs.Bringing.{answer_brings, element_brings, stop_brings}
+use Rattle.flow_boundaries.proofs.Bringing.{answer_brings, stop_brings}
+use Rattle.flow_deeds.proofs.Bringing.{element_brings}
 use Rattle.flow_brought.proofs.Following.{event_follows, event_rests}
 use Rattle.flow_world.specs.declared.deed.Deed.{Deed}
 use Rattle.flow_world.specs.declared.deed.Deed.TheVariants.{Boots, Stops, Delivers, Brings}
