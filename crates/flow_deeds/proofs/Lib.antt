@@ -6,3 +6,4 @@ pub mod Arriving
 pub mod Bringing
 pub mod Booting
 pub mod Doing
+pub mod Vanishing
