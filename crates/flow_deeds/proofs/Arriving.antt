@@ -18,7 +18,7 @@ use Rattle.flow_stream.specs.Streams.{StreamTree, with_item}
 use Rattle.flow_cancel.specs.declared.task.Task as stack
 use Rattle.flow_cancel.specs.Heap.{HeapTree, pushed}
 use Rattle.flow_meaning.specs.Numbered.{thing}
-use Rattle.flow_meaning.specs.Cells.{Side, FutureSide, Waiter, Cell, Single, Stream}
+use Rattle.flow_meaning.specs.Cells.{Side, FutureSide, Ref, Waiter, Cell, Single, Stream}
 use Rattle.flow_meaning.specs.Process.{Proc}
 use Rattle.flow_meaning.specs.Occ.{Scan, one, count, refs_in, value_in}
 use Rattle.flow_meaning.specs.Work.{fill, fill_cell}
@@ -96,7 +96,7 @@ module _ (r : RawTree) (ls : List Line) (x : Scan) (m : Process) (p : Proc Frame
       → Shown r ls x (on_heap (content_brought kind.PromiseStream k (outcome.Value v)) m) (on_core (fill k (outcome_of (outcome.Value v))) p)
   element_sent s all t = by_cell t.cell t.at t.right
     where
-      rs : List _
+      rs : List Ref
       rs = outcome_refs (outcome.Value v)
 
       mid : Process

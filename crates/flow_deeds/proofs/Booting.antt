@@ -7,6 +7,7 @@ use Rattle.flow_base.specs.declared.ids.ProcId.{ProcId}
 use Rattle.flow_value.specs.declared.value.Kind.TheVariants as kind
 use Rattle.flow_value.specs.declared.value.Value.{Value}
 use Rattle.flow_value.specs.declared.value.Value.TheVariants.{Int}
+use Rattle.flow_value.specs.Values.{IntValue}
 use Rattle.flow_class.specs.Classes.{RawTree}
 use Rattle.flow_code.specs.declared.program.Code.{Code}
 use Rattle.flow_trace.specs.declared.line.Line.{Line}
@@ -130,7 +131,7 @@ module _ {A W : Type 0} (serves : Host W) (shows : A → Numbered ℕ → W → 
     line_goes : (e : Burst) (n told k : Process) (b c : A) (l : Line) → MainCalled code me start n → n.asked ≡ Some (call.Line l) → Shown r [] nothing_in_hand n booted
         → Served serves shows wrote processes (call.Line l) (unasked n) a told b → Bursts serves shows wrote code processes told b e k c → Goes [] a booted w e k c
     line_goes e n told k b c l calls asked s served bursts =
-        let ports : booted.core.ports ≡ p.core.ports = boot_ports r ((classes r).fresh (classes r).main _) (on_core (begin turns) p) in
+        let ports : booted.core.ports ≡ p.core.ports = boot_ports r ((classes r).fresh (classes r).main (IntValue (pos me.0) ∷ [])) (on_core (begin turns) p) in
         let x = line_written serves shows wrote r nothing_in_hand [] n told a b booted w processes l s asked (subst (λ ps. shows a ps w) (sym ports) world) served in
         let speaks = main_speaks code me start n rest.shown.asked calls in
         let same : told.heap ≡ n.heap = ap (λ (z : Process). z.heap) served.0 in

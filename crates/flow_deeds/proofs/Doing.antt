@@ -64,16 +64,16 @@ module _ {A : Type 0} (puts : A → Line → Result (Unit {0}) OutFault → A �
   module _ (r : RawTree) (code : Code) (program : IsProgram r code) (turns : ℕ) (p : ProcId) (x : meaning.Place Frame) (o : Outside) (at : Place) (m : Surroundings) (a : A) where
     -- what it did by its machine is what the class machine does
     abbrev Goes : Deed → Burst → Process → Inside A → Type 0
-    Goes d e q b = bursting.Follows host shows (wrote puts) code at.machine.processes r [] (inside p at.ports m a) (done_in r turns p.0 d x).proc o e q b
+    Goes d e q b = bursting.Follows host shows (wrote puts) code at.machine.processes r [] (inside puts p at.ports m a) (done_in r turns p.0 d x).proc o e q b
 
     module _ (d : Deed) (ready : Ready r turns p d x o at m) where
       rests_done : (left : Place) (n : Surroundings) (b : A) (me : ProcId) → left.up ≡ up_after d at.up → left.machine.me ≡ at.machine.me → left.machine.processes ≡ at.machine.processes
-          → up_after d x.up ≡ (done_in r turns p.0 d x).up → Goes d burst.Rested left.machine.process (inside me left.ports n b) → Done r turns p d x o puts a burst.Rested left n b
+          → up_after d x.up ≡ (done_in r turns p.0 d x).up → Goes d burst.Rested left.machine.process (inside puts me left.ports n b) → Done r turns p d x o puts a burst.Rested left n b
       rests_done left n b me up same count stays f =
-          let g = event_rests host shows (wrote puts) code at.machine.processes r left.machine.process (inside p at.ports m a) (inside me left.ports n b) (done_in r turns p.0 d x).proc o f in record {
+          let g = event_rests host shows (wrote puts) code at.machine.processes r left.machine.process (inside puts p at.ports m a) (inside puts me left.ports n b) (done_in r turns p.0 d x).proc o f in record {
             after = live f.after f.out;
             bursts = f.bursts;
-            lines = subst (λ ls. Puts puts a ls b) (sym g.lines) (written_puts r code at.machine.processes (inside p at.ports m a) (inside me left.ports n b) f.lines f.written);
+            lines = subst (λ ls. Puts puts a ls b) (sym g.lines) (written_puts r code at.machine.processes (inside puts p at.ports m a) (inside puts me left.ports n b) f.lines f.written);
             stays = burst_stays (classes r) (live (done_in r turns p.0 d x).proc o) (live f.after f.out) f.bursts;
             ends = (
               g.goes,
@@ -88,16 +88,16 @@ module _ {A : Type 0} (puts : A → Line → Result (Unit {0}) OutFault → A �
             );
           }
 
-      spent_done : (left : Place) (n : Surroundings) (b : A) (me : ProcId) → Goes d burst.Spent left.machine.process (inside me left.ports n b) → Done r turns p d x o puts a burst.Spent left n b
+      spent_done : (left : Place) (n : Surroundings) (b : A) (me : ProcId) → Goes d burst.Spent left.machine.process (inside puts me left.ports n b) → Done r turns p d x o puts a burst.Spent left n b
       spent_done left n b me f = record {
         after = live f.after f.out;
         bursts = f.bursts;
-        lines = subst (λ ls. Puts puts a ls b) (sym f.ends.2) (written_puts r code at.machine.processes (inside p at.ports m a) (inside me left.ports n b) f.lines f.written);
+        lines = subst (λ ls. Puts puts a ls b) (sym f.ends.2) (written_puts r code at.machine.processes (inside puts p at.ports m a) (inside puts me left.ports n b) f.lines f.written);
         stays = burst_stays (classes r) (live (done_in r turns p.0 d x).proc o) (live f.after f.out) f.bursts;
         ends = f.ends.1;
       }
 
-    around : (d : Deed) → Ready r turns p d x o at m → shows (inside p at.ports m a) (done_in r turns p.0 d x).proc.core.ports o
+    around : (d : Deed) → Ready r turns p d x o at m → shows (inside puts p at.ports m a) (done_in r turns p.0 d x).proc.core.ports o
     around d ready = record {
       outside = ready.outside;
       active = ready.active;
@@ -105,13 +105,13 @@ module _ {A : Type 0} (puts : A → Line → Result (Unit {0}) OutFault → A �
     }
 
     brought_goes : (d : Deed) (ready : Ready r turns p d x o at m) (start : Process) (e : Burst) (q : Process) (b : Inside A) → IsBrought r m.time start (done_in r turns p.0 d x).proc
-        → Bursts host shows (wrote puts) code at.machine.processes start (inside p at.ports m a) e q b → Goes d e q b
+        → Bursts host shows (wrote puts) code at.machine.processes start (inside puts p at.ports m a) e q b → Goes d e q b
     brought_goes d ready start e q b is bursts =
-        event_follows host shows (wrote puts) code at.machine.processes r program host_steady m.time start q (inside p at.ports m a) b (done_in r turns p.0 d x).proc o e is ready.kept
+        event_follows host shows (wrote puts) code at.machine.processes r program host_steady m.time start q (inside puts p at.ports m a) b (done_in r turns p.0 d x).proc o e is ready.kept
         (around d ready) ready.clock ready.outside.time ready.shows.processes_are bursts
 
     booting_goes : (ready : Ready r turns p Boots x o at m) (e : Burst) (q : Process) (b : Inside A)
-        → MainBursts host shows (wrote puts) code at.machine.processes at.machine.me (begun m.time turns at.machine.process) (inside p at.ports m a) e q b → Goes Boots e q b
+        → MainBursts host shows (wrote puts) code at.machine.processes at.machine.me (begun m.time turns at.machine.process) (inside puts p at.ports m a) e q b → Goes Boots e q b
     booting_goes ready e q b bursts =
         let me = at.machine.me in
         let booted_by : ℕ → Proc Frame = λ n. boot (classes r) n (on_core (begin turns) x.proc) in
@@ -119,12 +119,12 @@ module _ {A : Type 0} (puts : A → Line → Result (Unit {0}) OutFault → A �
         let kept : UnlessStopped (booted_by me.0).core.halted (Kept r (booted_by me.0)) =
         subst (λ n. UnlessStopped (booted_by n).core.halted (Kept r (booted_by n))) (sym ready.shows.me)
         (subst (λ (q : Proc Frame). UnlessStopped q.core.halted (Kept r q)) (sym same) ready.kept) in
-        let f = boot_goes host shows (wrote puts) code at.machine.processes r program host_steady m.time turns me at.machine.process x.proc o (inside p at.ports m a) ready.shows.rests.resting ready.held ready.may kept
+        let f = boot_goes host shows (wrote puts) code at.machine.processes r program host_steady m.time turns me at.machine.process x.proc o (inside puts p at.ports m a) ready.shows.rests.resting ready.held ready.may kept
         (record { outside = ready.outside; active = ready.active; ports = ready.shows.ports }) ready.clock ready.outside.time ready.shows.processes_are e q b bursts in
-        subst (λ z. bursting.Follows host shows (wrote puts) code at.machine.processes r [] (inside p at.ports m a) z o e q b) (ap booted_by ready.shows.me ∙ same) f
+        subst (λ z. bursting.Follows host shows (wrote puts) code at.machine.processes r [] (inside puts p at.ports m a) z o e q b) (ap booted_by ready.shows.me ∙ same) f
 
     deed_goes : (d : Deed) → Ready r turns p d x o at m → (e : Burst) (q : Process) (b : Inside A)
-        → Follows host shows (wrote puts) code d at.machine (begun m.time turns at.machine.process) (inside p at.ports m a) e q b → Goes d e q b
+        → Follows host shows (wrote puts) code d at.machine (begun m.time turns at.machine.process) (inside puts p at.ports m a) e q b → Goes d e q b
     deed_goes Boots ready e q b bursts = booting_goes ready e q b bursts
     deed_goes Stops ready e q b bursts =
         brought_goes Stops ready _ e q b (stop_brings r at.machine.process x.proc m.time turns ready.shows.rests.resting) bursts
@@ -143,10 +143,10 @@ module _ {A : Type 0} (puts : A → Line → Result (Unit {0}) OutFault → A �
     up_then (Brings k v) ready = refl
 
     deed_follows : (d : Deed) (left : Place) (n : Surroundings) (b : A) (e : Burst) → Ready r turns p d x o at m → Acts puts code turns p d at m a e left n b → Done r turns p d x o puts a e left n b
-    deed_follows d left n b e ready acts = by_end e acts.up acts.does.me acts.does.processes (deed_goes d ready e left.machine.process (inside acts.me left.ports n b) acts.does.follows)
+    deed_follows d left n b e ready acts = by_end e acts.up acts.does.me acts.does.processes (deed_goes d ready e left.machine.process (inside puts acts.me left.ports n b) acts.does.follows)
       where
         by_end : (e : Burst) → left.up ≡ up_after d at.up → left.machine.me ≡ at.machine.me → left.machine.processes ≡ at.machine.processes
-            → Goes d e left.machine.process (inside acts.me left.ports n b) → Done r turns p d x o puts a e left n b
+            → Goes d e left.machine.process (inside puts acts.me left.ports n b) → Done r turns p d x o puts a e left n b
         by_end burst.Rested up same count f = rests_done d ready left n b acts.me up same count (up_then d ready) f
         by_end burst.Spent up same count f = spent_done d ready left n b acts.me f
 

@@ -1,10 +1,10 @@
 -- No deed changes which streams are those of ports.
-use Rattle.std.proofs.Common.{◌≡◌, ℕ, zero, suc, List, refl}
+use Rattle.std.proofs.Common.{◌≡◌, ℕ, zero, suc, List, [], ◌∷◌, refl}
+use Rattle.std.specs.Prelude.{pos}
 use Rattle.std.specs.declared.option.Option.{Option}
 use Rattle.std.specs.declared.option.Option.TheVariants.{None, Some}
-use Rattle.flow_value.specs.Values.{OutcomeTree}
+use Rattle.flow_value.specs.Values.{IntValue, OutcomeTree, GoodOutcome}
 use Rattle.flow_value.specs.View.{value_of, outcome_of}
-use Rattle.flow_value.specs.Values.{GoodOutcome}
 use Rattle.flow_class.specs.Classes.{RawTree}
 use Rattle.flow_meaning.specs.Cells.{Cell}
 use Rattle.flow_meaning.specs.Class.{classes}
@@ -31,7 +31,7 @@ boot_ports r (Some f) p = main_ports p.core.left (classes r).main ((classes r).l
 
 booted_ports : (r : RawTree) (n : ℕ) (x : meaning.Place Frame) (o : Option ℕ) → (booted (classes r) n x o).proc.core.ports ≡ x.proc.core.ports
 booted_ports r n x (Some held) = refl
-booted_ports r n x None = boot_ports r ((classes r).fresh (classes r).main _) x.proc
+booted_ports r n x None = boot_ports r ((classes r).fresh (classes r).main (IntValue (pos n) ∷ [])) x.proc
 
 stop_ports : (o : Option ℕ) (c : Core) → (stop_main o c).ports ≡ c.ports
 stop_ports None c = refl
