@@ -54,7 +54,7 @@ use Rattle.flow_kept.proofs.Rising.{and_then, made_stays, hold_stays, hold_all_s
 use Rattle.flow_allowed.specs.Tasking.{IsProgram}
 use Rattle.flow_bursts.specs.Bursting.{Steadfast, Abroad, Wrote, and_more, Follows}
 use Rattle.flow_boundaries.specs.Bringing.{Resting}
-use Rattle.flow_brought.proofs.Following.{spent_follows}
+use Rattle.flow_brought.proofs.Following.{event_follows}
 use Rattle.flow_goes.proofs.Goes.{program_follows}
 use Rattle.flow_deeds.proofs.Mains.{may_start, main_is}
 use Rattle.flow_deeds.proofs.SamePorts.{boot_ports}
@@ -112,11 +112,27 @@ module _ {A W : Type 0} (serves : Host W) (shows : A → Numbered ℕ → W → 
         main_boots r [] start (on_core (begin turns) p) nothing_in_hand code me n (event_begins r m p now turns rest.shown) rest.shown.asked no_main
         (main_is r code program (on_core (begin turns) p) held refl me.0) (may_start r code program (on_core (begin turns) p) held refl me.0) calls
 
+    -- what the call and its service leave as it was
+    module _ (n told : Process) (calls : MainCalled code me start n) (same : told ≡ unasked n) where
+      still_sorted : Sorted told.heap
+      still_sorted =
+          subst (λ (z : Process). Sorted z.heap) (sym same)
+          (sorted_stays start n (speaks_stay start n (main_speaks code me start n rest.shown.asked calls)) rest.sorted)
+
+      still_poised : Poised told.heap
+      still_poised = subst (λ (z : Process). Poised z.heap) (sym same) (main_keeps code me start n calls rest.poised)
+
+      at_time : told.time ≡ now
+      at_time = ap (λ (z : Process). z.time) same ∙ (main_speaks code me start n rest.shown.asked calls).calm.time
+
+    world_after : shows a booted.core.ports w
+    world_after = subst (λ ps. shows a ps w) (sym (boot_ports r ((classes r).fresh (classes r).main (IntValue (pos me.0) ∷ [])) (on_core (begin turns) p))) world
+
     -- no turn is left for the call
-    waits_goes : (e : Burst) (n told k : Process) (b c : A) → nat_lt 0 start.left ≡ false → n ≡ turned start → memory.Follows r [] nothing_in_hand n booted
+    waits_goes : (e : Burst) (n told k : Process) (b c : A) → MainCalled code me start n → nat_lt 0 start.left ≡ false → n ≡ turned start → memory.Follows r [] nothing_in_hand n booted
         → ServedIf serves shows wrote processes n.asked (unasked n) a told b → Bursts serves shows wrote code processes told b e k c → Goes [] a booted w e k c
-    waits_goes e n told k b c t is (memory.shows s) served bursts = absurd (both_ways (ap (λ (z : Process). z.spent) is ∙ ap (λ x. (if x then record start { left = start.left - 1 } else record start { spent = true }).spent) t) s.unspent)
-    waits_goes e n told k b c t is (memory.ends s) served bursts =
+    waits_goes e n told k b c calls t is (memory.shows s) served bursts = absurd (both_ways (ap (λ (z : Process). z.spent) is ∙ ap (λ x. (if x then record start { left = start.left - 1 } else record start { spent = true }).spent) t) s.unspent)
+    waits_goes e n told k b c calls t is (memory.ends s) served bursts =
         let none : n.asked ≡ None = ap (λ (z : Process). z.asked) is ∙ turned_asked start ∙ rest.shown.asked in
         let quiet : (told ≡ unasked n) × (b ≡ a) = subst (λ o. ServedIf serves shows wrote processes o (unasked n) a told b) none served in
         let asked : told.asked ≡ None = ap (λ (z : Process). z.asked) quiet.0 in
@@ -125,22 +141,22 @@ module _ {A W : Type 0} (serves : Host W) (shows : A → Numbered ℕ → W → 
           halted = s.halted;
           lines = s.lines ∙ ap (λ o. [] ++ memory.told o) (none ∙ sym asked);
         } in
-        subst (λ z. Goes [] z booted w e k c) quiet.1 (spent_follows serves shows wrote code processes r told k b c booted w e are asked bursts)
+        subst (λ z. Goes [] z booted w e k c) quiet.1
+        (event_follows serves shows wrote code processes r program steady now told k b c booted w e
+        (record { follows = memory.ends are; sorted = still_sorted n told calls quiet.0; poised = still_poised n told calls quiet.0; asked = asked; time = at_time n told calls quiet.0 })
+        kept (subst (λ z. shows z booted.core.ports w) (sym quiet.1) world_after) clock time among bursts)
 
     -- a turn is left, and the line of the start is written
     line_goes : (e : Burst) (n told k : Process) (b c : A) (l : Line) → MainCalled code me start n → n.asked ≡ Some (call.Line l) → Shown r [] nothing_in_hand n booted
         → Served serves shows wrote processes (call.Line l) (unasked n) a told b → Bursts serves shows wrote code processes told b e k c → Goes [] a booted w e k c
     line_goes e n told k b c l calls asked s served bursts =
-        let ports : booted.core.ports ≡ p.core.ports = boot_ports r ((classes r).fresh (classes r).main (IntValue (pos me.0) ∷ [])) (on_core (begin turns) p) in
-        let x = line_written serves shows wrote r nothing_in_hand [] n told a b booted w processes l s asked (subst (λ ps. shows a ps w) (sym ports) world) served in
-        let speaks = main_speaks code me start n rest.shown.asked calls in
-        let same : told.heap ≡ n.heap = ap (λ (z : Process). z.heap) served.0 in
-        let at : told.time ≡ now = ap (λ (z : Process). z.time) served.0 ∙ speaks.calm.time in
+        let x = line_written serves shows wrote r nothing_in_hand [] n told a b booted w processes l s asked world_after served in
+        let at = at_time n told calls served.0 in
         after_line l a b c booted w e k x.0
         (program_follows serves shows wrote code processes r program steady (l ∷ []) told k b c booted w e (record {
           between = record {
             shown = x.1.shown;
-            sorted = subst Sorted (sym same) (sorted_stays start n (speaks_stay start n speaks) rest.sorted);
+            sorted = still_sorted n told calls served.0;
             kept = subst (λ h. UnlessStopped h (Kept r booted)) x.1.shown.goes kept;
           };
           asked = x.1.served;
@@ -148,7 +164,7 @@ module _ {A W : Type 0} (serves : Host W) (shows : A → Numbered ℕ → W → 
           time = at ∙ time;
           clock = subst (λ t. program_time t ≡ pos t) (sym at) clock;
           among = among;
-          poised = subst Poised (sym same) (main_keeps code me start n calls rest.poised);
+          poised = still_poised n told calls served.0;
         }) bursts)
 
     starts_goes : (e : Burst) (n told k : Process) (b c : A) → MainCalled code me start n → nat_lt 0 start.left ≡ true → MainStarts code me (turned start) n → memory.Follows r [] nothing_in_hand n booted
@@ -167,5 +183,5 @@ module _ {A W : Type 0} (serves : Host W) (shows : A → Numbered ℕ → W → 
     boot_goes e k c x = by_call x.calls
       where
         by_call : MainCalled code me start x.called → Goes [] a booted w e k c
-        by_call (main_waits t is) = waits_goes e x.called x.told k x.between c t is (follows x.called x.calls) x.line x.bursts
+        by_call (main_waits t is) = waits_goes e x.called x.told k x.between c x.calls t is (follows x.called x.calls) x.line x.bursts
         by_call (main_starts t st) = starts_goes e x.called x.told k x.between c x.calls t st (follows x.called x.calls) x.line x.bursts

@@ -50,7 +50,7 @@ module _ {A : Type 0} (puts : A → Line → Result (Unit {0}) OutFault → A �
   -- the lines that the host wrote are put
   more_puts : (a b c : A) (ls more : List Line) → Puts puts a ls b → Puts puts b more c → Puts puts a (ls ++ more) c
   more_puts a b c [] more nothing_put rest = rest
-  more_puts a b c (l ∷ ls) more (more_lines one next) rest = more_lines one (more_puts _ b c ls more next rest)
+  more_puts a b c (l ∷ ls) more (more_lines {b = d} one next) rest = more_lines one (more_puts d b c ls more next rest)
 
   told_puts : (r : RawTree) (a b : Inside A) (ls : List Line) → serving.Told host shows (wrote puts) r nothing_in_hand a ls b → Puts puts a.out ls b.out
   told_puts r a b ls serving.quiet = nothing_put

@@ -76,7 +76,7 @@ module _ (r : RawTree) (code : Code) (program : IsProgram r code) where
     takes : Takes (slice_get r.classes (classes r).main) args
     takes = by_fresh ((classes r).fresh (classes r).main args) refl (boots_fit r program.whole.valid.valid (heads r) rules kept.types me p kept.fits kept.orderly.numbered go)
       where
-        by_fresh : (o : Option Frame) → (classes r).fresh (classes r).main args ≡ o → IsFine r kept.types (boot_with (classes r) o p, None) → Takes (slice_get r.classes (classes r).main) args
+        by_fresh : (o : Option Frame) → (classes r).fresh (classes r).main args ≡ o → IsFine r kept.types (Some (boot_with (classes r) o p, None)) → Takes (slice_get r.classes (classes r).main) args
         by_fresh None is fine = absurd fine
         by_fresh (Some f) is fine = fresh_takes (slice_get r.classes (classes r).main) args f is
 

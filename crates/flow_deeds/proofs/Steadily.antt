@@ -1,5 +1,5 @@
 -- What a burst leaves in the world around a process.
-use Rattle.std.proofs.Common.{◌≡◌, ℕ, List, refl, ap, ◌∙◌, subst}
+use Rattle.std.proofs.Common.{◌≡◌, ℕ, suc, List, refl, ap, ◌∙◌, subst}
 use Rattle.std.specs.declared.option.Option.{Option}
 use Rattle.std.specs.declared.option.Option.TheVariants.{None, Some}
 use Rattle.flow_simnet.specs.declared.packet.Fate.{Fate}
@@ -37,7 +37,7 @@ served_stays : (q : Request) (w : Outside) → StaysIn w (serve q w).1
 served_stays Drew w = record { file = refl; time = refl; ran = refl; script = refl; active = refl }
 served_stays (Timer k t) w = record { file = refl; time = refl; ran = refl; script = refl; active = refl }
 served_stays (Packet q port text) w =
-    let v = record w { sent = w.sent + 1 } in
+    let v = record w { sent = suc w.sent } in
     let s = sent_stays (fate_in v q) v v.sent q port text in
     record { file = s.file; time = s.time; ran = s.ran; script = s.script; active = s.active }
 served_stays (Disks k call) w = record { file = refl; time = refl; ran = refl; script = refl; active = refl }

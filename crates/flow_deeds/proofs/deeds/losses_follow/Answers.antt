@@ -2,4 +2,4 @@ use Rattle.flow_deeds.proofs.Vanishing.{loss_follows}
 use Rattle.flow_deeds.proofs.deeds.losses_follow.Goals as goal
 
 pub returns : goal.returns
-returns g c = loss_follows
+returns c = loss_follows

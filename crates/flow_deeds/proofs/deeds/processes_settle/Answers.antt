@@ -2,4 +2,4 @@ use Rattle.flow_deeds.proofs.Settling.{stays_settled}
 use Rattle.flow_deeds.proofs.deeds.processes_settle.Goals as goal
 
 pub returns : goal.returns
-returns g c = stays_settled
+returns c = stays_settled
