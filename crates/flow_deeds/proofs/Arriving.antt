@@ -1,6 +1,5 @@
 -- An element that comes to a stream in memory comes to the stream that it shows, whether or not the stream has an end.
-use Rattle.std.proofs.Common.{◌≡◌, ℕ, ◌+◌, List, [], ◌∷◌, ◌++◌, Bool, true, false, refl, sym, ap, ◌∙◌, subst, if◌then◌else◌, arith}
-use Rattle.std.specs.Prelude.{nat_lt}
+use Rattle.std.proofs.Common.{◌≡◌, ℕ, ◌+◌, List, [], ◌∷◌, ◌++◌, refl, sym, ap, ◌∙◌, subst, arith}
 use Rattle.std.specs.declared.option.Option.{Option}
 use Rattle.std.specs.declared.option.Option.TheVariants.{None, Some}
 use Rattle.flow_value.specs.declared.value.Kind.TheVariants as kind
@@ -25,7 +24,7 @@ use Rattle.flow_meaning.specs.Work.{fill, fill_cell}
 use Rattle.flow_meaning.specs.Deliver.{begin, arrive}
 use Rattle.flow_meaning.specs.Step.{on_core}
 use Rattle.flow_meaning.specs.Frame.{Frame}
-use Rattle.flow_picture.specs.Shows.{Shows, CellShows, spot_of_actor}
+use Rattle.flow_picture.specs.Shows.{spot_of_actor}
 use Rattle.flow_picture.specs.Counted.{memory_side, references, nothing_in_hand}
 use Rattle.flow_picture.specs.References.{cell_holds}
 use Rattle.flow_picture.specs.Changes.{stream_put, fire}

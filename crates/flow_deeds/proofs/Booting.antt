@@ -1,7 +1,6 @@
 -- The burst that begins with the call of `main` is a burst of the class machine.
 use Rattle.std.proofs.Common.{◌≡◌, ℕ, Bool, true, false, List, [], ◌∷◌, ◌++◌, refl, sym, ap, ◌∙◌, subst, if◌then◌else◌}
 use Rattle.std.specs.Prelude.{pos, nat_lt, ◌-◌}
-use Rattle.std.specs.declared.option.Option.{Option}
 use Rattle.std.specs.declared.option.Option.TheVariants.{None, Some}
 use Rattle.flow_base.specs.declared.ids.ProcId.{ProcId}
 use Rattle.flow_value.specs.declared.value.Kind.TheVariants as kind
@@ -26,7 +25,6 @@ use Rattle.flow_meaning.specs.Step.{on_core}
 use Rattle.flow_picture.specs.Counted.{nothing_in_hand}
 use Rattle.flow_picture.specs.Holds.{hold}
 use Rattle.flow_picture.specs.Rested.{Sorted}
-use Rattle.flow_steps.specs.declared.call.Call.{Call}
 use Rattle.flow_steps.specs.declared.call.Call.TheVariants as call
 use Rattle.flow_steps.specs.declared.process.Process.{Process}
 use Rattle.flow_steps.specs.Acting.{enrolled, with_args}
@@ -52,7 +50,7 @@ use Rattle.flow_kept.proofs.Once.{sorted_stays}
 use Rattle.flow_kept.proofs.Quiet.{Quiet, Speaks, quiet_then, quiet_is, quiet_speaks, speaks_is, speaks_stay, tells, on_heap_quiet, turned_quiet, doing_quiet}
 use Rattle.flow_kept.proofs.Rising.{and_then, made_stays, hold_stays, hold_all_stays, started_stays}
 use Rattle.flow_allowed.specs.Tasking.{IsProgram}
-use Rattle.flow_bursts.specs.Bursting.{Steadfast, Abroad, Wrote, and_more, Follows}
+use Rattle.flow_bursts.specs.Bursting.{Steadfast, and_more, Follows}
 use Rattle.flow_boundaries.specs.Bringing.{Resting}
 use Rattle.flow_brought.proofs.Following.{event_follows}
 use Rattle.flow_goes.proofs.Goes.{program_follows}

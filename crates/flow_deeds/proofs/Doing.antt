@@ -1,7 +1,6 @@
 -- What a process in memory does after a deed is a burst of the class machine.
 use Rattle.std.proofs.Common.{◌≡◌, ℕ, List, [], ◌∷◌, ◌++◌, refl, sym, ap, ◌∙◌, subst}
-use Rattle.std.specs.Prelude.{pos, Result, Ok}
-use Rattle.std.specs.declared.option.Option.TheVariants.{None}
+use Rattle.std.specs.Prelude.{Result}
 use Rattle.flow_base.specs.declared.ids.ProcId.{ProcId}
 use Rattle.flow_base.specs.declared.fault.OutFault.{OutFault}
 use Rattle.flow_trace.specs.declared.line.Line.{Line}
@@ -37,7 +36,7 @@ use Rattle.flow_world.specs.declared.deed.Deed.TheVariants.{Boots, Stops, Delive
 use Rattle.flow_world.specs.declared.place.Place.{Place}
 use Rattle.flow_world.specs.Around.{Inside, Puts, no_line as nothing_put, more_lines, shows, wrote}
 use Rattle.flow_world.specs.Changes.{Surroundings}
-use Rattle.flow_world.specs.Deeds.{Follows, up_after, dealt}
+use Rattle.flow_world.specs.Deeds.{Follows, up_after}
 use Rattle.flow_world.specs.Happening.{Acts, inside}
 use Rattle.flow_world.specs.Ports.{PortsShow}
 use Rattle.flow_deeds.specs.Deeds as law

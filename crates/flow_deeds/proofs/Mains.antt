@@ -1,5 +1,5 @@
 -- The `main` of valid classes may start in a process that keeps what it has to.
-use Rattle.std.proofs.Common.{◌≡◌, ℕ, zero, suc, ◌+◌, nat_eq, Bool, true, false, List, [], ◌∷◌, length, map, refl, sym, ap, ◌∙◌, subst, if◌then◌else◌, arith}
+use Rattle.std.proofs.Common.{◌≡◌, ℕ, suc, ◌+◌, nat_eq, Bool, true, false, List, [], ◌∷◌, length, map, refl, sym, ap, ◌∙◌, if◌then◌else◌, arith}
 use Rattle.std.proofs.lemmas.Bool.Decides.{nat_tests}
 use Rattle.std.specs.Prelude.{pos, slice_get, codes, position, unwrap_or, ltb, cond}
 use Rattle.std.specs.List.{position_or_len}
@@ -9,18 +9,15 @@ use Rattle.std.specs.declared.option.Option.TheVariants.{None, Some}
 use Rattle.flow_value.specs.Values.{ValueTree, IntValue}
 use Rattle.flow_class.specs.Classes.{ClassTree, RawTree}
 use Rattle.flow_code.specs.declared.program.Code.{Code}
-use Rattle.flow_code.specs.Coded.{class_named}
 use Rattle.flow_resolved.specs.Named.{first_from}
 use Rattle.flow_meaning.specs.Process.{Proc}
 use Rattle.flow_meaning.specs.Deliver.{boot_with}
-use Rattle.flow_meaning.specs.Class.{classes, fresh_from, begun, class_name, class_names}
+use Rattle.flow_meaning.specs.Class.{classes, fresh_from, begun, class_name}
 use Rattle.flow_meaning.specs.Frame.{Frame}
-use Rattle.flow_meaning.proofs.Shifts.{same_of}
 use Rattle.flow_meaning.proofs.InOrder.{no_thing}
 use Rattle.flow_unstuck.specs.Keeping.{IsFine}
 use Rattle.flow_unstuck.specs.Rules.{ClassRules}
 use Rattle.flow_unstuck.specs.Written.{heads}
-use Rattle.flow_unstuck.specs.Fitting.{CellTypes}
 use Rattle.flow_unstuck.proofs.Boots.{boots_fit}
 use Rattle.flow_unstuck.proofs.Functions.{functions_kept}
 use Rattle.flow_unstuck.proofs.KeptClasses.{class_rules}

@@ -1,10 +1,9 @@
 -- A loss of power leaves of a process in memory what it leaves of the process that it shows, and of what is outside the same.
 use Rattle.std.proofs.Common.{◌≡◌, ℕ, zero, suc, List, ◌∷◌, [], ◌++◌, map, refl, sym, ap, ◌∙◌, subst}
 use Rattle.std.specs.Prelude.{slice_get, slice_set, slice_index_or}
-use Rattle.std.specs.declared.option.Option.TheVariants.{None, Some}
+use Rattle.std.specs.declared.option.Option.TheVariants.{Some}
 use Rattle.flow_base.specs.declared.ids.ProcId.{ProcId}
 use Rattle.flow_class.specs.Classes.{RawTree}
-use Rattle.flow_trace.specs.declared.line.Line.{Line}
 use Rattle.flow_draw.specs.Words.{word_at}
 use Rattle.flow_simdisk.specs.declared.write.Kept.{Kept}
 use Rattle.flow_simdisk.specs.Disk.{Disk, File, Losing, power_lost}
@@ -13,17 +12,13 @@ use Rattle.flow_meaning.specs.Deliver.{vanish}
 use Rattle.flow_meaning.specs.Frame.{Frame}
 use Rattle.flow_meaning.specs.Outside.{Outside}
 use Rattle.flow_meaning.specs.Process.{Proc}
-use Rattle.flow_meaning.specs.World as meaning
 use Rattle.flow_meaning.specs.World.{disk_of, kept_line, with_disk}
 use Rattle.flow_steps.specs.declared.process.Process.{Process}
 use Rattle.flow_steps.specs.Doing.{vanished}
 use Rattle.flow_effects.proofs.Brings.{vanishes}
-use Rattle.flow_world.specs.declared.place.Place.{Place}
-use Rattle.flow_world.specs.Changes.{Surroundings, DiskLoses, without_requests}
-use Rattle.flow_world.specs.Happening.{Gone}
+use Rattle.flow_world.specs.Changes.{Surroundings, DiskLoses}
 use Rattle.flow_world.specs.Shows.{OutsideShows}
 use Rattle.flow_world.proofs.Events.{requests_are_gone}
-use Rattle.flow_events.specs.Showing.{PlaceShows}
 use Rattle.flow_deeds.specs.Settling.{Settled}
 use Rattle.flow_deeds.specs.Vanishing as law
 
