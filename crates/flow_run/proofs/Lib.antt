@@ -1,1 +1,4 @@
 pub mod Framing
+pub mod MovedHosts
+pub mod MovedEvents
+pub mod Writing

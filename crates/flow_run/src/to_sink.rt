@@ -5,6 +5,8 @@ ghost use Rattle.flow_trace.specs.Bytes.{Bytes};
 ghost use Rattle.flow_machine.specs.Cause.{RunCause};
 ghost use Rattle.flow_worldfile.specs.Worlds.{IsInRange, seen};
 ghost use Rattle.flow_run.specs.Ends.{end_line};
+ghost use Rattle.flow_run.specs.Tracing.{Traces};
+ghost use Rattle.flow_run.specs.Written.{put_bytes};
 ghost use Rattle.flow_trace.specs.Out.{Grows, GrowsTo};
 
 use crate::ending::Ending;
@@ -19,8 +21,8 @@ use std::alloc::Global;
 use std::snapshot::Snapshot;
 
 /// Runs classes in a world and writes the lines of the trace, each as it is made, with the frames after each event that was
-/// not spent where they are asked for. What was written before stays as it is. `Failed` comes only where the sink's
-/// count of faults rose.
+/// not spent where they are asked for: where the run comes to its end, what was written is the bytes of these lines, from the
+/// first to the last. What was written before stays as it is. `Failed` comes only where the sink's count of faults rose.
 pub fn write_trace<S: Sink>(
     alloc: Global,
     classes: ClassProgram,
@@ -31,6 +33,8 @@ pub fn write_trace<S: Sink>(
     requires { IsInRange (seen world) }
     ensures cause { RunCause (S.seen out.old).faults (S.seen out.new).faults result }
     ensures grows { Grows (S.seen out.old).written (S.seen out.new).written }
+    ensures traces { IfOk result (λ ending. Traces put_bytes with_frames classes world
+        (S.seen out.old).written ending (S.seen out.new).written) }
     ensures last { IfOk result (λ ending. GrowsTo
         (S.seen out.old).written (S.seen out.new).written (Bytes (end_line ending))) }
 {

@@ -1,7 +1,19 @@
 use Rattle.std.proofs.Common.{rules, sym, ap, subst, ◌∙◌}
 use Rattle.std.proofs.lemmas.Result.{IfOk-weaker}
 use Rattle.flow_trace.specs.Out.{Grows}
+use Rattle.flow_run.specs.Tracing.{Traces}
+use Rattle.flow_run.specs.Written.{put_bytes}
+use Rattle.flow_run.proofs.MovedEvents.{traces_by}
 use Rattle.flow_run.proofs.to_sink.write_trace.Goals as goal
+
+pub returns-clause-traces : goal.returns-clause-traces
+returns-clause-traces g c =
+    let name = ap (λ k. k.0) c.put_trace-ending.ensures.kept in
+    IfOk-weaker c.put_trace-ending.result _ _
+    (λ ending t.
+    let moved = traces_by (λ w. (g.S.Sink.seen w.out.now).written) _ put_bytes (λ a b l p. p.1.whole) c.args.with_frames c.args.classes c.args.world _ ending _ t in
+    subst (λ v. Traces put_bytes c.args.with_frames c.args.classes c.args.world (g.S.Sink.seen c.args.out.now).written ending (g.S.Sink.seen v).written) (search rules) moved)
+    c.put_trace-ending.ensures.traces
 
 pub returns-clause-last : goal.returns-clause-last
 returns-clause-last g c =
