@@ -18,7 +18,7 @@ use Rattle.flow_meaning.specs.Outside.{Outside, host}
 use Rattle.flow_meaning.specs.Process.{Proc, Spent}
 use Rattle.flow_meaning.specs.World as meaning
 use Rattle.flow_meaning.specs.World.{booted, with_core}
-use Rattle.flow_picture.specs.Holds.{AllThere}
+use Rattle.flow_picture.specs.Holds.{There, AllThere}
 use Rattle.flow_picture.specs.Rested.{has}
 use Rattle.flow_steps.specs.Holding.{outcome_refs}
 use Rattle.flow_steps.specs.Sights.{program_time}
@@ -35,7 +35,7 @@ use Rattle.flow_events.specs.Showing.{PlaceShows}
 use Rattle.flow_allowed.specs.Tasking.{IsProgram}
 use Rattle.flow_follows.specs.Working.{Sendable}
 use Rattle.flow_kept.specs.Kept.{Kept}
-use Rattle.flow_boundaries.specs.Bringing.{Resting}
+use Rattle.flow_deeds.specs.Settling.{Settled}
 
 -- a process of the definitions once a deed was done to it
 abbrev pub done_to : RawTree → (process : ℕ) → Deed → meaning.Place Frame → meaning.Place Frame
@@ -49,12 +49,12 @@ abbrev pub done_in : RawTree → (turns process : ℕ) → Deed → meaning.Plac
 done_in r turns n d at = done_to r n d (with_core at (begin turns))
 
 -- What a deed asks of the process: it boots where it doesn't hold its `main`; what a timer or a disk answers is an open
--- request of it; and to what something comes, more may come.
+-- request of it, whose result is unset; an element comes to a stream; and what comes refers to what is there.
 abbrev pub MayBeDone : Deed → Proc Frame → Type 0
 MayBeDone Boots p = p.core.main ≡ None
 MayBeDone Stops p = Unit {0}
 MayBeDone (Delivers k o) p = (has k.0 p.core.requests ≡ true) × Sendable p kind.Promise k.0 × AllThere p (outcome_refs o)
-MayBeDone (Brings k v) p = Sendable p kind.PromiseStream k.0 × AllThere p (outcome_refs (outcome.Value v))
+MayBeDone (Brings k v) p = There p (kind.PromiseStream, k.0) × AllThere p (outcome_refs (outcome.Value v))
 
 -- a burst leaves what the file says, the time, the event and its process, and the script
 pub record StaysIn (before after : Outside) : Type 0 where
@@ -66,20 +66,21 @@ pub record StaysIn (before after : Outside) : Type 0 where
 
 module _ (r : RawTree) (turns : ℕ) (p : ProcId) (d : Deed) (x : meaning.Place Frame) (o : Outside) where
   -- Before a deed: a process in memory rests, and shows the process of the event in its world, which keeps what it has to
-  -- when the deed is done; and programs tell the time.
+  -- before the deed and when it is done; and programs tell the time.
   pub record Ready (at : Place) (m : Surroundings) : Type 0 where
-    pub shows : PlaceShows (Resting r) o.file.processes p.0 at x
+    pub shows : PlaceShows (Settled r) o.file.processes p.0 at x
     pub outside : OutsideShows m o
     pub active : p.0 ≡ o.active
     pub clock : program_time m.time ≡ pos m.time
     pub may : MayBeDone d x.proc
+    pub held : Kept r (with_core x (begin turns)).proc
     pub kept : let begun = (done_in r turns p.0 d x).proc in UnlessStopped begun.core.halted (Kept r begun)
 
   -- After it: memory rests and shows the process and the world after the burst; or the event is spent.
   abbrev pub EndsAs : burst_end.Burst → Place → Surroundings → Live Outside Frame → Type 0
   EndsAs burst.Rested left n l =
       (l.proc.core.halted ≡ None)
-      × PlaceShows (Resting r) o.file.processes p.0 left (record { up = (done_in r turns p.0 d x).up; proc = l.proc })
+      × PlaceShows (Settled r) o.file.processes p.0 left (record { up = (done_in r turns p.0 d x).up; proc = l.proc })
       × OutsideShows n l.out
   EndsAs burst.Spent left n l = l.proc.core.halted ≡ Some Spent
 
@@ -94,5 +95,6 @@ module _ (r : RawTree) (turns : ℕ) (p : ProcId) (d : Deed) (x : meaning.Place 
 -- So what a process in memory does is a burst of the class machine, with its lines.
 abbrev pub DeedFollows : {A : Type 0} (puts : A → Line → Result (Unit {0}) OutFault → A → Type 0) → RawTree → Code → Type 0
 DeedFollows {A} puts r code =
-    IsProgram r code → (turns : ℕ) (p : ProcId) (d : Deed) (x : meaning.Place Frame) (o : Outside) (at left : Place) (m n : Surroundings) (a b : A) (e : burst_end.Burst)
+    IsProgram r code → (turns : ℕ) (p : ProcId) (d : Deed) (x : meaning.Place Frame) (o : Outside)
+    (at left : Place) (m n : Surroundings) (a b : A) (e : burst_end.Burst)
     → Ready r turns p d x o at m → Acts puts code turns p d at m a e left n b → Done r turns p d x o puts a e left n b

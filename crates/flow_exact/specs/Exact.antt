@@ -1,12 +1,13 @@
 -- A run in memory of the classes of a program shows what the program shows by its text.
-use Rattle.std.specs.Prelude.{◌≡◌, ℕ, Bool, List, Result}
-use Rattle.std.specs.declared.option.Option.TheVariants.{None}
+use Rattle.std.specs.Prelude.{◌≡◌, ◌≤◌, ◌+◌, ◌^◌, ℕ, Bool, List, length, slice_get, Result}
+use Rattle.std.specs.declared.option.Option.TheVariants.{None, Some}
 use Rattle.flow_base.specs.declared.fault.OutFault.{OutFault}
 use Rattle.flow_tree.specs.declared.decl.Program.{Program}
 use Rattle.flow_tree.specs.DeclView.{program_of}
 use Rattle.flow_trace.specs.declared.line.Line.{Line}
 use Rattle.flow_worldfile.specs.declared.world.World0.{World0}
 use Rattle.flow_worldfile.specs.Worlds.{IsInRange, seen}
+use Rattle.flow_class.specs.Classes.{ClassTree, RawTree}
 use Rattle.flow_class.specs.declared.class.RawClasses.{RawClasses}
 use Rattle.flow_class.specs.View.{raw_of}
 use Rattle.flow_front.specs.Verdict.{IsSound}
@@ -15,14 +16,28 @@ use Rattle.flow_lower.specs.Compiled.{Has}
 use Rattle.flow_awake.specs.Awake.{AreWhole}
 use Rattle.flow_world.specs.Around.{Puts}
 use Rattle.flow_run.specs.declared.ending.Ending.{Ending}
+use Rattle.flow_run.specs.Ends.{end_line, LastIs}
 use Rattle.flow_run.specs.Tracing.{Traces}
 use Rattle.flow_framed.specs.Framed.{SourceShown, ClassShown}
 
+-- each class has 2^32 places at most
+abbrev pub HaveFewPlaces : RawTree → Type 0
+HaveFewPlaces r = (k : ℕ) (c : ClassTree) → slice_get r.classes k ≡ Some c → length c.slots + length c.locals ≤ 2 ^ 32
+
 module _ {A : Type 0} (puts : A → Line → Result (Unit {0}) OutFault → A → Type 0) where
-  -- Of a text that the front accepts, in which no use of a local is lost and no actor weighs too much, in a world in range.
+  -- The lines that are put of valid classes, in a world in range, are what is shown of them, and end as the run does.
+  abbrev pub ClassesShown : Type 0
+  ClassesShown =
+      (c : RawClasses) (file : World0) (with_frames : Bool) (a b : A) (e : Ending) → AreWhole (raw_of c) → HaveFewPlaces (raw_of c)
+      → IsInRange (seen file) → Traces puts with_frames c file a e b
+      → (lines : List Line) × ClassShown with_frames (raw_of c) (seen file) lines × Puts puts a lines b × LastIs (end_line e) lines
+
+  -- Those of the classes of a text are what is shown of the text: one that the front accepts, in which no use of a local is lost
+  -- and no actor weighs too much.
   abbrev pub ProgramShown : Type 0
   ProgramShown =
-      (text : List ℕ) (program : Program) (c : RawClasses) (file : World0) (with_frames : Bool) (a b : A) (e : Ending) → IsSound text program
-      → first_heavy (program_of program).decls ≡ None → Has (program_of program) (raw_of c) → IsInRange (seen file)
-      → Traces puts with_frames c file a e b
+      (text : List ℕ) (program : Program) (c : RawClasses) (file : World0) (with_frames : Bool) (a b : A) (e : Ending)
+      → IsSound text program → first_heavy (program_of program).decls ≡ None → Has (program_of program) (raw_of c)
+      → IsInRange (seen file) → Traces puts with_frames c file a e b
       → (lines : List Line) × SourceShown with_frames (program_of program) (seen file) lines × Puts puts a lines b
+      × LastIs (end_line e) lines

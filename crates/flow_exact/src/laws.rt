@@ -1,10 +1,16 @@
-// Runs of programs.
+// Runs of classes and of programs.
 
-ghost use Rattle.flow_exact.specs.Exact.{ProgramShown};
+ghost use Rattle.flow_exact.specs.Exact.{ClassesShown, ProgramShown};
 
 use flow_trace::out::LineOut;
 
-/// The lines that a run in memory puts of a program's classes are what is shown of the program by its text.
+/// The lines that a run in memory puts of valid classes are what is shown of them by the definitions: the trace, and the frames
+/// and callbacks after each event where they are asked for.
+pub fn classes_shown<L: LineOut>()
+    ensures { ClassesShown L.puts }
+{}
+
+/// The lines that it puts of a program's classes are what is shown of the program by its text.
 pub fn programs_shown<L: LineOut>()
     ensures { ProgramShown L.puts }
 {}

@@ -1,9 +1,7 @@
 -- The trace of a run, and what is seen at the boundaries of its events where frames are asked for.
-use Rattle.std.specs.Prelude.{◌≡◌, ℕ, zero, suc, Bool, true, false, List, [], ◌∷◌, ◌++◌, map}
+use Rattle.std.specs.Prelude.{◌≡◌, ℕ, suc, Bool, true, false, List, [], ◌∷◌, ◌++◌, map}
 use Rattle.std.specs.List.{flat_map}
 use Rattle.std.specs.declared.option.Option.TheVariants.{None, Some}
-use Rattle.flow_base.specs.declared.ids.ActorId.{ActorId}
-use Rattle.flow_base.specs.declared.ids.CellId.{CellId}
 use Rattle.flow_base.specs.declared.ids.ProcId.{ProcId}
 use Rattle.flow_trace.specs.declared.line.Line.{Line}
 use Rattle.flow_trace.specs.declared.line.Line.TheVariants as line
@@ -13,8 +11,6 @@ use Rattle.flow_class.specs.Classes.{RawTree}
 use Rattle.flow_meaning.specs.Asks.{Spot}
 use Rattle.flow_meaning.specs.Burst.{Live, Burst}
 use Rattle.flow_meaning.specs.Class.{classes}
-use Rattle.flow_meaning.specs.Frame.{Frame}
-use Rattle.flow_meaning.specs.Items.{Actor}
 use Rattle.flow_meaning.specs.Numbered.{thing}
 use Rattle.flow_meaning.specs.Outside.{Outside, host}
 use Rattle.flow_meaning.specs.Process.{Entry, Proc, Engine, Spent}
@@ -30,11 +26,13 @@ module _ {A : Type 0} (e : Engine A) (spot : A → Spot) where
   -- an unfinished actor with the branches at which it waits
   abbrev pub actor_lines : ProcId → (actor : ℕ) → Entry → Spot → List Line
   actor_lines p i x s =
-      line.Frame p (record { 0 = i }) (e.label x.class) s.group ∷ map (branch_line p) (branches_from i s.first x.operands)
+      line.Frame p (record { 0 = i }) (e.label x.class) s.group
+      ∷ map (branch_line p) (branches_from i s.first x.operands)
 
   -- those of a process, by rising number, and those of processes by their numbers
   abbrev pub process_lines : ProcId → Proc A → List Line
-  process_lines p x = flat_map (λ a. actor_lines p a.0 a.1 (spot_at spot (thing x.actors a.0))) x.core.entries
+  process_lines p x =
+      flat_map (λ a. actor_lines p a.0 a.1 (spot_at spot (thing x.actors a.0))) x.core.entries
 
   abbrev pub places_lines : (first : ℕ) → List (Place A) → List Line
   places_lines n [] = []
@@ -47,13 +45,17 @@ module _ {A : Type 0} (e : Engine A) (spot : A → Spot) where
 
   -- The lines of a run from a world on; after each event, unless it is spent, those of what is seen then.
   pub data Shows (with_frames : Bool) : World A → List Line → Type 0 where
-    ends : {w : World A} (last : Line) → ending w.out (next_of w.out) ≡ Some last → Shows with_frames w (last ∷ [])
+    ends : {w : World A} (last : Line) → ending w.out (next_of w.out) ≡ Some last
+        → Shows with_frames w (last ∷ [])
     spent : {w : World A} (b : Begun A) (l : Live Outside A) → ending w.out (next_of w.out) ≡ None
-        → begun_by e w (next_of w.out) ≡ Some b → Burst e host (before b) l → l.proc.core.halted ≡ Some Spent
+        → begun_by e w (next_of w.out) ≡ Some b → Burst e host (before b) l
+        → l.proc.core.halted ≡ Some Spent
         → Shows with_frames w (lines_of b l ++ line.EndSpent ∷ [])
-    event : {w : World A} {lines : List Line} (b : Begun A) (l : Live Outside A) → ending w.out (next_of w.out) ≡ None
-        → begun_by e w (next_of w.out) ≡ Some b → Burst e host (before b) l → l.proc.core.halted ≡ None
-        → Shows with_frames (after w b l) lines → Shows with_frames w (lines_of b l ++ (seen_if with_frames (after w b l) ++ lines))
+    event : {w : World A} {lines : List Line} (b : Begun A) (l : Live Outside A)
+        → ending w.out (next_of w.out) ≡ None → begun_by e w (next_of w.out) ≡ Some b
+        → Burst e host (before b) l → l.proc.core.halted ≡ None
+        → Shows with_frames (after w b l) lines
+        → Shows with_frames w (lines_of b l ++ (seen_if with_frames (after w b l) ++ lines))
 
   pub record IsShown (with_frames : Bool) (w : file.World) (lines : List Line) : Type 0 where
     pub rest : List Line

@@ -1,4 +1,5 @@
--- What is shown of a program is what is shown of the classes that it is compiled to; without frames it is the trace.
+-- What is shown of a program is what is shown of the classes that it is compiled to; without frames it is
+-- the trace.
 use Rattle.std.specs.Prelude.{ℕ, Bool, false, List}
 use Rattle.flow_tree.specs.declared.decl.Program.{Program}
 use Rattle.flow_tree.specs.Decls.{ProgramTree}
@@ -13,18 +14,23 @@ use Rattle.flow_framed.specs.Framed.{SourceShown, ClassShown}
 
 -- without frames
 abbrev pub TraceShown : Type 0
-TraceShown = (p : ProgramTree) (w : file.World) (lines : List Line) → SourceShown false p w lines → SourceTrace p w lines
+TraceShown =
+    (p : ProgramTree) (w : file.World) (lines : List Line) → SourceShown false p w lines
+    → SourceTrace p w lines
 
 abbrev pub ClassTraceShown : Type 0
-ClassTraceShown = (r : RawTree) (w : file.World) (lines : List Line) → ClassShown false r w lines → ClassTrace r w lines
+ClassTraceShown =
+    (r : RawTree) (w : file.World) (lines : List Line) → ClassShown false r w lines → ClassTrace r w lines
 
 -- of each text that is a program, in which no rule K1 to K12 or L8 fails
 abbrev pub ShownReturned : Type 0
 ShownReturned =
     (text : List ℕ) (program : Program) (with_frames : Bool) (w : file.World) (lines : List Line)
-    → IsTyped text program → ClassShown with_frames (compiled (program_of program)) w lines → SourceShown with_frames (program_of program) w lines
+    → IsTyped text program → ClassShown with_frames (compiled (program_of program)) w lines
+    → SourceShown with_frames (program_of program) w lines
 
 abbrev pub ShownKept : Type 0
 ShownKept =
     (text : List ℕ) (program : Program) (with_frames : Bool) (w : file.World) (lines : List Line)
-    → IsTyped text program → SourceShown with_frames (program_of program) w lines → ClassShown with_frames (compiled (program_of program)) w lines
+    → IsTyped text program → SourceShown with_frames (program_of program) w lines
+    → ClassShown with_frames (compiled (program_of program)) w lines

@@ -8,8 +8,8 @@ pub fn traces_shown()
     ensures classes { ClassTraceShown }
 {}
 
-/// Of a program that the front accepts and the classes that it is compiled to the same is shown in every world, with frames
-/// and without.
+/// Of a program that the front accepts and the classes that it is compiled to the same is shown in every
+/// world, with frames and without.
 pub fn shown_alike()
     ensures kept { ShownKept }
     ensures returned { ShownReturned }

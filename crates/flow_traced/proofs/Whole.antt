@@ -1,5 +1,5 @@
 -- From events to a whole run.
-use Rattle.std.proofs.Common.{◌≡◌, false, List, [], ◌∷◌, ◌++◌, refl, sym, subst}
+use Rattle.std.proofs.Common.{◌≡◌, Bool, List, [], ◌∷◌, ◌++◌, refl, sym, ap, ◌∙◌, subst}
 use Rattle.std.specs.Prelude.{Result}
 use Rattle.std.proofs.lemmas.List.{append_assoc}
 use Rattle.flow_base.specs.declared.fault.OutFault.{OutFault}
@@ -13,7 +13,8 @@ use Rattle.flow_worldfile.specs.Worlds.{seen}
 use Rattle.flow_meaning.specs.Class.{classes}
 use Rattle.flow_meaning.specs.Frame.{Frame}
 use Rattle.flow_meaning.specs.Process.{Proc}
-use Rattle.flow_meaning.specs.Runs.{Runs, ends, spent, event, after, lines_of}
+use Rattle.flow_meaning.specs.Runs.{after, lines_of}
+use Rattle.flow_meaning.specs.Views.{frame_spot}
 use Rattle.flow_meaning.specs.World.{World, at_start}
 use Rattle.flow_steps.specs.declared.process.Process.{Process}
 use Rattle.flow_world.specs.Around.{Puts, no_line, more_lines}
@@ -27,97 +28,99 @@ use Rattle.flow_run.specs.declared.ending.Ending.{Ending}
 use Rattle.flow_run.specs.declared.ending.Ending.TheVariants.{Idle, Bound, Spent}
 use Rattle.flow_run.specs.Ends.{end_line}
 use Rattle.flow_run.specs.Tracing.{Goes, no_event, one_more, last_answer}
-use Rattle.flow_traced.specs.Traced.{EventsFollow, SpentFollows, KeepsOn, TraceFollows}
+use Rattle.flow_framed.specs.Framed.{seen_if, Shows, ends, spent, event}
+use Rattle.flow_traced.specs.Traced.{EventsFollow, SpentFollows, KeepsOn, FramesShown, TraceFollows}
 use Rattle.flow_traced.proofs.Codes.{code_stays}
 
-module _ (Rests : Process → Proc Frame → Type 0) (Keeps : World Frame → Type 0) (IsCode : Code → Type 0) {A : Type 0} (puts : A → Line → Result (Unit {0}) OutFault → A → Type 0) (r : RawTree) where
-  -- so many events ran: the world of the definitions that is shown then, and how a run from it is one from the first
+module _ (Rests : Process → Proc Frame → Type 0) (Keeps : World Frame → Type 0) (IsCode : Code → Type 0) {A : Type 0} (puts : A → Line → Result (Unit {0}) OutFault → A → Type 0) (r : RawTree) (with_frames : Bool) where
+  -- so many events ran: the world of the definitions that is shown then, and how what is shown from it on is shown from the first on
   record Went (m : World Frame) (a : A) (u : Seen) (b : A) : Type 0 where
     last : World Frame
     shows : WorldShows Rests u last
     keeps : Keeps last
     code : IsCode u.code
-    states : List (World Frame)
+    text : raw_of u.code.program ≡ r
     lines : List Line
     put : Puts puts a lines b
-    goes : (later : List (World Frame)) (rest : List Line) → Runs (classes r) last later rest → Runs (classes r) m (states ++ later) (lines ++ rest)
+    goes : (rest : List Line) → Shows (classes r) frame_spot with_frames last rest → Shows (classes r) frame_spot with_frames m (lines ++ rest)
 
-  same_place : {a b : A} → Puts puts a [] b → a ≡ b
-  same_place no_line = refl
-
-  went : EventsFollow Rests Keeps IsCode puts r → KeepsOn Rests Keeps IsCode r → (w u : Seen) (m : World Frame) (a b : A) → IsCode w.code → WorldShows Rests w m → Keeps m → Goes puts false w a u b → Went m a u b
-  went law on w _ m a _ code s k no_event = record {
+  went : EventsFollow Rests Keeps IsCode puts r → KeepsOn Rests Keeps IsCode r → FramesShown Rests Keeps IsCode with_frames r → (w u : Seen) (m : World Frame) (a b : A) → IsCode w.code → raw_of w.code.program ≡ r → WorldShows Rests w m → Keeps m → Goes puts with_frames w a u b → Went m a u b
+  went law on seen_law w _ m a _ code text s k no_event = record {
     last = m;
     shows = s;
     keeps = k;
     code = code;
-    states = [];
+    text = text;
     lines = [];
     put = no_line;
-    goes = λ later rest run. run;
+    goes = λ rest run. run;
   }
-  went law on w v m a d code s k (one_more {u = u} {b = b} {c = c} before does frames) =
-      let so_far = went law on w u m a b code s k before in
+  went law on seen_law w v m a d code text s k (one_more {u = u} {b = b} {c = c} before does frames) =
+      let so_far = went law on seen_law w u m a b code text s k before in
       let shown = law u v so_far.last b c so_far.code so_far.shows so_far.keeps does in
       let begun = shown.event.begun in
       let left = shown.event.left in
       let own = lines_of begun left in
       let next = after so_far.last begun left in
       let ongoing = (same_end Rests puts u v so_far.last b c so_far.shows).2 does in
+      let kept = on so_far.last begun left so_far.keeps shown.event.begins shown.event.follows shown.rests in
+      let stays = code_stays puts u v b c Rested does in
+      let same_text = ap (λ (x : Code). raw_of x.program) stays ∙ so_far.text in
+      let views = seen_if (classes r) frame_spot with_frames next in
+      let put_views = subst (λ ls. Puts puts c ls d) (seen_law v next same_text shown.shows kept) frames in
       record {
         last = next;
         shows = shown.shows;
-        keeps = on so_far.last begun left so_far.keeps shown.event.begins shown.event.follows shown.rests;
-        code = subst IsCode (sym (code_stays puts u v b c Rested does)) so_far.code;
-        states = so_far.states ++ next ∷ [];
-        lines = so_far.lines ++ own;
-        put = subst (λ z. Puts puts a (so_far.lines ++ own) z) (same_place frames) (puts_more puts a b c so_far.lines own so_far.put shown.event.lines);
-        goes = λ later rest run.
-            subst (λ ss. Runs (classes r) m ss ((so_far.lines ++ own) ++ rest)) (sym (append_assoc so_far.states (next ∷ []) later))
-            (subst (λ ls. Runs (classes r) m (so_far.states ++ next ∷ later) ls) (sym (append_assoc so_far.lines own rest))
-            (so_far.goes (next ∷ later) (own ++ rest) (event begun left ongoing shown.event.begins shown.event.follows shown.rests run)));
+        keeps = kept;
+        code = subst IsCode (sym stays) so_far.code;
+        text = same_text;
+        lines = so_far.lines ++ (own ++ views);
+        put = puts_more puts a b d so_far.lines (own ++ views) so_far.put (puts_more puts b c d own views shown.event.lines put_views);
+        goes = λ rest run.
+            subst (λ ls. Shows (classes r) frame_spot with_frames m ls) (sym (append_assoc so_far.lines (own ++ views) rest ∙ ap (λ ls. so_far.lines ++ ls) (append_assoc own views rest)))
+            (so_far.goes (own ++ (views ++ rest)) (event begun left ongoing shown.event.begins shown.event.follows shown.rests run));
       }
 
   -- the end of a run: the lines of its last event, if that was spent, and its last line
   record Ended (m : World Frame) (a : A) (e : Ending) (b : A) : Type 0 where
     own : List Line
     put : Puts puts a own b
-    runs : Runs (classes r) m [] (own ++ end_line e ∷ [])
+    shows : Shows (classes r) frame_spot with_frames m (own ++ end_line e ∷ [])
 
   ended : SpentFollows Rests Keeps IsCode puts r → (w v : Seen) (m : World Frame) (a b : A) (e : Ending) → IsCode w.code → WorldShows Rests w m → Keeps m → EventDoes puts (last_answer e) w a v b → Ended m a e b
   ended law w v m a b Idle code s k does = record {
     own = [];
     put = subst (λ z. Puts puts a [] z) (sym does.2) no_line;
-    runs = ends line.EndIdle ((same_end Rests puts w v m a b s).0 does);
+    shows = ends line.EndIdle ((same_end Rests puts w v m a b s).0 does);
   }
   ended law w v m a b Bound code s k does = record {
     own = [];
     put = subst (λ z. Puts puts a [] z) (sym does.3) no_line;
-    runs = ends line.EndBound ((same_end Rests puts w v m a b s).1 does);
+    shows = ends line.EndBound ((same_end Rests puts w v m a b s).1 does);
   }
   ended law w v m a b Spent code s k does =
       let shown = law w v m a b code s k does in
       record {
         own = lines_of shown.event.begun shown.event.left;
         put = shown.event.lines;
-        runs = spent shown.event.begun shown.event.left ((same_end Rests puts w v m a b s).3 does) shown.event.begins shown.event.follows shown.spent;
+        shows = spent shown.event.begun shown.event.left ((same_end Rests puts w v m a b s).3 does) shown.event.begins shown.event.follows shown.spent;
       }
 
 pub trace_follows :
     (Rests : Process → Proc Frame → Type 0) (Keeps : World Frame → Type 0) (IsCode : Code → Type 0) {A : Type 0} (puts : A → Line → Result (Unit {0}) OutFault → A → Type 0)
     → TraceFollows Rests Keeps IsCode puts
-trace_follows Rests Keeps IsCode {A} puts c file a b e fresh code keeps on events spent_law t =
+trace_follows Rests Keeps IsCode {A} puts with_frames c file a b e fresh code keeps on seen_law events spent_law t =
     let r = raw_of c in
     let first = start_shown Rests c file t.first fresh t.starts in
-    let so_far = went Rests Keeps IsCode puts r events on t.first t.goes.last (at_start (seen file)) t.headed t.goes.before (code t.first t.starts) first keeps t.goes.goes in
-    let over = ended Rests Keeps IsCode puts r spent_law t.goes.last t.left so_far.last t.goes.before t.before e so_far.code so_far.shows so_far.keeps t.goes.ends in
+    let so_far = went Rests Keeps IsCode puts r with_frames events on seen_law t.first t.goes.last (at_start (seen file)) t.headed t.goes.before (code t.first t.starts) (ap raw_of t.starts.program) first keeps t.goes.goes in
+    let over = ended Rests Keeps IsCode puts r with_frames spent_law t.goes.last t.left so_far.last t.goes.before t.before e so_far.code so_far.shows so_far.keeps t.goes.ends in
     let rest = so_far.lines ++ (over.own ++ end_line e ∷ []) in
-    let run = so_far.goes [] (over.own ++ end_line e ∷ []) over.runs in
     let put_rest : Puts puts t.headed rest b =
     puts_more puts t.headed t.goes.before b so_far.lines (over.own ++ end_line e ∷ []) so_far.put
     (puts_more puts t.goes.before t.before b over.own (end_line e ∷ []) over.put (puts_one puts t.before b (end_line e) t.ended))
     in (
       line.Head ∷ rest,
-      (at_start (seen file) ∷ (so_far.states ++ []), record { later = so_far.states ++ []; rest = rest; runs = run; from_start = refl; with_head = refl }),
+      record { rest = rest; shows = so_far.goes (over.own ++ end_line e ∷ []) over.shows; with_head = refl },
       more_lines t.head put_rest,
+      (line.Head ∷ (so_far.lines ++ over.own), ap (λ ls. line.Head ∷ ls) (sym (append_assoc so_far.lines over.own (end_line e ∷ [])))),
     )

@@ -24,8 +24,9 @@ pub trait Boundary {
 }
 
 /// Whatever is meant by a boundary: where each event in memory is the next event of the definitions,
-/// with its lines, the lines that are put of classes in a world, from the first to the last, are a
-/// trace of these classes in it.
+/// with its lines, and, if frames are asked for, those of a world in memory are those seen of the world
+/// that it shows, the lines that are put of classes in a world, from the first to the last, are what is
+/// shown of these classes in it; without frames, a trace of them.
 pub fn trace_follows<B: Boundary, L: LineOut>()
     ensures { TraceFollows B.rests B.keeps B.is_code L.puts }
 {}

@@ -1,5 +1,5 @@
 -- Some class text derives the classes of a program that the front accepts and that isn't too heavy.
-use Rattle.std.proofs.Common.{◌≡◌, ℕ, suc, ◌^◌, ◌≤◌, nat_lt, Bool, true, false, List, [], ◌∷◌, length, map, slice_get, if◌then◌else◌, refl, ap, sym, ◌∙◌, arith, length-append}
+use Rattle.std.proofs.Common.{◌≡◌, ℕ, zero, suc, ◌+◌, ◌^◌, ◌≤◌, nat_lt, Bool, true, false, List, [], ◌∷◌, length, map, slice_get, if◌then◌else◌, refl, ap, subst, sym, ◌∙◌, arith, length-append}
 use Rattle.std.specs.List.{AllByRecursion}
 use Rattle.std.proofs.lemmas.Bool.Decides.{nat_tests}
 use Rattle.std.proofs.lemmas.List.{length-map}
@@ -34,7 +34,7 @@ use Rattle.flow_faithful.proofs.Grammar.{slots_count}
 use Rattle.flow_faithful.proofs.Whole.{EachActor, Formed, decls_formed, program_decls, as_many}
 use Rattle.flow_lawful.proofs.Filled.{all_valid}
 use Rattle.flow_classprint.specs.ClassGrammar.{IsWritten}
-use Rattle.flow_written.specs.Laws.{AreLight}
+use Rattle.flow_written.specs.Laws.{AreLight, CompilesFew}
 use Rattle.flow_written.proofs.Writable.{ClassWritable}
 use Rattle.flow_written.proofs.Texts.{text_written}
 use Rattle.flow_written.proofs.Lexed.{program_fine}
@@ -151,6 +151,25 @@ module _ (r : RawTree) (ns : Names) (n : ℕ) (le : n ≤ TOKENS) (sized : AllSi
       let t = named_and_typed r c k.0 in
       (class_writable r c (class_few ns a n le f.0 l.0) sized t.0 t.1 (class_said ns a n le f.0 h.0), classes_writable ds h.1 f.1 l.1 k.1)
 
+-- the few places of a class
+places_few : (ns : Names) (a : RoutineTree) (n : ℕ) → n ≤ TOKENS → Formed n a → let c = class_in ns a in length c.slots + length c.locals ≤ 2 ^ 32
+places_few ns a n le formed =
+    omega (arith, formed.few, le, length-append (map param_slot a.params) (body_slots a.body), length-map a.params param_slot, slots_count a.body, locals_count a.body)
+
+classes_few : (ns : Names) (n : ℕ) → n ≤ TOKENS → (ds : List DeclTree) → EachActor (Formed n) ds → (k : ℕ) (c : ClassTree)
+    → slice_get (map (class_in ns) (actors_in ds)) k ≡ Some c → length c.slots + length c.locals ≤ 2 ^ 32
+classes_few ns n le [] f k c e = absurd (some_none (sym e))
+classes_few ns n le (StructDecl q ∷ ds) f k c e = classes_few ns n le ds f k c e
+classes_few ns n le (FunctionDecl q ∷ ds) f k c e = classes_few ns n le ds f k c e
+classes_few ns n le (ActorDecl a ∷ ds) f zero c e = subst (λ (x : ClassTree). length x.slots + length x.locals ≤ 2 ^ 32) (same e) (places_few ns a n le f.0)
+  where
+    same : {X : Type 0} {x y : X} → Some x ≡ Some y → x ≡ y
+    same h = cc
+classes_few ns n le (ActorDecl a ∷ ds) f (suc k) c e = classes_few ns n le ds f.1 k c e
+
+few_tokens : (m n : ℕ) → m ≡ n → n ≤ TOKENS → m ≤ TOKENS
+few_tokens m n e le = omega (arith, e, le)
+
 pub compiled_written : (text : List ℕ) (program : Program) → IsSound text program → AreLight program → IsWritten (compiled (program_of program))
 compiled_written text program sound light =
     let t = program_of program in
@@ -166,6 +185,11 @@ compiled_written text program sound light =
       functions = functions_written t.decls said;
       classes = classes_writable r (names_of t) (length d.marked) few (classes_sized r valid.declarations) t.decls said (decls_formed decls) (all_light t.decls light) kept;
     })
-  where
-    few_tokens : (m n : ℕ) → m ≡ n → n ≤ TOKENS → m ≤ TOKENS
-    few_tokens m n e le = omega (arith, e, le)
+
+pub compiled_few : CompilesFew
+compiled_few text program sound light =
+    let t = program_of program in
+    let d = sound.typed.read.parsed.1 in
+    let decls = program_decls _ d.marked t d.rule in
+    let few : length d.marked ≤ TOKENS = few_tokens (length d.marked) _ (sym (as_many d.marked) ∙ ap length d.is) sound.typed.read.parsed.0 in
+    classes_few (names_of t) (length d.marked) few t.decls (decls_formed decls)

@@ -1,0 +1,4 @@
+mod Traces
+mod Alike
+mod Carried
+mod Example

@@ -1,0 +1,13 @@
+use Rattle.flow_views.proofs.Worlds.{frames_follow}
+use Rattle.flow_views.proofs.Told.{world_told}
+use Rattle.flow_views.proofs.Traced.{frames_traced}
+use Rattle.flow_views.proofs.laws.frames_traced.Goals as goal
+
+pub returns-clause-frames : goal.returns-clause-frames
+returns-clause-frames g c = λ r. frames_follow g.B.Boundary.rests g.B.Boundary.keeps g.B.Boundary.is_code r
+
+pub returns-clause-traces : goal.returns-clause-traces
+returns-clause-traces g c = frames_traced g.B.Boundary.rests g.B.Boundary.keeps g.B.Boundary.is_code g.L.LineOut.puts
+
+pub returns-clause-told : goal.returns-clause-told
+returns-clause-told g c = λ r. world_told g.B.Boundary.rests r
