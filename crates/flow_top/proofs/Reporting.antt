@@ -31,10 +31,10 @@ pub rose_after : (a b c : ℕ) → a ≤ b → Rose b c → Rose a c
 rose_after a b c le r = omega arith
 
 -- a run came to its end
-pub came_to_end : (r : ProgramRun) (before between after : SinkSeen) (ending : Ending) → MayRun r → Traces put_bytes r.frames r.classes r.world before.written ending between.written
-    → after.written ≡ between.written → after.handed ≡ after.written → ReportedRun r before after (ending_status ending)
-came_to_end r before between after ending may traces same handed =
-    let shown = program_shown put_bytes may.text r.program.value r.classes r.world r.frames before.written between.written ending may.sound may.light may.has may.in_range traces in
+pub came_to_end : (r : ProgramRun) (before after : SinkSeen) (between : Option (List ℕ)) (ending : Ending) → MayRun r → Traces put_bytes r.frames r.classes r.world before.written ending between
+    → after.written ≡ between → after.handed ≡ after.written → ReportedRun r before after (ending_status ending)
+came_to_end r before after between ending may traces same handed =
+    let shown = program_shown put_bytes may.text r.program.value r.classes r.world r.frames before.written between ending may.sound may.light may.has may.in_range traces in
     let bytes = subst (λ w. Appends before.written w (bytes_of shown.0)) (sym same) (bytes_put _ _ shown.0 shown.2) in
     ended ending shown.0 (record { shown = shown.1; last = shown.3 }) bytes handed
 
