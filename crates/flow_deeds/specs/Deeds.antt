@@ -35,7 +35,7 @@ use Rattle.flow_events.specs.Showing.{PlaceShows}
 use Rattle.flow_allowed.specs.Tasking.{IsProgram}
 use Rattle.flow_follows.specs.Working.{Sendable}
 use Rattle.flow_kept.specs.Kept.{Kept}
-use Rattle.flow_boundaries.specs.Bringing.{Resting}
+use Rattle.flow_deeds.specs.Settling.{Settled}
 
 -- a process of the definitions once a deed was done to it
 abbrev pub done_to : RawTree → (process : ℕ) → Deed → meaning.Place Frame → meaning.Place Frame
@@ -66,20 +66,21 @@ pub record StaysIn (before after : Outside) : Type 0 where
 
 module _ (r : RawTree) (turns : ℕ) (p : ProcId) (d : Deed) (x : meaning.Place Frame) (o : Outside) where
   -- Before a deed: a process in memory rests, and shows the process of the event in its world, which keeps what it has to
-  -- when the deed is done; and programs tell the time.
+  -- before the deed and when it is done; and programs tell the time.
   pub record Ready (at : Place) (m : Surroundings) : Type 0 where
-    pub shows : PlaceShows (Resting r) o.file.processes p.0 at x
+    pub shows : PlaceShows (Settled r) o.file.processes p.0 at x
     pub outside : OutsideShows m o
     pub active : p.0 ≡ o.active
     pub clock : program_time m.time ≡ pos m.time
     pub may : MayBeDone d x.proc
+    pub held : Kept r (with_core x (begin turns)).proc
     pub kept : let begun = (done_in r turns p.0 d x).proc in UnlessStopped begun.core.halted (Kept r begun)
 
   -- After it: memory rests and shows the process and the world after the burst; or the event is spent.
   abbrev pub EndsAs : burst_end.Burst → Place → Surroundings → Live Outside Frame → Type 0
   EndsAs burst.Rested left n l =
       (l.proc.core.halted ≡ None)
-      × PlaceShows (Resting r) o.file.processes p.0 left (record { up = (done_in r turns p.0 d x).up; proc = l.proc })
+      × PlaceShows (Settled r) o.file.processes p.0 left (record { up = (done_in r turns p.0 d x).up; proc = l.proc })
       × OutsideShows n l.out
   EndsAs burst.Spent left n l = l.proc.core.halted ≡ Some Spent
 
