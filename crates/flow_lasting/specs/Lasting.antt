@@ -1,32 +1,18 @@
--- What a world keeps from event to event so that processes in memory can follow it: times that programs can tell, and streams of
--- ports that take more elements.
+-- What a world keeps from event to event so that processes in memory can follow it: besides, times that programs can tell.
 use Rattle.std.specs.Prelude.{◌≡◌, ℕ, ◌+◌, ◌*◌, ◌^◌, ◌≤◌}
 use Rattle.std.specs.List.{AllByRecursion}
-use Rattle.std.specs.declared.option.Option.{Option}
 use Rattle.std.specs.declared.option.Option.TheVariants.{None, Some}
 use Rattle.flow_timers.specs.Pending.{Pending}
 use Rattle.flow_worldfile.specs.Worlds as file
 use Rattle.flow_worldfile.specs.declared.directive.Order.{Order}
 use Rattle.flow_class.specs.Classes.{RawTree}
-use Rattle.flow_meaning.specs.Numbered.{thing}
 use Rattle.flow_meaning.specs.Burst.{Live, Burst}
-use Rattle.flow_meaning.specs.Cells.{Cell, Single, Stream}
 use Rattle.flow_meaning.specs.Class.{classes}
 use Rattle.flow_meaning.specs.Frame.{Frame}
 use Rattle.flow_meaning.specs.Outside.{What, Outside, host}
-use Rattle.flow_meaning.specs.Process.{Core}
 use Rattle.flow_meaning.specs.Runs.{before, after}
-use Rattle.flow_meaning.specs.World.{Place, World, Begun, next_of, begun_by, at_start}
+use Rattle.flow_meaning.specs.World.{World, Begun, next_of, begun_by, at_start}
 use Rattle.flow_boundaries.specs.Boundaries.{WorldKeeps}
-
--- a stream without an end
-abbrev pub IsOpen : Option Cell → Type 0
-IsOpen (Some (Stream queue None w)) = Unit {0}
-IsOpen _ = ⊥
-
--- the stream of each port is one
-abbrev pub PortsOpen : Core → Type 0
-PortsOpen c = (port k : ℕ) → thing c.ports port ≡ Some k → IsOpen (thing c.cells k)
 
 -- the latest time of a pending event once so many events have run, in ticks: timers and lines of the script come by 2^62, and
 -- the delays of packets and disks are below a thousand million
@@ -48,7 +34,6 @@ pub record InTime (o : Outside) : Type 0 where
 pub record Lasting (r : RawTree) (w : World Frame) : Type 0 where
   pub keeps : WorldKeeps r w
   pub times : InTime w.out
-  pub ports : AllByRecursion (λ (a : Place Frame). PortsOpen a.proc.core) w.places
 
 -- So it is in the world of a file in range before its first event, and after each event.
 abbrev pub LastingStarts : RawTree → Type 0
