@@ -18,7 +18,7 @@ use Rattle.flow_meaning.specs.Outside.{Outside, host}
 use Rattle.flow_meaning.specs.Process.{Proc, Spent}
 use Rattle.flow_meaning.specs.World as meaning
 use Rattle.flow_meaning.specs.World.{booted, with_core}
-use Rattle.flow_picture.specs.Holds.{AllThere}
+use Rattle.flow_picture.specs.Holds.{There, AllThere}
 use Rattle.flow_picture.specs.Rested.{has}
 use Rattle.flow_steps.specs.Holding.{outcome_refs}
 use Rattle.flow_steps.specs.Sights.{program_time}
@@ -49,12 +49,12 @@ abbrev pub done_in : RawTree → (turns process : ℕ) → Deed → meaning.Plac
 done_in r turns n d at = done_to r n d (with_core at (begin turns))
 
 -- What a deed asks of the process: it boots where it doesn't hold its `main`; what a timer or a disk answers is an open
--- request of it; and to what something comes, more may come.
+-- request of it, whose result is unset; an element comes to a stream; and what comes refers to what is there.
 abbrev pub MayBeDone : Deed → Proc Frame → Type 0
 MayBeDone Boots p = p.core.main ≡ None
 MayBeDone Stops p = Unit {0}
 MayBeDone (Delivers k o) p = (has k.0 p.core.requests ≡ true) × Sendable p kind.Promise k.0 × AllThere p (outcome_refs o)
-MayBeDone (Brings k v) p = Sendable p kind.PromiseStream k.0 × AllThere p (outcome_refs (outcome.Value v))
+MayBeDone (Brings k v) p = There p (kind.PromiseStream, k.0) × AllThere p (outcome_refs (outcome.Value v))
 
 -- a burst leaves what the file says, the time, the event and its process, and the script
 pub record StaysIn (before after : Outside) : Type 0 where

@@ -13,7 +13,7 @@ use Rattle.flow_trace.specs.declared.line.Line.TheVariants as line
 use Rattle.flow_value.specs.declared.value.Kind.TheVariants as kind
 use Rattle.flow_value.specs.declared.value.Value.TheVariants.{Void}
 use Rattle.flow_value.specs.declared.value.Outcome.TheVariants as outcome
-use Rattle.flow_value.specs.Values.{ValueTree, OutcomeTree}
+use Rattle.flow_value.specs.Values.{ValueTree, OutcomeTree, GoodOutcome}
 use Rattle.flow_value.specs.View.{value_of, outcome_of}
 use Rattle.flow_timers.specs.Pending.{Pending}
 use Rattle.flow_simnet.specs.declared.packet.Letter.{Letter}
@@ -255,7 +255,7 @@ module _ (r : RawTree) {A : Type 0} (puts : A → Line → Result (Unit {0}) Out
           subst (λ (z : ValueTree). GoesOn (of_value z) → Follows r puts m (of_value z) a e (ends e v) b) t.1
           (λ kept. runs r puts m went o p (line.Arrival o.ran o.time (process_id o.active) n ∷ []) a g.program g.deed going g.active g.clock g.held (Brings k t.0) c b e v (λ k. refl)
           (puts_one puts a c (line.Arrival o.ran o.time (process_id o.active) n) (arrival c told))
-          (can k refl, subst (AllThere (place_of m.places p.0).proc) (ap (λ z. refs_in z) (sym t.1)) tt) kept t.2)
+          (can k refl, subst (AllThere (place_of m.places p.0).proc) (ap (λ z. refs_in (value_in (GoodOutcome z))) (sym t.1)) tt) kept t.2)
           kept
         where
           of_value : ValueTree → Begun Frame

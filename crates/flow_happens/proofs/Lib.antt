@@ -2,4 +2,6 @@ pub mod Placing
 pub mod Acting
 pub mod Beginning
 pub mod Kinds
-pub mod Whole
+pub mod Lines
+pub mod Events
+pub mod Joined

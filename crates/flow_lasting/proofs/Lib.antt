@@ -1,0 +1,3 @@
+pub mod Timely
+pub mod Mid
+pub mod Lasting
