@@ -64,7 +64,7 @@ module _ (r : RawTree) where
     pub ends : AfterAs e m g v left
 
   -- the process in memory at a number
-  shown_at : (m : World Frame) (u : Seen) (o : Outside) (p : ProcId) (at : memory.Place) → Going m u o → slice_get u.places p.0 ≡ Some at
+  pub shown_at : (m : World Frame) (u : Seen) (o : Outside) (p : ProcId) (at : memory.Place) → Going m u o → slice_get u.places p.0 ≡ Some at
       → PlaceShows (Settled r) o.file.processes p.0 at (place_of m.places p.0)
   shown_at m u o p at s there =
       let here : 0 + p.0 ≡ p.0 = omega arith in
@@ -73,7 +73,7 @@ module _ (r : RawTree) where
       (place_at (Settled r) m.out.file.processes 0 p.0 u.places m.places at s.places there))
 
   -- another process at the number, and what else there is
-  shown_after :
+  pub shown_after :
       (m : World Frame) (u : Seen) (o : Outside) (p : ProcId) (place : memory.Place) (outside : Surroundings) (x : Place Frame) (l : Outside) → Going m u o
       → PlaceShows (Settled r) o.file.processes p.0 place x → OutsideShows outside l → l.file ≡ o.file → l.ran ≡ o.ran → l.script ≡ o.script → l.active ≡ p.0
       → WorldShows (Settled r) (record (with_outside outside (with_place p place u)) { ended = false }) (record { places = slice_set m.places l.active x; out = l })

@@ -45,7 +45,7 @@ use Rattle.flow_lasting.proofs.Mid.{next_early}
 use Rattle.flow_happens.proofs.Placing.{place_of, Found, place_found}
 use Rattle.flow_happens.proofs.Acting.{Going, Follows}
 use Rattle.flow_happens.proofs.Beginning.{event_begins}
-use Rattle.flow_happens.proofs.Kinds.{GoesOn, Begins, boot_follows, timer_follows, answer_follows, packet_follows}
+use Rattle.flow_happens.proofs.Doing.{GoesOn, Begins, boot_follows, timer_follows, answer_follows, packet_follows}
 use Rattle.flow_happens.proofs.Lines.{Event, LossFollows, event_is, tells, goes_on}
 
 -- the stream of a port is there
@@ -157,18 +157,18 @@ module _ (r : RawTree) {A : Type 0} (puts : A → Line → Result (Unit {0}) Out
           clock = subst (λ z. program_time z ≡ pos z) same_time (tells r puts w v m a b e program s lasting h deed still loss x.time early);
         }
 
-        as : (z : meaning.What) → x.what ≡ z → Coming u left (timed x.time x.number z)
-        as z q = subst (λ y. Coming u left (timed x.time x.number y)) q coming_now
+        coming_as : (z : meaning.What) → x.what ≡ z → Coming u left (timed x.time x.number z)
+        coming_as z q = subst (λ y. Coming u left (timed x.time x.number y)) q coming_now
 
         by_letter : (p : ProcId) (k : ℕ) (o : Option Letter) → letter_at w.outside.net.on_way k ≡ o → n.first.what ≡ what.Arrives p k → Happened puts (what.Arrives p k) u a e h.left b
             → ArrivalShows p.0 k o x.what → Event r puts e m a v b
         by_letter p k None q is d shown = elim shown [ ]
         by_letter p k (Some l) q is d shown =
             let once = subst (λ es. coming k es ≤ 1) n.are (s.outside.packets k).0 in
-            by_packet u left x.time x.number p k l q (none_other k p n.first n.rest is once) (as _ shown.1) d
+            by_packet u left x.time x.number p k l q (none_other k p n.first n.rest is once) (coming_as _ shown.1) d
 
         by_what : (y : What) → n.first.what ≡ y → Happened puts y u a e h.left b → WhatShows w.outside.net.on_way y x.what → Event r puts e m a v b
-        by_what (what.Boots p) is d shown = by_boot u left x.time x.number p (as _ shown) d
-        by_what (what.Rings p k) is d shown = by_timer u left x.time x.number p k (as _ shown) d
-        by_what (what.Answers p k asked) is d shown = by_answer u left x.time x.number p k asked (as _ shown) d
+        by_what (what.Boots p) is d shown = by_boot u left x.time x.number p (coming_as _ shown) d
+        by_what (what.Rings p k) is d shown = by_timer u left x.time x.number p k (coming_as _ shown) d
+        by_what (what.Answers p k asked) is d shown = by_answer u left x.time x.number p k asked (coming_as _ shown) d
         by_what (what.Arrives p k) is d shown = by_letter p k (letter_at w.outside.net.on_way k) refl is d shown

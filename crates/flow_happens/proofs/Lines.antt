@@ -35,7 +35,7 @@ use Rattle.flow_lasting.specs.Lasting.{Lasting}
 use Rattle.flow_lasting.proofs.Mid.{next_early, clock_tells}
 use Rattle.flow_happens.proofs.Acting.{Going, Follows}
 use Rattle.flow_happens.proofs.Beginning.{line_begins}
-use Rattle.flow_happens.proofs.Kinds.{GoesOn, Begins, boot_follows, stop_follows}
+use Rattle.flow_happens.proofs.Doing.{GoesOn, Begins, boot_follows, stop_follows}
 
 module _ (r : RawTree) {A : Type 0} (puts : A → Line → Result (Unit {0}) OutFault → A → Type 0) where
   -- the next event of the definitions, as it ends

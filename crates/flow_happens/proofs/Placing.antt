@@ -25,6 +25,11 @@ set_same (y ∷ ys) zero x e = ap (λ z. z ∷ ys) (same (sym e))
     same g = cc
 set_same (y ∷ ys) (suc i) x e = ap (λ zs. y ∷ zs) (set_same ys i x e)
 
+-- a process in memory by its number
+pub record Found (ats : List memory.Place) (i : ℕ) : Type 0 where
+  pub at : memory.Place
+  pub there : slice_get ats i ≡ Some at
+
 module _ (Rests : Process → Proc Frame → Type 0) (n : ℕ) where
   pub place_at : (k i : ℕ) (ats : List memory.Place) (xs : List (Place Frame)) (at : memory.Place) → PlacesShow Rests n k ats xs → slice_get ats i ≡ Some at
       → PlaceShows Rests n (k + i) at (place_of xs i)
@@ -51,10 +56,6 @@ module _ (Rests : Process → Proc Frame → Type 0) (n : ℕ) where
       let there : k + suc i ≡ suc k + i = omega arith in (s.0, place_put (suc k) i ats xs at x s.1 (subst (λ j. PlaceShows Rests n j at x) there h))
 
   -- a number of the definitions is one of memory
-  pub record Found (ats : List memory.Place) (i : ℕ) : Type 0 where
-    pub at : memory.Place
-    pub there : slice_get ats i ≡ Some at
-
   pub place_found : (k i : ℕ) (ats : List memory.Place) (xs : List (Place Frame)) → PlacesShow Rests n k ats xs → i < length xs → Found ats i
   place_found k i [] [] s l = absurd (omega (arith, l))
   place_found k i [] (x ∷ xs) s l = elim s [ ]

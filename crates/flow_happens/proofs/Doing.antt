@@ -11,10 +11,12 @@ use Rattle.flow_base.specs.declared.fault.OutFault.{OutFault}
 use Rattle.flow_trace.specs.declared.line.Line.{Line}
 use Rattle.flow_trace.specs.declared.line.Line.TheVariants as line
 use Rattle.flow_value.specs.declared.value.Kind.TheVariants as kind
-use Rattle.flow_value.specs.declared.value.Value.TheVariants.{Void}
+use Rattle.flow_value.specs.declared.value.Value.TheVariants.{Void, rolls-Void}
+use Rattle.flow_value.specs.declared.value.Value.TheFolds.{fold-roll-Value}
+use Rattle.flow_value.specs.declared.value.Value.TheOpen as layer
 use Rattle.flow_value.specs.declared.value.Outcome.TheVariants as outcome
-use Rattle.flow_value.specs.Values.{ValueTree, OutcomeTree, GoodOutcome}
-use Rattle.flow_value.specs.View.{value_of, outcome_of}
+use Rattle.flow_value.specs.Values.{ValueTree, VoidValue, OutcomeTree, GoodOutcome}
+use Rattle.flow_value.specs.View.{value_of, value_step, outcome_of}
 use Rattle.flow_timers.specs.Pending.{Pending}
 use Rattle.flow_simnet.specs.declared.packet.Letter.{Letter}
 use Rattle.flow_simnet.specs.Links.{numbered}
@@ -89,6 +91,10 @@ answers_plain Done = refl
 answers_plain (Size n) = refl
 answers_plain Failed = refl
 
+-- nothing is seen as itself
+void_seen : value_of Void ≡ VoidValue
+void_seen = ap value_of (sym rolls-Void) ∙ fold-roll-Value ValueTree value_step layer.Void
+
 -- the packet of a number, that no pending event brings, is taken off
 pub letter_taken : (m : Surroundings) (o : Outside) (n : ℕ) → coming n m.timers.pending ≡ 0 → OutsideShows m o
     → OutsideShows (record m { net = record m.net { on_way = remove_entry (is_at (nat_cmp n)) m.net.on_way } }) o
@@ -147,11 +153,16 @@ module _ (r : RawTree) {A : Type 0} (puts : A → Line → Result (Unit {0}) Out
 
     -- a timer answers
     pub timer_follows : (k : CellId) → has k.0 (place_of m.places p.0).proc.core.requests ≡ true → Sendable (place_of m.places p.0).proc kind.Promise k.0
-        → (let x : Begun Frame = alone (line.Timer o.ran o.time (process_id p.0) (record { 0 = k.0 })) (with_core (ready m p.0) (deliver k.0 (outcome_of (outcome.Value Void)))) o in
+        → (let x : Begun Frame = alone (line.Timer o.ran o.time (process_id p.0) (record { 0 = k.0 })) (with_core (ready m p.0) (deliver k.0 (GoodOutcome VoidValue))) o in
         GoesOn x → Told puts (line.Timer u.ran u.outside.time p k) (λ c. Runs puts p (Delivers k (outcome.Value Void)) u c e v b) a → Follows r puts m x a e (ends e v) b)
     timer_follows k requested can kept t =
-        runs r puts m u o p (line.Timer o.ran o.time p k ∷ []) a g.program g.deed g.going g.active g.clock g.held (Delivers k (outcome.Value Void)) t.between b e v (λ k. refl)
-        (line_put (λ n i. line.Timer n i p k) t.between t.told) (requested, can, tt) kept t.rest
+        subst (λ (z : ValueTree). GoesOn (of_value z) → Follows r puts m (of_value z) a e (ends e v) b) void_seen
+        (λ kept. runs r puts m u o p (line.Timer o.ran o.time p k ∷ []) a g.program g.deed g.going g.active g.clock g.held (Delivers k (outcome.Value Void)) t.between b e v (λ k. refl)
+        (line_put (λ n i. line.Timer n i p k) t.between t.told) (requested, can, subst (AllThere (place_of m.places p.0).proc) (ap (λ z. refs_in (value_in (GoodOutcome z))) (sym void_seen)) tt) kept t.rest)
+        kept
+      where
+        abbrev of_value : ValueTree → Begun Frame
+        of_value z = alone (line.Timer o.ran o.time p k) (with_core (ready m p.0) (deliver k.0 (GoodOutcome z))) o
 
   -- what a disk of a process serves shows
   serves : (m : World Frame) (u : Seen) (o : Outside) (p : ProcId) (g : Begins m u o p) (n : Surroundings) (d : Disk) → n.time ≡ u.outside.time → OutsideShows n (with_disk o p.0 d)
@@ -199,10 +210,10 @@ module _ (r : RawTree) {A : Type 0} (puts : A → Line → Result (Unit {0}) Out
         then_begun : Begins m now (with_disk o o.active gives.0) p
         then_begun = serves m u o p g t.served gives.0 same shown.1
 
-        of_reply : DiskReply → Begun Frame
+        abbrev of_reply : DiskReply → Begun Frame
         of_reply z = alone (disk_line (call_of asked) z o k.0) (with_core (ready m p.0) (deliver k.0 (disk_outcome z))) (with_disk o o.active gives.0)
 
-        of_outcome : OutcomeTree → Begun Frame
+        abbrev of_outcome : OutcomeTree → Begun Frame
         of_outcome z = alone (disk_line (call_of asked) t.reply o k.0) (with_core (ready m p.0) (deliver k.0 z)) (with_disk o o.active gives.0)
 
         line_is : answer_line asked t.reply u.ran u.outside.time p k ≡ disk_line (call_of asked) t.reply o k.0
@@ -228,7 +239,7 @@ module _ (r : RawTree) {A : Type 0} (puts : A → Line → Result (Unit {0}) Out
 
     -- a packet comes: to a stream that is heard, or it is discarded
     module _ (n : ℕ) (l : Letter) (shown : OutsideShows (arrived n u).outside o) where
-      went : Seen
+      abbrev went : Seen
       went = arrived n u
 
       going : Going r m went o
@@ -258,7 +269,7 @@ module _ (r : RawTree) {A : Type 0} (puts : A → Line → Result (Unit {0}) Out
           (can k refl, subst (AllThere (place_of m.places p.0).proc) (ap (λ z. refs_in (value_in (GoodOutcome z))) (sym t.1)) tt) kept t.2)
           kept
         where
-          of_value : ValueTree → Begun Frame
+          abbrev of_value : ValueTree → Begun Frame
           of_value z = alone (line.Arrival o.ran o.time (process_id o.active) n) (with_core (ready m p.0) (arrive k.0 z)) o
 
     pub packet_follows : (n : ℕ) (l : Letter) → letter_at u.outside.net.on_way n ≡ Some l → coming n u.outside.timers.pending ≡ 0 → Found u.places p.0
