@@ -161,7 +161,7 @@ module _ (r : RawTree) {A : Type 0} (puts : A → Line → Result (Unit {0}) Out
         (line_put (λ n i. line.Timer n i p k) t.between t.told) (requested, can, subst (AllThere (place_of m.places p.0).proc) (ap (λ z. refs_in (value_in (GoodOutcome z))) (sym void_seen)) tt) kept t.rest)
         kept
       where
-        abbrev of_value : ValueTree → Begun Frame
+        of_value : ValueTree → Begun Frame
         of_value z = alone (line.Timer o.ran o.time p k) (with_core (ready m p.0) (deliver k.0 (GoodOutcome z))) o
 
   -- what a disk of a process serves shows
@@ -210,10 +210,10 @@ module _ (r : RawTree) {A : Type 0} (puts : A → Line → Result (Unit {0}) Out
         then_begun : Begins m now (with_disk o o.active gives.0) p
         then_begun = serves m u o p g t.served gives.0 same shown.1
 
-        abbrev of_reply : DiskReply → Begun Frame
+        of_reply : DiskReply → Begun Frame
         of_reply z = alone (disk_line (call_of asked) z o k.0) (with_core (ready m p.0) (deliver k.0 (disk_outcome z))) (with_disk o o.active gives.0)
 
-        abbrev of_outcome : OutcomeTree → Begun Frame
+        of_outcome : OutcomeTree → Begun Frame
         of_outcome z = alone (disk_line (call_of asked) t.reply o k.0) (with_core (ready m p.0) (deliver k.0 z)) (with_disk o o.active gives.0)
 
         line_is : answer_line asked t.reply u.ran u.outside.time p k ≡ disk_line (call_of asked) t.reply o k.0
@@ -269,7 +269,7 @@ module _ (r : RawTree) {A : Type 0} (puts : A → Line → Result (Unit {0}) Out
           (can k refl, subst (AllThere (place_of m.places p.0).proc) (ap (λ z. refs_in (value_in (GoodOutcome z))) (sym t.1)) tt) kept t.2)
           kept
         where
-          abbrev of_value : ValueTree → Begun Frame
+          of_value : ValueTree → Begun Frame
           of_value z = alone (line.Arrival o.ran o.time (process_id o.active) n) (with_core (ready m p.0) (arrive k.0 z)) o
 
     pub packet_follows : (n : ℕ) (l : Letter) → letter_at u.outside.net.on_way n ≡ Some l → coming n u.outside.timers.pending ≡ 0 → Found u.places p.0

@@ -1,12 +1,15 @@
 -- A pending event that comes next is the next event of the definitions.
 use Rattle.std.proofs.Common.{◌≡◌, ℕ, suc, ◌+◌, ◌<◌, ◌≤◌, nat_eq, pos, true, List, [], ◌∷◌, Option, Some, None, length, refl, sym, ap, ◌∙◌, subst, arith, if◌then◌else◌}
-use Rattle.std.specs.Prelude.{Result}
+use Rattle.std.specs.Prelude.{Result, codes}
+use Rattle.flow_base.specs.declared.ids.CellId.{CellId}
 use Rattle.flow_base.specs.declared.ids.ProcId.{ProcId}
 use Rattle.flow_base.specs.declared.fault.OutFault.{OutFault}
 use Rattle.flow_trace.specs.declared.line.Line.{Line}
 use Rattle.flow_timers.specs.Pending.{Pending}
 use Rattle.flow_value.specs.declared.value.Kind.TheVariants as kind
 use Rattle.flow_simnet.specs.declared.packet.Letter.{Letter}
+use Rattle.flow_simdisk.specs.declared.ask.DiskAsk.{DiskAsk}
+use Rattle.flow_tree.specs.Tree.{TypeTree, NamedType, FutureType, FutureStreamType}
 use Rattle.flow_class.specs.Classes.{RawTree}
 use Rattle.flow_meaning.specs.Cells.{Cell, Single, Stream}
 use Rattle.flow_meaning.specs.Class.{classes}
@@ -48,13 +51,20 @@ use Rattle.flow_happens.proofs.Beginning.{event_begins}
 use Rattle.flow_happens.proofs.Doing.{GoesOn, Begins, boot_follows, timer_follows, answer_follows, packet_follows}
 use Rattle.flow_happens.proofs.Lines.{Event, LossFollows, event_is, tells, goes_on}
 
+-- of what a port's stream is
+abbrev packets : TypeTree
+packets = FutureStreamType (NamedType (codes "Packet"))
+
+no_single : (u : TypeTree) → packets ≡ FutureType u → ⊥
+no_single u e = cc
+
 -- the stream of a port is there
 heard_there : (r : RawTree) (p : Proc Frame) (port k : ℕ) → Kept r p → thing p.core.ports port ≡ Some k → There p (kind.PromiseStream, k)
 heard_there r p port k h heard = by_cell (thing p.core.cells k) refl (subst (λ t. CellAt r h.types t (thing p.core.cells k)) (h.fits.ports port k heard) (h.fits.cells k))
   where
-    by_cell : (o : Option Cell) → thing p.core.cells k ≡ o → CellAt r h.types (Some _) o → There p (kind.PromiseStream, k)
+    by_cell : (o : Option Cell) → thing p.core.cells k ≡ o → CellAt r h.types (Some packets) o → There p (kind.PromiseStream, k)
     by_cell None q f = elim f [ ]
-    by_cell (Some (Single content ws)) q f = absurd (cc f.1.0)
+    by_cell (Some (Single content ws)) q f = absurd (no_single f.0 f.1)
     by_cell (Some (Stream queue end w)) q f = record { cell = Stream queue end w; at = q; right = tt }
 
 -- the packet that comes is brought by no other event
@@ -111,13 +121,13 @@ module _ (r : RawTree) {A : Type 0} (puts : A → Line → Result (Unit {0}) Out
           let z = meaning.Boots p.0 in
           ended z c (boot_follows r puts m u (counted t p.0 (with_left m.out left)) p (begins_well z c p refl) a b e h.left (kept z c) d)
 
-      by_timer : (p : ProcId) (k : _) → Coming u left (timed t i (meaning.Rings p.0 k.0)) → Happened puts (what.Rings p k) u a e h.left b → Event r puts e m a v b
+      by_timer : (p : ProcId) (k : CellId) → Coming u left (timed t i (meaning.Rings p.0 k.0)) → Happened puts (what.Rings p k) u a e h.left b → Event r puts e m a v b
       by_timer p k c d =
           let z = meaning.Rings p.0 k.0 in
           let due = answer_due r program.whole.valid m p.0 k.0 (timed t i z) left lasting.keeps (within z c) c.pending (own_sets p.0 k.0) in
           ended z c (timer_follows r puts m u (counted t p.0 (with_left m.out left)) p (begins_well z c p refl) a b e h.left k due.0 due.1 (kept z c) d)
 
-      by_answer : (p : ProcId) (k : _) (asked : _) → Coming u left (timed t i (meaning.Answers p.0 k.0 (call_of asked))) → Happened puts (what.Answers p k asked) u a e h.left b → Event r puts e m a v b
+      by_answer : (p : ProcId) (k : CellId) (asked : DiskAsk) → Coming u left (timed t i (meaning.Answers p.0 k.0 (call_of asked))) → Happened puts (what.Answers p k asked) u a e h.left b → Event r puts e m a v b
       by_answer p k asked c d =
           let z = meaning.Answers p.0 k.0 (call_of asked) in
           let due = answer_due r program.whole.valid m p.0 k.0 (timed t i z) left lasting.keeps (within z c) c.pending (own_sets p.0 k.0) in

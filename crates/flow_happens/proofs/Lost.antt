@@ -1,6 +1,6 @@
 -- A loss of power by the script.
 use Rattle.std.proofs.Common.{◌≡◌, false, List, [], ◌∷◌, ◌++◌, refl, sym, ap₂, ◌∙◌, subst}
-use Rattle.std.specs.Prelude.{Result, Ok, map}
+use Rattle.std.specs.Prelude.{Result, Ok, map, slice_set}
 use Rattle.flow_base.specs.declared.ids.ProcId.{ProcId}
 use Rattle.flow_base.specs.declared.fault.OutFault.{OutFault}
 use Rattle.flow_trace.specs.declared.line.Line.{Line}
@@ -31,7 +31,7 @@ lost_follows r {A} puts law m u v o p a b e s active t = subst (λ z. Follows r 
   lines = puts_more puts a b b begun.head [] (subst (λ ls. Puts puts a ls b) (sym gone.lines) (more_lines told t.kept)) no_line;
   ends = (
     refl,
-    subst (λ z. WorldShows (Settled r) (record z { ended = false }) (record { places = _; out = begun.out })) (sym t.vanishes.left)
+    subst (λ z. WorldShows (Settled r) (record z { ended = false }) (record { places = slice_set m.places begun.out.active begun.place; out = begun.out })) (sym t.vanishes.left)
     (shown_after r m u o p t.vanishes.gone t.left begun.place begun.out s gone.shows gone.outside gone.stays.file gone.stays.ran gone.stays.script (gone.stays.active ∙ sym active)),
   );
 })
