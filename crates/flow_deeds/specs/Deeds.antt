@@ -95,5 +95,6 @@ module _ (r : RawTree) (turns : ℕ) (p : ProcId) (d : Deed) (x : meaning.Place 
 -- So what a process in memory does is a burst of the class machine, with its lines.
 abbrev pub DeedFollows : {A : Type 0} (puts : A → Line → Result (Unit {0}) OutFault → A → Type 0) → RawTree → Code → Type 0
 DeedFollows {A} puts r code =
-    IsProgram r code → (turns : ℕ) (p : ProcId) (d : Deed) (x : meaning.Place Frame) (o : Outside) (at left : Place) (m n : Surroundings) (a b : A) (e : burst_end.Burst)
+    IsProgram r code → (turns : ℕ) (p : ProcId) (d : Deed) (x : meaning.Place Frame) (o : Outside)
+    (at left : Place) (m n : Surroundings) (a b : A) (e : burst_end.Burst)
     → Ready r turns p d x o at m → Acts puts code turns p d at m a e left n b → Done r turns p d x o puts a e left n b

@@ -1,14 +1,13 @@
 -- What a world keeps from event to event.
-use Rattle.std.proofs.Common.{◌≡◌, ℕ, zero, suc, ◌+◌, List, [], ◌∷◌, refl, sym, subst, arith}
+use Rattle.std.proofs.Common.{ℕ, zero, suc, ◌+◌, List, [], ◌∷◌, refl, sym, subst, arith}
 use Rattle.std.specs.Prelude.{map}
 use Rattle.std.specs.List.{AllByRecursion, range_with_len}
 use Rattle.flow_worldfile.specs.Directives.{InRange, Names}
 use Rattle.flow_worldfile.specs.Worlds as file
 use Rattle.flow_worldfile.specs.declared.directive.Order.{Order}
-use Rattle.flow_timers.specs.Pending.{Pending}
 use Rattle.flow_class.specs.Classes.{RawTree}
 use Rattle.flow_meaning.specs.Class.{classes}
-use Rattle.flow_meaning.specs.Outside.{What, Boots}
+use Rattle.flow_meaning.specs.Outside.{Boots}
 use Rattle.flow_meaning.specs.Runs.{before}
 use Rattle.flow_runs.specs.Laws.{AreValid}
 use Rattle.flow_boundaries.proofs.Keeping.{start_keeps, event_keeps}

@@ -1,11 +1,11 @@
 -- A step asks for no timer after 2^62.
-use Rattle.std.proofs.Common.{◌≡◌, ℕ, suc, ◌≤◌, Bool, true, false, List, [], ◌∷◌, Option, Some, None, refl, subst, arith, if◌then◌else◌}
+use Rattle.std.proofs.Common.{◌≡◌, ℕ, ◌≤◌, Bool, true, false, List, [], ◌∷◌, Option, Some, None, refl, subst, arith}
 use Rattle.std.specs.Prelude.{◌+◌, ◌^◌, ◌&&◌, ◌-ℤ◌, pos, nat_le, nat_lt, int_le, length}
 use Rattle.std.proofs.lemmas.Bool.Decides.{nat_tests}
 use Rattle.flow_eval.specs.Predefined.{natural}
 use Rattle.flow_value.specs.Values.{OutcomeTree, GoodOutcome, BadOutcome}
 use Rattle.flow_meaning.specs.Numbered.{thing}
-use Rattle.flow_meaning.specs.Asks.{DiskCall, Act, Goes, Pass, Drops, Effects, Operand, Waits, Sends, Cancels, Prints, SendsTo, Returns, Throws, RunsOut, Stuck, Ask, Effect, Make, Start, Draw, Delay, Never, Listen, Disk, Goal, Request, Drew, Timer, Packet, Disks, Supply}
+use Rattle.flow_meaning.specs.Asks.{DiskCall, Act, Goes, Pass, Drops, Effects, Operand, Waits, Sends, Cancels, Prints, SendsTo, Returns, Throws, RunsOut, Stuck, Ask, Effect, Make, Start, Draw, Delay, Never, Listen, Disk, Goal, Request, Timer, Supply}
 use Rattle.flow_meaning.specs.Process.{Task, Run, Give, Throw, Catch, Store, Keep, Close, Fire, Drop, Entry, Halt, Core, Proc, Engine}
 use Rattle.flow_meaning.specs.Effects.{draw, delay, open_port, listen, judged, ask_disk, effect, send_to, between, is_port}
 use Rattle.flow_meaning.specs.React.{react}
