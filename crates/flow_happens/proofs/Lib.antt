@@ -6,3 +6,4 @@ pub mod Lines
 pub mod Events
 pub mod Lost
 pub mod Joined
+pub mod Whole
