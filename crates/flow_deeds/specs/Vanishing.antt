@@ -36,11 +36,7 @@ module _ (r : RawTree) (turns : ℕ) (p : ProcId) (x : meaning.Place Frame) (o :
 -- So it is where a process in memory and what is outside of it lose power.
 abbrev pub LossFollows : RawTree → Type 0
 LossFollows r =
-<<<<<<< HEAD
-    (turns : ℕ) (p : ProcId) (x : meaning.Place Frame) (o : Outside) (head : List Line) (at gone : Place) (m lost left : Surroundings) (fates : List Kept)
-=======
     (turns : ℕ) (p : ProcId) (x : meaning.Place Frame) (o : Outside) (head : List Line)
     (at gone : Place) (m lost left : Surroundings) (fates : List Kept)
->>>>>>> 19c12ced3f07d28214343d553e380644d10ef149
     → PlaceShows (Settled r) o.file.processes p.0 at x → OutsideShows m o → DiskLoses p m lost fates → Forgotten p lost left
     → Gone at gone → PowerGone r turns p x o head gone left fates
