@@ -113,7 +113,7 @@ module _ (r : RawTree) where
           ends = (
             refl,
             subst (λ ats. WorldShows (Settled r) (record u { places = ats; ended = false }) (record { places = slice_set m.places o.active (ready m p.0); out = o })) (set_same u.places p.0 at there)
-            (shown_after m u o p at u.outside (ready m p.0) o s (record { up = h.up; me = h.me; processes_are = h.processes_are; rests = q.1; ports = h.ports }) s.outside refl refl refl (sym active)),
+                (shown_after m u o p at u.outside (ready m p.0) o s (record { up = h.up; me = h.me; processes_are = h.processes_are; rests = q.1; ports = h.ports }) s.outside refl refl refl (sym active)),
           );
         }
 
@@ -151,7 +151,7 @@ module _ (r : RawTree) where
           by_end Rested l place outside v file ran script me left f = (
             f.0,
             subst (λ z. WorldShows (Settled r) (record z { ended = false }) (after m (done d) l)) (sym left)
-            (shown_after m u o p place outside (record { up = (done d).place.up; proc = l.proc }) l.out s f.1 f.2 file ran script me),
+                (shown_after m u o p place outside (record { up = (done d).place.up; proc = l.proc }) l.out s f.1 f.2 file ran script me),
           )
           by_end Spent l place outside v file ran script me left f = f
 

@@ -32,7 +32,7 @@ lost_follows r {A} puts law m u v o p a b e s active t = subst (λ z. Follows r 
   ends = (
     refl,
     subst (λ z. WorldShows (Settled r) (record z { ended = false }) (record { places = slice_set m.places begun.out.active begun.place; out = begun.out })) (sym t.vanishes.left)
-    (shown_after r m u o p t.vanishes.gone t.left begun.place begun.out s gone.shows gone.outside gone.stays.file gone.stays.ran gone.stays.script (gone.stays.active ∙ sym active)),
+        (shown_after r m u o p t.vanishes.gone t.left begun.place begun.out s gone.shows gone.outside gone.stays.file gone.stays.ran gone.stays.script (gone.stays.active ∙ sym active)),
   );
 })
   where
