@@ -1,5 +1,5 @@
 -- What an event does to its process, once it has begun in memory and by the definitions.
-use Rattle.std.proofs.Common.{◌≡◌, ℕ, ◌+◌, pos, Bool, true, false, List, [], ◌∷◌, ◌++◌, Option, Some, None, refl, sym, ap, ◌∙◌, subst, arith}
+use Rattle.std.proofs.Common.{◌≡◌, ℕ, ◌+◌, pos, false, List, [], Option, Some, None, refl, sym, ap, ◌∙◌, subst, arith}
 use Rattle.std.specs.Prelude.{Result, slice_get, slice_set, is_some}
 use Rattle.std.specs.Option.{option_map}
 use Rattle.flow_base.specs.declared.ids.CellId.{CellId}
@@ -9,7 +9,6 @@ use Rattle.flow_trace.specs.declared.line.Line.{Line}
 use Rattle.flow_class.specs.Classes.{RawTree}
 use Rattle.flow_meaning.specs.Burst.{Live, live, Burst, rests}
 use Rattle.flow_meaning.specs.Class.{classes}
-use Rattle.flow_meaning.specs.Deliver.{begin}
 use Rattle.flow_meaning.specs.Frame.{Frame}
 use Rattle.flow_meaning.specs.Orderly.{UnlessStopped}
 use Rattle.flow_meaning.specs.Outside.{Outside, host}
@@ -34,7 +33,7 @@ use Rattle.flow_world.proofs.Putting.{puts_more}
 use Rattle.flow_events.specs.Showing.{PlaceShows, PlacesShow, ScriptShows, WorldShows}
 use Rattle.flow_allowed.specs.Tasking.{IsProgram}
 use Rattle.flow_kept.specs.Kept.{Kept}
-use Rattle.flow_deeds.specs.Deeds.{DeedFollows, MayBeDone, Ready, Done, EndsAs, done_in}
+use Rattle.flow_deeds.specs.Deeds.{DeedFollows, MayBeDone, Done, EndsAs, done_in}
 use Rattle.flow_deeds.specs.Settling.{Settled, StaysSettled}
 use Rattle.flow_happens.proofs.Placing.{place_of, set_same, place_at, place_put}
 

@@ -1,5 +1,5 @@
 -- The event that comes next begins: in memory and by the definitions.
-use Rattle.std.proofs.Common.{◌≡◌, ℕ, suc, ◌+◌, ◌∷◌, refl, sym, ap, ◌∙◌, subst, arith}
+use Rattle.std.proofs.Common.{◌≡◌, ℕ, suc, ◌+◌, ◌∷◌, refl, sym, ◌∙◌, subst, arith}
 use Rattle.flow_worldfile.specs.declared.directive.Order.{Order}
 use Rattle.flow_timers.specs.Pending.{Pending}
 use Rattle.flow_class.specs.Classes.{RawTree}

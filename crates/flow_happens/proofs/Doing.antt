@@ -1,5 +1,5 @@
 -- Each kind of event that does something to a process.
-use Rattle.std.proofs.Common.{◌≡◌, ℕ, ◌<◌, ◌≤◌, nat_eq, pos, Bool, true, false, List, [], ◌∷◌, Option, Some, None, length, refl, sym, ap, ap₂, ◌∙◌, subst, arith, if◌then◌else◌}
+use Rattle.std.proofs.Common.{◌≡◌, ℕ, pos, Bool, true, false, [], ◌∷◌, Option, Some, None, refl, sym, ap, ap₂, ◌∙◌, subst, arith, if◌then◌else◌}
 use Rattle.std.specs.Prelude.{Result, Ok, slice_get}
 use Rattle.std.specs.Option.{option_map}
 use Rattle.std.specs.Map.{remove_entry}
@@ -16,8 +16,7 @@ use Rattle.flow_value.specs.declared.value.Value.TheFolds.{fold-roll-Value}
 use Rattle.flow_value.specs.declared.value.Value.TheOpen as layer
 use Rattle.flow_value.specs.declared.value.Outcome.TheVariants as outcome
 use Rattle.flow_value.specs.Values.{ValueTree, VoidValue, OutcomeTree, GoodOutcome}
-use Rattle.flow_value.specs.View.{value_of, value_step, outcome_of}
-use Rattle.flow_timers.specs.Pending.{Pending}
+use Rattle.flow_value.specs.View.{value_of, value_step}
 use Rattle.flow_simnet.specs.declared.packet.Letter.{Letter}
 use Rattle.flow_simnet.specs.Links.{numbered}
 use Rattle.flow_simdisk.specs.declared.ask.DiskAsk.{DiskAsk}
@@ -33,22 +32,18 @@ use Rattle.flow_meaning.specs.Numbered.{thing}
 use Rattle.flow_meaning.specs.Occ.{refs_in, value_in}
 use Rattle.flow_meaning.specs.Orderly.{UnlessStopped}
 use Rattle.flow_meaning.specs.Outside.{Outside, process_id}
-use Rattle.flow_meaning.specs.Process.{Proc}
 use Rattle.flow_meaning.specs.World.{Place, World, Begun, ready, booted, alone, with_core, with_disk, disk_of, disk_line, disk_outcome, packet, listener}
 use Rattle.flow_meaning.specs.World as meaning
 use Rattle.flow_meaning.specs.Deliver as brings
 use Rattle.flow_machine.specs.Requests.{call_of}
 use Rattle.flow_machine.specs.declared.host.Burst as burst_end
-use Rattle.flow_machine.specs.declared.host.Burst.TheVariants.{Rested, Spent}
 use Rattle.flow_picture.specs.Holds.{There, AllThere}
 use Rattle.flow_picture.specs.Rested.{has}
 use Rattle.flow_steps.specs.Holding.{outcome_refs}
 use Rattle.flow_steps.specs.Sights.{program_time}
-use Rattle.flow_world.specs.declared.deed.Deed.{Deed}
 use Rattle.flow_world.specs.declared.deed.Deed.TheVariants.{Boots, Stops, Delivers, Brings}
-use Rattle.flow_world.specs.declared.place.Place as memory
 use Rattle.flow_world.specs.Brought.{answer_line}
-use Rattle.flow_world.specs.Changes.{Surroundings, DiskServes}
+use Rattle.flow_world.specs.Changes.{Surroundings}
 use Rattle.flow_world.specs.Ending.{Seen}
 use Rattle.flow_world.specs.Happening.{Runs, Told, Taken, Arrived, Answered, HeardIn, HeardIfUp, ends, with_outside, arrived}
 use Rattle.flow_world.specs.Shows.{OutsideShows, letter_at, coming}
@@ -56,7 +51,7 @@ use Rattle.flow_world.proofs.Coming.{events_kept}
 use Rattle.flow_world.proofs.Events.{disk_served}
 use Rattle.flow_world.proofs.Letters.{letter_left}
 use Rattle.flow_world.proofs.Putting.{puts_one}
-use Rattle.flow_world.specs.Around.{Puts, no_line, more_lines}
+use Rattle.flow_world.specs.Around.{Puts, more_lines}
 use Rattle.flow_allowed.specs.Tasking.{IsProgram}
 use Rattle.flow_follows.specs.Working.{Sendable}
 use Rattle.flow_kept.specs.Kept.{Kept}

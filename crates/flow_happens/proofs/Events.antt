@@ -1,5 +1,5 @@
 -- A pending event that comes next is the next event of the definitions.
-use Rattle.std.proofs.Common.{◌≡◌, ℕ, suc, ◌+◌, ◌<◌, ◌≤◌, nat_eq, pos, true, List, [], ◌∷◌, Option, Some, None, length, refl, sym, ap, ◌∙◌, subst, arith, if◌then◌else◌}
+use Rattle.std.proofs.Common.{◌≡◌, ℕ, ◌<◌, ◌≤◌, pos, List, ◌∷◌, Option, Some, None, refl, sym, ap, ◌∙◌, subst, arith, if◌then◌else◌}
 use Rattle.std.specs.Prelude.{Result, codes}
 use Rattle.flow_base.specs.declared.ids.CellId.{CellId}
 use Rattle.flow_base.specs.declared.ids.ProcId.{ProcId}
@@ -20,7 +20,6 @@ use Rattle.flow_meaning.specs.Outside as meaning
 use Rattle.flow_meaning.specs.Process.{Proc}
 use Rattle.flow_meaning.specs.World.{World, Begun, Event as ComesEvent, next_of, begun_by, happened, ready, counted, with_left, process_in}
 use Rattle.flow_picture.specs.Holds.{There}
-use Rattle.flow_picture.specs.Losing.{RightCell}
 use Rattle.flow_unstuck.specs.Fitting.{CellAt}
 use Rattle.flow_machine.specs.Requests.{call_of}
 use Rattle.flow_machine.specs.declared.host.Burst as burst_end
@@ -28,13 +27,12 @@ use Rattle.flow_steps.specs.Sights.{program_time}
 use Rattle.flow_world.specs.declared.outside.What.{What}
 use Rattle.flow_world.specs.declared.outside.What.TheVariants as what
 use Rattle.flow_world.specs.Changes.{with_events}
-use Rattle.flow_world.specs.Ending.{Seen, next}
+use Rattle.flow_world.specs.Ending.{Seen}
 use Rattle.flow_world.specs.Happening.{Happens, Happened, begins, ends, with_outside}
 use Rattle.flow_world.specs.Shows.{WhatShows, ArrivalShows, letter_at, coming, brings}
 use Rattle.flow_world.proofs.Letters.{same_number}
 use Rattle.flow_events.specs.Showing.{WorldShows}
 use Rattle.flow_events.specs.Coming.{EventNext}
-use Rattle.flow_runs.specs.Due.{sets}
 use Rattle.flow_runs.proofs.Dues.{own_sets}
 use Rattle.flow_runs.specs.Among.{EventNames}
 use Rattle.std.specs.List.{AllByRecursion}
@@ -45,7 +43,7 @@ use Rattle.flow_deeds.specs.Deeds.{DeedFollows}
 use Rattle.flow_deeds.specs.Settling.{Settled, StaysSettled}
 use Rattle.flow_lasting.specs.Lasting.{Lasting}
 use Rattle.flow_lasting.proofs.Mid.{next_early}
-use Rattle.flow_happens.proofs.Placing.{place_of, Found, place_found}
+use Rattle.flow_happens.proofs.Placing.{place_of, place_found}
 use Rattle.flow_happens.proofs.Acting.{Going, Follows}
 use Rattle.flow_happens.proofs.Beginning.{event_begins}
 use Rattle.flow_happens.proofs.Doing.{GoesOn, Begins, boot_follows, timer_follows, answer_follows, packet_follows}

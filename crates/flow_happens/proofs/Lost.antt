@@ -1,27 +1,23 @@
 -- A loss of power by the script.
-use Rattle.std.proofs.Common.{◌≡◌, false, List, [], ◌∷◌, ◌++◌, refl, sym, ap₂, ◌∙◌, subst}
-use Rattle.std.specs.Prelude.{Result, Ok, map, slice_set}
-use Rattle.flow_base.specs.declared.ids.ProcId.{ProcId}
+use Rattle.std.proofs.Common.{false, [], ◌∷◌, refl, sym, ap₂, ◌∙◌, subst}
+use Rattle.std.specs.Prelude.{Result, Ok, slice_set}
 use Rattle.flow_base.specs.declared.fault.OutFault.{OutFault}
 use Rattle.flow_trace.specs.declared.line.Line.{Line}
 use Rattle.flow_trace.specs.declared.line.Line.TheVariants as line
 use Rattle.flow_class.specs.Classes.{RawTree}
 use Rattle.flow_meaning.specs.Burst.{live, rests}
 use Rattle.flow_meaning.specs.Frame.{Frame}
-use Rattle.flow_meaning.specs.Outside.{Outside, process_id}
-use Rattle.flow_meaning.specs.World.{World, Begun, kept_line, killed, ready}
-use Rattle.flow_machine.specs.declared.host.Burst as burst_end
-use Rattle.flow_machine.specs.declared.host.Burst.TheVariants.{Rested}
+use Rattle.flow_meaning.specs.Outside.{process_id}
+use Rattle.flow_meaning.specs.World.{Begun, killed, ready}
 use Rattle.flow_world.specs.Around.{Puts, no_line, more_lines}
-use Rattle.flow_world.specs.Ending.{Seen}
-use Rattle.flow_world.specs.Happening.{Killed, ends}
+use Rattle.flow_world.specs.Happening.{ends}
 use Rattle.flow_world.proofs.Putting.{puts_more}
 use Rattle.flow_events.specs.Showing.{WorldShows}
 use Rattle.flow_deeds.specs.Settling.{Settled}
 use Rattle.flow_deeds.specs.Vanishing.{PowerGone}
 use Rattle.flow_deeds.specs.Vanishing as deeds
 use Rattle.flow_happens.proofs.Placing.{place_of}
-use Rattle.flow_happens.proofs.Acting.{Going, Follows, shown_at, shown_after}
+use Rattle.flow_happens.proofs.Acting.{Follows, shown_at, shown_after}
 use Rattle.flow_happens.proofs.Lines.{LossFollows}
 
 pub lost_follows : (r : RawTree) {A : Type 0} (puts : A → Line → Result (Unit {0}) OutFault → A → Type 0) → deeds.LossFollows r → LossFollows r puts
