@@ -20,7 +20,7 @@ use Rattle.flow_lasting.specs.Lasting.{Lasting}
 use Rattle.flow_lasting.proofs.Lasting.{lasting_starts, lasting_stays}
 use Rattle.flow_deeds.specs.Settling.{Settled}
 use Rattle.flow_deeds.proofs.Settling.{settled_first}
-use Rattle.flow_happens.proofs.Joined.{happening, spent_happening}
+use Rattle.flow_happens.proofs.Whole.{happening, spent_happening}
 use Rattle.flow_views.proofs.Traced.{frames_traced}
 use Rattle.flow_traces.proofs.Whole.{compiles_whole}
 use Rattle.flow_written.proofs.Compiled.{compiled_few}
@@ -41,7 +41,7 @@ module _ {A : Type 0} (puts : A → Line → Result (Unit {0}) OutFault → A �
       frames_traced (Settled r) (Lasting r) (IsProgram r) puts frames c file a b e (settled_first r)
       (code_first c file whole few) (lasting_starts r (seen file) range) (lasting_stays r whole.valid)
       (λ m p s. (s.resting.shown.holds.shows, s.resting.sorted)) (λ m k. k.keeps.fits.count)
-      (happening r puts) (spent_happening r puts) t
+      (happening puts r) (spent_happening puts r) t
 
   pub program_shown : ProgramShown puts
   program_shown text program c file frames a b e sound light has range t =
