@@ -49,5 +49,5 @@ module _ {A : Type 0} (puts : A → Line → Result (Unit {0}) OutFault → A �
       let few = subst HaveFewPlaces (sym has) (compiled_few text program sound light) in
       let shown = classes_shown c file frames a b e whole few range t in
       let by_text = shown_returned text program frames (seen file) shown.0 sound.typed
-          (subst (λ (r : RawTree). ClassShown frames r (seen file) shown.0) has shown.1) in
+      (subst (λ (r : RawTree). ClassShown frames r (seen file) shown.0) has shown.1) in
       (shown.0, by_text, shown.2, shown.3)
