@@ -15,7 +15,9 @@ use Rattle.flow_allowed.specs.Tasking.{IsProgram}
 use Rattle.flow_world.specs.Ending.{Seen}
 use Rattle.flow_world.specs.Starting.{Starts}
 use Rattle.flow_framed.specs.Framed.{ClassShown}
-use Rattle.flow_framed.proofs.Alike.{shown_returned}
+use Rattle.flow_framed.proofs.Alike.{shown_of_classes}
+use Rattle.flow_framed.proofs.Carried.{are_carried}
+use Rattle.flow_faithful.proofs.Whole.{compiles_faithfully}
 use Rattle.flow_lasting.specs.Lasting.{Lasting}
 use Rattle.flow_lasting.proofs.Lasting.{lasting_starts, lasting_stays}
 use Rattle.flow_deeds.specs.Settling.{Settled}
@@ -48,6 +50,7 @@ module _ {A : Type 0} (puts : A → Line → Result (Unit {0}) OutFault → A �
       let whole = subst AreWhole (sym has) (compiles_whole text program sound) in
       let few = subst HaveFewPlaces (sym has) (compiled_few text program sound light) in
       let shown = classes_shown c file frames a b e whole few range t in
-      let by_text = shown_returned text program frames (seen file) shown.0 sound.typed
+      let by_text = shown_of_classes (program_of program) (compiled (program_of program)) (are_carried program (compiles_faithfully text program sound.typed))
+      frames (seen file) shown.0
       (subst (λ (r : RawTree). ClassShown frames r (seen file) shown.0) has shown.1) in
       (shown.0, by_text, shown.2, shown.3)

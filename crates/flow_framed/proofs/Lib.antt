@@ -1,4 +1,4 @@
 mod Traces
-mod Alike
-mod Carried
+pub mod Alike
+pub mod Carried
 mod Example
