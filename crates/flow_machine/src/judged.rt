@@ -31,7 +31,8 @@ const WIDEST: i64 = 1 << 32;
 /// How many numbers a range has, its last one left out, where there are 1 to 2^32.
 pub(crate) fn width(lo: i64, hi: i64) -> Option<u64>
     ensures range { IfSome result (λ n. IsRange lo n) }
-    ensures exact { result ≡ (if between (hi -ℤ lo) 1 (2 ^ 32) then Some (natural (hi -ℤ lo)) else None) }
+    ensures exact { result ≡ (if between (hi -ℤ lo) 1 (2 ^ 32)
+        then Some (natural (hi -ℤ lo)) else None) }
 {
     let width = hi.checked_sub(lo)?;
     if width < 1 || width > WIDEST {

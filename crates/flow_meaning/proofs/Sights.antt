@@ -15,13 +15,13 @@ use Rattle.flow_meaning.proofs.Posture.{same_number}
 use Rattle.flow_meaning.proofs.LiftRuns.{traces_follow, traces_return}
 
 -- the number of an entry is given
-abbrev IsGiven : Numbered Entry → ℕ → Type 0
+abbrev pub IsGiven : Numbered Entry → ℕ → Type 0
 IsGiven es i = (e : Entry) × (thing es i ≡ Some e)
 
-given_first : (x : ℕ × Entry) (es : Numbered Entry) → IsGiven (x ∷ es) x.0
+pub given_first : (x : ℕ × Entry) (es : Numbered Entry) → IsGiven (x ∷ es) x.0
 given_first x es = (x.1, ap (λ t. if t then Some x.1 else thing es x.0) (same_number x.0))
 
-given_later : (x : ℕ × Entry) (es : Numbered Entry) (i : ℕ) → IsGiven es i → IsGiven (x ∷ es) i
+pub given_later : (x : ℕ × Entry) (es : Numbered Entry) (i : ℕ) → IsGiven es i → IsGiven (x ∷ es) i
 given_later x es i h = by_test (nat_eq i x.0)
   where
     by_test : (t : Bool) → (e : Entry) × ((if t then Some x.1 else thing es i) ≡ Some e)
@@ -40,7 +40,7 @@ module _ {A B : Type 0} (R : Phase → A → B → Type 0) (p : A → Spot) (q :
   spot_both (Some a) (Some b) h = same a b h
 
   -- at rest every unfinished actor waits
-  spots_same : (c : Core) (xs : Numbered A) (ys : Numbered B) → AtRest c → Related R c xs ys → (i : ℕ) → IsGiven c.entries i → spot_at p (thing xs i) ≡ spot_at q (thing ys i)
+  pub spots_same : (c : Core) (xs : Numbered A) (ys : Numbered B) → AtRest c → Related R c xs ys → (i : ℕ) → IsGiven c.entries i → spot_at p (thing xs i) ≡ spot_at q (thing ys i)
   spots_same c xs ys rest rs i h =
       spot_both (thing xs i) (thing ys i)
       (subst (λ z. BothOrNone (R z) (thing xs i) (thing ys i)) (phase_waits (thing c.entries i) h.0 (tasks_of i c.tasks) h.1 (rest.suspended i h.0 h.1)) (rs.phases i))

@@ -28,7 +28,8 @@ pub fn unquote(alloc: Global, bytes: &[u8]) -> Result<Text, LineFault>
     ensures spelled { IfOk result (λ text. bytes.now ≡ quoted text) }
     ensures every { (text : List ℕ) → IsText text → bytes.now ≡ quoted text
         → IfOk result (λ found. found ≡ text) }
-    ensures form { result ≡ Err Form → (text : List ℕ) → IsText text → bytes.now ≡ quoted text → ⊥ }
+    ensures form { result ≡ Err Form
+        → (text : List ℕ) → IsText text → bytes.now ≡ quoted text → ⊥ }
 {
     let Some(text) = guess(alloc, bytes)? else {
         return Err(LineFault::Form);
