@@ -14,7 +14,7 @@ use Rattle.flow_meaning.specs.Step.{on_core}
 use Rattle.flow_meaning.specs.Frame.{Frame}
 use Rattle.flow_picture.specs.Counted.{nothing_in_hand}
 use Rattle.flow_picture.specs.Rested.{has, Sorted}
-use Rattle.flow_picture.specs.Holds.{AllThere}
+use Rattle.flow_picture.specs.Holds.{There, AllThere}
 use Rattle.flow_steps.specs.declared.process.Process.{Process}
 use Rattle.flow_steps.specs.Doing.{begun}
 use Rattle.flow_steps.specs.Holding.{on_heap, outcome_refs}
@@ -54,10 +54,10 @@ module _ (r : RawTree) (m : Process) (p : Proc Frame) (now turns : ℕ) where
       → IsBrought r now (brought kind.Promise k o (on_heap (answered k) (begun now turns m)))
       (on_core (deliver k (outcome_of o)) (on_core (begin turns) p))
 
-  -- an element comes to the stream of a port
+  -- an element comes to the stream of a port, whether or not the stream has an end
   abbrev pub ElementBrings : Type 0
   ElementBrings =
-      (k : ℕ) (v : Value) → Resting r m p → Sendable p kind.PromiseStream k
+      (k : ℕ) (v : Value) → Resting r m p → There p (kind.PromiseStream, k)
       → AllThere p (outcome_refs (outcome.Value v))
       → IsBrought r now (brought kind.PromiseStream k (outcome.Value v) (begun now turns m))
       (on_core (arrive k (value_of v)) (on_core (begin turns) p))

@@ -28,8 +28,7 @@ use Rattle.flow_bursts.specs.Bursting as bursting
 use Rattle.flow_bursts.specs.Bursting.{Wrote, no_line, and_more}
 use Rattle.flow_kept.specs.Kept.{Kept}
 use Rattle.flow_boundaries.specs.Bringing.{IsBrought}
-use Rattle.flow_boundaries.proofs.Bringing.{answer_brings, stop_brings}
-use Rattle.flow_deeds.proofs.Bringing.{element_brings}
+use Rattle.flow_boundaries.proofs.Bringing.{answer_brings, stop_brings, element_brings}
 use Rattle.flow_brought.proofs.Following.{event_follows, event_rests}
 use Rattle.flow_world.specs.declared.deed.Deed.{Deed}
 use Rattle.flow_world.specs.declared.deed.Deed.TheVariants.{Boots, Stops, Delivers, Brings}
@@ -40,7 +39,7 @@ use Rattle.flow_world.specs.Deeds.{Follows, up_after}
 use Rattle.flow_world.specs.Happening.{Acts, inside}
 use Rattle.flow_world.specs.Ports.{PortsShow}
 use Rattle.flow_deeds.specs.Deeds as law
-use Rattle.flow_deeds.specs.Deeds.{done_to, done_in, Ready, Done}
+use Rattle.flow_deeds.specs.Deeds.{done_in, Ready, Done}
 use Rattle.flow_deeds.proofs.Booting.{boot_goes}
 use Rattle.flow_deeds.proofs.SamePorts.{deed_ports}
 use Rattle.flow_deeds.proofs.Steadily.{host_steady, burst_stays}

@@ -1,7 +1,6 @@
 -- A loss of power leaves of a process in memory what it leaves of the process that it shows, and of what is outside the same.
-use Rattle.std.proofs.Common.{◌≡◌, ℕ, zero, suc, List, ◌∷◌, [], ◌++◌, map, refl, sym, ap, ◌∙◌, subst}
-use Rattle.std.specs.Prelude.{slice_get, slice_set, slice_index_or}
-use Rattle.std.specs.declared.option.Option.TheVariants.{Some}
+use Rattle.std.proofs.Common.{◌≡◌, ℕ, List, [], ◌++◌, map, refl, sym, ap, ◌∙◌, subst}
+use Rattle.std.specs.Prelude.{slice_set, slice_index_or}
 use Rattle.flow_base.specs.declared.ids.ProcId.{ProcId}
 use Rattle.flow_class.specs.Classes.{RawTree}
 use Rattle.flow_draw.specs.Words.{word_at}
@@ -18,15 +17,9 @@ use Rattle.flow_steps.specs.Doing.{vanished}
 use Rattle.flow_effects.proofs.Brings.{vanishes}
 use Rattle.flow_world.specs.Changes.{Surroundings, DiskLoses}
 use Rattle.flow_world.specs.Shows.{OutsideShows}
-use Rattle.flow_world.proofs.Events.{requests_are_gone}
+use Rattle.flow_world.proofs.Events.{found, requests_are_gone}
 use Rattle.flow_deeds.specs.Settling.{Settled}
 use Rattle.flow_deeds.specs.Vanishing as law
-
--- the disk of a process
-found : (ds : List Disk) (p : ℕ) (d e : Disk) → slice_get ds p ≡ Some d → slice_index_or ds p e ≡ d
-found [] p d e h = absurd (cc)
-found (x ∷ ds) zero d e h = cc
-found (x ∷ ds) (suc p) d e h = found ds p d e h
 
 -- what is left of a process in memory
 settled_gone : (r : RawTree) (m : Process) (p : Proc Frame) → Settled r m p → Settled r (vanished m) (vanish p)

@@ -2,9 +2,11 @@
 use Rattle.std.proofs.Common.{ℕ, [], ◌++◌, sym, ap, refl}
 use Rattle.flow_value.specs.declared.value.Kind.TheVariants as kind
 use Rattle.flow_value.specs.declared.value.Outcome.TheVariants as outcome
+use Rattle.flow_value.specs.Values.{GoodOutcome}
+use Rattle.flow_value.specs.View.{value_of}
 use Rattle.flow_class.specs.Classes.{RawTree}
 use Rattle.flow_meaning.specs.Process.{Drop, Proc}
-use Rattle.flow_meaning.specs.Work.{pushed}
+use Rattle.flow_meaning.specs.Work.{pushed, fill}
 use Rattle.flow_meaning.specs.Deliver.{begin, closed_request, vanish}
 use Rattle.flow_meaning.specs.Step.{on_core}
 use Rattle.flow_meaning.specs.Frame.{Frame}
@@ -12,13 +14,14 @@ use Rattle.flow_picture.specs.Counted.{nothing_in_hand}
 use Rattle.flow_picture.specs.Rested.{Rested}
 use Rattle.flow_picture.proofs.Starting.{vanished_rests}
 use Rattle.flow_steps.specs.declared.process.Process.{Process}
-use Rattle.flow_steps.specs.Doing.{begun, vanished}
+use Rattle.flow_steps.specs.Doing.{begun, turned, vanished}
 use Rattle.flow_steps.specs.Holding.{on_heap, outcome_refs}
-use Rattle.flow_steps.specs.Bringing.{answered}
+use Rattle.flow_steps.specs.Bringing.{content_brought, answered}
 use Rattle.flow_follows.specs.Shown.{told, shows}
-use Rattle.flow_follows.proofs.Brought.{all_there_by, sendable_by, content_follows, request_follows, main_follows}
+use Rattle.flow_follows.proofs.Working.{turn_taken}
+use Rattle.flow_follows.proofs.Brought.{all_there_by, there_by, sendable_by, content_follows, request_follows, main_follows}
 use Rattle.flow_effects.specs.Events as law
-use Rattle.flow_effects.specs.Events.{ShownBetween}
+use Rattle.flow_effects.proofs.Arriving.{element_sent}
 
 module _ (r : RawTree) (m : Process) (p : Proc Frame) (now turns : ℕ) where
   abbrev start : Process
@@ -56,7 +59,11 @@ module _ (r : RawTree) (m : Process) (p : Proc Frame) (now turns : ℕ) where
 
   pub arrived : law.Arrived r m p now turns
   arrived k v b to there =
-      content_follows r [] nothing_in_hand start begins kind.PromiseStream k (outcome.Value v) (event_begins b) (all_there_by p begins (outcome_refs (outcome.Value v)) refl there) (sendable_by p begins kind.PromiseStream k refl to)
+      turn_taken r [] nothing_in_hand start begins nothing_in_hand (on_heap (content_brought kind.PromiseStream k (outcome.Value v)))
+      (λ d. fill k (GoodOutcome (value_of v)) d) (event_begins b) (λ n e s.
+      let o = on_core (λ c. record c { left = n }) begins in
+      shows (element_sent r [] nothing_in_hand (turned start) o k v s
+      (all_there_by p o (outcome_refs (outcome.Value v)) refl there) (there_by p o (kind.PromiseStream, k) refl to)))
 
   pub stopped : law.Stopped r m p now turns
   stopped b = shows (main_follows r [] nothing_in_hand start begins (event_begins b))

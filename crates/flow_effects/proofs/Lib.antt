@@ -4,6 +4,7 @@ pub mod Entering
 pub mod Starts
 pub mod Boots
 pub mod Effecting
+mod Arriving
 pub mod Brings
 pub mod Served
 pub mod Calls

@@ -13,7 +13,7 @@ use Rattle.flow_meaning.specs.Step.{on_core}
 use Rattle.flow_meaning.specs.Frame.{Frame}
 use Rattle.flow_picture.specs.Counted.{nothing_in_hand}
 use Rattle.flow_picture.specs.Rested.{has, Rested}
-use Rattle.flow_picture.specs.Holds.{Holds, AllThere}
+use Rattle.flow_picture.specs.Holds.{Holds, There, AllThere}
 use Rattle.flow_steps.specs.declared.process.Process.{Process}
 use Rattle.flow_steps.specs.Doing.{begun, vanished}
 use Rattle.flow_steps.specs.Holding.{on_heap, outcome_refs}
@@ -38,10 +38,10 @@ module _ (r : RawTree) (m : Process) (p : Proc Frame) (now turns : ℕ) where
       → Follows r [] nothing_in_hand (brought kind.Promise k o (on_heap (answered k) (begun now turns m)))
       (on_core (deliver k (outcome_of o)) (on_core (begin turns) p))
 
-  -- an element comes to the stream of a port
+  -- an element comes to the stream of a port, whether or not the stream has an end
   abbrev pub Arrived : Type 0
   Arrived =
-      (k : ℕ) (v : Value) → ShownBetween r m p → Sendable p kind.PromiseStream k → AllThere p (outcome_refs (outcome.Value v))
+      (k : ℕ) (v : Value) → ShownBetween r m p → There p (kind.PromiseStream, k) → AllThere p (outcome_refs (outcome.Value v))
       → Follows r [] nothing_in_hand (brought kind.PromiseStream k (outcome.Value v) (begun now turns m))
       (on_core (arrive k (value_of v)) (on_core (begin turns) p))
 

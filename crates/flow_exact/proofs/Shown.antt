@@ -1,5 +1,5 @@
 -- From bytes of events to what a program shows.
-use Rattle.std.proofs.Common.{◌≡◌, ℕ, Bool, List, Some, length, slice_get, sym, subst, ap, ◌∙◌}
+use Rattle.std.proofs.Common.{sym, subst, ap}
 use Rattle.std.specs.Prelude.{Result}
 use Rattle.flow_base.specs.declared.fault.OutFault.{OutFault}
 use Rattle.flow_tree.specs.DeclView.{program_of}
@@ -16,7 +16,7 @@ use Rattle.flow_world.specs.Ending.{Seen}
 use Rattle.flow_world.specs.Starting.{Starts}
 use Rattle.flow_framed.specs.Framed.{ClassShown}
 use Rattle.flow_framed.proofs.Alike.{shown_of_classes}
-use Rattle.flow_framed.proofs.Carried.{are_carried}
+use Rattle.flow_preserved.proofs.Carried.{are_carried}
 use Rattle.flow_faithful.proofs.Whole.{compiles_faithfully}
 use Rattle.flow_lasting.specs.Lasting.{Lasting}
 use Rattle.flow_lasting.proofs.Lasting.{lasting_starts, lasting_stays}

@@ -1,7 +1,6 @@
 -- What is shown of a program is what is shown of its classes, event by event.
-use Rattle.std.proofs.Common.{◌≡◌, ℕ, suc, nat_eq, Bool, true, false, List, [], ◌∷◌, ◌++◌, map, refl, sym, ap, ap₂, ◌∙◌, subst, if◌then◌else◌}
+use Rattle.std.proofs.Common.{◌≡◌, ℕ, suc, Bool, true, false, List, [], ◌∷◌, ◌++◌, map, refl, sym, ap, ap₂, ◌∙◌, subst}
 use Rattle.std.specs.List.{flat_map}
-use Rattle.std.specs.declared.option.Option.{Option}
 use Rattle.std.specs.declared.option.Option.TheVariants.{None, Some}
 use Rattle.std.proofs.lemmas.List.{append_cancel_right}
 use Rattle.flow_base.specs.declared.ids.ProcId.{ProcId}
@@ -13,11 +12,11 @@ use Rattle.flow_class.specs.Classes.{RawTree}
 use Rattle.flow_meaning.specs.Asks.{Spot}
 use Rattle.flow_meaning.specs.Burst.{Live, Burst}
 use Rattle.flow_meaning.specs.Class.{classes}
-use Rattle.flow_meaning.specs.Law.{BothOrNone, Simulates, Related, AtRest}
+use Rattle.flow_meaning.specs.Law.{Simulates}
 use Rattle.flow_meaning.specs.Numbered.{Numbered, thing}
-use Rattle.flow_meaning.specs.Orderly.{Phase, Waiting, phase_by, is_suspended, tasks_of}
+use Rattle.flow_meaning.specs.Orderly.{Phase}
 use Rattle.flow_meaning.specs.Outside.{Outside, host}
-use Rattle.flow_meaning.specs.Process.{Entry, Task, Core, Engine}
+use Rattle.flow_meaning.specs.Process.{Entry, Core, Engine}
 use Rattle.flow_meaning.specs.RunLaw.{SamePlace, SamePlaces, SameWorld, SameStates}
 use Rattle.flow_meaning.specs.Runs.{Runs, IsRun, before, after, lines_of}
 use Rattle.flow_meaning.specs.Runs as run
@@ -27,7 +26,7 @@ use Rattle.flow_meaning.specs.Views.{spot_at, branches_from, actor_spot, frame_s
 use Rattle.flow_meaning.specs.World.{Place, World, Begun, next_of, begun_by, ending, at_start}
 use Rattle.flow_meaning.proofs.LiftRuns.{runs_follow, runs_return, traces_follow, traces_return}
 use Rattle.flow_meaning.proofs.Once.{run_once}
-use Rattle.flow_meaning.proofs.Posture.{same_number}
+use Rattle.flow_meaning.proofs.Sights.{IsGiven, given_first, given_later, spots_same}
 use Rattle.flow_carried.specs.Standing.{Stands}
 use Rattle.flow_carried.specs.Carried.{AreCarried}
 use Rattle.flow_carried.proofs.Follows.{carried, waits_alike}
@@ -110,37 +109,7 @@ module _ {A B : Type 0} (e : Engine A) (d : Engine B) (p : A → Spot) (q : B �
         (subst (λ ls. Shows d q with_frames v (lines_of other.begun other.left ++ (ls ++ more))) (sym (law.seen (after w b l) (after v other.begun other.left) other.like))
         (event other.begun other.left other.goes other.begins other.follows other.rests all_after))
 
--- the number of an entry is given
-abbrev IsGiven : Numbered Entry → ℕ → Type 0
-IsGiven es i = (e : Entry) × (thing es i ≡ Some e)
-
-given_first : (x : ℕ × Entry) (es : Numbered Entry) → IsGiven (x ∷ es) x.0
-given_first x es = (x.1, ap (λ t. if t then Some x.1 else thing es x.0) (same_number x.0))
-
-given_later : (x : ℕ × Entry) (es : Numbered Entry) (i : ℕ) → IsGiven es i → IsGiven (x ∷ es) i
-given_later x es i h = by_test (nat_eq i x.0)
-  where
-    by_test : (t : Bool) → (e : Entry) × ((if t then Some x.1 else thing es i) ≡ Some e)
-    by_test true = (x.1, refl)
-    by_test false = h
-
 -- Of related worlds the same is seen.
-module _ {A B : Type 0} (R : Phase → A → B → Type 0) (p : A → Spot) (q : B → Spot) (same : WaitAlike R p q) where
-  spot_both : (o : Option A) (u : Option B) → BothOrNone (R Waiting) o u → spot_at p o ≡ spot_at q u
-  spot_both None None h = refl
-  spot_both None (Some b) h = absurd h
-  spot_both (Some a) None h = absurd h
-  spot_both (Some a) (Some b) h = same a b h
-
-  -- whoever is suspended waits, and at rest each unfinished actor is suspended
-  waits_there : (o : Option Entry) (e : Entry) (ts : List Task) → o ≡ Some e → e.suspended ≡ true → phase_by (is_suspended o) ts ≡ Waiting
-  waits_there o e ts h s = ap (λ z. phase_by (is_suspended z) ts) h ∙ ap (λ z. phase_by (Some z) ts) s
-
-  spots_same : (c : Core) (xs : Numbered A) (ys : Numbered B) → AtRest c → Related R c xs ys → (i : ℕ) → IsGiven c.entries i → spot_at p (thing xs i) ≡ spot_at q (thing ys i)
-  spots_same c xs ys rest rs i h =
-      spot_both (thing xs i) (thing ys i)
-      (subst (λ z. BothOrNone (R z) (thing xs i) (thing ys i)) (waits_there (thing c.entries i) h.0 (tasks_of i c.tasks) h.1 (rest.suspended i h.0 h.1)) (rs.phases i))
-
 module _ {A B : Type 0} (e : Engine A) (d : Engine B) (R : Phase → A → B → Type 0) (sim : Simulates e d R) (p : A → Spot) (q : B → Spot) (same : WaitAlike R p q) where
   actor_same : (n : ProcId) (i : ℕ) (x : Entry) (s t : Spot) → s ≡ t → actor_lines e p n i x s ≡ actor_lines d q n i x t
   actor_same n i x s t h =

@@ -1,4 +1,3 @@
 mod Traces
 pub mod Alike
-pub mod Carried
 mod Example

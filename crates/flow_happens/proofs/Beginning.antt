@@ -4,39 +4,18 @@ use Rattle.flow_worldfile.specs.declared.directive.Order.{Order}
 use Rattle.flow_timers.specs.Pending.{Pending}
 use Rattle.flow_class.specs.Classes.{RawTree}
 use Rattle.flow_meaning.specs.Frame.{Frame}
-use Rattle.flow_meaning.specs.Outside.{What, Outside}
+use Rattle.flow_meaning.specs.Outside.{What}
 use Rattle.flow_meaning.specs.World.{World, counted, process_of, process_in, with_left}
-use Rattle.flow_world.specs.Changes.{Surroundings, with_events}
+use Rattle.flow_world.specs.Changes.{with_events}
 use Rattle.flow_world.specs.Ending.{Seen}
 use Rattle.flow_world.specs.Happening.{begins, with_outside}
 use Rattle.flow_world.specs.Laws.{first_left, event_taken}
 use Rattle.flow_world.specs.Shows.{OutsideShows}
-use Rattle.flow_world.proofs.Events.{event_is_taken}
+use Rattle.flow_world.proofs.Events.{event_is_taken, on_time}
 use Rattle.flow_events.specs.Showing.{WorldShows}
 use Rattle.flow_events.specs.Coming.{LineNext, EventNext}
 use Rattle.flow_deeds.specs.Settling.{Settled}
 use Rattle.flow_happens.proofs.Acting.{Going}
-
--- what doesn't count for what is outside: how many events ran, whose event it is, and the script; and the time is that of both
-pub on_time : (m : Surroundings) (o : Outside) (t u n : ℕ) (left : _) → t ≡ u → OutsideShows m o → OutsideShows (record m { time = t }) (counted u n (record o { script = left }))
-on_time m o t u n left same s = record {
-  seed = s.seed;
-  words = s.words;
-  processes = s.processes;
-  latency = s.latency;
-  loss = s.loss;
-  diskdelay = s.diskdelay;
-  time = same;
-  sent = s.sent;
-  drawn = s.drawn;
-  made = s.made;
-  events = s.events;
-  packets = s.packets;
-  numbers = s.numbers;
-  table = s.table;
-  cuts = s.cuts;
-  disks = s.disks;
-}
 
 module _ (r : RawTree) (w : Seen) (m : World Frame) (s : WorldShows (Settled r) w m) where
   one_more : w.ran + 1 ≡ suc m.out.ran

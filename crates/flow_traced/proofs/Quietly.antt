@@ -1,6 +1,6 @@
 -- Events that do nothing to a process.
 use Rattle.std.proofs.Common.{◌≡◌, ℕ, zero, suc, ◌+◌, ◌<◌, true, false, List, [], ◌∷◌, Some, None, length, refl, sym, ap, ◌∙◌, subst, arith}
-use Rattle.std.specs.Prelude.{Result, Ok, slice_get, slice_set, slice_index_or}
+use Rattle.std.specs.Prelude.{Result, Ok, slice_set, slice_index_or}
 use Rattle.flow_base.specs.declared.fault.OutFault.{OutFault}
 use Rattle.flow_trace.specs.declared.line.Line.{Line}
 use Rattle.flow_trace.specs.declared.line.Line.TheVariants as line
@@ -42,28 +42,6 @@ down = record { up = false; proc = idle }
 abbrev quiet : (turns : ℕ) → Place Frame → Place Frame
 quiet turns x = record { up = x.up; proc = begun_proc turns x.proc }
 
--- what doesn't count for what is outside: how many events ran, whose event it is, and the script; and the time is that of both
-at_time : (m : Surroundings) (o : Outside) (t n : ℕ) (left : List (ℕ × Order)) → OutsideShows m o
-    → OutsideShows (record m { time = t }) (counted t n (record o { script = left }))
-at_time m o t n left s = record {
-  seed = s.seed;
-  words = s.words;
-  processes = s.processes;
-  latency = s.latency;
-  loss = s.loss;
-  diskdelay = s.diskdelay;
-  time = refl;
-  sent = s.sent;
-  drawn = s.drawn;
-  made = s.made;
-  events = s.events;
-  packets = s.packets;
-  numbers = s.numbers;
-  table = s.table;
-  cuts = s.cuts;
-  disks = s.disks;
-}
-
 -- a disk of a process is another
 disk_put : (m : Surroundings) (o : Outside) (p : ℕ) (d e : Disk) → OutsideShows m o → d ≡ e → OutsideShows (memory_disk.with_disk p d m) (with_disk o p e)
 disk_put m o p d e s same = record {
@@ -84,14 +62,6 @@ disk_put m o p d e s same = record {
   cuts = s.cuts;
   disks = ap (λ ds. slice_set ds p d) s.disks ∙ ap (slice_set o.disks p) same;
 }
-
-found : {Y : Type 0} (xs : List Y) (i : ℕ) (x d : Y) → slice_get xs i ≡ Some x → slice_index_or xs i d ≡ x
-found [] i x d e = absurd (cc)
-found (y ∷ ys) zero x d e = some e
-  where
-    some : {Z : Type 0} {z u : Z} → Some z ≡ Some u → z ≡ u
-    some g = cc
-found (y ∷ ys) (suc i) x d e = found ys i x d e
 
 module _ (Rests : Process → Proc Frame → Type 0) (Keeps : World Frame → Type 0) (IsCode : Code → Type 0) (r : RawTree) (still : StaysQuiet Rests Keeps IsCode r) where
   places_quiet :
@@ -215,7 +185,7 @@ module _ (Rests : Process → Proc Frame → Type 0) (Keeps : World Frame → Ty
       quiet_line w v m a b t l ls (order.Cut p.0 q.0) (line.Cut (suc m.out.ran) t p q) sur (λ o. record o { cuts = (p.0, q.0) ∷ o.cuts }) still s there next_is script (ap order_of cuts)
       (λ left. (
         record { does = λ at. refl; active = refl; file = refl; script = refl; ran = refl },
-        link_cut (record w.outside { time = t }) (counted t p.0 (record m.out { script = left })) p.0 q.0 (at_time w.outside m.out t p.0 left s.outside) few pl ql,
+        link_cut (record w.outside { time = t }) (counted t p.0 (record m.out { script = left })) p.0 q.0 (on_time w.outside m.out t t p.0 left refl s.outside) few pl ql,
       ))
       (subst (λ k. puts a (line.Cut k t p q) (Ok tt) b) counts done.0)
       (h.after ∙ ap {A = Seen} (λ z. record z { ended = false }) done.2)
@@ -229,7 +199,7 @@ module _ (Rests : Process → Proc Frame → Type 0) (Keeps : World Frame → Ty
       quiet_line w v m a b t l ls (order.Heal p.0 q.0) (line.Heal (suc m.out.ran) t p q) sur (λ o. record o { cuts = healed o.cuts p.0 q.0 }) still s there next_is script (ap order_of heals)
       (λ left. (
         record { does = λ at. refl; active = refl; file = refl; script = refl; ran = refl },
-        link_healed (record w.outside { time = t }) (counted t p.0 (record m.out { script = left })) p.0 q.0 (at_time w.outside m.out t p.0 left s.outside) few pl ql,
+        link_healed (record w.outside { time = t }) (counted t p.0 (record m.out { script = left })) p.0 q.0 (on_time w.outside m.out t t p.0 left refl s.outside) few pl ql,
       ))
       (subst (λ k. puts a (line.Heal k t p q) (Ok tt) b) counts done.0)
       (h.after ∙ ap {A = Seen} (λ z. record z { ended = false }) done.2)
@@ -248,7 +218,7 @@ module _ (Rests : Process → Proc Frame → Type 0) (Keeps : World Frame → Ty
       (λ o. with_disk o p.0 (record { fails = n; files = (disk_of o p.0).files })) still s there next_is script (ap order_of fails)
       (λ left. (
         record { does = λ at. refl; active = refl; file = refl; script = refl; ran = refl },
-        disk_put (record w.outside { time = t }) (counted t p.0 (record m.out { script = left })) p.0 failed _ (at_time w.outside m.out t p.0 left s.outside) same,
+        disk_put (record w.outside { time = t }) (counted t p.0 (record m.out { script = left })) p.0 failed _ (on_time w.outside m.out t t p.0 left refl s.outside) same,
       ))
       (subst (λ k. puts a (line.DiskFail k t p n) (Ok tt) b) counts done.0)
       (h.after ∙ ap {A = Seen} (λ z. record z { ended = false }) failing.left)

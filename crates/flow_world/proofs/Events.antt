@@ -6,7 +6,8 @@ use Rattle.flow_timers.specs.Pending.{Pending}
 use Rattle.flow_simnet.specs.Links as table
 use Rattle.flow_simdisk.specs.Disk.{Disk, served}
 use Rattle.flow_meaning.specs.Outside.{What, Outside, is_link, is_cut}
-use Rattle.flow_meaning.specs.World.{disk_of, with_disk}
+use Rattle.flow_worldfile.specs.declared.directive.Order.{Order}
+use Rattle.flow_meaning.specs.World.{disk_of, with_disk, counted}
 use Rattle.flow_world.specs.Changes.{Surroundings}
 use Rattle.flow_world.specs.declared.outside.What as kept
 use Rattle.flow_world.specs.Shows.{EventsShow, PacketsOnce, NumbersOnce, OutsideShows}
@@ -14,6 +15,29 @@ use Rattle.flow_world.specs.Laws.{LinkCut, LinkHealed, DiskServed, EventTaken, R
 use Rattle.flow_world.proofs.Coming.{once_left, once_gone, gone_shows}
 use Rattle.flow_world.proofs.Numbers.{numbers_gone, numbers_left}
 use Rattle.flow_world.proofs.Links.{at_set, set_length, same_place, link_within, healed_cuts}
+
+-- what doesn't count for what is outside: how many events ran, whose event it is, and the script;
+-- and the time is that of both
+pub on_time : (m : Surroundings) (o : Outside) (t u n : ℕ) (left : List (ℕ × Order)) → t ≡ u → OutsideShows m o
+    → OutsideShows (record m { time = t }) (counted u n (record o { script = left }))
+on_time m o t u n left same s = record {
+  seed = s.seed;
+  words = s.words;
+  processes = s.processes;
+  latency = s.latency;
+  loss = s.loss;
+  diskdelay = s.diskdelay;
+  time = same;
+  sent = s.sent;
+  drawn = s.drawn;
+  made = s.made;
+  events = s.events;
+  packets = s.packets;
+  numbers = s.numbers;
+  table = s.table;
+  cuts = s.cuts;
+  disks = s.disks;
+}
 
 pub link_cut : (m : Surroundings) (w : Outside) → LinkCut m w
 link_cut m w p q s few h i = record {
@@ -121,11 +145,14 @@ requests_are_gone m w p s = record {
   disks = s.disks;
 }
 
--- the disk of a process
-found : (ds : List Disk) (p : ℕ) (d e : Disk) → slice_get ds p ≡ Some d → slice_index_or ds p e ≡ d
-found [] p d e h = absurd (cc)
-found (x ∷ ds) zero d e h = cc
-found (x ∷ ds) (suc p) d e h = found ds p d e h
+-- what stands at a place, and what is read there
+pub found : {Y : Type 0} (xs : List Y) (i : ℕ) (x d : Y) → slice_get xs i ≡ Some x → slice_index_or xs i d ≡ x
+found [] i x d e = absurd (cc)
+found (y ∷ ys) zero x d e = some e
+  where
+    some : {Z : Type 0} {z u : Z} → Some z ≡ Some u → z ≡ u
+    some g = cc
+found (y ∷ ys) (suc i) x d e = found ys i x d e
 
 pub disk_served : (m : Surroundings) (w : Outside) → DiskServed m w
 disk_served m w p request n reply s d =

@@ -1,7 +1,7 @@
 use Rattle.flow_tree.specs.DeclView.{program_of}
 use Rattle.flow_lower.specs.Compiled.{compiled}
 use Rattle.flow_faithful.proofs.Whole.{compiles_faithfully}
-use Rattle.flow_framed.proofs.Carried.{are_carried}
+use Rattle.flow_preserved.proofs.Carried.{are_carried}
 use Rattle.flow_framed.proofs.Alike.{shown_of_text, shown_of_classes}
 use Rattle.flow_framed.proofs.laws.shown_alike.Goals as goal
 

@@ -6,7 +6,7 @@ use Rattle.flow_value.specs.declared.value.Kind.TheVariants as kind
 use Rattle.flow_value.specs.declared.value.Value.{Value}
 use Rattle.flow_value.specs.declared.value.Outcome.{Outcome}
 use Rattle.flow_value.specs.declared.value.Outcome.TheVariants as outcome
-use Rattle.flow_value.specs.Values.{ValueTree, GoodOutcome}
+use Rattle.flow_value.specs.Values.{ValueTree}
 use Rattle.flow_value.specs.View.{value_of, outcome_of}
 use Rattle.flow_class.specs.Classes.{RawTree}
 use Rattle.flow_trace.specs.declared.line.Line.{Line}
@@ -21,11 +21,10 @@ use Rattle.flow_meaning.specs.Cells.{Side, FutureSide, Ref, Waiter, Cell, Single
 use Rattle.flow_meaning.specs.Process.{Proc}
 use Rattle.flow_meaning.specs.Occ.{Scan, one, count, refs_in, value_in}
 use Rattle.flow_meaning.specs.Work.{fill, fill_cell}
-use Rattle.flow_meaning.specs.Deliver.{begin, arrive}
 use Rattle.flow_meaning.specs.Step.{on_core}
 use Rattle.flow_meaning.specs.Frame.{Frame}
 use Rattle.flow_picture.specs.Shows.{spot_of_actor}
-use Rattle.flow_picture.specs.Counted.{memory_side, references, nothing_in_hand}
+use Rattle.flow_picture.specs.Counted.{memory_side, references}
 use Rattle.flow_picture.specs.References.{cell_holds}
 use Rattle.flow_picture.specs.Changes.{stream_put, fire}
 use Rattle.flow_picture.specs.Losing.{RightCell}
@@ -37,14 +36,11 @@ use Rattle.flow_picture.proofs.Keeping.{stream_held, stream_keeps}
 use Rattle.flow_picture.proofs.Referring.{of_cell}
 use Rattle.flow_picture.proofs.Sums.{refs_joined}
 use Rattle.flow_steps.specs.declared.process.Process.{Process}
-use Rattle.flow_steps.specs.Doing.{begun, turned}
 use Rattle.flow_steps.specs.Holding.{on_heap, outcome_refs}
-use Rattle.flow_steps.specs.Bringing.{brought, content_brought}
-use Rattle.flow_follows.specs.Shown.{Shown, Follows, shows}
-use Rattle.flow_follows.proofs.Working.{changed, turn_taken, refs_held}
-use Rattle.flow_follows.proofs.Brought.{found_stream, there_by, all_there_by}
-use Rattle.flow_effects.specs.Events.{ShownBetween}
-use Rattle.flow_effects.proofs.Brings.{event_begins}
+use Rattle.flow_steps.specs.Bringing.{content_brought}
+use Rattle.flow_follows.specs.Shown.{Shown}
+use Rattle.flow_follows.proofs.Working.{changed, refs_held}
+use Rattle.flow_follows.proofs.Brought.{found_stream}
 
 -- a task comes on top before or after a count rises
 pushed_stream : (s : memory.Side) (k : ℕ) (o : Option (StreamTree Value)) (t : stack.Task) (h : HeapTree) → held_stream s k o (pushed t h) ≡ pushed t (held_stream s k o h)
@@ -91,7 +87,7 @@ module _ (r : RawTree) (h : HeapTree) (p : Proc Frame) (x : Scan) (k : ℕ) (q :
       there = stored_put h.streams.things k m n e
 
 module _ (r : RawTree) (ls : List Line) (x : Scan) (m : Process) (p : Proc Frame) (k : ℕ) (v : Value) where
-  element_sent : Shown r ls x m p → AllThere p (outcome_refs (outcome.Value v)) → There p (kind.PromiseStream, k)
+  pub element_sent : Shown r ls x m p → AllThere p (outcome_refs (outcome.Value v)) → There p (kind.PromiseStream, k)
       → Shown r ls x (on_heap (content_brought kind.PromiseStream k (outcome.Value v)) m) (on_core (fill k (outcome_of (outcome.Value v))) p)
   element_sent s all t = by_cell t.cell t.at t.right
     where
@@ -111,13 +107,3 @@ module _ (r : RawTree) (ls : List Line) (x : Scan) (m : Process) (p : Proc Frame
           (ap (λ c. (fill_cell k (outcome_of (outcome.Value v)) c p.core).lines) at)
           (ap (λ c. (fill_cell k (outcome_of (outcome.Value v)) c p.core).left) at)
           (ap (λ c. (fill_cell k (outcome_of (outcome.Value v)) c p.core).halted) at)
-
--- so it is at the begin of an event
-pub element_follows : (r : RawTree) (m : Process) (p : Proc Frame) (now turns k : ℕ) (v : Value) → ShownBetween r m p → There p (kind.PromiseStream, k) → AllThere p (outcome_refs (outcome.Value v))
-    → Follows r [] nothing_in_hand (brought kind.PromiseStream k (outcome.Value v) (begun now turns m)) (on_core (arrive k (value_of v)) (on_core (begin turns) p))
-element_follows r m p now turns k v b to there =
-    let start = begun now turns m in
-    let q = on_core (begin turns) p in
-    turn_taken r [] nothing_in_hand start q nothing_in_hand (on_heap (content_brought kind.PromiseStream k (outcome.Value v))) (λ d. fill k (GoodOutcome (value_of v)) d) (event_begins r m p now turns b) (λ n e s.
-    let o = on_core (λ c. record c { left = n }) q in
-    shows (element_sent r [] nothing_in_hand (turned start) o k v s (all_there_by p o (outcome_refs (outcome.Value v)) refl there) (there_by p o (kind.PromiseStream, k) refl to)))
