@@ -20,7 +20,7 @@ use Rattle.flow_meaning.specs.Work.{turn, turn_of, writes, pushed, new_cell, fil
 use Rattle.flow_meaning.specs.Dropping.{Loss, Kept, Freed, Broken, Orphan, Unheard, loss, port_of, break_cell, suffer, lose_cell, lose_ref, drop, fire_to, fire_at, fire_cell, fire, set_result, give_result, close}
 use Rattle.flow_meaning.specs.Effects.{Reaction, result_task, push_result, gives, gives_new, gives_open, throws, scaled, empty_cell, between, is_port, open_port, judged, ask_disk, effect}
 use Rattle.flow_meaning.specs.React.{send_by, send_in, print, at_spot, suspend, wait_by, wait, react}
-use Rattle.flow_meaning.specs.Step.{Stepped, proc, view, enrol, start, start_core, answer, run_next, run, give, store, throw_core, throw, Verdict, GoesOn, Cancelled, Ready, verdict, with_operand, below, keep_by, keep, close_actor, scanned, do_task, popped, step_if, step_tasks, step}
+use Rattle.flow_meaning.specs.Step.{Stepped, proc, view, enrol, start, start_core, answer, run_next, run, give, store, throw_core, throw, OperandFate, GoesOn, Cancelled, Ready, verdict, with_operand, below, keep_by, keep, close_actor, scanned, do_task, popped, step_if, step_tasks, step}
 use Rattle.flow_meaning.specs.Class.{classes}
 use Rattle.flow_asked.specs.Ports as law
 use Rattle.flow_asked.specs.Ports.{PortsChange, same, more}
@@ -290,7 +290,7 @@ module _ {A : Type 0} (e : Engine A) (s : Supply) where
   keep_changes i spot r (Some a) None p = same refl (omega arith)
   keep_changes i spot r (Some a) (Some en) p = by_verdict (verdict en.marked (is_ready_at (thing p.core.cells r.1)))
     where
-      by_verdict : (v : Verdict) → PortsChange p.core (keep_by e i (length en.operands) v r (with_operand spot r en) a p).0.core
+      by_verdict : (v : OperandFate) → PortsChange p.core (keep_by e i (length en.operands) v r (with_operand spot r en) a p).0.core
       by_verdict GoesOn = same refl (omega arith)
       by_verdict Cancelled = same refl (omega arith)
       by_verdict Ready =

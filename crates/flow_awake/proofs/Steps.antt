@@ -20,7 +20,7 @@ use Rattle.flow_meaning.specs.Effects.{effect}
 use Rattle.flow_meaning.specs.React.{react}
 use Rattle.flow_meaning.specs.Work.{writes, pushed, take_branch, is_ready_at}
 use Rattle.flow_meaning.specs.Step as steps
-use Rattle.flow_meaning.specs.Step.{Stepped, proc, kept_by, view, start, answer_effect, answer, run_next, run, fate, throw_core, Verdict, GoesOn, Cancelled, Ready as IsReady, verdict, with_operand, below, keep_by, keep, handle, close_actor, scanned, do_task, step_tasks, step_if, step}
+use Rattle.flow_meaning.specs.Step.{Stepped, proc, kept_by, view, start, answer_effect, answer, run_next, run, fate, throw_core, OperandFate, GoesOn, Cancelled, Ready as IsReady, verdict, with_operand, below, keep_by, keep, handle, close_actor, scanned, do_task, step_tasks, step_if, step}
 use Rattle.flow_meaning.specs.Frame.{Frame}
 use Rattle.flow_meaning.specs.Class.{classes, class_names, next_step}
 use Rattle.flow_meaning.proofs.Posture.{Unless, unless, unless_map, thing_put, thing_put_other, IsOf, own_task, other_task}

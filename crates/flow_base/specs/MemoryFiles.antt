@@ -94,13 +94,13 @@ pub record Copies (rest old new : List ℕ) (n : ℕ) : Type 0 where
 
 -- a read gives as many bytes as are left and fit, and moves the position behind them; it fails at the
 -- listed calls alone; and where it finds no memory, it changes nothing
-abbrev pub Reads : FilesState → ℕ → List ℕ → Result ℕ OutFault → List ℕ → FilesState → Type 0
-Reads old k buffer (Ok n) filled new = record {
+abbrev pub FileReads : FilesState → ℕ → List ℕ → Result ℕ OutFault → List ℕ → FilesState → Type 0
+FileReads old k buffer (Ok n) filled new = record {
   passes : next_fails old.calls ≡ false;
   bytes : Copies (unwrap_or (rest_at old.files old.positions k) []) buffer filled n;
   position : SetsPosition old.positions new.positions k (unwrap_or (position_of old.positions k) 0 + n);
   rest : new ≡ record old { positions = new.positions; calls = passed old.calls };
 }
-Reads old k buffer (Err Failed) filled new =
+FileReads old k buffer (Err Failed) filled new =
     (next_fails old.calls ≡ true) × (filled ≡ buffer) × (new ≡ record old { calls = failed old.calls })
-Reads old k buffer (Err OutOfMemory) filled new = (filled ≡ buffer) × (new ≡ old)
+FileReads old k buffer (Err OutOfMemory) filled new = (filled ≡ buffer) × (new ≡ old)

@@ -3,7 +3,7 @@
 ghost use Rattle.std.specs.Prelude.{position, bytes_eq, ◌≡◌, ◌≢◌, ℕ, List, IfOk, ◌+◌, ◌<◌, ◌^◌, [], length, map, min, take, drop, string_bytes, IsTrue, IsSome, OnErr, OnOk, Some, unwrap_or};
 ghost use Rattle.std.specs.Io.KnownBytes.{ReadConsumes};
 ghost use Rattle.flow_base.specs.Calls.{no_calls};
-ghost use Rattle.flow_base.specs.MemoryFiles.{Opens, Reads, Copies, IsOpen, SetsPosition, are_distinct, number_of, name_at, bytes_of, bytes_at, position_of, rest_of, named_bytes, seen_of};
+ghost use Rattle.flow_base.specs.MemoryFiles.{Opens, FileReads, Copies, IsOpen, SetsPosition, are_distinct, number_of, name_at, bytes_of, bytes_at, position_of, rest_of, named_bytes, seen_of};
 ghost use Rattle.flow_base.specs.Seen.{MovesOnly};
 
 use crate::calls::Calls;
@@ -174,7 +174,7 @@ impl Files for MemFiles {
     #[tactic(auto, using(crate::proofs::MemoryFiles::opened))]
     fn read(&mut self, file: FileNo, buf: &mut [u8]) -> Result<usize, OutFault>
         requires { IsOpen self.old.files self.old.positions file.0 }
-        ensures reads { Reads self.old file.0 buf.old result buf.new self.new }
+        ensures reads { FileReads self.old file.0 buf.old result buf.new self.new }
 
         ensures bytes { let name = name_at self.old.files file.0 in
             let before = rest_of self.old.files self.old.positions name in

@@ -8,10 +8,10 @@ use Rattle.flow_eval.specs.declared.stop.Halt.{Halt}
 use Rattle.flow_eval.specs.declared.stop.Halt.TheVariants as halt
 use Rattle.flow_eval.specs.Answers.{Answer}
 use Rattle.flow_eval.specs.Eval.{Res, then, at_once}
-use Rattle.flow_eval.specs.View.{Answers, Gives, GivesAll}
+use Rattle.flow_eval.specs.View.{GivesAnswer, Gives, GivesAll}
 
 -- an answer takes no turn
-pub answer_gives : (a : Answer) (left : ℕ) (r : Result Value Halt) → Answers a r → Gives (at_once a left) r left
+pub answer_gives : (a : Answer) (left : ℕ) (r : Result Value Halt) → GivesAnswer a r → Gives (at_once a left) r left
 answer_gives a left (Ok v) h = ap (λ a. at_once a left) h
 answer_gives a left (Err (halt.Thrown e)) h = ap (λ a. at_once a left) h
 answer_gives a left (Err halt.Spent) h = absurd h

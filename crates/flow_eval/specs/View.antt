@@ -23,12 +23,12 @@ use Rattle.flow_eval.specs.Functions.{skip, scope, exec, Locals, Run, Goes, Brea
 use Rattle.flow_eval.specs.Eval.{Runner, Res, Done, Fails, Spent, Meaningless, Setting}
 
 -- the code gives this answer, or there was no memory
-abbrev pub Answers : Answer → Result Value Halt → Type 0
-Answers a (Ok v) = a ≡ Given (value_of v)
-Answers a (Err (halt.Thrown e)) = a ≡ Throws e.0
-Answers a (Err halt.NoMeaning) = a ≡ NoMeaning
-Answers a (Err halt.OutOfMemory) = Unit {0}
-Answers a (Err halt.Spent) = ⊥
+abbrev pub GivesAnswer : Answer → Result Value Halt → Type 0
+GivesAnswer a (Ok v) = a ≡ Given (value_of v)
+GivesAnswer a (Err (halt.Thrown e)) = a ≡ Throws e.0
+GivesAnswer a (Err halt.NoMeaning) = a ≡ NoMeaning
+GivesAnswer a (Err halt.OutOfMemory) = Unit {0}
+GivesAnswer a (Err halt.Spent) = ⊥
 
 abbrev pub setting_of : {C : Type 0} → (C → ℕ → Option OutcomeTree) → code.Setting C → Setting
 setting_of content s = record {

@@ -11,7 +11,7 @@ ghost use Rattle.flow_eval.specs.Eval.{eval, eval_all, variable, second, method_
 ghost use Rattle.flow_ast.specs.Typing.{routine_named};
 ghost use Rattle.flow_eval.specs.Functions.{routine_at, called_body, nested};
 ghost use Rattle.flow_eval.specs.Variables.{look_of};
-ghost use Rattle.flow_eval.specs.View.{Answers, Gives, GivesAll, setting_of};
+ghost use Rattle.flow_eval.specs.View.{GivesAnswer, Gives, GivesAll, setting_of};
 
 use crate::cells::CellView;
 use crate::locals::entered;
@@ -56,7 +56,7 @@ pub fn bool_of(value: &Value) -> Option<bool>
 }
 
 fn as_truth(value: &Value) -> Result<Value, Halt>
-    ensures { Answers (truth (bool_of (value_of value.now))) result }
+    ensures { GivesAnswer (truth (bool_of (value_of value.now))) result }
 {
     match bool_of(value) {
         Some(b) => Ok(Value::Bool(b)),
@@ -65,7 +65,7 @@ fn as_truth(value: &Value) -> Result<Value, Halt>
 }
 
 fn variable<V: Variables>(alloc: Global, vars: &Vars<V>, name: &[u8]) -> Result<Value, Halt>
-    ensures { Answers (variable (look_of V.by_name vars.now) name.now
+    ensures { GivesAnswer (variable (look_of V.by_name vars.now) name.now
         (named constant_names name.now)) result }
 {
     if let Some(n) = predefined_constant(name) {
@@ -83,7 +83,7 @@ fn field_value(
     base: &Value,
     name: &[u8],
 ) -> Result<Value, Halt>
-    ensures { Answers (field_answer (field (map record_of records.now) (value_of base.now)
+    ensures { GivesAnswer (field_answer (field (map record_of records.now) (value_of base.now)
         name.now)) result }
 {
     match field(records, base, name) {
@@ -98,7 +98,7 @@ fn call_method<C: CellView>(
     base: &Value,
     args: &[Value],
 ) -> Result<Value, Halt>
-    ensures { Answers (method_called (setting_of C.content setting.now).cells
+    ensures { GivesAnswer (method_called (setting_of C.content setting.now).cells
         (named method_names name.now) (value_of base.now) (map value_of args.now)) result }
 {
     match predefined_method(name) {

@@ -12,7 +12,7 @@ ghost use Rattle.flow_eval.specs.Eval.{found};
 ghost use Rattle.flow_eval.specs.Records.{value_put, value_at, at_place, field_place};
 ghost use Rattle.flow_eval.specs.Functions.{bound, entered, default_value, read_path, read_in, put_path, put_place, put_in, put_at, rethrown, error_at};
 ghost use Rattle.flow_eval.specs.Variables.{var_of};
-ghost use Rattle.flow_eval.specs.View.{Answers, Entered};
+ghost use Rattle.flow_eval.specs.View.{GivesAnswer, Entered};
 
 use crate::records::{field, field_place};
 use crate::stop::Halt;
@@ -58,7 +58,7 @@ pub fn entered(alloc: Global, params: &[Param], args: Vec<Value>) -> Result<Vec<
 
 /// The value of a declaration that gives none.
 pub fn default_value(alloc: Global, ty: &Ty) -> Result<Value, Halt>
-    ensures { Answers (found (default_value (type_of ty.now))) result }
+    ensures { GivesAnswer (found (default_value (type_of ty.now))) result }
 {
     match ty {
         Ty::Int => Ok(Value::Int(0)),

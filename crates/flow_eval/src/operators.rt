@@ -4,7 +4,7 @@ ghost use Rattle.std.specs.Prelude.{◌≡◌, ℤ};
 ghost use Rattle.flow_value.specs.View.{value_of};
 ghost use Rattle.flow_eval.specs.Answers.{whole, truth};
 ghost use Rattle.flow_eval.specs.Operators.{compared, equated, on_ints, on_texts, on_bools, joined, operated, negated, inverted};
-ghost use Rattle.flow_eval.specs.View.{Answers};
+ghost use Rattle.flow_eval.specs.View.{GivesAnswer};
 
 use crate::stop::Halt;
 use flow_ast::expr::Op;
@@ -15,7 +15,7 @@ use std::alloc::Global;
 use std::cmp::Ordering;
 
 fn whole(n: Option<i64>) -> Result<Value, Halt>
-    ensures { Answers (whole n) result }
+    ensures { GivesAnswer (whole n) result }
 {
     match n {
         Some(n) => Ok(Value::Int(n)),
@@ -24,7 +24,7 @@ fn whole(n: Option<i64>) -> Result<Value, Halt>
 }
 
 fn truth(b: Option<bool>) -> Result<Value, Halt>
-    ensures { Answers (truth b) result }
+    ensures { GivesAnswer (truth b) result }
 {
     match b {
         Some(b) => Ok(Value::Bool(b)),
@@ -60,7 +60,7 @@ fn equated(op: Op, same: bool) -> Option<bool>
 /// An operator on two whole numbers. Without meaning: a result beyond 64 bits, a division by
 /// zero, `&&` and `||`.
 pub fn on_ints(op: Op, a: i64, b: i64) -> Result<Value, Halt>
-    ensures { Answers (on_ints op a b) result }
+    ensures { GivesAnswer (on_ints op a b) result }
 {
     match op {
         Op::Add => whole(a.checked_add(b)),
@@ -75,7 +75,7 @@ pub fn on_ints(op: Op, a: i64, b: i64) -> Result<Value, Halt>
 }
 
 fn joined(alloc: Global, s: &Text, t: &Text) -> Result<Value, Halt>
-    ensures { Answers (joined s.now t.now) result }
+    ensures { GivesAnswer (joined s.now t.now) result }
 {
     let first = s.bytes();
     let second = t.bytes();
@@ -89,7 +89,7 @@ fn joined(alloc: Global, s: &Text, t: &Text) -> Result<Value, Halt>
 }
 
 fn on_texts(alloc: Global, op: Op, s: &Text, t: &Text) -> Result<Value, Halt>
-    ensures { Answers (on_texts op s.now t.now) result }
+    ensures { GivesAnswer (on_texts op s.now t.now) result }
 {
     match op {
         Op::Add => joined(alloc, s, t),
@@ -109,14 +109,14 @@ fn on_texts(alloc: Global, op: Op, s: &Text, t: &Text) -> Result<Value, Halt>
 }
 
 fn on_bools(op: Op, a: bool, b: bool) -> Result<Value, Halt>
-    ensures { Answers (on_bools op a b) result }
+    ensures { GivesAnswer (on_bools op a b) result }
 {
     truth(equated(op, a.cmp(&b).is_eq()))
 }
 
 /// A sign between two values.
 pub fn operated(alloc: Global, op: Op, left: &Value, right: &Value) -> Result<Value, Halt>
-    ensures { Answers (operated op (value_of left.now) (value_of right.now)) result }
+    ensures { GivesAnswer (operated op (value_of left.now) (value_of right.now)) result }
 {
     match left {
         Value::Int(a) => match right {
@@ -154,7 +154,7 @@ pub fn operated(alloc: Global, op: Op, left: &Value, right: &Value) -> Result<Va
 
 /// An int with its sign turned.
 pub fn negated(value: &Value) -> Result<Value, Halt>
-    ensures { Answers (negated (value_of value.now)) result }
+    ensures { GivesAnswer (negated (value_of value.now)) result }
 {
     match value {
         Value::Int(n) => whole(n.checked_neg()),
@@ -164,7 +164,7 @@ pub fn negated(value: &Value) -> Result<Value, Halt>
 
 /// The other truth value.
 pub fn inverted(value: &Value) -> Result<Value, Halt>
-    ensures { Answers (inverted (value_of value.now)) result }
+    ensures { GivesAnswer (inverted (value_of value.now)) result }
 {
     match value {
         Value::Bool(b) => Ok(Value::Bool(!*b)),

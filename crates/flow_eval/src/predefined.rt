@@ -7,7 +7,7 @@ ghost use Rattle.flow_base.specs.Names.{digit, digits_from, are_digits};
 ghost use Rattle.flow_value.specs.View.{value_of, outcome_of};
 ghost use Rattle.flow_eval.specs.Answers.{int_of, text_of, arg, if_int};
 ghost use Rattle.flow_eval.specs.Predefined.{signed, read_digits, read_int, int_read, to_string, to_int, error_number, call_answer, clipped, substr, text_method, got, has_error, future_method, promise_method, stream_method, error_method, reference_method, method_answer};
-ghost use Rattle.flow_eval.specs.View.{Answers};
+ghost use Rattle.flow_eval.specs.View.{GivesAnswer};
 
 use crate::cells::CellView;
 use crate::stop::Halt;
@@ -117,7 +117,7 @@ fn read_int(bytes: &[u8]) -> Option<i64>
 }
 
 fn to_int(text: Option<&Text>) -> Result<Value, Halt>
-    ensures { Answers (to_int (option_copied text.entry)) result }
+    ensures { GivesAnswer (to_int (option_copied text.entry)) result }
 {
     let Some(text) = text else {
         return Err(Halt::NoMeaning);
@@ -129,14 +129,14 @@ fn to_int(text: Option<&Text>) -> Result<Value, Halt>
 }
 
 fn decimal(alloc: Global, n: i64) -> Result<Value, Halt>
-    ensures { Answers (to_string (Some n)) result }
+    ensures { GivesAnswer (to_string (Some n)) result }
 {
     let text = format!(in alloc; "{n}")?;
     Ok(Value::text(alloc, Text::new(alloc, text.as_bytes())?)?)
 }
 
 fn to_string(alloc: Global, n: Option<i64>) -> Result<Value, Halt>
-    ensures { Answers (to_string n) result }
+    ensures { GivesAnswer (to_string n) result }
 {
     match n {
         Some(n) => decimal(alloc, n),
@@ -145,7 +145,7 @@ fn to_string(alloc: Global, n: Option<i64>) -> Result<Value, Halt>
 }
 
 fn error_number(n: Option<i64>) -> Result<Value, Halt>
-    ensures { Answers (error_number n) result }
+    ensures { GivesAnswer (error_number n) result }
 {
     let Some(n) = n else {
         return Err(Halt::NoMeaning);
@@ -158,7 +158,7 @@ fn error_number(n: Option<i64>) -> Result<Value, Halt>
 
 /// What a predefined call gives with these arguments at this time.
 pub fn call_answer(alloc: Global, call: Predefined, now: i64, args: &[Value]) -> Result<Value, Halt>
-    ensures { Answers (call_answer call now (map value_of args.now)) result }
+    ensures { GivesAnswer (call_answer call now (map value_of args.now)) result }
 {
     match call {
         Predefined::ToString => to_string(alloc, int_arg(args, 0)),
@@ -184,7 +184,7 @@ pub fn call_answer(alloc: Global, call: Predefined, now: i64, args: &[Value]) ->
 }
 
 fn clipped(alloc: Global, text: &Text, from: i64, count: i64) -> Result<Value, Halt>
-    ensures { Answers (clipped text.now from count) result }
+    ensures { GivesAnswer (clipped text.now from count) result }
 {
     let bytes = text.bytes();
     if from < 0 || from > bytes.len() as i64 || count < 0 {
@@ -196,7 +196,7 @@ fn clipped(alloc: Global, text: &Text, from: i64, count: i64) -> Result<Value, H
 }
 
 fn text_method(alloc: Global, method: Method, text: &Text, args: &[Value]) -> Result<Value, Halt>
-    ensures { Answers (text_method method text.now (map value_of args.now)) result }
+    ensures { GivesAnswer (text_method method text.now (map value_of args.now)) result }
 {
     match method {
         Method::Size => Ok(Value::Int(text.bytes().len() as i64)),
@@ -223,7 +223,7 @@ fn has_error(outcome: &Outcome) -> bool
 }
 
 fn got(alloc: Global, outcome: &Outcome) -> Result<Value, Halt>
-    ensures { Answers (got (Some (outcome_of outcome.now))) result }
+    ensures { GivesAnswer (got (Some (outcome_of outcome.now))) result }
 {
     match outcome {
         Outcome::Value(value) => Ok(value.copy(alloc)?),
@@ -237,7 +237,7 @@ fn future_method<C: CellView>(
     method: Method,
     cell: CellId,
 ) -> Result<Value, Halt>
-    ensures { Answers (future_method method (C.content view.now cell.0)) result }
+    ensures { GivesAnswer (future_method method (C.content view.now cell.0)) result }
 {
     let Some(outcome) = view.seen(cell) else {
         return match method {
@@ -256,7 +256,7 @@ fn future_method<C: CellView>(
 }
 
 fn promise_method<C: CellView>(view: &C, method: Method, cell: CellId) -> Result<Value, Halt>
-    ensures { Answers (promise_method method cell.0 (C.content view.now cell.0)) result }
+    ensures { GivesAnswer (promise_method method cell.0 (C.content view.now cell.0)) result }
 {
     match method {
         Method::GetFuture => Ok(Value::Ref(Kind::Future, cell)),
@@ -266,7 +266,7 @@ fn promise_method<C: CellView>(view: &C, method: Method, cell: CellId) -> Result
 }
 
 fn stream_method(method: Method, cell: CellId) -> Result<Value, Halt>
-    ensures { Answers (stream_method method cell.0) result }
+    ensures { GivesAnswer (stream_method method cell.0) result }
 {
     match method {
         Method::GetFuture => Ok(Value::Ref(Kind::FutureStream, cell)),
@@ -275,7 +275,7 @@ fn stream_method(method: Method, cell: CellId) -> Result<Value, Halt>
 }
 
 fn error_method(method: Method, code: ErrorCode) -> Result<Value, Halt>
-    ensures { Answers (error_method method code.0) result }
+    ensures { GivesAnswer (error_method method code.0) result }
 {
     match method {
         Method::Code => Ok(Value::Int(i64::from(code.0))),
@@ -290,7 +290,7 @@ fn reference_method<C: CellView>(
     kind: Kind,
     cell: CellId,
 ) -> Result<Value, Halt>
-    ensures { Answers (reference_method (C.content view.now) method kind cell.0) result }
+    ensures { GivesAnswer (reference_method (C.content view.now) method kind cell.0) result }
 {
     match kind {
         Kind::Future => future_method(alloc, view, method, cell),
@@ -308,7 +308,7 @@ pub fn method_answer<C: CellView>(
     base: &Value,
     args: &[Value],
 ) -> Result<Value, Halt>
-    ensures { Answers (method_answer (C.content view.now) method (value_of base.now)
+    ensures { GivesAnswer (method_answer (C.content view.now) method (value_of base.now)
         (map value_of args.now)) result }
 {
     match base {

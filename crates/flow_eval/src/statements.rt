@@ -10,7 +10,7 @@ ghost use Rattle.flow_eval.specs.Answers.{error_of};
 ghost use Rattle.flow_eval.specs.Operators.{operated};
 ghost use Rattle.flow_eval.specs.Functions.{read_path, declared, default_value, evaluated, Run, Locals, finished, nested, exec, scope, if_run, pass_run, turn_run, loop_run, for_run, try_run, handled, return_run, throw_run, declare_run, assign_run, change_operand, change_sign, modify_run, call_run, assigned, put_path, rethrown};
 ghost use Rattle.flow_eval.specs.Variables.{var_of};
-ghost use Rattle.flow_eval.specs.View.{Answers, Gives, Ran, StmtRan, else_run, setting_of};
+ghost use Rattle.flow_eval.specs.View.{GivesAnswer, Gives, Ran, StmtRan, else_run, setting_of};
 
 use crate::cells::CellView;
 use crate::evaluate::{Setting, Turns, bool_of, call_function, evaluate, evaluate_all};
@@ -124,7 +124,7 @@ fn changed_value(
     old: &Value,
     operand: &Value,
 ) -> Result<Value, Halt>
-    ensures { Answers (operated (change_sign (change_of change.now)) (value_of old.now)
+    ensures { GivesAnswer (operated (change_sign (change_of change.now)) (value_of old.now)
         (value_of operand.now)) result }
 {
     operated(alloc, change_sign(change), old, operand)

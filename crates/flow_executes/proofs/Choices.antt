@@ -23,7 +23,7 @@ use Rattle.flow_meaning.specs.Process.{Run, Keep, Entry, Proc}
 use Rattle.flow_meaning.specs.Occ.{Scan, refs_in, value_in}
 use Rattle.flow_meaning.specs.React.{wait}
 use Rattle.flow_meaning.specs.Work.{pushed}
-use Rattle.flow_meaning.specs.Step.{kept_by, view, Verdict, GoesOn, Cancelled, Ready, keep_by, keep, silent, step_if, step, proc, on_core}
+use Rattle.flow_meaning.specs.Step.{kept_by, view, OperandFate, GoesOn, Cancelled, Ready, keep_by, keep, silent, step_if, step, proc, on_core}
 use Rattle.flow_meaning.specs.Class.{operand_ref, operand_by, choose, fetched, next_step, class_names, classes}
 use Rattle.flow_meaning.specs.Frame.{Frame, look, spot_of, lose}
 use Rattle.flow_picture.specs.Shows.{Stands, spot_by, wait_spot, held_from}
@@ -74,7 +74,7 @@ appended_first [] q = (q, ([], refl))
 appended_first (y ∷ ys) q = (y, (ys ++ q ∷ [], refl))
 
 -- a step by the task Keep asks nothing of the world
-kept_silently : (r : RawTree) (i b : ℕ) (v : Verdict) (q : Ref) (en : Entry) (f : Frame) (p : Proc Frame)
+kept_silently : (r : RawTree) (i b : ℕ) (v : OperandFate) (q : Ref) (en : Entry) (f : Frame) (p : Proc Frame)
     → keep_by (classes r) i b v q en f p ≡ silent (keep_by (classes r) i b v q en f p).0
 kept_silently r i b GoesOn q en f p = refl
 kept_silently r i b Cancelled q en f p = refl

@@ -31,7 +31,7 @@ use Rattle.flow_exprs.specs.declared.stop.Stop.{Stop}
 use Rattle.flow_exprs.specs.declared.stop.Stop.TheVariants.{Short, Deep, NoMemory}
 use Rattle.flow_exprs.specs.Kinds.{kind_of, sign_kind, kind_at}
 use Rattle.flow_exprs.specs.Machine.{leaf, word_leaf, name_bytes, ident, Head, Function, Method, called, Unary, Negation, Minus, unary, Stack, Top, InParen, InUnary, InTwo, InArgs, State, Want, Have, WantArgs, WantName, WantOpen, WantClose, Dead, push, closed_stack, step_kind, step, height, heights, head_height, hole, fits_stack, fits, Outcome, Ended, ShortAt, DeepAt, halt, turn, run, Below}
-use Rattle.flow_exprs.specs.Answer.{NotCallable, KindStops, Stops, Fit, Reads, Goes, ReadsArgs, Ends, Refuses, RefusesArgs, next_op, leaf_of_word, leaf_of, leaf_in, leaf_at, ident_of, ident_in, ident_at, NoSign, RefusalIs}
+use Rattle.flow_exprs.specs.Answer.{NotCallable, KindStops, Stops, Fit, ReadsExpr, Goes, ReadsArgs, Ends, Refuses, RefusesArgs, next_op, leaf_of_word, leaf_of, leaf_in, leaf_at, ident_of, ident_in, ident_at, NoSign, RefusalIs}
 use Rattle.flow_exprs.proofs.Sound.{heights_push, called_height, height_some}
 use Rattle.flow_exprs.proofs.Steps.{nat_lt_ge, level_small}
 use Rattle.flow_exprs.proofs.Goes.{Alive}
@@ -246,7 +246,7 @@ module _ (spots : List Spot) where
   leaf_is : (i : ℕ) (t : ExprTree) (x : Spot) → leaf_at spots i ≡ Some t → slice_get spots i ≡ Some x → leaf_of x.token ≡ Some t
   leaf_is i t x h e = sym (ap leaf_in e) ∙ h
 
-  pub leaf_reads : (i d : ℕ) (t : ExprTree) → kind_at spots i ≡ Some kind.Leaf → leaf_at spots i ≡ Some t → d ≤ 64 → Reads spots i 6 d 8 t 1 (i + 1)
+  pub leaf_reads : (i d : ℕ) (t : ExprTree) → kind_at spots i ≡ Some kind.Leaf → leaf_at spots i ≡ Some t → d ≤ 64 → ReadsExpr spots i 6 d 8 t 1 (i + 1)
   leaf_reads i d t h l le =
       let r = here spots i kind.Leaf h in
       let s = leaf_same r.spot.token t (leaf_is i t r.spot l r.is) in
@@ -285,7 +285,7 @@ module _ (spots : List Spot) where
   pub leaf_some : (i : ℕ) → kind_at spots i ≡ Some kind.Leaf → leaf_at spots i ≡ None → ⊥
   leaf_some i h l = let r = here spots i kind.Leaf h in token_some r.spot.token r.kind_is (sym (ap leaf_in r.is) ∙ l)
 
-  pub void_reads : (i d : ℕ) → kind_at spots i ≡ Some kind.Void → kind_at spots (i + 1) ≡ Some kind.Open → kind_at spots (i + 2) ≡ Some kind.Close → d ≤ 64 → Reads spots i 6 d 8 VoidExpr 1 (i + 3)
+  pub void_reads : (i d : ℕ) → kind_at spots i ≡ Some kind.Void → kind_at spots (i + 1) ≡ Some kind.Open → kind_at spots (i + 2) ≡ Some kind.Close → d ≤ 64 → ReadsExpr spots i 6 d 8 VoidExpr 1 (i + 3)
   void_reads i d a b c le =
       let e1 : i + 1 + 1 ≡ i + 2 = omega arith in
       let e2 : i + 2 + 1 ≡ i + 3 = omega arith in
@@ -377,7 +377,7 @@ module _ (spots : List Spot) where
   name_comes : (i d : ℕ) (v : Ident) (K : Stack) → ident_at spots i ≡ Some v → d ≤ 64 → hole K ≡ d → fits_stack K ≡ true → run i (Want K) (drop i spots) ≡ run (i + 1) (Have (VarExpr v) K) (drop (i + 1) spots)
   name_comes i d v K h le hd fs = go i (Want K) (Have (VarExpr v) K) kind.Name (name_kind i v h) (λ x e. ap (λ w. Have (VarExpr w) K) (ident_is i v x h e)) tt (and_true (hole K + 1) 65 (fits_stack K) (omega arith) fs)
 
-  pub name_reads : (i d : ℕ) (v : Ident) → ident_at spots i ≡ Some v → (kind_at spots (i + 1) ≡ Some kind.Open → ⊥) → d ≤ 64 → Reads spots i 6 d 8 (VarExpr v) 1 (i + 1)
+  pub name_reads : (i d : ℕ) (v : Ident) → ident_at spots i ≡ Some v → (kind_at spots (i + 1) ≡ Some kind.Open → ⊥) → d ≤ 64 → ReadsExpr spots i 6 d 8 (VarExpr v) 1 (i + 1)
   name_reads i d v h differs le = record {
     after = omega arith;
     within = omega (arith, kind_within i kind.Name (name_kind i v h));
@@ -397,7 +397,7 @@ module _ (spots : List Spot) where
   any_fit : (n m d : ℕ) (K : Stack) → m ≤ n → Fit m d K → Fit n d K
   any_fit n m d K le f = record { below = below_more m n K f.below le; depth_is = f.depth_is; fits_is = f.fits_is }
 
-  pub call_reads : (i d : ℕ) (v : Ident) (ts : ExprTrees) (high to : ℕ) → ident_at spots i ≡ Some v → kind_at spots (i + 1) ≡ Some kind.Open → d ≤ 64 → ReadsArgs spots (i + 2) d ts high to → Reads spots i 6 d 8 (CallExpr v ts) (high + 1) to
+  pub call_reads : (i d : ℕ) (v : Ident) (ts : ExprTrees) (high to : ℕ) → ident_at spots i ≡ Some v → kind_at spots (i + 1) ≡ Some kind.Open → d ≤ 64 → ReadsArgs spots (i + 2) d ts high to → ReadsExpr spots i 6 d 8 (CallExpr v ts) (high + 1) to
   call_reads i d v ts high to h o le r = record {
     after = omega (arith, r.after);
     within = r.within;
@@ -417,7 +417,7 @@ module _ (spots : List Spot) where
   paren_fit : (d : ℕ) (K : Stack) → d ≤ 64 → hole K ≡ d → fits_stack K ≡ true → Fit 0 (d + 1) (InParen K)
   paren_fit d K le hd fs = record { below = tt; depth_is = omega arith; fits_is = and_true (hole K) 64 (fits_stack K) (omega arith) fs }
 
-  pub bracket_reads : (i d : ℕ) (t : ExprTree) (high to : ℕ) → kind_at spots i ≡ Some kind.Open → d ≤ 64 → Reads spots (i + 1) 0 (d + 1) 0 t high to → kind_at spots to ≡ Some kind.Close → Reads spots i 6 d 8 (ParenExpr t) (high + 1) (to + 1)
+  pub bracket_reads : (i d : ℕ) (t : ExprTree) (high to : ℕ) → kind_at spots i ≡ Some kind.Open → d ≤ 64 → ReadsExpr spots (i + 1) 0 (d + 1) 0 t high to → kind_at spots to ≡ Some kind.Close → ReadsExpr spots i 6 d 8 (ParenExpr t) (high + 1) (to + 1)
   bracket_reads i d t high to h le r c = record {
     after = omega (arith, r.after);
     within = omega (arith, kind_within to kind.Close c);
@@ -442,7 +442,7 @@ module _ (spots : List Spot) where
   stops_at : (n : ℕ) (t : ExprTree) (i : ℕ) (k : Kind) → Stops n t (kind_at spots i) → kind_at spots i ≡ Some k → KindStops n t k
   stops_at n t i k s e = subst (Stops n t) e s
 
-  pub bracket_open : (i d : ℕ) (t : ExprTree) (high to : ℕ) → kind_at spots i ≡ Some kind.Open → d ≤ 64 → Reads spots (i + 1) 0 (d + 1) 0 t high to → (kind_at spots to ≡ Some kind.Close → ⊥) → Refuses spots i 6 d (Short to)
+  pub bracket_open : (i d : ℕ) (t : ExprTree) (high to : ℕ) → kind_at spots i ≡ Some kind.Open → d ≤ 64 → ReadsExpr spots (i + 1) 0 (d + 1) 0 t high to → (kind_at spots to ≡ Some kind.Close → ⊥) → Refuses spots i 6 d (Short to)
   bracket_open i d t high to h le r c K f =
       bracket_comes i d K h le f.depth_is f.fits_is ∙ r.comes (InParen K) (paren_fit d K le f.depth_is f.fits_is)
       ∙ stuck to (Have t (InParen K)) (λ k x e. base_stuck t K k x (stops_at 0 t to k r.stops e) (not_kind to kind.Close k c e))
@@ -473,7 +473,7 @@ module _ (spots : List Spot) where
   stops_bare m t u None b s = tt
   stops_bare m t u (Some k) b s = kind_stops_more m m t u k (omega arith) (λ c. b) s
 
-  unary_reads : (i d : ℕ) (u : Unary) (k : Kind) (t : ExprTree) (high to : ℕ) → kind_at spots i ≡ Some k → ((K : Stack) (x : Spot) → step_kind (Want K) k x ≡ Want (InUnary u K)) → d ≤ 64 → Reads spots (i + 1) 6 (d + 1) 7 t high to → Reads spots i 6 d 7 (unary u t) (high + 1) to
+  unary_reads : (i d : ℕ) (u : Unary) (k : Kind) (t : ExprTree) (high to : ℕ) → kind_at spots i ≡ Some k → ((K : Stack) (x : Spot) → step_kind (Want K) k x ≡ Want (InUnary u K)) → d ≤ 64 → ReadsExpr spots (i + 1) 6 (d + 1) 7 t high to → ReadsExpr spots i 6 d 7 (unary u t) (high + 1) to
   unary_reads i d u k t high to h s le r = record {
     after = omega (arith, r.after);
     within = r.within;
@@ -484,10 +484,10 @@ module _ (spots : List Spot) where
     stops = stops_bare 7 t (unary u t) (kind_at spots to) (unary_bare u t) r.stops;
   }
 
-  pub not_reads : (i d : ℕ) (t : ExprTree) (high to : ℕ) → kind_at spots i ≡ Some kind.Not → d ≤ 64 → Reads spots (i + 1) 6 (d + 1) 7 t high to → Reads spots i 6 d 7 (NotExpr t) (high + 1) to
+  pub not_reads : (i d : ℕ) (t : ExprTree) (high to : ℕ) → kind_at spots i ≡ Some kind.Not → d ≤ 64 → ReadsExpr spots (i + 1) 6 (d + 1) 7 t high to → ReadsExpr spots i 6 d 7 (NotExpr t) (high + 1) to
   not_reads i d t high to h le r = unary_reads i d Negation kind.Not t high to h (λ K x. refl) le r
 
-  pub minus_reads : (i d : ℕ) (t : ExprTree) (high to : ℕ) → kind_at spots i ≡ Some (kind.Op Sub) → d ≤ 64 → Reads spots (i + 1) 6 (d + 1) 7 t high to → Reads spots i 6 d 7 (NegExpr t) (high + 1) to
+  pub minus_reads : (i d : ℕ) (t : ExprTree) (high to : ℕ) → kind_at spots i ≡ Some (kind.Op Sub) → d ≤ 64 → ReadsExpr spots (i + 1) 6 (d + 1) 7 t high to → ReadsExpr spots i 6 d 7 (NegExpr t) (high + 1) to
   minus_reads i d t high to h le r = unary_reads i d Minus (kind.Op Sub) t high to h (λ K x. refl) le r
 
   pub not_refused : (i d : ℕ) (s : Stop) → kind_at spots i ≡ Some kind.Not → d ≤ 64 → Refuses spots (i + 1) 6 (d + 1) s → Refuses spots i 6 d s
@@ -569,7 +569,7 @@ module _ (spots : List Spot) where
       same_turn Dead o = same_halt
       same_turn _ o = refl
 
-  pub right_goes : (j d : ℕ) (op : Op) (t u : ExprTree) (high wide to : ℕ) → kind_at spots j ≡ Some (kind.Op op) → high ≡ height t → d + high ≤ 64 → Reads spots (j + 1) (level op + 1) (d + 1) (level op + 1) u wide to → Goes spots t j (level op) d 7 (BinaryExpr op t u) (max high wide + 1) to
+  pub right_goes : (j d : ℕ) (op : Op) (t u : ExprTree) (high wide to : ℕ) → kind_at spots j ≡ Some (kind.Op op) → high ≡ height t → d + high ≤ 64 → ReadsExpr spots (j + 1) (level op + 1) (d + 1) (level op + 1) u wide to → Goes spots t j (level op) d 7 (BinaryExpr op t u) (max high wide + 1) to
   right_goes j d op t u high wide to h hi le r = record {
     after = omega (arith, r.after);
     within = r.within;
@@ -588,7 +588,7 @@ module _ (spots : List Spot) where
   right_refused j d op t s K h le r f = ends_is (run j (Have t K) (drop j spots)) (run (j + 1) (Want (InTwo op t K)) (drop (j + 1) spots)) s (right_comes j d op t K h le f) (r (InTwo op t K) (right_fit d op t K le f))
 
   -- going on
-  pub goes_on : (i n m d k : ℕ) (t u : ExprTree) (high to wide end : ℕ) → n ≤ m → Reads spots i n d k t high to → Goes spots t to m d k u wide end → Reads spots i n d k u wide end
+  pub goes_on : (i n m d k : ℕ) (t u : ExprTree) (high to wide end : ℕ) → n ≤ m → ReadsExpr spots i n d k t high to → Goes spots t to m d k u wide end → ReadsExpr spots i n d k u wide end
   goes_on i n m d k t u high to wide end le r g = record {
     after = omega (arith, r.after, g.after);
     within = g.within;
@@ -598,19 +598,19 @@ module _ (spots : List Spot) where
     stops = g.stops;
   }
 
-  pub goes_refused : (i n m d k : ℕ) (t : ExprTree) (high to : ℕ) (s : Stop) → n ≤ m → Reads spots i n d k t high to → ((K : Stack) → Fit m d K → Ends (run to (Have t K) (drop to spots)) s) → Refuses spots i n d s
+  pub goes_refused : (i n m d k : ℕ) (t : ExprTree) (high to : ℕ) (s : Stop) → n ≤ m → ReadsExpr spots i n d k t high to → ((K : Stack) → Fit m d K → Ends (run to (Have t K) (drop to spots)) s) → Refuses spots i n d s
   goes_refused i n m d k t high to s le r g K f = ends_is (run i (Want K) (drop i spots)) (run to (Have t K) (drop to spots)) s (r.comes K f) (g K (any_fit m n d K le f))
 
-  pub looser : (i n m d k : ℕ) (t : ExprTree) (high to : ℕ) → n ≤ m → Reads spots i m d k t high to → Reads spots i n d k t high to
+  pub looser : (i n m d k : ℕ) (t : ExprTree) (high to : ℕ) → n ≤ m → ReadsExpr spots i m d k t high to → ReadsExpr spots i n d k t high to
   looser i n m d k t high to le r = record { after = r.after; within = r.within; high_is = r.high_is; fits_in = r.fits_in; comes = λ K f. r.comes K (any_fit m n d K le f); stops = r.stops }
 
   pub looser_refused : (i n m d : ℕ) (s : Stop) → n ≤ m → Refuses spots i m d s → Refuses spots i n d s
   looser_refused i n m d s le r K f = r K (any_fit m n d K le f)
 
-  pub no_op : (i n d : ℕ) (t : ExprTree) (high to : ℕ) → n ≤ 6 → Reads spots i n d 7 t high to → next_op n (kind_at spots to) ≡ None → Reads spots i n d n t high to
+  pub no_op : (i n d : ℕ) (t : ExprTree) (high to : ℕ) → n ≤ 6 → ReadsExpr spots i n d 7 t high to → next_op n (kind_at spots to) ≡ None → ReadsExpr spots i n d n t high to
   no_op i n d t high to le r h = record { after = r.after; within = r.within; high_is = r.high_is; fits_in = r.fits_in; comes = r.comes; stops = stops_least n t (kind_at spots to) le r.stops h }
 
-  pub no_dot : (i d : ℕ) (t : ExprTree) (high to : ℕ) → Reads spots i 6 d 8 t high to → (kind_at spots to ≡ Some kind.Dot → ⊥) → Reads spots i 6 d 7 t high to
+  pub no_dot : (i d : ℕ) (t : ExprTree) (high to : ℕ) → ReadsExpr spots i 6 d 8 t high to → (kind_at spots to ≡ Some kind.Dot → ⊥) → ReadsExpr spots i 6 d 7 t high to
   no_dot i d t high to r h = record { after = r.after; within = r.within; high_is = r.high_is; fits_in = r.fits_in; comes = r.comes; stops = stops_seven t (kind_at spots to) r.stops h }
 
   -- the arguments of a call
@@ -657,7 +657,7 @@ module _ (spots : List Spot) where
   pub args_refused : (i d : ℕ) (ts : ExprTrees) (high at : ℕ) (s : Stop) → Args i d ts high at → Refuses spots at 0 (d + 1) s → RefusesArgs spots i d s
   args_refused i d ts high at s a r h K f b = ends_is (run i (WantArgs h K) (drop i spots)) (run at (Want (InArgs h ts K)) (drop at spots)) s (a.comes h K f b) (r (InArgs h ts K) (args_fit d h ts high K a.high_is a.fits_in b f))
 
-  pub args_more : (i d : ℕ) (ts : ExprTrees) (high at : ℕ) (t : ExprTree) (wide to : ℕ) → Args i d ts high at → Reads spots at 0 (d + 1) 0 t wide to → kind_at spots to ≡ Some kind.Comma → Args i d (push ts t) (max high wide) (to + 1)
+  pub args_more : (i d : ℕ) (ts : ExprTrees) (high at : ℕ) (t : ExprTree) (wide to : ℕ) → Args i d ts high at → ReadsExpr spots at 0 (d + 1) 0 t wide to → kind_at spots to ≡ Some kind.Comma → Args i d (push ts t) (max high wide) (to + 1)
   args_more i d ts high at t wide to a r c = record {
     after = omega (arith, a.after, r.after);
     within = omega (arith, kind_within to kind.Comma c);
@@ -669,7 +669,7 @@ module _ (spots : List Spot) where
         (and_true (hole K + max (head_height h) (heights (push ts t))) 64 (fits_stack K) (omega (arith, f.depth_is, a.high_is, a.fits_in, r.high_is, r.fits_in, heights_push ts t)) f.fits_is);
   }
 
-  pub args_end : (i d : ℕ) (ts : ExprTrees) (high at : ℕ) (t : ExprTree) (wide to : ℕ) → Args i d ts high at → Reads spots at 0 (d + 1) 0 t wide to → kind_at spots to ≡ Some kind.Close → ReadsArgs spots i d (push ts t) (max high wide) (to + 1)
+  pub args_end : (i d : ℕ) (ts : ExprTrees) (high at : ℕ) (t : ExprTree) (wide to : ℕ) → Args i d ts high at → ReadsExpr spots at 0 (d + 1) 0 t wide to → kind_at spots to ≡ Some kind.Close → ReadsArgs spots i d (push ts t) (max high wide) (to + 1)
   args_end i d ts high at t wide to a r c = record {
     after = omega (arith, a.after, r.after);
     within = omega (arith, kind_within to kind.Close c);
@@ -689,7 +689,7 @@ module _ (spots : List Spot) where
   args_stuck h ts t K (kind.Op op) x s c d = absurd (omega arith)
   args_stuck h ts t K _ x s c d = refl
 
-  pub args_bad : (i d : ℕ) (ts : ExprTrees) (high at : ℕ) (t : ExprTree) (wide to : ℕ) → Args i d ts high at → Reads spots at 0 (d + 1) 0 t wide to → (kind_at spots to ≡ Some kind.Close → ⊥) → (kind_at spots to ≡ Some kind.Comma → ⊥) → RefusesArgs spots i d (Short to)
+  pub args_bad : (i d : ℕ) (ts : ExprTrees) (high at : ℕ) (t : ExprTree) (wide to : ℕ) → Args i d ts high at → ReadsExpr spots at 0 (d + 1) 0 t wide to → (kind_at spots to ≡ Some kind.Close → ⊥) → (kind_at spots to ≡ Some kind.Comma → ⊥) → RefusesArgs spots i d (Short to)
   args_bad i d ts high at t wide to a r c m h K f b =
       a.comes h K f b ∙ r.comes (InArgs h ts K) (args_fit d h ts high K a.high_is a.fits_in b f)
       ∙ stuck to (Have t (InArgs h ts K)) (λ k x e. args_stuck h ts t K k x (stops_at 0 t to k r.stops e) (not_kind to kind.Close k c e) (not_kind to kind.Comma k m e))
@@ -699,14 +699,14 @@ exprs_push [] x = refl
 exprs_push (y ∷ ys) x = ap (MoreExprs (expr_of y)) (exprs_push ys x)
 
 module _ (spots : List Spot) where
-  pub args_more_is : (i d : ℕ) (ts : ExprTrees) (high at : ℕ) (t : ExprTree) (wide to : ℕ) (us : ExprTrees) (m : ℕ) → Args spots i d ts high at → Reads spots at 0 (d + 1) 0 t wide to → kind_at spots to ≡ Some kind.Comma → us ≡ push ts t → m ≡ max high wide → Args spots i d us m (to + 1)
+  pub args_more_is : (i d : ℕ) (ts : ExprTrees) (high at : ℕ) (t : ExprTree) (wide to : ℕ) (us : ExprTrees) (m : ℕ) → Args spots i d ts high at → ReadsExpr spots at 0 (d + 1) 0 t wide to → kind_at spots to ≡ Some kind.Comma → us ≡ push ts t → m ≡ max high wide → Args spots i d us m (to + 1)
   args_more_is i d ts high at t wide to us m a r c e f = subst (λ vs. Args spots i d vs m (to + 1)) (sym e) (subst (λ n. Args spots i d (push ts t) n (to + 1)) (sym f) (args_more spots i d ts high at t wide to a r c))
 
-  pub args_end_is : (i d : ℕ) (ts : ExprTrees) (high at : ℕ) (t : ExprTree) (wide to : ℕ) (us : ExprTrees) (m : ℕ) → Args spots i d ts high at → Reads spots at 0 (d + 1) 0 t wide to → kind_at spots to ≡ Some kind.Close → us ≡ push ts t → m ≡ max high wide → ReadsArgs spots i d us m (to + 1)
+  pub args_end_is : (i d : ℕ) (ts : ExprTrees) (high at : ℕ) (t : ExprTree) (wide to : ℕ) (us : ExprTrees) (m : ℕ) → Args spots i d ts high at → ReadsExpr spots at 0 (d + 1) 0 t wide to → kind_at spots to ≡ Some kind.Close → us ≡ push ts t → m ≡ max high wide → ReadsArgs spots i d us m (to + 1)
   args_end_is i d ts high at t wide to us m a r c e f = subst (λ vs. ReadsArgs spots i d vs m (to + 1)) (sym e) (subst (λ n. ReadsArgs spots i d (push ts t) n (to + 1)) (sym f) (args_end spots i d ts high at t wide to a r c))
 
-  pub reads_is : (i n d m : ℕ) (t u : ExprTree) (high to : ℕ) → u ≡ t → Reads spots i n d m t high to → Reads spots i n d m u high to
-  reads_is i n d m t u high to e r = subst (λ w. Reads spots i n d m w high to) (sym e) r
+  pub reads_is : (i n d m : ℕ) (t u : ExprTree) (high to : ℕ) → u ≡ t → ReadsExpr spots i n d m t high to → ReadsExpr spots i n d m u high to
+  reads_is i n d m t u high to e r = subst (λ w. ReadsExpr spots i n d m w high to) (sym e) r
 
   pub goes_is : (j n d m : ℕ) (t u v : ExprTree) (high wide to : ℕ) → u ≡ v → high ≡ wide → Goes spots t j n d m v wide to → Goes spots t j n d m u high to
   goes_is j n d m t u v high wide to e f g = subst (λ w. Goes spots t j n d m w high to) (sym e) (subst (λ h. Goes spots t j n d m v h to) (sym f) g)
@@ -740,7 +740,7 @@ module _ (spots : List Spot) where
   pub top_fit : (d : ℕ) → Fit 0 d (Top d)
   top_fit d = record { below = tt; depth_is = refl; fits_is = refl }
 
-  pub top_ends : (i d : ℕ) (t : ExprTree) (high to : ℕ) → Reads spots i 0 d 0 t high to → run i (Want (Top d)) (drop i spots) ≡ Ended t to
+  pub top_ends : (i d : ℕ) (t : ExprTree) (high to : ℕ) → ReadsExpr spots i 0 d 0 t high to → run i (Want (Top d)) (drop i spots) ≡ Ended t to
   top_ends i d t high to r = r.comes (Top d) (top_fit d) ∙ stuck spots to (Have t (Top d)) (λ k x e. top_stuck t d k x (stops_at spots 0 t to k r.stops e))
 
 pub refusal_answer : (t : Tokens) (from d : ℕ) (s : Stop) (e : SourceFault) → Refuses t.spots.items from 0 d s → RefusalIs t s e → ReaderAnswer (ExprRule 0 d) expr_of t from (Err e)

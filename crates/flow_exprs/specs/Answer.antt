@@ -54,7 +54,7 @@ pub record Fit (n depth : ℕ) (K : Stack) : Type 0 where
 
 -- from one token to another an expression is read, with which nothing at level m or a higher one
 -- goes on
-pub record Reads (spots : List Spot) (from n depth m : ℕ) (t : ExprTree) (high to : ℕ) : Type 0 where
+pub record ReadsExpr (spots : List Spot) (from n depth m : ℕ) (t : ExprTree) (high to : ℕ) : Type 0 where
   pub after : from < to
   pub within : to ≤ length spots
   pub high_is : high ≡ height t
@@ -130,7 +130,7 @@ ident_at spots k = ident_in (slice_get spots k)
 
 -- what is answered where an expression is wanted
 abbrev pub Answer : List Spot → ℕ → ℕ → ℕ → ℕ → Result Read Stop → Type 0
-Answer spots from n depth m (Ok r) = Reads spots from n depth m (expr_of r.expr) r.high r.to
+Answer spots from n depth m (Ok r) = ReadsExpr spots from n depth m (expr_of r.expr) r.high r.to
 Answer spots from n depth m (Err s) = Refuses spots from n depth s
 
 abbrev pub ArgsAnswer : List Spot → ℕ → ℕ → Result ReadArgs Stop → Type 0

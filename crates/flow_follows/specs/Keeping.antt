@@ -10,7 +10,7 @@ use Rattle.flow_meaning.specs.Cells.{Ref, Cell}
 use Rattle.flow_meaning.specs.Process.{Run, Entry, Proc}
 use Rattle.flow_meaning.specs.Occ.{Scan}
 use Rattle.flow_meaning.specs.Work.{pushed, is_ready_at}
-use Rattle.flow_meaning.specs.Step.{Verdict, verdict, GoesOn, with_operand, keep_by, proc, on_core}
+use Rattle.flow_meaning.specs.Step.{OperandFate, verdict, GoesOn, with_operand, keep_by, proc, on_core}
 use Rattle.flow_meaning.specs.Class.{classes}
 use Rattle.flow_meaning.specs.Frame.{Frame}
 use Rattle.flow_picture.specs.Shows.{wait_spot}
@@ -46,7 +46,7 @@ with_one e f q = with_operand (wait_spot f) q e
 
 module _ (r : RawTree) (ls : List Line) (m : Process) (p : Proc Frame) (i : ℕ) (e : Entry) (f : Frame) where
   -- what the definitions say of the cell of an operand
-  abbrev pub verdict_on : Ref → Verdict
+  abbrev pub verdict_on : Ref → OperandFate
   verdict_on q = verdict e.marked (is_ready_at (thing p.core.cells q.1))
 
   -- the process in which the operand is kept

@@ -11,8 +11,8 @@ use Rattle.flow_tree.specs.DeclView.{program_of}
 use Rattle.flow_types.specs.declared.check.Typed.{Typed}
 use Rattle.flow_types.specs.Checked.{Checked}
 use Rattle.flow_staterule.specs.declared.sound.Sound.{Sound}
-use Rattle.flow_staterule.specs.Answer.{Answers}
-use Rattle.flow_front.specs.Verdict.{no_tokens, no_program, Reading, IsProgram, IsTyped, IsSound, unread, breaks, Verdict}
+use Rattle.flow_staterule.specs.Answer.{JudgesUses}
+use Rattle.flow_front.specs.Verdict.{no_tokens, no_program, Reading, IsProgram, IsTyped, IsSound, unread, breaks, AnswersText}
 
 pub without_tokens : (text : List ℕ) (fault : SourceFault) → length text ≤ PROGRAM_BYTES → Lexed text (Err fault) → Reading text (Err fault)
 without_tokens text (Refused rule at) short l = no_tokens short l
@@ -26,13 +26,13 @@ by_tokens text tokens (Err (AcrossWait at declared wait)) short l a = a
 by_tokens text tokens (Err OutOfMemory) short l a = a
 
 -- a text that is no program, and a program that isn't accepted
-pub unread_verdict : (text : List ℕ) (fault : SourceFault) → Reading text (Err fault) → Verdict text (Err fault)
+pub unread_verdict : (text : List ℕ) (fault : SourceFault) → Reading text (Err fault) → AnswersText text (Err fault)
 unread_verdict text (Refused rule at) v = unread v
 unread_verdict text (AcrossWait at declared wait) v = absurd v
 unread_verdict text OutOfMemory v = v
 
 -- a program that a rule on what it means refuses
-pub checked_verdict : (text : List ℕ) (p : Program) (fault : SourceFault) → IsProgram text p → Checked (program_of p) (Err fault) → Verdict text (Err fault)
+pub checked_verdict : (text : List ℕ) (p : Program) (fault : SourceFault) → IsProgram text p → Checked (program_of p) (Err fault) → AnswersText text (Err fault)
 checked_verdict text p (Refused rule at) i c = breaks p i c
 checked_verdict text p (AcrossWait at declared wait) i c = absurd c
 checked_verdict text p OutOfMemory i c = tt
@@ -42,7 +42,7 @@ pub typed_text : (text : List ℕ) (p : Program) (t : Typed) → IsProgram text 
 typed_text text p t i c e = subst (IsTyped text) (sym e) (record { read = i; accepted = c })
 
 -- and that the rule on state was asked of
-pub state_verdict : (text : List ℕ) (t : Typed) (answer : Result Sound SourceFault) → IsTyped text t.program → Answers t answer → Verdict text answer
+pub state_verdict : (text : List ℕ) (t : Typed) (answer : Result Sound SourceFault) → IsTyped text t.program → JudgesUses t answer → AnswersText text answer
 state_verdict text t (Ok s) i a = subst (λ x. IsSound text x.program) (sym a.0) (record { typed = i; kept = a.1 })
 state_verdict text t (Err (Refused rule at)) i a = absurd a
 state_verdict text t (Err (AcrossWait at declared wait)) i a = (t.program, record { typed = i; first = a })

@@ -63,8 +63,8 @@ pub data IsRefused (text : List ℕ) : Rule → Place → Type 0 where
   breaks : {rule : Rule} {at : Place} → (p : Program) → IsProgram text p → refusal_of (program_of p) ≡ Some (rule, at) → IsRefused text rule at
 
 -- What the front answers; want of memory may come anywhere.
-abbrev pub Verdict : List ℕ → Result Sound SourceFault → Type 0
-Verdict text (Ok s) = IsSound text s.typed.program
-Verdict text (Err (Refused rule at)) = IsRefused text rule at
-Verdict text (Err (AcrossWait at declared wait)) = (p : Program) × IsLost text p (record { at = at; declared = declared; wait = wait })
-Verdict text (Err OutOfMemory) = Unit {0}
+abbrev pub AnswersText : List ℕ → Result Sound SourceFault → Type 0
+AnswersText text (Ok s) = IsSound text s.typed.program
+AnswersText text (Err (Refused rule at)) = IsRefused text rule at
+AnswersText text (Err (AcrossWait at declared wait)) = (p : Program) × IsLost text p (record { at = at; declared = declared; wait = wait })
+AnswersText text (Err OutOfMemory) = Unit {0}

@@ -1,7 +1,7 @@
 // A program text: read and judged.
 
 ghost use Rattle.std.specs.Prelude.{ℕ, List};
-ghost use Rattle.flow_front.specs.Verdict.{Reading, IsProgram, Verdict};
+ghost use Rattle.flow_front.specs.Verdict.{Reading, IsProgram, AnswersText};
 
 use flow_base::place::Place;
 use flow_lex::lex::lex;
@@ -40,7 +40,7 @@ pub fn read_program(alloc: Global, bytes: &[u8]) -> Result<Program, SourceFault>
 // A program, where it keeps the rules K1 to K12, L8 and U1.
 #[tactic(auto, using(crate::proofs::Judging::checked_verdict, crate::proofs::Judging::typed_text, crate::proofs::Judging::state_verdict))]
 fn judge(alloc: Global, program: Program) -> Result<Sound, SourceFault>
-    ensures { (text : List ℕ) → IsProgram text program → Verdict text result }
+    ensures { (text : List ℕ) → IsProgram text program → AnswersText text result }
 {
     match check(alloc, program) {
         Ok(typed) => check_state(alloc, typed),
@@ -52,7 +52,7 @@ fn judge(alloc: Global, program: Program) -> Result<Sound, SourceFault>
 /// by the first that fails of: the limit on its bytes, the rules on its tokens, those on its form, K1 to K12, L8 and U1.
 #[tactic(auto, using(crate::proofs::Judging::unread_verdict))]
 pub fn front(alloc: Global, bytes: &[u8]) -> Result<Sound, SourceFault>
-    ensures { Verdict bytes.now result }
+    ensures { AnswersText bytes.now result }
 {
     match read_program(alloc, bytes) {
         Ok(program) => judge(alloc, program),

@@ -9,7 +9,7 @@ use Rattle.flow_meaning.specs.Asks.{DiskCall, Act, Goes, Pass, Drops, Effects, O
 use Rattle.flow_meaning.specs.Process.{Task, Run, Give, Throw, Catch, Store, Keep, Close, Fire, Drop, Entry, Halt, Core, Proc, Engine}
 use Rattle.flow_meaning.specs.Effects.{draw, delay, open_port, listen, judged, ask_disk, effect, send_to, between, is_port}
 use Rattle.flow_meaning.specs.React.{react}
-use Rattle.flow_meaning.specs.Step.{Stepped, start, answer_effect, answer, run_next, run, give, store, throw, Verdict, GoesOn, Cancelled, Ready, verdict, keep_by, keep, close_actor, with_operand, do_task, popped, step_tasks, step_if, step}
+use Rattle.flow_meaning.specs.Step.{Stepped, start, answer_effect, answer, run_next, run, give, store, throw, OperandFate, GoesOn, Cancelled, Ready, verdict, keep_by, keep, close_actor, with_operand, do_task, popped, step_tasks, step_if, step}
 use Rattle.flow_meaning.specs.Work.{is_ready_at}
 
 -- a timer that is asked for comes by then
@@ -126,7 +126,7 @@ module _ {A : Type 0} (e : Engine A) (s : Supply) where
   give_timely i b (BadOutcome err) (Some a) p = tt
   give_timely i b (GoodOutcome v) (Some a) p = tt
 
-  by_verdict : (i b : ℕ) (v : Verdict) (q : _) (en : Entry) (a : A) (p : Proc A) → IsTimely (keep_by e i b v q en a p).1
+  by_verdict : (i b : ℕ) (v : OperandFate) (q : _) (en : Entry) (a : A) (p : Proc A) → IsTimely (keep_by e i b v q en a p).1
   by_verdict i b GoesOn q en a p = tt
   by_verdict i b Cancelled q en a p = tt
   by_verdict i b Ready q en a p = tt

@@ -15,7 +15,7 @@ use Rattle.flow_tree.specs.declared.token.Spot.{Spot}
 use Rattle.flow_tree.specs.declared.fault.Rule.{Rule}
 use Rattle.flow_tree.specs.declared.fault.Rule.TheVariants.{S}
 use Rattle.flow_tree.specs.Spelling.{word_bytes, sign_bytes, plain_byte, escaped, hex_value, empty, piece, NoPiece, IsBounded, begins_gap, gap_length}
-use Rattle.flow_tree.specs.Lexing.{place_after, TokenAt, Refusal, Cannot, bad_inside, open_comment, Reads, here, gap, token as and_token}
+use Rattle.flow_tree.specs.Lexing.{place_after, TokenAt, Refusal, Cannot, bad_inside, open_comment, ReadsTokens, here, gap, token as and_token}
 use Rattle.flow_lex.specs.Laws.{HasVerdict, read, refused}
 use Rattle.flow_lex.specs.Next.{sign_byte, FoundNumber, PieceAt, InsideAt}
 use Rattle.flow_lex.proofs.Bytes.{true_false}
@@ -222,8 +222,8 @@ step before text some g = by (letter (get_or text 0 0)) refl (digit (get_or text
 
 -- whole texts
 data HasReading (before text : List ℕ) : Type 0 where
-  whole : (spots : List Spot) (end : List ℕ) → Reads before text spots end [] → HasReading before text
-  stops : (spots : List Spot) (b t : List ℕ) (rule : Rule) (p : Place) → Reads before text spots b t → Refusal b t rule p → HasReading before text
+  whole : (spots : List Spot) (end : List ℕ) → ReadsTokens before text spots end [] → HasReading before text
+  stops : (spots : List Spot) (b t : List ℕ) (rule : Rule) (p : Place) → ReadsTokens before text spots b t → Refusal b t rule p → HasReading before text
 
 after_gap : (before text : List ℕ) → 0 < gap_length text → HasReading (before ++ take (gap_length text) text) (drop (gap_length text) text) → HasReading before text
 after_gap before text some (whole s e r) = whole s e (gap some r)

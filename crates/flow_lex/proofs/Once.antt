@@ -16,7 +16,7 @@ use Rattle.flow_tree.specs.declared.token.Sign as signs
 use Rattle.flow_tree.specs.declared.token.Sign.TheVariants.{OpenRound}
 use Rattle.flow_tree.specs.declared.fault.Rule.{Rule}
 use Rattle.flow_tree.specs.Spelling.{word_bytes, sign_bytes, Spells, IsBounded, IsLongest, Inside, NoPiece, is_blank, in_line, block_length, close_position, begins_gap, gap_length}
-use Rattle.flow_tree.specs.Lexing.{place_after, TokenAt, Reads, here, gap, token, EndsLine, Cannot, Refusal, bad_byte, bad_inside, open_text, open_comment, too_big, LexFault}
+use Rattle.flow_tree.specs.Lexing.{place_after, TokenAt, ReadsTokens, here, gap, token, EndsLine, Cannot, Refusal, bad_byte, bad_inside, open_text, open_comment, too_big, LexFault}
 use Rattle.flow_lex.specs.Laws.{ReadsOnce}
 use Rattle.flow_lex.proofs.Bytes.{true_false, head_same, tail_same, Begins, begins, no_spelling}
 use Rattle.flow_lex.proofs.Tables.{all_words, all_signs}
@@ -197,7 +197,7 @@ pub record SameEnd (s t : List Spot) (b c d e : List ℕ) : Type 0 where
 more_same : (x : Spot) {s t : List Spot} {b c d e : List ℕ} → SameEnd s t b c d e → SameEnd (x ∷ s) (x ∷ t) b c d e
 more_same x m = record { spots = ap (λ l. x ∷ l) m.spots; before = m.before; text = m.text }
 
-pub once : {b t b1 t1 b2 t2 : List ℕ} {s1 s2 : List Spot} → Reads b t s1 b1 t1 → Reads b t s2 b2 t2 → Stuck t1 → Stuck t2 → SameEnd s1 s2 b1 b2 t1 t2
+pub once : {b t b1 t1 b2 t2 : List ℕ} {s1 s2 : List Spot} → ReadsTokens b t s1 b1 t1 → ReadsTokens b t s2 b2 t2 → Stuck t1 → Stuck t2 → SameEnd s1 s2 b1 b2 t1 t2
 once here here x y = record { spots = refl; before = refl; text = refl }
 once here (gap some l) x y = absurd (omega (arith, x.gap, some))
 once here (token t n a bound l) x y = absurd (x.token t n a bound)
@@ -208,7 +208,7 @@ once (token t n a bound l) here x y = absurd (y.token t n a bound)
 once {t = text} (token t n a bound l) (gap some l') x y = absurd (omega (arith, some, no_gap text a.apart))
 once {b = b} {t = text} {b2 = b2} {t2 = t2} (token {spots = s} t n a bound l) (token {spots = s'} t' n' a' bound' l') x y =
     let same = token_same text t t' n n' a a' in
-    let l'' = subst (λ k. Reads (b ++ take k text) (drop k text) s' b2 t2) (sym same.1) l' in
+    let l'' = subst (λ k. ReadsTokens (b ++ take k text) (drop k text) s' b2 t2) (sym same.1) l' in
     let e = more_same (record { token = t; at = place_after b }) (once l l'' x y) in
     record { spots = e.spots ∙ ap (λ u. record { token = u; at = place_after b } ∷ s') same.0; before = e.before; text = e.text }
 

@@ -12,7 +12,7 @@ use Rattle.flow_meaning.specs.Occ.{scan_of}
 use Rattle.flow_meaning.specs.Work.{pushed, dropping_values, is_ready_at}
 use Rattle.flow_meaning.specs.Dropping.{drop, fire, close}
 use Rattle.flow_meaning.specs.React.{react}
-use Rattle.flow_meaning.specs.Step.{Stepped, proc, answer, answer_effect, start, start_core, give, store, throw, throw_core, Verdict, GoesOn, Cancelled, Ready, verdict, with_operand, lost, leave_kept, below, keep_by, keep, handle, close_actor, do_task}
+use Rattle.flow_meaning.specs.Step.{Stepped, proc, answer, answer_effect, start, start_core, give, store, throw, throw_core, OperandFate, GoesOn, Cancelled, Ready, verdict, with_operand, lost, leave_kept, below, keep_by, keep, handle, close_actor, do_task}
 use Rattle.flow_meaning.specs.Orderly.{tasks_of, phase_first, Paired, Orderly, Phase, Free, Risky, Due}
 use Rattle.flow_meaning.specs.Law.{BothOrNone, Simulates, AllRelated, Related, phase_after}
 use Rattle.flow_meaning.proofs.TaskShifts.{Popped, popped_at, popped_shifts, popped_eases, given_shifts, stored_shifts, kept_shifts, leave_kept_shifts, next_below, below_unmoved, throw_core_shifts, handle_shifts, close_shifts, start_shifts}
@@ -96,7 +96,7 @@ module _ {A B : Type 0} (e : Engine A) (d : Engine B) (R : Phase → A → B →
       )
 
   -- an operand is kept; its actor's next step is the task below
-  lost_alike : (i b : ℕ) (v : Verdict) (spot : Spot) (r : Ref) (en e0 : Entry) (x : A) (y : B) (c k : Core) (xs : Numbered A) (ys : Numbered B) → (v ≡ GoesOn → ⊥) → thing k.entries i ≡ Some e0 → Paired c.tasks
+  lost_alike : (i b : ℕ) (v : OperandFate) (spot : Spot) (r : Ref) (en e0 : Entry) (x : A) (y : B) (c k : Core) (xs : Numbered A) (ys : Numbered B) → (v ≡ GoesOn → ⊥) → thing k.entries i ≡ Some e0 → Paired c.tasks
       → c.tasks ≡ Keep i spot r ∷ k.tasks → TaskOf i (Keep i spot r) c k xs ys (Some x) (Some y) → R Due x y → Matches (lost i b v r en (e.lose x) (proc k xs)) (lost i b v r en (d.lose y) (proc k ys))
   lost_alike i b v spot r en e0 x y c k xs ys n at paired top h rel =
       let s = sim.lose x y rel in
@@ -108,7 +108,7 @@ module _ {A B : Type 0} (e : Engine A) (d : Engine B) (R : Phase → A → B →
             (unless_map m.halted (shifts_after i Due k f m (below_unmoved i k (next_below i spot r c.tasks k.tasks top paired))) (leave_kept_shifts i b v r en e0 (e.lose x).0 f at n)) s.1,
       )
 
-  keep_by_alike : (i b : ℕ) (v : Verdict) (spot : Spot) (r : Ref) (e0 : Entry) (x : A) (y : B) (c k : Core) (xs : Numbered A) (ys : Numbered B) → thing k.entries i ≡ Some e0 → Paired c.tasks
+  keep_by_alike : (i b : ℕ) (v : OperandFate) (spot : Spot) (r : Ref) (e0 : Entry) (x : A) (y : B) (c k : Core) (xs : Numbered A) (ys : Numbered B) → thing k.entries i ≡ Some e0 → Paired c.tasks
       → c.tasks ≡ Keep i spot r ∷ k.tasks → TaskOf i (Keep i spot r) c k xs ys (Some x) (Some y) → R Due x y
       → Matches (keep_by e i b v r (with_operand spot r e0) x (proc k xs)) (keep_by d i b v r (with_operand spot r e0) y (proc k ys))
   keep_by_alike i b GoesOn spot r e0 x y c k xs ys at paired top h rel =

@@ -9,7 +9,7 @@ use Rattle.flow_meaning.specs.Asks.{Spot, Act, Effects, Effect, Start, Goal, Ask
 use Rattle.flow_meaning.specs.Process.{Task, Run, Give, Throw, Catch, Store, Keep, Close, Fire, Drop, Entry, Halt, Core, Proc, Engine}
 use Rattle.flow_meaning.specs.Occ.{scan_of}
 use Rattle.flow_meaning.specs.Work.{pushed, is_ready_at}
-use Rattle.flow_meaning.specs.Step.{Stepped, proc, view, start, answer_effect, answer, run_next, run, give, store, throw, Verdict, GoesOn, Cancelled, Ready, verdict, with_operand, below, keep_by, keep, close_actor, step_tasks, step_if, step}
+use Rattle.flow_meaning.specs.Step.{Stepped, proc, view, start, answer_effect, answer, run_next, run, give, store, throw, OperandFate, GoesOn, Cancelled, Ready, verdict, with_operand, below, keep_by, keep, close_actor, step_tasks, step_if, step}
 use Rattle.flow_meaning.specs.Deliver.{begin, boot_core, stop, deliver, arrive}
 use Rattle.flow_meaning.specs.Burst.{Host, Live, add_lines, serve, advanced, advance, Burst, rests}
 use Rattle.flow_meaning.specs.Burst as burst
@@ -41,7 +41,7 @@ module _ {A : Type 0} (e : Engine A) where
   throw_keeps i err None k xs h = tt
   throw_keeps i err (Some x) k xs h = throw_core_ordered i err (e.raise err x).0 (thing k.entries i) k h refl
 
-  keep_by_keeps : (i b : ℕ) (v : Verdict) (spot : Spot) (r : Ref) (en : Entry) (x : A) (k : Core) (xs : Numbered A) → Ordered k → NextStep i k.tasks → thing k.entries i ≡ Some en
+  keep_by_keeps : (i b : ℕ) (v : OperandFate) (spot : Spot) (r : Ref) (en : Entry) (x : A) (k : Core) (xs : Numbered A) → Ordered k → NextStep i k.tasks → thing k.entries i ≡ Some en
       → Keeps (keep_by e i b v r (with_operand spot r en) x (proc k xs))
   keep_by_keeps i b GoesOn spot r en x k xs o n at = unless k.halted (kept_ordered i spot r en k o at)
   keep_by_keeps i b Cancelled spot r en x k xs o n at =

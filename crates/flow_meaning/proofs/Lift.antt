@@ -10,7 +10,7 @@ use Rattle.flow_meaning.specs.Process.{Task, Run, Halt, Core, Engine}
 use Rattle.flow_meaning.specs.Step.{Stepped, proc, view, answer, run_next, run, popped, do_task, step_tasks, step_if, step}
 use Rattle.flow_meaning.specs.Burst.{Host, Live, live, add_lines, serve, advanced, advance, Burst, rests, steps}
 use Rattle.flow_meaning.specs.Orderly.{Orderly, InOrder, UnlessStopped, Phase, Free}
-use Rattle.flow_meaning.specs.Law.{Quietly, still, quiet, Moves, Answers, BothOrNone, Simulates, Related, Same, BurstsFollow, BurstsReturn}
+use Rattle.flow_meaning.specs.Law.{Quietly, still, quiet, Moves, MatchesAsk, BothOrNone, Simulates, Related, Same, BurstsFollow, BurstsReturn}
 use Rattle.flow_meaning.proofs.Posture.{thing_put, same_rank, Unless, unless, unless_map, unless_both}
 use Rattle.flow_meaning.proofs.Shifts.{run_of}
 use Rattle.flow_meaning.proofs.TaskShifts.{popped_at}
@@ -143,7 +143,7 @@ module _ {W A B : Type 0} (e : Engine A) (d : Engine B) (h : Host W) (R : Phase 
   quiet_advances w c xs ys i ts b g a0 a eh et ex en (inr m) = inr (quiet_many d h w c i ts eh et m.0 ys en, load_put sim.weight xs i a0 a ex m.1)
 
   answered : (w : W) (c : Core) (xs : Numbered A) (ys : Numbered B) (i : ℕ) (ts : List Task) (b : B) (k : Option Ask) (a0 a : A) → Orderly c → c.halted ≡ None → c.tasks ≡ Run i ∷ ts → Related R c xs ys
-      → thing xs i ≡ Some a0 → thing ys i ≡ Some b → Answers R d (view (h.supply w) i c) (sim.weight a < sim.weight a0) k a b
+      → thing xs i ≡ Some a0 → thing ys i ≡ Some b → MatchesAsk R d (view (h.supply w) i c) (sim.weight a < sim.weight a0) k a b
       → Does_at c xs ys w (advanced h w (Some (run_next e (h.supply w) i ts (k, a) (proc c xs))))
   answered w c xs ys i ts b None a0 a o eh et rs ex en ans = (
     live (proc c (put ys i ans.0)) w,

@@ -8,7 +8,7 @@ use Rattle.flow_meaning.specs.Cells.{Side}
 use Rattle.flow_meaning.specs.Asks.{Ask}
 use Rattle.flow_meaning.specs.Process.{View, Engine}
 use Rattle.flow_meaning.specs.Orderly.{Phase}
-use Rattle.flow_meaning.specs.Law.{still, Answers, Alike, BothOrNone, Simulates}
+use Rattle.flow_meaning.specs.Law.{still, MatchesAsk, Alike, BothOrNone, Simulates}
 use Rattle.flow_meaning.proofs.BareActs.{through}
 
 pub record Mirrors {A B : Type 0} (e : Engine A) (d : Engine B) (f : A → B) : Type 0 where
@@ -39,7 +39,7 @@ module _ {A B : Type 0} (e : Engine A) (d : Engine B) (f : A → B) (m : Mirrors
   alike : {X : Type 0} (p : X × A) (q : X × B) → q ≡ through f p → Alike (λ a b. b ≡ f a) p q
   alike p q h = (sym (ap (λ z. z.0) h), ap (λ z. z.1) h)
 
-  answer : (v : View) (lighter : Type 0) (k : Option Ask) (a c : A) (b : B) → b ≡ f a → d.next v (f a) ≡ (k, f c) → Answers (Mirrored f) d v lighter k c b
+  answer : (v : View) (lighter : Type 0) (k : Option Ask) (a c : A) (b : B) → b ≡ f a → d.next v (f a) ≡ (k, f c) → MatchesAsk (Mirrored f) d v lighter k c b
   answer v lighter None a c b r h = (f c, inl (f c, ap (d.next v) r ∙ h, still), refl)
   answer v lighter (Some ask) a c b r h = (b, f c, still, ap (d.next v) r ∙ h, refl)
 

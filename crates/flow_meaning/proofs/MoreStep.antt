@@ -16,7 +16,7 @@ use Rattle.flow_meaning.specs.Work.{halt, writes, pushed, dropping, leave_for, t
 use Rattle.flow_meaning.specs.Dropping.{drop, fire, close}
 use Rattle.flow_meaning.specs.Effects.{Reaction, result_task, push_result}
 use Rattle.flow_meaning.specs.React.{react}
-use Rattle.flow_meaning.specs.Step.{proc, Stepped, silent, astray, view, enrol, start_core, start, reacted, answer_effect, answer, run_next, run, replaced, give, store, fate, throw_core, throw, Verdict, GoesOn, Cancelled, Ready, verdict, with_operand, below, leave_kept, lost, keep_by, keep, handle, close_actor, do_task, step_tasks, step_if, step}
+use Rattle.flow_meaning.specs.Step.{proc, Stepped, silent, astray, view, enrol, start_core, start, reacted, answer_effect, answer, run_next, run, replaced, give, store, fate, throw_core, throw, OperandFate, GoesOn, Cancelled, Ready, verdict, with_operand, below, leave_kept, lost, keep_by, keep, handle, close_actor, do_task, step_tasks, step_if, step}
 use Rattle.flow_meaning.specs.Burst.{Host, Live, serve, advanced, advance, Burst, rests, steps}
 use Rattle.flow_meaning.specs.Turns.{Starts, more, more_live, later, Asks, IsOut, Thrifty, IsHalted, WritesFirst}
 use Rattle.flow_meaning.proofs.More.{starts_same, starts_on, Ahead, Fair, Even, fair, still, after_turn, then_even, own_fair, same_even, halt_even, writes_even, pushed_even, dropping_even, leave_for_even, take_branch_fair, drop_fair, fire_fair, close_fair}
@@ -36,7 +36,7 @@ throw_even : (i err : ℕ) (r : Raised) (x : Option Entry) → Even (throw_core 
 throw_even i err r None = halt_even NoMeaning
 throw_even i err r (Some e) = then_even (writes (throw_line i err)) (leave_for i e r.values (fate i err r.caught)) (writes_even (throw_line i err)) (leave_for_even i e r.values (fate i err r.caught))
 
-leave_kept_fair : (i b : ℕ) (v : Verdict) (r : Ref) (en : Entry) (vs : List ValueTree) → Fair (leave_kept i b v r en vs)
+leave_kept_fair : (i b : ℕ) (v : OperandFate) (r : Ref) (en : Entry) (vs : List ValueTree) → Fair (leave_kept i b v r en vs)
 leave_kept_fair i b GoesOn r en vs = fair _ same_even
 leave_kept_fair i b Cancelled r en vs = fair _ (leave_for_even i en vs (Throw i operation_cancelled))
 leave_kept_fair i b Ready r en vs = own_fair (take_branch i b r.1 en vs) (λ c. thing c.cells r.1) (λ k c. refl) (take_branch_fair i b r.1 en vs)
@@ -174,12 +174,12 @@ module _ {A : Type 0} where
       own_step (λ y c. silent (proc (throw_core i err (e.raise err a).0 y c) (put xs i (e.raise err a).1))) (λ c. thing c.entries i) (λ k c. refl)
       (λ y. core_step (throw_core i err (e.raise err a).0 y) (put xs i (e.raise err a).1) (fair _ (throw_even i err (e.raise err a).0 y)))
 
-  lost_step : (i b : ℕ) (v : Verdict) (r : Ref) (en : Entry) (l : List ValueTree × A) (xs : Numbered A) → FairStep (λ c. lost i b v r en l (proc c xs))
+  lost_step : (i b : ℕ) (v : OperandFate) (r : Ref) (en : Entry) (l : List ValueTree × A) (xs : Numbered A) → FairStep (λ c. lost i b v r en l (proc c xs))
   lost_step i b v r en l xs =
       then_step (λ c. record c { tasks = below c.tasks }) (λ c. silent (proc (leave_kept i b v r en l.0 c) (put xs i l.1)))
       (still (λ c. record c { tasks = below c.tasks }) (λ k c. refl) (λ c. refl)) (core_step (leave_kept i b v r en l.0) (put xs i l.1) (leave_kept_fair i b v r en l.0))
 
-  keep_by_step : (e : Engine A) (i b : ℕ) (v : Verdict) (r : Ref) (en : Entry) (a : A) (xs : Numbered A) → FairStep (λ c. keep_by e i b v r en a (proc c xs))
+  keep_by_step : (e : Engine A) (i b : ℕ) (v : OperandFate) (r : Ref) (en : Entry) (a : A) (xs : Numbered A) → FairStep (λ c. keep_by e i b v r en a (proc c xs))
   keep_by_step e i b GoesOn r en a xs = core_step (λ c. record c { entries = put c.entries i en }) xs (fair _ (still (λ c. record c { entries = put c.entries i en }) (λ k c. refl) (λ c. refl)))
   keep_by_step e i b Cancelled r en a xs = lost_step i b Cancelled r en (e.lose a) xs
   keep_by_step e i b Ready r en a xs = lost_step i b Ready r en (e.lose a) xs

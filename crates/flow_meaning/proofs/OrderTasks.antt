@@ -14,7 +14,7 @@ use Rattle.flow_meaning.specs.Lines.{broken_line, throw_line, catch_line, end_li
 use Rattle.flow_meaning.specs.Occ.{value_in, Scan, Occ}
 use Rattle.flow_meaning.specs.Work.{writes, pushed, fill, take_branch, owner}
 use Rattle.flow_meaning.specs.Dropping.{Loss, Kept, Freed, Broken, Orphan, Unheard, loss, port_of, suffer, lose_cell, lose_ref, drop, fire_to, fire_at, fire_cell, fire, set_result, give_result, close}
-use Rattle.flow_meaning.specs.Step.{throw_core, Verdict, GoesOn, Cancelled, Ready, with_operand, below, leave_kept, handle, enrol}
+use Rattle.flow_meaning.specs.Step.{throw_core, OperandFate, GoesOn, Cancelled, Ready, with_operand, below, leave_kept, handle, enrol}
 use Rattle.flow_meaning.specs.Deliver.{boot_core, stop_main, stop, closed_request, deliver, arrive}
 use Rattle.flow_meaning.specs.Orderly.{tasks_of, Proceeds, steps, catches, ends, is_suspended, Stands, NextStep, Paired, AllWait, CellsWait, Rising}
 use Rattle.flow_meaning.specs.Orderly as order
@@ -121,7 +121,7 @@ below_in_hand i c ts o top h = absurd h
 pub kept_ordered : (i : ℕ) (spot : Spot) (r : Ref) (e : Entry) (c : Core) → Ordered c → thing c.entries i ≡ Some e → Ordered (record c { entries = put c.entries i (with_operand spot r e) })
 kept_ordered i spot r e c o at = entry_ordered i e (with_operand spot r e) c o at refl
 
-pub leave_kept_ordered : (i b : ℕ) (v : Verdict) (r : Ref) (en e0 : Entry) (vs : List ValueTree) (c : Core) → InHand i c → thing c.entries i ≡ Some e0 → (v ≡ GoesOn → ⊥) → Unless Ordered (leave_kept i b v r en vs c)
+pub leave_kept_ordered : (i b : ℕ) (v : OperandFate) (r : Ref) (en e0 : Entry) (vs : List ValueTree) (c : Core) → InHand i c → thing c.entries i ≡ Some e0 → (v ≡ GoesOn → ⊥) → Unless Ordered (leave_kept i b v r en vs c)
 leave_kept_ordered i b GoesOn r en e0 vs c h at n = absurd (n refl)
 leave_kept_ordered i b Cancelled r en e0 vs c h at n = unless c.halted (leave_ordered i en e0 vs (Throw i operation_cancelled) c h at (throw_of i operation_cancelled) order.throws h.2)
 leave_kept_ordered i b Ready r en e0 vs c h at n = branch_ordered i b r.1 en e0 vs c h at

@@ -14,7 +14,7 @@ use Rattle.flow_meaning.specs.Occ.{Scan, Occ, value_in}
 use Rattle.flow_meaning.specs.Work.{writes, pushed, dropping_values, fill}
 use Rattle.flow_meaning.specs.Dropping.{set_result, give_result, close}
 use Rattle.flow_meaning.specs.Effects.{result_task, push_result}
-use Rattle.flow_meaning.specs.Step.{entry_of, enrol, start_core, throw_core, Verdict, GoesOn, Cancelled, Ready, with_operand, below, leave_kept, handle}
+use Rattle.flow_meaning.specs.Step.{entry_of, enrol, start_core, throw_core, OperandFate, GoesOn, Cancelled, Ready, with_operand, below, leave_kept, handle}
 use Rattle.flow_meaning.specs.Deliver.{boot_core, stop_main, stop, closed_request, deliver, arrive}
 use Rattle.flow_meaning.specs.Orderly.{tasks_of, is_suspended, Proceeds, steps, stores, keeps, takes, throws, catches, ends, Stands, NextStep, Paired, Rising, Orderly, Phase, Free, Due, phase_first, phase_by, phase_of}
 use Rattle.flow_meaning.proofs.Posture.{same_number, other_number, thing_put_other, thing_put, thing_added, thing_removed_other, removed_none, Unless, unless, unless_map, after_turn, Unmoved, AllUnmoved, dropping_unmoved, fill_unmoved, IsOf, own_task, other_task, rank, same_rank, Shifts, Eases, unmoved_phase, unmoved_eases, shifts_on, shifts_after, Awake, phase_awake, leave_shifts, by_number}
@@ -99,7 +99,7 @@ below_unmoved i c h j n = (refl, by_tasks c.tasks h)
     by_tasks (Run k ∷ ts) h = sym (other_task k j (Run k) ts (run_of k) (λ e. n (h ∙ e)))
     by_tasks ts h = absurd h
 
-pub leave_kept_shifts : (i b : ℕ) (v : Verdict) (r : Ref) (en e0 : Entry) (vs : List ValueTree) (c : Core) → thing c.entries i ≡ Some e0 → (v ≡ GoesOn → ⊥) → Unless (Shifts i Due c) (leave_kept i b v r en vs c)
+pub leave_kept_shifts : (i b : ℕ) (v : OperandFate) (r : Ref) (en e0 : Entry) (vs : List ValueTree) (c : Core) → thing c.entries i ≡ Some e0 → (v ≡ GoesOn → ⊥) → Unless (Shifts i Due c) (leave_kept i b v r en vs c)
 leave_kept_shifts i b GoesOn r en e0 vs c at h = absurd (h refl)
 leave_kept_shifts i b Cancelled r en e0 vs c at h = unless c.halted (leave_shifts i Due en e0 vs (Throw i operation_cancelled) c (throw_of i operation_cancelled) at (λ ts. omega arith))
 leave_kept_shifts i b Ready r en e0 vs c at h = branch_shifts i b r.1 en e0 vs (thing c.cells r.1) c at

@@ -31,9 +31,9 @@ Moves {A} e v a c = (b : A) × (e.next v a ≡ (None, b)) × Quietly e v b c
 
 -- An ask is answered by quiet steps and then the same ask; a quiet step by quiet steps, at least one, unless the first
 -- kind has become lighter.
-abbrev pub Answers : {A B : Type 0} → (Phase → A → B → Type 0) → Engine B → View → (lighter : Type 0) → Option Ask → A → B → Type 0
-Answers R d v lighter None a b = (c : _) × (Moves d v b c ⊎ (Quietly d v b c × lighter)) × R Free a c
-Answers R d v lighter (Some ask) a b = (c : _) × (g : _) × Quietly d v b c × (d.next v c ≡ (Some ask, g)) × R (phase_after ask.act) a g
+abbrev pub MatchesAsk : {A B : Type 0} → (Phase → A → B → Type 0) → Engine B → View → (lighter : Type 0) → Option Ask → A → B → Type 0
+MatchesAsk R d v lighter None a b = (c : _) × (Moves d v b c ⊎ (Quietly d v b c × lighter)) × R Free a c
+MatchesAsk R d v lighter (Some ask) a b = (c : _) × (g : _) × Quietly d v b c × (d.next v c ≡ (Some ask, g)) × R (phase_after ask.act) a g
 
 -- both hand out the same, and are related afterwards
 abbrev pub Alike : {X A B : Type 0} → (A → B → Type 0) → X × A → X × B → Type 0
@@ -57,7 +57,7 @@ pub record Simulates {A B : Type 0} (e : Engine A) (d : Engine B) (R : Phase →
   pub risks : (a : A) (b : B) → R Risky a b → R Free a b
   -- what falls with each quiet step of the first kind for which the second stays where it is
   pub weight : A → ℕ
-  pub next : (v : View) (a : A) (b : B) → R Free a b → Answers R d v (weight (e.next v a).1 < weight a) (e.next v a).0 (e.next v a).1 b
+  pub next : (v : View) (a : A) (b : B) → R Free a b → MatchesAsk R d v (weight (e.next v a).1 < weight a) (e.next v a).0 (e.next v a).1 b
   pub lose : (a : A) (b : B) → R Due a b → Alike (R Due) (e.lose a) (d.lose b)
   pub store : (u : ValueTree) (a : A) (b : B) → R Due a b → Alike (R Free) (e.store u a) (d.store u b)
   pub take : (n : ℕ) (u : ValueTree) (a : A) (b : B) → R Due a b → Alike (R Free) (e.take n u a) (d.take n u b)

@@ -112,12 +112,12 @@ throw e i err (Some a) p = throw_with i err (e.raise err a) p
 
 -- The task Keep, with the actor's task under it: the operand is kept. A marked actor then leaves its wait and throws
 -- `operation_cancelled`; an operand that is ready is taken; otherwise the actor goes on.
-pub data Verdict : Type 0 where
-  GoesOn : Verdict
-  Cancelled : Verdict
-  Ready : Verdict
+pub data OperandFate : Type 0 where
+  GoesOn : OperandFate
+  Cancelled : OperandFate
+  Ready : OperandFate
 
-abbrev pub verdict : (marked ready : Bool) → Verdict
+abbrev pub verdict : (marked ready : Bool) → OperandFate
 verdict true ready = Cancelled
 verdict false true = Ready
 verdict false false = GoesOn
@@ -130,15 +130,15 @@ abbrev pub below : List Task → List Task
 below [] = []
 below (t ∷ ts) = ts
 
-abbrev pub leave_kept : (actor branch : ℕ) → Verdict → Ref → Entry → List ValueTree → Core → Core
+abbrev pub leave_kept : (actor branch : ℕ) → OperandFate → Ref → Entry → List ValueTree → Core → Core
 leave_kept i b GoesOn r en vs c = c
 leave_kept i b Cancelled r en vs c = leave_for i en vs (Throw i operation_cancelled) c
 leave_kept i b Ready r en vs c = take_branch i b r.1 en vs (thing c.cells r.1) c
 
-abbrev pub lost : {A : Type 0} → (actor branch : ℕ) → Verdict → Ref → Entry → List ValueTree × A → Proc A → Stepped A
+abbrev pub lost : {A : Type 0} → (actor branch : ℕ) → OperandFate → Ref → Entry → List ValueTree × A → Proc A → Stepped A
 lost i b v r en l p = silent (proc (leave_kept i b v r en l.0 (record p.core { tasks = below p.core.tasks })) (put p.actors i l.1))
 
-abbrev pub keep_by : {A : Type 0} → Engine A → (actor branch : ℕ) → Verdict → Ref → Entry → A → Proc A → Stepped A
+abbrev pub keep_by : {A : Type 0} → Engine A → (actor branch : ℕ) → OperandFate → Ref → Entry → A → Proc A → Stepped A
 keep_by e i b GoesOn r en a p = silent (proc (record p.core { entries = put p.core.entries i en }) p.actors)
 keep_by e i b v r en a p = lost i b v r en (e.lose a) p
 

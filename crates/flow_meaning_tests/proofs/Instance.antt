@@ -15,7 +15,7 @@ use Rattle.flow_meaning.specs.Cells.{Side}
 use Rattle.flow_meaning.specs.Asks.{Ask}
 use Rattle.flow_meaning.specs.Process.{View}
 use Rattle.flow_meaning.specs.Orderly.{Phase, Free, Risky, Due, Waiting}
-use Rattle.flow_meaning.specs.Law.{Quietly, still, quiet, phase_after, Answers, Alike, BothOrNone, Simulates}
+use Rattle.flow_meaning.specs.Law.{Quietly, still, quiet, phase_after, MatchesAsk, Alike, BothOrNone, Simulates}
 use Rattle.flow_meaning.specs.Items.{Site, Item, Do, Leave, Handler, Actor, actor, over}
 use Rattle.flow_meaning.specs.Frame as frame
 use Rattle.flow_meaning.specs.Source.{source}
@@ -199,11 +199,11 @@ Asked v a f =
 
 abbrev Answered : View → Actor → frame.Frame → Type 0
 Answered v a f =
-    Answers Stands (classes small_classes) v (length ((source small_program).next v a).1.rest < length a.rest) ((source small_program).next v a).0 ((source small_program).next v a).1 f
+    MatchesAsk Stands (classes small_classes) v (length ((source small_program).next v a).1.rest < length a.rest) ((source small_program).next v a).0 ((source small_program).next v a).1 f
 
 answered : (v : View) (a : Actor) (f h : frame.Frame) → Quietly (classes small_classes) v h f → Asked v a f → Answered v a h
 answered v a f h q k =
-    subst (λ z. Answers Stands (classes small_classes) v (length z.1.rest < length a.rest) z.0 z.1 h) (sym k.3) (f, k.2, q, k.4, k.5)
+    subst (λ z. MatchesAsk Stands (classes small_classes) v (length z.1.rest < length a.rest) z.0 z.1 h) (sym k.3) (f, k.2, q, k.4, k.5)
 
 module _ (cells : ℕ → Option OutcomeTree) (now left : ℕ) where
   abbrev seen : ℕ → View

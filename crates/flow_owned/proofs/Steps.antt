@@ -22,7 +22,7 @@ use Rattle.flow_meaning.specs.React.{send_by, send_in, print, react}
 use Rattle.flow_meaning.specs.Dropping.{port_of, promises_gone, futures_gone, loss, suffer, break_cell, lose_cell, lose_ref, fire_to, fire_at, fire_cell, set_result, give_result}
 use Rattle.flow_meaning.specs.Lines.{print_line, end_line, throw_line, broken_line}
 use Rattle.flow_meaning.specs.Step as steps
-use Rattle.flow_meaning.specs.Step.{proc, Stepped, view, enrol, entry_of, start, answer, run_next, run, fate, throw_core, Verdict, GoesOn, Cancelled, Ready, verdict, with_operand, below, leave_kept, keep_by, keep, close_actor, scanned, popped, do_task, step_tasks, step_if, step}
+use Rattle.flow_meaning.specs.Step.{proc, Stepped, view, enrol, entry_of, start, answer, run_next, run, fate, throw_core, OperandFate, GoesOn, Cancelled, Ready, verdict, with_operand, below, leave_kept, keep_by, keep, close_actor, scanned, popped, do_task, step_tasks, step_if, step}
 use Rattle.flow_meaning.specs.Frame.{Frame}
 use Rattle.flow_meaning.specs.Class.{classes, class_names}
 use Rattle.flow_meaning.proofs.Posture.{Unless, unless, unless_map, after_turn}
@@ -367,7 +367,7 @@ module _ (k : ℕ) where
       keep_good : (i : ℕ) (spot : Spot) (q : Ref) (x : Option Frame) → Good (keep (classes r) i spot q x (thing c.entries i) (proc now xs))
       keep_good i spot q x = by_entry x (thing c.entries i) refl
         where
-          by_verdict : (a : Frame) (e : Entry) → thing c.entries i ≡ Some e → (b : ℕ) (v : Verdict) → Good (keep_by (classes r) i b v q (with_operand spot q e) a (proc now xs))
+          by_verdict : (a : Frame) (e : Entry) → thing c.entries i ≡ Some e → (b : ℕ) (v : OperandFate) → Good (keep_by (classes r) i b v q (with_operand spot q e) a (proc now xs))
           by_verdict a e at b GoesOn = unless c.halted (entry_free k i (with_operand spot q e) e now at refl h)
           by_verdict a e at b Cancelled = unless c.halted (leave_free k i (with_operand spot q e) e ((classes r).lose a).0 (Throw i operation_cancelled) (record now { tasks = below ts }) at refl h)
           by_verdict a e at b Ready = branch_free k i b q.1 (with_operand spot q e) e ((classes r).lose a).0 (record now { tasks = below ts }) at refl h

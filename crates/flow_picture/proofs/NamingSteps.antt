@@ -21,7 +21,7 @@ use Rattle.flow_meaning.specs.Occ.{scan_of}
 use Rattle.flow_meaning.specs.Work.{writes, pushed, new_cell, fill, first_ready, is_ready_at, owner}
 use Rattle.flow_meaning.specs.Effects.{Reaction, throws, result_task, push_result, gives, gives_new, gives_open, empty_cell, between, is_port, open_port, judged, ask_disk, effect, send_to}
 use Rattle.flow_meaning.specs.React.{send_by, send_in, print, at_spot, wait_by, wait, react}
-use Rattle.flow_meaning.specs.Step.{proc, Stepped, view, entry_of, enrol, start_core, start, answer_effect, answer, run_next, run, give, store, fate, throw_core, throw, Verdict, GoesOn, Cancelled, Ready, verdict, with_operand, below, leave_kept, keep_by, keep, close_actor, step_tasks, step_if}
+use Rattle.flow_meaning.specs.Step.{proc, Stepped, view, entry_of, enrol, start_core, start, answer_effect, answer, run_next, run, give, store, fate, throw_core, throw, OperandFate, GoesOn, Cancelled, Ready, verdict, with_operand, below, leave_kept, keep_by, keep, close_actor, step_tasks, step_if}
 use Rattle.flow_meaning.specs.Frame.{Frame, lose}
 use Rattle.flow_meaning.specs.Class.{classes, class_names}
 use Rattle.flow_references.specs.Named.{Rule, GivesFutures, Named, AllNamed}
@@ -150,7 +150,7 @@ module _ (p : Rule) where
   below_named [] h = tt
   below_named (t ∷ ts) h = h.1
 
-  leave_kept_named : (i b : ℕ) (v : Verdict) (r : Ref) (en : Entry) (vs : List ValueTree) (c : Core) → RefsNamed p en.operands → AllNamed p vs → CoreNamed p c → CoreNamed p (leave_kept i b v r en vs c)
+  leave_kept_named : (i b : ℕ) (v : OperandFate) (r : Ref) (en : Entry) (vs : List ValueTree) (c : Core) → RefsNamed p en.operands → AllNamed p vs → CoreNamed p c → CoreNamed p (leave_kept i b v r en vs c)
   leave_kept_named i b GoesOn r en vs c h a n = n
   leave_kept_named i b Cancelled r en vs c h a n = leave_named p i en vs (Throw i operation_cancelled) c h a tt n
   leave_kept_named i b Ready r en vs c h a n = branch_named p i b r.1 en vs c h a n
@@ -181,13 +181,13 @@ module _ (p : Rule) where
         let t = raise_named p err f (frame_at xs i f at m) in
         (thrown_named i err ((classes r).raise err f).0 (thing c.entries i) c refl t.0 n, frames_put xs i ((classes r).raise err f).1 m t.1)
 
-    lost_keeps : (i b : ℕ) (v : Verdict) (q : Ref) (en : Entry) (f : Frame) (c : Core) (xs : Numbered Frame) → RefsNamed p en.operands → MemoryNamed p f.mem → CoreNamed p c → FramesNamed p xs
+    lost_keeps : (i b : ℕ) (v : OperandFate) (q : Ref) (en : Entry) (f : Frame) (c : Core) (xs : Numbered Frame) → RefsNamed p en.operands → MemoryNamed p f.mem → CoreNamed p c → FramesNamed p xs
         → ProcNamed p (proc (leave_kept i b v q en (lose f).0 (record c { tasks = below c.tasks })) (put xs i (lose f).1))
     lost_keeps i b v q en f c xs h k n m =
         let t = lose_named p f k in
         (leave_kept_named i b v q en (lose f).0 (record c { tasks = below c.tasks }) h t.0 (n.0, n.1, below_named c.tasks n.2), frames_put xs i (lose f).1 m t.1)
 
-    keep_by_keeps : (i b : ℕ) (v : Verdict) (q : Ref) (en : Entry) (f : Frame) (c : Core) (xs : Numbered Frame) → RefsNamed p en.operands → MemoryNamed p f.mem → CoreNamed p c → FramesNamed p xs → ProcNamed p (keep_by (classes r) i b v q en f (proc c xs)).0
+    keep_by_keeps : (i b : ℕ) (v : OperandFate) (q : Ref) (en : Entry) (f : Frame) (c : Core) (xs : Numbered Frame) → RefsNamed p en.operands → MemoryNamed p f.mem → CoreNamed p c → FramesNamed p xs → ProcNamed p (keep_by (classes r) i b v q en f (proc c xs)).0
     keep_by_keeps i b GoesOn q en f c xs h k n m = ((n.0, each_put (λ e. RefsNamed p e.operands) c.entries i en n.1 h, n.2), m)
     keep_by_keeps i b Cancelled q en f c xs h k n m = lost_keeps i b Cancelled q en f c xs h k n m
     keep_by_keeps i b Ready q en f c xs h k n m = lost_keeps i b Ready q en f c xs h k n m

@@ -21,7 +21,7 @@ use Rattle.flow_meaning.specs.Dropping.{promises_gone, loss, port_of, suffer, lo
 use Rattle.flow_meaning.specs.Effects.{throws, result_task, push_result, gives_new, gives_open, empty_cell, between, is_port, open_port, judged, ask_disk, effect, send_to}
 use Rattle.flow_meaning.specs.React.{send_by, send_in, print, at_spot, wait_by, wait, react}
 use Rattle.flow_meaning.specs.Class.{classes}
-use Rattle.flow_meaning.specs.Step.{proc, Stepped, view, enrol, start_core, start, answer_effect, answer, run_next, run, give, store, fate, throw_core, throw, Verdict, GoesOn, Cancelled, Ready, verdict, with_operand, below, leave_kept, keep_by, keep, close_actor, step_tasks, step_if, step}
+use Rattle.flow_meaning.specs.Step.{proc, Stepped, view, enrol, start_core, start, answer_effect, answer, run_next, run, give, store, fate, throw_core, throw, OperandFate, GoesOn, Cancelled, Ready, verdict, with_operand, below, leave_kept, keep_by, keep, close_actor, step_tasks, step_if, step}
 use Rattle.flow_meaning.specs.Deliver.{boot_core, deliver, arrive, stop_main, closed_request}
 use Rattle.flow_meaning.specs.Orderly.{Rising, Orderly}
 use Rattle.flow_meaning.proofs.Posture.{Unless, unless, unless_map, after_turn, Awake}
@@ -201,7 +201,7 @@ close_tidy z scan i x v c a r t =
     let d = record c { entries = removed c.entries i } in
     after_turn (Tidy z) (λ d. give_result scan x v (writes (end_line i v) d)) d c.left (λ n. given_tidy z scan x v (writes (end_line i v) (record d { left = n })) (over_tidy z i c a r t))
 
-leave_kept_tidy : (z : Since) → (i b : ℕ) (v : Verdict) (x : Ref) (en e0 : Entry) (vs : List ValueTree) (c : Core) → thing c.entries i ≡ Some e0 → en.result ≡ e0.result → Tidy z c → Unless (Tidy z) (leave_kept i b v x en vs c)
+leave_kept_tidy : (z : Since) → (i b : ℕ) (v : OperandFate) (x : Ref) (en e0 : Entry) (vs : List ValueTree) (c : Core) → thing c.entries i ≡ Some e0 → en.result ≡ e0.result → Tidy z c → Unless (Tidy z) (leave_kept i b v x en vs c)
 leave_kept_tidy z i b GoesOn x en e0 vs c at same t = unless c.halted t
 leave_kept_tidy z i b Cancelled x en e0 vs c at same t = unless c.halted (leave_tidy z i en e0 vs (Throw i operation_cancelled) c at same t)
 leave_kept_tidy z i b Ready x en e0 vs c at same t = branch_tidy z i b x.1 en e0 vs c at same t
@@ -227,7 +227,7 @@ module _ {A : Type 0} (z : Since) (e : Engine A) where
   throw_keeps i err None k xs t = tt
   throw_keeps i err (Some x) k xs t = thrown_tidy z i err (e.raise err x).0 (thing k.entries i) k refl t
 
-  keep_by_keeps : (i b : ℕ) (v : Verdict) (spot : Spot) (r : Ref) (en : Entry) (x : A) (k : Core) (xs : Numbered A) → Awake i k → thing k.entries i ≡ Some en → Tidy z k → Keeps (keep_by e i b v r (with_operand spot r en) x (proc k xs))
+  keep_by_keeps : (i b : ℕ) (v : OperandFate) (spot : Spot) (r : Ref) (en : Entry) (x : A) (k : Core) (xs : Numbered A) → Awake i k → thing k.entries i ≡ Some en → Tidy z k → Keeps (keep_by e i b v r (with_operand spot r en) x (proc k xs))
   keep_by_keeps i b GoesOn spot r en x k xs a at t = unless k.halted (kept_tidy z i spot r en k a at t)
   keep_by_keeps i b Cancelled spot r en x k xs a at t = leave_kept_tidy z i b Cancelled r (with_operand spot r en) en (e.lose x).0 (record k { tasks = below k.tasks }) at refl t
   keep_by_keeps i b Ready spot r en x k xs a at t = leave_kept_tidy z i b Ready r (with_operand spot r en) en (e.lose x).0 (record k { tasks = below k.tasks }) at refl t

@@ -16,7 +16,7 @@ use Rattle.flow_meaning.specs.Work.{turn, pushed, writes, fill, fill_cell, dropp
 use Rattle.flow_meaning.specs.Dropping.{port_of, lose_cell, lose_ref, drop, fire_to, fire_at, fire_cell, fire, loss, set_result, give_result, close}
 use Rattle.flow_meaning.specs.Lines.{take_line, end_line}
 use Rattle.flow_meaning.specs.Step as steps
-use Rattle.flow_meaning.specs.Step.{proc, with_operand, below, Verdict, GoesOn, Cancelled, Ready, verdict, leave_kept, keep_by, keep, close_actor}
+use Rattle.flow_meaning.specs.Step.{proc, with_operand, below, OperandFate, GoesOn, Cancelled, Ready, verdict, leave_kept, keep_by, keep, close_actor}
 use Rattle.flow_meaning.specs.Frame.{Frame, over, lose}
 use Rattle.flow_meaning.specs.Class.{classes}
 use Rattle.flow_meaning.proofs.Order.{taking_waiters}
@@ -171,7 +171,7 @@ module _ (k : ℕ) (r : RawTree) (actors : List RoutineTree) (rules : Rattle.flo
               (Rattle.flow_meaning.proofs.Order.rising_put c.cells 0 c.made q.1 (after_taking cell) p.numbered) in
               fine_on z ys (onward_on k no_refs g no_refs c xs low ys z ys so_far ((λ w. m.0 (l.0 w)), (λ s. let x = m.1 s in let y = l.1 s in let w : in_task s k (Give i b o) ≡ in_task s k (Give 0 0 o) = refl in omega (arith, x, y, w)), (λ w. m.2 (l.2 w))))
 
-      by_verdict : (b : ℕ) (v : Verdict) → Fine (keep_by (classes r) i b v q kept f (proc now xs)).0.core (keep_by (classes r) i b v q kept f (proc now xs)).0.actors
+      by_verdict : (b : ℕ) (v : OperandFate) → Fine (keep_by (classes r) i b v q kept f (proc now xs)).0.core (keep_by (classes r) i b v q kept f (proc now xs)).0.actors
       by_verdict b GoesOn = goes_on e at awake
       by_verdict b Cancelled = cancelled_on
       by_verdict b Ready = taken_on b (thing c.cells q.1) refl

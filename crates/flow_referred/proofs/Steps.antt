@@ -17,7 +17,7 @@ use Rattle.flow_meaning.specs.Work.{pushed, writes, dropping_values, leave_for, 
 use Rattle.flow_meaning.specs.Dropping.{port_of, lose_cell, lose_ref, fire_to, fire_at, fire_cell, fire, loss}
 use Rattle.flow_meaning.specs.Lines.{throw_line, take_line, catch_line}
 use Rattle.flow_meaning.specs.Step as steps
-use Rattle.flow_meaning.specs.Step.{proc, with_operand, below, fate, throw_core, Verdict, GoesOn, Cancelled, Ready, verdict, keep_by, keep, handle, do_task}
+use Rattle.flow_meaning.specs.Step.{proc, with_operand, below, fate, throw_core, OperandFate, GoesOn, Cancelled, Ready, verdict, keep_by, keep, handle, do_task}
 use Rattle.flow_meaning.specs.Frame.{Frame, over, raised, raise, lose}
 use Rattle.flow_meaning.specs.Class.{classes, class_names}
 use Rattle.flow_meaning.proofs.Posture.{Unless, unless, after_turn, thing_put, own_task}

@@ -21,7 +21,7 @@ use Rattle.flow_eval.specs.Answers.{truth, bool_of}
 use Rattle.flow_eval.specs.Operators.{compared, on_ints}
 use Rattle.flow_eval.specs.Records.{field_answer}
 use Rattle.flow_eval.specs.Eval.{Res, Done, then, at_once, both, second, truth_of}
-use Rattle.flow_eval.specs.View.{Answers, Gives}
+use Rattle.flow_eval.specs.View.{GivesAnswer, Gives}
 use Rattle.flow_eval.proofs.Results.{answer_gives}
 use Rattle.flow_resolved.specs.declared.expr.Resolved.{Resolved}
 use Rattle.flow_resolved.specs.declared.expr.Resolved.TheVariants.{Field, Binary, rolls-Field, rolls-Binary}
@@ -71,7 +71,7 @@ binary_known : (s : Sight) (op : Op) (l r : Node) (a b : ℤ) (left : ℕ) → C
     → then (value_at s l left) (λ v k. second op v (value_at s r) k) ≡ at_once (on_ints op a b) left
 binary_known s op l r a b left h k = ap (λ q. then q (λ v k. second op v (value_at s r) k)) (h left) ∙ second_known s op r a b left k
 
-pub ints_give : (s : Sight) (op : Op) (l r : Node) (a b : ℤ) (q : Result Value Halt) (left : ℕ) → Comes s l (IntValue a) → Comes s r (IntValue b) → Answers (on_ints op a b) q
+pub ints_give : (s : Sight) (op : Op) (l r : Node) (a b : ℤ) (q : Result Value Halt) (left : ℕ) → Comes s l (IntValue a) → Comes s r (IntValue b) → GivesAnswer (on_ints op a b) q
     → Gives (then (value_at s l left) (λ v k. second op v (value_at s r) k)) q left
 ints_give s op l r a b q left h k g = subst (λ z. Gives z q left) (sym (binary_known s op l r a b left h k)) (answer_gives (on_ints op a b) left q g)
 

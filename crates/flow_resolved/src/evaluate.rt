@@ -10,7 +10,7 @@ ghost use Rattle.flow_eval.specs.Operators.{operated};
 ghost use Rattle.flow_eval.specs.Records.{at_place, field_answer, value_at as at};
 ghost use Rattle.flow_eval.specs.Eval.{Done, found, second, then, at_once, method_called, function_called, truth_of};
 ghost use Rattle.flow_eval.specs.Functions.{run_function};
-ghost use Rattle.flow_eval.specs.View.{Answers, Gives, GivesAll, setting_of};
+ghost use Rattle.flow_eval.specs.View.{GivesAnswer, Gives, GivesAll, setting_of};
 ghost use Rattle.flow_tree.specs.DeclView.{function_of};
 ghost use Rattle.flow_tree.specs.declared.limits.TheConstants.{CALL_DEPTH};
 ghost use Rattle.flow_resolved.specs.Evaluation.{numbered_field, field_by, value_at, values_at};
@@ -138,7 +138,7 @@ fn int_in<C: CellView>(sight: &Sight<C>, expr: &Resolved) -> Option<i64>
 }
 
 fn place_value(alloc: Global, places: &[Option<Value>], place: u32) -> Result<Value, Halt>
-    ensures { Answers (found (held_in places.now place)) result }
+    ensures { GivesAnswer (found (held_in places.now place)) result }
 {
     match held(places, place) {
         Some(value) => Ok(value.copy(alloc)?),
@@ -152,7 +152,7 @@ fn field_value(
     base: &Value,
     name: Option<usize>,
 ) -> Result<Value, Halt>
-    ensures { Answers (field_answer (field_by (places_in fields.now) (value_of base.now) name))
+    ensures { GivesAnswer (field_answer (field_by (places_in fields.now) (value_of base.now) name))
         result }
 {
     let Some(name) = name else {
@@ -170,7 +170,7 @@ fn call_method<C: CellView>(
     base: &Value,
     args: &[Value],
 ) -> Result<Value, Halt>
-    ensures { Answers (method_called (C.content setting.now.view.now) method (value_of base.now)
+    ensures { GivesAnswer (method_called (C.content setting.now.view.now) method (value_of base.now)
         (map value_of args.now)) result }
 {
     match method {
@@ -180,7 +180,7 @@ fn call_method<C: CellView>(
 }
 
 fn as_truth(value: &Value) -> Result<Value, Halt>
-    ensures { Answers (truth (bool_of (value_of value.now))) result }
+    ensures { GivesAnswer (truth (bool_of (value_of value.now))) result }
 {
     match bool_of(value) {
         Some(b) => Ok(Value::Bool(b)),

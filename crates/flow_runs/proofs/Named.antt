@@ -13,7 +13,7 @@ use Rattle.flow_meaning.specs.Work.{is_ready_at}
 use Rattle.flow_meaning.specs.Effects.{Reaction, between, is_port, open_port, judged, ask_disk, effect}
 use Rattle.flow_meaning.specs.React.{react}
 use Rattle.flow_meaning.specs.Step as steps
-use Rattle.flow_meaning.specs.Step.{Stepped, view, start, answer, run_next, run, Verdict, GoesOn, Cancelled, Ready, verdict, with_operand, keep_by, keep, close_actor, do_task, step_tasks, step_if, step}
+use Rattle.flow_meaning.specs.Step.{Stepped, view, start, answer, run_next, run, OperandFate, GoesOn, Cancelled, Ready, verdict, with_operand, keep_by, keep, close_actor, do_task, step_tasks, step_if, step}
 
 abbrev pub Names : (processes : ℕ) → Option Request → Type 0
 Names n (Some (Packet q port text)) = q < n
@@ -99,7 +99,7 @@ module _ (s : Supply) where
     throw_named i err None p = tt
     throw_named i err (Some a) p = tt
 
-    keep_by_named : (i b : ℕ) (v : Verdict) (r : Ref) (en : Entry) (a : A) (p : Proc A) → Named (keep_by e i b v r en a p).1
+    keep_by_named : (i b : ℕ) (v : OperandFate) (r : Ref) (en : Entry) (a : A) (p : Proc A) → Named (keep_by e i b v r en a p).1
     keep_by_named i b GoesOn r en a p = tt
     keep_by_named i b Cancelled r en a p = tt
     keep_by_named i b Ready r en a p = tt

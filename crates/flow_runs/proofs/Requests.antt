@@ -21,7 +21,7 @@ use Rattle.flow_meaning.specs.React.{send_by, send_in, print, suspend, wait_by, 
 use Rattle.flow_meaning.specs.Dropping.{Loss, Kept, Freed, Broken, Orphan, Unheard, suffer, lose_cell, lose_ref, fire_to, fire_at, fire_cell, fire, set_result, give_result}
 use Rattle.flow_meaning.specs.Lines.{print_line, end_line}
 use Rattle.flow_meaning.specs.Step as steps
-use Rattle.flow_meaning.specs.Step.{proc, Stepped, view, start, enrol, scanned, popped, answer_effect, answer, run_next, run, throw_core, throw_with, Verdict, GoesOn, Cancelled, Ready, verdict, with_operand, below, leave_kept, lost, keep_by, keep, close_actor, do_task, step_tasks, step_if, step}
+use Rattle.flow_meaning.specs.Step.{proc, Stepped, view, start, enrol, scanned, popped, answer_effect, answer, run_next, run, throw_core, throw_with, OperandFate, GoesOn, Cancelled, Ready, verdict, with_operand, below, leave_kept, lost, keep_by, keep, close_actor, do_task, step_tasks, step_if, step}
 use Rattle.flow_runs.specs.Due.{asked}
 
 -- the open requests stay
@@ -228,12 +228,12 @@ module _ {A : Type 0} (e : Engine A) (s : Supply) where
   throw_grows i err None p = throws_grow p.core
   throw_grows i err (Some a) p = none_more p.core.requests (throw_core i err (e.raise err a).0 (thing p.core.entries i) p.core).requests (throw_core_same i err (e.raise err a).0 (thing p.core.entries i) p.core)
 
-  leave_kept_same : (i b : ℕ) (v : Verdict) (r : Ref) (en : Entry) (vs : List ValueTree) (c : Core) → Same c (leave_kept i b v r en vs c)
+  leave_kept_same : (i b : ℕ) (v : OperandFate) (r : Ref) (en : Entry) (vs : List ValueTree) (c : Core) → Same c (leave_kept i b v r en vs c)
   leave_kept_same i b GoesOn r en vs c = refl
   leave_kept_same i b Cancelled r en vs c = refl
   leave_kept_same i b Ready r en vs c = branch_same i b r.1 en vs (thing c.cells r.1) c
 
-  keep_by_grows : (i b : ℕ) (v : Verdict) (r : Ref) (en : Entry) (a : A) (p : Proc A) → StepGrows p.core (keep_by e i b v r en a p)
+  keep_by_grows : (i b : ℕ) (v : OperandFate) (r : Ref) (en : Entry) (a : A) (p : Proc A) → StepGrows p.core (keep_by e i b v r en a p)
   keep_by_grows i b GoesOn r en a p = throws_grow p.core
   keep_by_grows i b Cancelled r en a p = throws_grow p.core
   keep_by_grows i b Ready r en a p =

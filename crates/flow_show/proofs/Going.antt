@@ -5,7 +5,7 @@ use Rattle.std.proofs.lemmas.List.{append-nil}
 use Rattle.flow_base.specs.declared.place.Place.{Place}
 use Rattle.flow_tree.specs.declared.token.Token.{Token}
 use Rattle.flow_tree.specs.Spelling.{IsBounded, is_blank}
-use Rattle.flow_tree.specs.Lexing.{place_after, TokenAt, Reads, here, gap, token}
+use Rattle.flow_tree.specs.Lexing.{place_after, TokenAt, ReadsTokens, here, gap, token}
 use Rattle.flow_tree.specs.GrammarToken.{Part, Marked, opens, begin, spots_of}
 use Rattle.flow_tree.specs.Canon.{indent, line}
 use Rattle.flow_tree.proofs.GrammarLists.{spots_append, spots_begin}
@@ -32,7 +32,7 @@ begin_some p (x ∷ xs) some = omega arith
 -- these are those of `orig`.
 pub record Got {X : Type 0} (marks : X → List Marked) (orig : List Marked) (before w rest : List ℕ) : Type 0 where
   pub value : X
-  pub reads : Reads before (w ++ rest) (spots_of (marks value)) (before ++ w) rest
+  pub reads : ReadsTokens before (w ++ rest) (spots_of (marks value)) (before ++ w) rest
   pub parts : all_parts (marks value) ≡ all_parts orig
 
 -- `w` is read so wherever it stands, where what follows is fit
@@ -55,9 +55,9 @@ both {X} {Y} {mx} {my} {o} {o'} {w} {v} {F} {G} p q link = record { at = go }
         record {
           value = (a.value, b.value);
           reads =
-              subst (λ t. Reads before t (spots_of (mx a.value ++ my b.value)) (before ++ (w ++ v)) rest) (sym (append_assoc w v rest))
-              (subst (λ x. Reads before (w ++ (v ++ rest)) (spots_of (mx a.value ++ my b.value)) x rest) (append_assoc before w v)
-              (subst (λ s. Reads before (w ++ (v ++ rest)) s ((before ++ w) ++ v) rest) (sym (spots_append (mx a.value) (my b.value))) (reads_on a.reads b.reads)));
+              subst (λ t. ReadsTokens before t (spots_of (mx a.value ++ my b.value)) (before ++ (w ++ v)) rest) (sym (append_assoc w v rest))
+              (subst (λ x. ReadsTokens before (w ++ (v ++ rest)) (spots_of (mx a.value ++ my b.value)) x rest) (append_assoc before w v)
+              (subst (λ s. ReadsTokens before (w ++ (v ++ rest)) s ((before ++ w) ++ v) rest) (sym (spots_append (mx a.value) (my b.value))) (reads_on a.reads b.reads)));
           parts = parts_cat (mx a.value) (my b.value) ∙ ap₂ (λ x y. x ++ y) a.parts b.parts ∙ sym (parts_cat o o');
         }
 
@@ -72,7 +72,7 @@ as_rule {X} {Y} {mx} {my} {o} {all} {w} {w'} {F} p f same from text =
         let a = p.at before rest g in
         record {
           value = f a.value;
-          reads = subst (λ m. Reads before (w ++ rest) (spots_of m) (before ++ w) rest) (sym (same a.value)) a.reads;
+          reads = subst (λ m. ReadsTokens before (w ++ rest) (spots_of m) (before ++ w) rest) (sym (same a.value)) a.reads;
           parts = ap all_parts (same a.value) ∙ a.parts;
         }
 
@@ -86,7 +86,7 @@ begun {X} {mx} {o} {w} {F} part some has p = record { at = go }
         let a = p.at before rest g in
         record {
           value = a.value;
-          reads = subst (λ s. Reads before (w ++ rest) s (before ++ w) rest) (sym (spots_begin part (mx a.value))) a.reads;
+          reads = subst (λ s. ReadsTokens before (w ++ rest) s (before ++ w) rest) (sym (spots_begin part (mx a.value))) a.reads;
           parts = parts_begin part (mx a.value) (some a.value) ∙ ap (λ l. part ∷ l) a.parts ∙ sym (parts_begin part o has);
         }
 
@@ -95,7 +95,7 @@ pub nothing : {F : List ℕ → Type 0} → Piece {X = Unit {0}} (λ x. []) [] [
 nothing {F} = record {
   at = λ before rest g. record {
     value = tt;
-    reads = subst (λ x. Reads before rest [] x rest) (sym (append-nil before)) here;
+    reads = subst (λ x. ReadsTokens before rest [] x rest) (sym (append-nil before)) here;
     parts = refl;
   };
 }
@@ -107,17 +107,17 @@ one_token {F} ps t p w there bound = record {
   at = λ before rest g. record {
     value = place_after before;
     reads = token t (length w) (there rest g) bound
-        (subst (λ x. Reads (before ++ x) (drop (length w) (w ++ rest)) [] (before ++ w) rest) (sym (take-append_seam w rest))
-        (subst (λ x. Reads (before ++ w) x [] (before ++ w) rest) (sym (drop-append_seam w rest)) here));
+        (subst (λ x. ReadsTokens (before ++ x) (drop (length w) (w ++ rest)) [] (before ++ w) rest) (sym (take-append_seam w rest))
+        (subst (λ x. ReadsTokens (before ++ w) x [] (before ++ w) rest) (sym (drop-append_seam w rest)) here));
     parts = refl;
   };
 }
 
 -- bytes between tokens
 pub record Gap (w : List ℕ) : Type 0 where
-  pub at : (before rest : List ℕ) → Reads before (w ++ rest) [] (before ++ w) rest
+  pub at : (before rest : List ℕ) → ReadsTokens before (w ++ rest) [] (before ++ w) rest
 
-blank_reads : (b : ℕ) → is_blank b ≡ true → (before rest : List ℕ) → Reads before (b ∷ rest) [] (before ++ b ∷ []) rest
+blank_reads : (b : ℕ) → is_blank b ≡ true → (before rest : List ℕ) → ReadsTokens before (b ∷ rest) [] (before ++ b ∷ []) rest
 blank_reads b h before [] = gap (rw h (omega arith)) (rw h here)
 blank_reads b h before (c ∷ rest) = gap (rw h (omega arith)) (rw h here)
 
@@ -127,13 +127,13 @@ blank b h = record { at = blank_reads b h }
 pub gaps : {w v : List ℕ} → Gap w → Gap v → Gap (w ++ v)
 gaps {w} {v} p q = record {
   at = λ before rest.
-      subst (λ t. Reads before t [] (before ++ (w ++ v)) rest) (sym (append_assoc w v rest))
-      (subst (λ x. Reads before (w ++ (v ++ rest)) [] x rest) (append_assoc before w v)
+      subst (λ t. ReadsTokens before t [] (before ++ (w ++ v)) rest) (sym (append_assoc w v rest))
+      (subst (λ x. ReadsTokens before (w ++ (v ++ rest)) [] x rest) (append_assoc before w v)
       (reads_on (p.at before (v ++ rest)) (q.at (before ++ w) rest)));
 }
 
 pub no_gap : Gap []
-no_gap = record { at = λ before rest. subst (λ x. Reads before rest [] x rest) (sym (append-nil before)) here }
+no_gap = record { at = λ before rest. subst (λ x. ReadsTokens before rest [] x rest) (sym (append-nil before)) here }
 
 pub indent_gap : (k : ℕ) → Gap (indent k)
 indent_gap zero = no_gap
@@ -149,8 +149,8 @@ behind {X} {mx} {o} {w} {v} {F} g p = record { at = go }
         record {
           value = a.value;
           reads =
-              subst (λ t. Reads before t (spots_of (mx a.value)) (before ++ (v ++ w)) rest) (sym (append_assoc v w rest))
-              (subst (λ x. Reads before (v ++ (w ++ rest)) (spots_of (mx a.value)) x rest) (append_assoc before v w)
+              subst (λ t. ReadsTokens before t (spots_of (mx a.value)) (before ++ (v ++ w)) rest) (sym (append_assoc v w rest))
+              (subst (λ x. ReadsTokens before (v ++ (w ++ rest)) (spots_of (mx a.value)) x rest) (append_assoc before v w)
               (reads_on (g.at before (w ++ rest)) a.reads));
           parts = a.parts;
         }
@@ -164,9 +164,9 @@ before {X} {mx} {o} {w} {v} {F} p g link = record { at = go }
         record {
           value = a.value;
           reads =
-              subst (λ t. Reads before t (spots_of (mx a.value)) (before ++ (w ++ v)) rest) (sym (append_assoc w v rest))
-              (subst (λ x. Reads before (w ++ (v ++ rest)) (spots_of (mx a.value)) x rest) (append_assoc before w v)
-              (subst (λ s. Reads before (w ++ (v ++ rest)) s ((before ++ w) ++ v) rest) (append-nil (spots_of (mx a.value)))
+              subst (λ t. ReadsTokens before t (spots_of (mx a.value)) (before ++ (w ++ v)) rest) (sym (append_assoc w v rest))
+              (subst (λ x. ReadsTokens before (w ++ (v ++ rest)) (spots_of (mx a.value)) x rest) (append_assoc before w v)
+              (subst (λ s. ReadsTokens before (w ++ (v ++ rest)) s ((before ++ w) ++ v) rest) (append-nil (spots_of (mx a.value)))
               (reads_on a.reads (g.at (before ++ w) rest))));
           parts = a.parts;
         }

@@ -3,7 +3,7 @@ use Rattle.std.proofs.Common.{◌≡◌, ℕ, List, [], ◌∷◌, ◌++◌, ref
 use Rattle.std.proofs.lemmas.List.{append-nil}
 use Rattle.flow_base.specs.declared.place.Place.{Place}
 use Rattle.flow_tree.specs.Decls.{ProgramTree}
-use Rattle.flow_tree.specs.Lexing.{place_after, Reads, Lexes}
+use Rattle.flow_tree.specs.Lexing.{place_after, ReadsTokens, Lexes}
 use Rattle.flow_tree.specs.GrammarToken.{Part, Marked, spots_of, AllInLimits, Keeps}
 use Rattle.flow_tree.specs.GrammarDecl.{ProgramRule, program}
 use Rattle.flow_tree.specs.Canon.{decls_text, bare, first_place}
@@ -42,7 +42,7 @@ read_back n end m q (program {xs = xs} r) v keeps =
       spots = spots_of got.value.marked;
       end = place_after text;
       tree = record { decls = got.value.trees; end = place_after text };
-      lexes = record { reads = subst (λ t. Reads [] t (spots_of got.value.marked) text []) (append-nil text) got.reads; ends = refl };
+      lexes = record { reads = subst (λ t. ReadsTokens [] t (spots_of got.value.marked) text []) (append-nil text) got.reads; ends = refl };
       derives = record {
         marked = got.value.marked;
         rule = program got.value.rule;

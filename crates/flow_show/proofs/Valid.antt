@@ -7,7 +7,7 @@ use Rattle.flow_tree.specs.declared.token.Token.TheVariants.{Name, Number, Text}
 use Rattle.std.specs.Str.Parse.{digits_value}
 use Rattle.flow_base.specs.Names.{is_name_text}
 use Rattle.flow_tree.specs.Spelling.{Spells, IsBounded}
-use Rattle.flow_tree.specs.Lexing.{Reads, here, gap, token as and_token}
+use Rattle.flow_tree.specs.Lexing.{ReadsTokens, here, gap, token as and_token}
 use Rattle.flow_tree.specs.GrammarToken.{Part, Marked, begin, spots_of}
 use Rattle.flow_show.proofs.TokenPieces.{IsNameToken}
 use Rattle.flow_show.proofs.ValuePieces.{Bytes, inside_bytes}
@@ -44,7 +44,7 @@ AreValid (s ∷ ss) = Valid s.token × AreValid ss
 pub record AllValid (m : List Marked) : Type 0 where
   pub all : AreValid (spots_of m)
 
-pub valid_reads : {b t b' t' : List ℕ} {s : List Spot} → Reads b t s b' t' → AreValid s
+pub valid_reads : {b t b' t' : List ℕ} {s : List Spot} → ReadsTokens b t s b' t' → AreValid s
 valid_reads here = tt
 valid_reads (gap some l) = valid_reads l
 valid_reads {b} {t} (and_token u n at bound l) = (valid_token u (take n t) at.spelled bound, valid_reads l)

@@ -9,8 +9,8 @@ use Rattle.flow_staterule.specs.declared.sound.Sound.{Sound}
 use Rattle.flow_staterule.specs.StateRule.{first_lost}
 
 -- the same program, where no use of a local is lost, or the first use that is; want of memory may come anywhere
-abbrev pub Answers : Typed → Result Sound SourceFault → Type 0
-Answers t (Ok s) = (s.typed ≡ t) × (first_lost (program_of t.program).decls ≡ None)
-Answers t (Err (Refused rule at)) = ⊥
-Answers t (Err (AcrossWait at declared wait)) = first_lost (program_of t.program).decls ≡ Some (record { at = at; declared = declared; wait = wait })
-Answers t (Err OutOfMemory) = Unit {0}
+abbrev pub JudgesUses : Typed → Result Sound SourceFault → Type 0
+JudgesUses t (Ok s) = (s.typed ≡ t) × (first_lost (program_of t.program).decls ≡ None)
+JudgesUses t (Err (Refused rule at)) = ⊥
+JudgesUses t (Err (AcrossWait at declared wait)) = first_lost (program_of t.program).decls ≡ Some (record { at = at; declared = declared; wait = wait })
+JudgesUses t (Err OutOfMemory) = Unit {0}

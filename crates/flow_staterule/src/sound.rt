@@ -1,7 +1,7 @@
 // Programs that keep the rule on state too.
 
 ghost use Rattle.std.specs.Prelude.{◌≡◌};
-ghost use Rattle.flow_staterule.specs.Answer.{Answers};
+ghost use Rattle.flow_staterule.specs.Answer.{JudgesUses};
 
 use crate::rule::first_lost;
 use flow_tree::decl::Program;
@@ -18,7 +18,7 @@ pub struct Sound {
 /// A program, where no use of a local comes after a wait since its declaration. Otherwise it is refused: by the first such
 /// use in the order of the text, with the place where its local is declared and that of the first wait between them.
 pub fn check_state(alloc: Global, typed: Typed) -> Result<Sound, SourceFault>
-    ensures { Answers typed result }
+    ensures { JudgesUses typed result }
 {
     match first_lost(alloc, &typed.program().decls)? {
         Some(lost) => Err(SourceFault::AcrossWait {

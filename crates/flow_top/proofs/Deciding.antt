@@ -20,7 +20,7 @@ use Rattle.flow_tree.specs.Decls.{ProgramTree}
 use Rattle.flow_class.specs.declared.class.RawClasses.{RawClasses}
 use Rattle.flow_class.specs.View.{raw_of}
 use Rattle.flow_staterule.specs.declared.sound.Sound.{Sound}
-use Rattle.flow_front.specs.Verdict.{Reading, Verdict, IsSound}
+use Rattle.flow_front.specs.Verdict.{Reading, AnswersText, IsSound}
 use Rattle.flow_lower.specs.Weighing.{first_heavy}
 use Rattle.flow_compile.specs.Right.{IsAccepted}
 use Rattle.flow_lower.specs.Compiled.{Has}
@@ -83,7 +83,7 @@ unformatted {words} {before = b} {after = a} {name = n} text source.OutOfMemory 
 
 -- the program doesn't pass
 pub judged : {before after : FilesSeen} {name : List ℕ} {o : told.Told} (text : List ℕ) (fault : SourceFault) → o ≡ refusal_outcome_of fault
-    → IsText before.content name text → Verdict text (Err fault) → AsksNames before after (name ∷ []) → after.faults ≡ before.faults
+    → IsText before.content name text → AnswersText text (Err fault) → AsksNames before after (name ∷ []) → after.faults ≡ before.faults
     → Loaded name before after (Err o)
 judged {before = b} {after = a} {name = n} text (source.Refused rule at) o is v asked same = subst (λ x. Loaded n b a (Err x)) (sym o) (is_refused text rule at is v asked same)
 judged {before = b} {after = a} {name = n} text (source.AcrossWait at declared wait) o is v asked same =
@@ -105,7 +105,7 @@ without_program {name = name} judges (no_text asked counted) = read_fault (name 
 without_program {words} {before = b} {name = name} judges (no_room names asked which same) = no_memory names (asked_some b.content names judges which) asked same
 
 -- the program passes
-pub loaded : {before after : FilesSeen} {name : List ℕ} {v : Vec ℕ Global} {s : Sound} → FileRead name before after (Ok v) → Verdict v.items (Ok s) → Loaded name before after (Ok s)
+pub loaded : {before after : FilesSeen} {name : List ℕ} {v : Vec ℕ Global} {s : Sound} → FileRead name before after (Ok v) → AnswersText v.items (Ok s) → Loaded name before after (Ok s)
 loaded {v = v} {s = s} (is_read w is asked same) verdict = is_loaded s (record { text = v.items; is = is; sound = verdict }) asked same
 
 -- what is known where it is loaded

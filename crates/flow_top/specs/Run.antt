@@ -138,7 +138,7 @@ pub record HasLost (content : List ℕ → Option (List ℕ)) (name : List ℕ) 
 pub record HasWorld (content : List ℕ → Option (List ℕ)) (name : List ℕ) (answer : Result World0 WorldFault) : Type 0 where
   pub text : List ℕ
   pub is : IsText content name text
-  pub answered : reading.Answers text answer
+  pub answered : reading.ReadsWorld text answer
 
 -- A run that may be made: the program is that of a text, in which nothing is refused; the classes are its own; and the world is
 -- in range.

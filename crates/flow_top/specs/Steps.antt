@@ -53,6 +53,6 @@ pub data ClassesOf (p : ProgramTree) : Result RawClasses told.Told → Type 0 wh
 
 -- the world of a text, or its refusal
 pub data WorldOf (text : List ℕ) : Result World0 told.Told → Type 0 where
-  is_world : (w : World0) → reading.Answers text (Ok w) → WorldOf text (Ok w)
-  is_none : (fault : WorldFault) → reading.Answers text (Err fault) → WorldOf text (Err (NoWorld fault))
+  is_world : (w : World0) → reading.ReadsWorld text (Ok w) → WorldOf text (Ok w)
+  is_none : (fault : WorldFault) → reading.ReadsWorld text (Err fault) → WorldOf text (Err (NoWorld fault))
   no_room_for_it : WorldOf text (Err OutOfMemory)

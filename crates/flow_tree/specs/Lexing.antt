@@ -29,19 +29,19 @@ pub record TokenAt (text : List ℕ) (t : Token) (n : ℕ) : Type 0 where
 
 -- Reading on: after the bytes `before`, with `text` left, whole gaps and tokens lead to a place further
 -- on; the tokens have these places.
-pub data Reads : (before text : List ℕ) → List Spot → (before' text' : List ℕ) → Type 0 where
-  here : {before text : List ℕ} → Reads before text [] before text
+pub data ReadsTokens : (before text : List ℕ) → List Spot → (before' text' : List ℕ) → Type 0 where
+  here : {before text : List ℕ} → ReadsTokens before text [] before text
   gap : {before text before' text' : List ℕ} {spots : List Spot} → 0 < gap_length text
-      → Reads (before ++ take (gap_length text) text) (drop (gap_length text) text) spots before' text'
-      → Reads before text spots before' text'
+      → ReadsTokens (before ++ take (gap_length text) text) (drop (gap_length text) text) spots before' text'
+      → ReadsTokens before text spots before' text'
   token : {before text before' text' : List ℕ} {spots : List Spot} → (t : Token) (n : ℕ) → TokenAt text t n → IsBounded t
-      → Reads (before ++ take n text) (drop n text) spots before' text'
-      → Reads before text (record { token = t; at = place_after before } ∷ spots) before' text'
+      → ReadsTokens (before ++ take n text) (drop n text) spots before' text'
+      → ReadsTokens before text (record { token = t; at = place_after before } ∷ spots) before' text'
 
 -- The bytes are gaps and spellings in turn, each spelling the longest that begins there and within its
 -- bounds; these are the tokens with their places, and the place after the last byte.
 pub record Lexes (bytes : List ℕ) (spots : List Spot) (end : Place) : Type 0 where
-  pub reads : Reads [] bytes spots bytes []
+  pub reads : ReadsTokens [] bytes spots bytes []
   pub ends : end ≡ place_after bytes
 
 -- the text is over, or a line ends
@@ -78,7 +78,7 @@ pub record LexFault (bytes : List ℕ) (rule : Rule) (at : Place) : Type 0 where
   pub spots : List Spot
   pub before : List ℕ
   pub text : List ℕ
-  pub reads : Reads [] bytes spots before text
+  pub reads : ReadsTokens [] bytes spots before text
   pub refused : Refusal before text rule at
 
 -- what reading a text answers: its tokens, or its lexical refusal

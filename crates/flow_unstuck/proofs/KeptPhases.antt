@@ -8,7 +8,7 @@ use Rattle.flow_meaning.specs.Asks.{Ask, Supply}
 use Rattle.flow_meaning.specs.Process.{Task, Run, Halt, Core, View, Engine}
 use Rattle.flow_meaning.specs.Step.{Stepped, proc, view, answer, run_next, run, popped, do_task, step_tasks, step_if}
 use Rattle.flow_meaning.specs.Orderly.{Orderly, UnlessStopped, Phase, Free, Due, phase_of}
-use Rattle.flow_meaning.specs.Law.{still, Answers, Alike, BothOrNone, Simulates, AllRelated, Related}
+use Rattle.flow_meaning.specs.Law.{still, MatchesAsk, Alike, BothOrNone, Simulates, AllRelated, Related}
 use Rattle.flow_meaning.proofs.Posture.{same_rank, Unless, unless, unless_map}
 use Rattle.flow_meaning.proofs.Shifts.{run_of, same_of}
 use Rattle.flow_meaning.proofs.TaskShifts.{popped_at}
@@ -28,7 +28,7 @@ module _ {A : Type 0} (e : Engine A) (known : Phase → A → Type 0) (keeps : K
   started None h = tt
   started (Some a) h = (refl, h a refl)
 
-  answers : (v : View) (a : A) (r : Option Ask × A) (lighter : Type 0) → e.next v a ≡ r → KnownAfter known r → Answers Itself e v lighter r.0 r.1 a
+  answers : (v : View) (a : A) (r : Option Ask × A) (lighter : Type 0) → e.next v a ≡ r → KnownAfter known r → MatchesAsk Itself e v lighter r.0 r.1 a
   answers v a (None, x) lighter q k = (x, inl (x, q, still), (refl, k))
   answers v a (Some ask, x) lighter q k = (a, x, still, q, (refl, k))
 
@@ -41,7 +41,7 @@ module _ {A : Type 0} (e : Engine A) (known : Phase → A → Type 0) (keeps : K
     dues = λ a b r. (r.0, keeps.dues a r.1);
     risks = λ a b r. (r.0, keeps.risks a r.1);
     weight = λ a. 0;
-    next = λ v a b r. subst (λ z. Answers Itself e v (0 < 0) (e.next v a).0 (e.next v a).1 z) r.0 (answers v a (e.next v a) (0 < 0) refl (keeps.next v a r.1));
+    next = λ v a b r. subst (λ z. MatchesAsk Itself e v (0 < 0) (e.next v a).0 (e.next v a).1 z) r.0 (answers v a (e.next v a) (0 < 0) refl (keeps.next v a r.1));
     lose = λ a b r. subst (λ z. Alike (Itself Due) (e.lose a) (e.lose z)) r.0 (refl, (refl, keeps.lose a r.1));
     store = λ u a b r. subst (λ z. Alike (Itself Free) (e.store u a) (e.store u z)) r.0 (refl, (refl, keeps.store u a r.1));
     take = λ n u a b r. subst (λ z. Alike (Itself Free) (e.take n u a) (e.take n u z)) r.0 (refl, (refl, keeps.take n u a r.1));

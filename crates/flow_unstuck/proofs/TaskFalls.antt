@@ -18,7 +18,7 @@ use Rattle.flow_meaning.specs.Occ.{scan_of}
 use Rattle.flow_meaning.specs.Work.{writes, pushed, dropping_values, leave_for, take_branch, is_ready_at}
 use Rattle.flow_meaning.specs.Dropping.{drop, fire, close}
 use Rattle.flow_meaning.specs.React.{react}
-use Rattle.flow_meaning.specs.Step.{Stepped, proc, kept_by, view, start, start_core, answer_effect, answer, run_next, run, give, store, throw, throw_core, Verdict, GoesOn, Cancelled, Ready, verdict, with_operand, below, keep_by, keep, handle, close_actor, step_tasks, step_if}
+use Rattle.flow_meaning.specs.Step.{Stepped, proc, kept_by, view, start, start_core, answer_effect, answer, run_next, run, give, store, throw, throw_core, OperandFate, GoesOn, Cancelled, Ready, verdict, with_operand, below, keep_by, keep, handle, close_actor, step_tasks, step_if}
 use Rattle.flow_meaning.specs.Orderly.{tasks_of, is_suspended, Stands, Paired, Orderly, UnlessStopped, Phase, Free, Risky, Due, Waiting, phase_of}
 use Rattle.flow_meaning.specs.Variables.{filled}
 use Rattle.flow_meaning.specs.Frame.{Memory, Frame, read, write, next_instr, assign, lose, raise, raised}
@@ -271,7 +271,7 @@ module _ (r : RawTree) (leads : LeadOn r) (s : Supply) where
         shrinks i (Keep i spot q) ts c xs e f g c.left d h fr (omega arith)
         (unless c.halted (falls_after i n unkept stepless d (put xs i g) (omega arith) few refl (λ j k. still_weight j unkept stepless (put xs i g) (below_unmoved i unkept next j k, refl)) left))
 
-    kept_by_less : (b : ℕ) (w : Verdict) → Off i (Keep i spot q) ts c xs e → AsksHere (fetch f.code f.block f.instr) → After c xs (keep_by (classes r) i b w q more_kept f (proc unkept xs))
+    kept_by_less : (b : ℕ) (w : OperandFate) → Off i (Keep i spot q) ts c xs e → AsksHere (fetch f.code f.block f.instr) → After c xs (keep_by (classes r) i b w q more_kept f (proc unkept xs))
     kept_by_less b GoesOn h due = goes_on h
     kept_by_less b Cancelled h due = cancels h due
     kept_by_less b Ready h due =

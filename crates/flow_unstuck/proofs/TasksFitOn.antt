@@ -14,7 +14,7 @@ use Rattle.flow_meaning.specs.Asks.{Spot, Supply}
 use Rattle.flow_meaning.specs.Process.{Task, Run, Give, Throw, Catch, Store, Keep, Close, Fire, Drop, Entry, Core}
 use Rattle.flow_meaning.specs.Lines.{throw_line, catch_line}
 use Rattle.flow_meaning.specs.Work.{writes, pushed, running, dropping_values, leave_for, is_ready_at}
-use Rattle.flow_meaning.specs.Step.{Stepped, proc, give, store, throw, throw_core, Verdict, GoesOn, Cancelled, Ready, verdict, with_operand, below, keep_by, keep, handle}
+use Rattle.flow_meaning.specs.Step.{Stepped, proc, give, store, throw, throw_core, OperandFate, GoesOn, Cancelled, Ready, verdict, with_operand, below, keep_by, keep, handle}
 use Rattle.flow_meaning.specs.Orderly.{tasks_of, NextStep, Orderly}
 use Rattle.flow_meaning.specs.Frame.{Frame, everything, lose, raise, raised}
 use Rattle.flow_meaning.specs.Class.{classes}
@@ -200,7 +200,7 @@ module _ (r : RawTree) (actors : List RoutineTree) (rules : ClassRules r actors)
           let last = operands_last r types a.frame 0 a.entry.operands q a.doing.2 in
           lose_fits r actors (class_vars a.frame.code) (typed_by types) a.frame (frame_rules r actors rules s types a.entry a.class a.frame a.owner a.doing.0) last.1.group a.doing.1 last.1.there
 
-      by_verdict : (a : Actor r types i (Keep i spot q) ts c xs) (v : Verdict) → (v ≡ Ready → is_ready_at (thing c.cells q.1) ≡ true) → Fits_after (keep_by (classes r) i (length a.entry.operands) v q (with_operand spot q a.entry) a.frame (proc popped_core xs))
+      by_verdict : (a : Actor r types i (Keep i spot q) ts c xs) (v : OperandFate) → (v ≡ Ready → is_ready_at (thing c.cells q.1) ≡ true) → Fits_after (keep_by (classes r) i (length a.entry.operands) v q (with_operand spot q a.entry) a.frame (proc popped_core xs))
       by_verdict a GoesOn ready =
           let pop = popped_at i c.left (Keep i spot q) ts c o top (keep_of i spot q) in
           let e = with_operand spot q a.entry in

@@ -7,7 +7,7 @@ use Rattle.flow_meaning.specs.Asks.{Act, Waits}
 use Rattle.flow_meaning.specs.Process.{View}
 use Rattle.flow_meaning.specs.Evaluating.{StepOf}
 use Rattle.flow_meaning.specs.Orderly.{Phase, Free, Risky, Due, Waiting}
-use Rattle.flow_meaning.specs.Law.{BothOrNone, Answers, Simulates, still, phase_after}
+use Rattle.flow_meaning.specs.Law.{BothOrNone, MatchesAsk, Simulates, still, phase_after}
 use Rattle.flow_meaning.specs.Frame.{Frame, lose, raise}
 use Rattle.flow_meaning.specs.Class.{classes, class_names}
 use Rattle.flow_meaning.specs.Views.{frame_spot}
@@ -29,13 +29,13 @@ asked (Waits spot vs) g w = (refl, w)
 asked act g w = refl
 
 module _ (r : RawTree) where
-  own : (v : View) (f : Frame) (s : StepOf Frame) → (classes r).next v f ≡ s → Well s → Answers Itself (classes r) v (0 < 0) s.0 s.1 f
+  own : (v : View) (f : Frame) (s : StepOf Frame) → (classes r).next v f ≡ s → Well s → MatchesAsk Itself (classes r) v (0 < 0) s.0 s.1 f
   own v f (None, g) e w = (g, inl (g, e, still), refl)
   own v f (Some ask, g) e w = (f, g, still, e, asked ask.act g w)
 
-  answers : (v : View) (f g : Frame) → f ≡ g → Answers Itself (classes r) v (0 < 0) ((classes r).next v f).0 ((classes r).next v f).1 g
+  answers : (v : View) (f g : Frame) → f ≡ g → MatchesAsk Itself (classes r) v (0 < 0) ((classes r).next v f).0 ((classes r).next v f).1 g
   answers v f g h =
-      subst (λ z. Answers Itself (classes r) v (0 < 0) ((classes r).next v f).0 ((classes r).next v f).1 z) h
+      subst (λ z. MatchesAsk Itself (classes r) v (0 < 0) ((classes r).next v f).0 ((classes r).next v f).1 z) h
       (own v f ((classes r).next v f) refl (step_well (class_names r) v f))
 
   pub itself : Simulates (classes r) (classes r) Itself

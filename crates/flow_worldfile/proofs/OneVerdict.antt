@@ -4,7 +4,7 @@ use Rattle.flow_worldfile.specs.declared.directive.Directive.{Directive}
 use Rattle.flow_worldfile.specs.declared.directive.Directive.TheVariants.{Processes}
 use Rattle.flow_worldfile.specs.Lines.{lines}
 use Rattle.flow_worldfile.specs.Worlds.{said}
-use Rattle.flow_worldfile.specs.Reading.{Rule, Breaks, Say, AllKept, IsFirstFault, Verdict, accepted, refused, Judges, IsCount}
+use Rattle.flow_worldfile.specs.Reading.{Rule, Breaks, Say, AllKept, IsFirstFault, WorldVerdict, accepted, refused, Judges, IsCount}
 use Rattle.flow_worldfile.specs.Laws.{OneVerdict}
 use Rattle.flow_worldfile.proofs.FormLemmas.{one_form}
 use Rattle.flow_worldfile.proofs.RuleLemmas.{over_or_breaks, keeps_or_breaks, one_rule}
@@ -66,7 +66,7 @@ not_both : (count : ℕ) (ls : List (List ℕ)) (ds : List Directive) (k : ℕ) 
 not_both count ls ds k rule says kept f =
     no_fault_within count f.front f.line f.more f.before ds rule (subst (λ l. Say l ds) f.splits says) kept f.says f.breaks
 
-judged_once : (count : ℕ) (ls : List (List ℕ)) (v w : Verdict) → Judges count ls v → Judges count ls w → v ≡ w
+judged_once : (count : ℕ) (ls : List (List ℕ)) (v w : WorldVerdict) → Judges count ls v → Judges count ls w → v ≡ w
 judged_once count ls (accepted ds) (accepted es) g h = ap accepted (say_once ls ds es g.0 h.0)
 judged_once count ls (accepted ds) (refused k rule) g h = absurd (not_both count ls ds k rule g.0 g.1 h)
 judged_once count ls (refused k rule) (accepted es) g h = absurd (not_both count ls es k rule h.0 h.1 g)

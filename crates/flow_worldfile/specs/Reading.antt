@@ -93,12 +93,12 @@ pub record IsFirstFault (count : ℕ) (ls : List (List ℕ)) (k : ℕ) (rule : R
   pub breaks : Breaks count (said before) line rule
 
 -- how a text is judged: by what its lines say, or by the first line that breaks a rule
-pub data Verdict : Type 0 where
-  accepted : List Directive → Verdict
-  refused : ℕ → Rule → Verdict
+pub data WorldVerdict : Type 0 where
+  accepted : List Directive → WorldVerdict
+  refused : ℕ → Rule → WorldVerdict
 
 -- the verdict on some lines, where there are `count` processes
-abbrev pub Judges : ℕ → List (List ℕ) → Verdict → Type 0
+abbrev pub Judges : ℕ → List (List ℕ) → WorldVerdict → Type 0
 Judges count ls (accepted ds) = Say ls ds × AllKept count ds
 Judges count ls (refused k rule) = IsFirstFault count ls k rule
 
@@ -112,7 +112,7 @@ IsCount [] count = count ≡ 1
 IsCount (line ∷ more) count = Counts line count ⊎ (((n : ℕ) → Counts line n → ⊥) × IsCount more count)
 
 -- the verdict on a text
-abbrev pub IsJudged : List ℕ → Verdict → Type 0
+abbrev pub IsJudged : List ℕ → WorldVerdict → Type 0
 IsJudged bytes v = (count : ℕ) × IsCount (lines bytes) count × Judges count (lines bytes) v
 
 -- the text is a world file of this world
@@ -128,11 +128,11 @@ abbrev pub IsRefused : List ℕ → ℕ → Rule → Type 0
 IsRefused bytes line rule = (length bytes ≤ most_bytes) × IsJudged bytes (refused line rule)
 
 -- what is answered for a text
-abbrev pub Answers : List ℕ → Result World0 WorldFault → Type 0
-Answers bytes (Ok world) = (length bytes ≤ most_bytes) × IsFileOf bytes (seen world)
-Answers bytes (Err (Form line)) = IsRefused bytes line W1
-Answers bytes (Err (Range line)) = IsRefused bytes line W2
-Answers bytes (Err (Twice line)) = IsRefused bytes line W3
-Answers bytes (Err (NoProcess line)) = IsRefused bytes line W4
-Answers bytes (Err TooLarge) = most_bytes < length bytes
-Answers bytes (Err OutOfMemory) = Unit {0}
+abbrev pub ReadsWorld : List ℕ → Result World0 WorldFault → Type 0
+ReadsWorld bytes (Ok world) = (length bytes ≤ most_bytes) × IsFileOf bytes (seen world)
+ReadsWorld bytes (Err (Form line)) = IsRefused bytes line W1
+ReadsWorld bytes (Err (Range line)) = IsRefused bytes line W2
+ReadsWorld bytes (Err (Twice line)) = IsRefused bytes line W3
+ReadsWorld bytes (Err (NoProcess line)) = IsRefused bytes line W4
+ReadsWorld bytes (Err TooLarge) = most_bytes < length bytes
+ReadsWorld bytes (Err OutOfMemory) = Unit {0}

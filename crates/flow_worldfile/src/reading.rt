@@ -2,7 +2,7 @@
 
 ghost use Rattle.std.specs.Prelude.{ℕ, ◌≤◌, ◌≡◌, length, MatchOption, MatchResult, IfOk};
 ghost use Rattle.flow_worldfile.specs.Lines.{lines};
-ghost use Rattle.flow_worldfile.specs.Reading.{Counts, IsCount, IsFileOf, most_bytes, Answers};
+ghost use Rattle.flow_worldfile.specs.Reading.{Counts, IsCount, IsFileOf, most_bytes, ReadsWorld};
 ghost use Rattle.flow_worldfile.specs.Worlds.{World, seen, IsInRange};
 ghost use Rattle.flow_worldfile.specs.Drafts.{LinesRead};
 
@@ -68,7 +68,7 @@ fn read_lines(alloc: Global, text: &[u8], count: u8) -> Result<Draft, WorldFault
 
 /// The world of a text, or why it is no world file.
 fn world_in(alloc: Global, bytes: &[u8]) -> Result<World0, WorldFault>
-    ensures { Answers bytes.now result }
+    ensures { ReadsWorld bytes.now result }
 {
     if bytes.len() > MOST_BYTES {
         return Err(WorldFault::TooLarge);
@@ -83,7 +83,7 @@ fn world_in(alloc: Global, bytes: &[u8]) -> Result<World0, WorldFault>
 /// that this line breaks. Passed over are lines that are empty but for spaces, or begin with `#`.
 #[tactic(auto, using(crate::proofs::AnswerLemmas::in_range))]
 pub fn read_world(alloc: Global, bytes: &[u8]) -> Result<World0, WorldFault>
-    ensures answers { Answers bytes.now result }
+    ensures answers { ReadsWorld bytes.now result }
     ensures in_range { IfOk result (λ world. IsInRange (seen world)) }
 
     // A world file is read, unless it is too large or memory is wanting.

@@ -4,7 +4,7 @@ use Rattle.flow_tree.specs.declared.token.Spot.{Spot}
 use Rattle.flow_tree.specs.declared.decl.Program.{Program}
 use Rattle.flow_tree.specs.GrammarToken.{Part, Declaration, Statement, Node, Variable, Branch, Marked, begin, spots_of, InLimits, AllInLimits, Keeps}
 use Rattle.flow_tree.specs.GrammarStmt.{Counts, begin_statement}
-use Rattle.flow_tree.specs.Lexing.{Reads, here, gap, token}
+use Rattle.flow_tree.specs.Lexing.{ReadsTokens, here, gap, token}
 use Rattle.flow_front.specs.Verdict.{IsProgram}
 use Rattle.flow_classprint.specs.ClassGrammar.{IsSpelled, IsShallow, AllShallow, AreTokens}
 
@@ -12,7 +12,7 @@ abbrev pub AllSpelled : List Spot → Type 0
 AllSpelled [] = Unit {0}
 AllSpelled (x ∷ xs) = IsSpelled x.token × AllSpelled xs
 
-reads_spelled : {before text before' text' : List ℕ} {spots : List Spot} → Reads before text spots before' text' → AllSpelled spots
+reads_spelled : {before text before' text' : List ℕ} {spots : List Spot} → ReadsTokens before text spots before' text' → AllSpelled spots
 reads_spelled here = tt
 reads_spelled (gap l r) = reads_spelled r
 reads_spelled {text = text} (token t n at bounded r) = (record { bytes = take n text; spells = at.spelled; bounded = bounded }, reads_spelled r)

@@ -5,7 +5,7 @@ use Rattle.flow_tree.specs.Tree.{NotExpr, NegExpr, BinaryExpr, ParenExpr, FieldE
 use Rattle.flow_tree.specs.Grammar.{level}
 use Rattle.flow_tree.specs.View.{expr_of, exprs_of}
 use Rattle.flow_exprs.specs.declared.kind.Kind.TheVariants as kind
-use Rattle.flow_exprs.specs.Answer.{Reads, ReadsArgs, Refuses}
+use Rattle.flow_exprs.specs.Answer.{ReadsExpr, ReadsArgs, Refuses}
 use Rattle.flow_exprs.proofs.ExprSteps.{not_true, too_deep, at_the_end, op_is, name_reads, call_reads, call_refused, bracket_reads, bracket_refused, bracket_open, not_reads, minus_reads, not_refused, minus_refused, dot_deep, dot_short, field_goes, method_goes, method_refused, right_deep, right_goes, right_refused, goes_on, goes_refused, Args, args_begin, args_none, args_more_is, args_end_is, args_bad, exprs_push, reads_is, goes_is, signs_refused, others_refused}
 use Rattle.flow_exprs.proofs.expr.+parse.Goals as goal
 
@@ -128,7 +128,7 @@ with_right-returns-in_err-right t c =
 pub with_right-returns : goal.with_right-returns
 with_right-returns t c =
     let n : c.level_of.result + 1 ≡ level c.args.op + 1 = ap (λ x. x + 1) c.level_of.ensures in
-    let r = subst (λ m. Reads c.args.spots.now (c.args.left.to + 1) m (c.args.depth + 1) m (expr_of c.in_ok-right.right.expr) c.in_ok-right.right.high c.in_ok-right.right.to) n c.in_ok-right.ensures in
+    let r = subst (λ m. ReadsExpr c.args.spots.now (c.args.left.to + 1) m (c.args.depth + 1) m (expr_of c.in_ok-right.right.expr) c.in_ok-right.right.high c.in_ok-right.right.to) n c.in_ok-right.ensures in
     goes_is c.args.spots.now c.args.left.to (level c.args.op) c.args.depth 7 (expr_of c.args.left.expr) (expr_of c.in_ok-two.field-0) (BinaryExpr c.args.op (expr_of c.args.left.expr) (expr_of c.in_ok-right.right.expr)) (c.max.result + 1) (max c.args.left.high c.in_ok-right.right.high + 1) c.in_ok-right.right.to
     c.in_ok-two.ensures (ap (λ x. x + 1) c.max.ensures)
     (right_goes c.args.spots.now c.args.left.to c.args.depth c.args.op (expr_of c.args.left.expr) (expr_of c.in_ok-right.right.expr) c.args.left.high c.in_ok-right.right.high c.in_ok-right.right.to c.requires.sign c.requires.measured c.if-depth-left-gt-DEPTH.false r)

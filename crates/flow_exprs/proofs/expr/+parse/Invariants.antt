@@ -1,6 +1,6 @@
 use Rattle.std.proofs.Common.{◌+◌, ◌*◌, ◌-◌, length}
 use Rattle.flow_tree.specs.View.{expr_of, exprs_of}
-use Rattle.flow_exprs.specs.Answer.{Reads}
+use Rattle.flow_exprs.specs.Answer.{ReadsExpr}
 use Rattle.flow_exprs.proofs.ExprSteps.{Args}
 use Rattle.flow_exprs.proofs.expr.+parse.Given as goal
 
@@ -38,13 +38,13 @@ abbrev pub decreases-with_suffix : goal.decreases-with_suffix
 decreases-with_suffix l = 8 * (length l.spots.now - l.left.to)
 
 abbrev pub invariant-expression-loop-op : goal.invariant-expression-loop-op
-invariant-expression-loop-op l = Reads l.spots l.from l.least l.depth 7 (expr_of l.left.expr) l.left.high l.left.to
+invariant-expression-loop-op l = ReadsExpr l.spots l.from l.least l.depth 7 (expr_of l.left.expr) l.left.high l.left.to
 
 abbrev pub decreases-expression-loop-op : goal.decreases-expression-loop-op
 decreases-expression-loop-op l = length l.spots - l.left.to
 
 abbrev pub invariant-postfix-dots : goal.invariant-postfix-dots
-invariant-postfix-dots l = Reads l.spots l.from 6 l.depth 8 (expr_of l.left.expr) l.left.high l.left.to
+invariant-postfix-dots l = ReadsExpr l.spots l.from 6 l.depth 8 (expr_of l.left.expr) l.left.high l.left.to
 
 abbrev pub decreases-postfix-dots : goal.decreases-postfix-dots
 decreases-postfix-dots l = length l.spots - l.left.to

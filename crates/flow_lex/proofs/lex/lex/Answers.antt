@@ -1,11 +1,11 @@
 use Rattle.std.proofs.Common.{[], ◌∷◌, refl, ap, subst, sym, ◌∙◌, ◌++◌, take, length, cond, is_ok, arith}
-use Rattle.flow_tree.specs.Lexing.{Reads, here}
+use Rattle.flow_tree.specs.Lexing.{ReadsTokens, here}
 use Rattle.flow_lex.proofs.Reading.{read_gap, read_token, has_room, read_whole}
 use Rattle.flow_lex.proofs.lex.lex.Goals as goal
 
 pub loop-rest-init : goal.loop-rest-init
 loop-rest-init c =
-    ([], refl, subst (λ s. Reads [] c.args.bytes.now s [] c.args.bytes.now) (sym c.new-spots.ensures.items) here)
+    ([], refl, subst (λ s. ReadsTokens [] c.args.bytes.now s [] c.args.bytes.now) (sym c.new-spots.ensures.items) here)
 
 pub past-at-requires-clause-line : goal.past-at-requires-clause-line
 past-at-requires-clause-line c =
@@ -29,7 +29,7 @@ loop-rest-preserved-then-gap-gt0 c =
     let before' = i.0 ++ take n c.loop-rest.rest.now in (
       before',
       c.past-at.ensures i.0 i.1,
-      subst (λ t. Reads [] c.args.bytes.now c.loop-rest.spots.items before' t) (sym c.after-rest.ensures)
+      subst (λ t. ReadsTokens [] c.args.bytes.now c.loop-rest.spots.items before' t) (sym c.after-rest.ensures)
           (read_gap c.args.bytes.now i.0 c.loop-rest.rest.now c.loop-rest.spots.items n i.2 c.gap_len-gap.ensures.length c.if-gap-gt0.true),
     )
 
@@ -72,7 +72,7 @@ loop-rest-preserved c =
     let pushed = c.push.ensures.items ∙ ap (λ b. cond b (c.loop-rest.spots.items ++ record { token = c.in_ok-token.token; at = c.loop-rest.at } ∷ []) c.loop-rest.spots.items) (ap is_ok c.in_ok-push.was) in (
       before',
       c.past-at-else-gap-gt0.ensures i.0 i.1,
-      subst (λ t. Reads [] c.args.bytes.now c.push.new.self.items before' t) (sym c.after-rest-else-gap-gt0.ensures)
+      subst (λ t. ReadsTokens [] c.args.bytes.now c.push.new.self.items before' t) (sym c.after-rest-else-gap-gt0.ensures)
           (read_token c.args.bytes.now i.0 c.loop-rest.rest.now c.loop-rest.spots.items c.push.new.self.items c.in_ok-token.token n c.loop-rest.at i.2 found.0 found.1 i.1 pushed),
     )
 

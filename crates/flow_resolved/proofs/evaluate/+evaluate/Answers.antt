@@ -5,7 +5,7 @@ use Rattle.flow_value.specs.View.{value_of}
 use Rattle.flow_eval.specs.Operators.{on_ints}
 use Rattle.flow_eval.specs.Records.{field_answer}
 use Rattle.flow_eval.specs.Eval.{then, at_once, method_called}
-use Rattle.flow_eval.specs.View.{Answers}
+use Rattle.flow_eval.specs.View.{GivesAnswer}
 use Rattle.flow_eval.proofs.Results.{answer_gives}
 use Rattle.flow_resolved.specs.Evaluation.{field_by, values_at}
 use Rattle.flow_resolved.specs.View.{node_of, nodes_of, places_in, sight_of}
@@ -18,7 +18,7 @@ evaluate_binary-returns-in-Some-int_in-clause-gives g t c =
     let b : to_z w64 (of_z w64 c.in-Some-int_in.b) ≡ c.in-Some-int_in.b = search (rules, to_z-of_z) in
     ints_give (sight_of g.C.CellView.content c.args.sight.now) c.args.op (node_of c.args.left.now) (node_of c.args.right.now) c.in-Some.a c.in-Some-int_in.b c.on_ints.result c.args.turns.now.left
     c.in-Some.ensures c.in-Some-int_in.ensures
-    (subst (λ y. Answers (on_ints c.args.op c.in-Some.a y) c.on_ints.result) b (subst (λ x. Answers (on_ints c.args.op x (to_z w64 (of_z w64 c.in-Some-int_in.b))) c.on_ints.result) a c.on_ints.ensures))
+    (subst (λ y. GivesAnswer (on_ints c.args.op c.in-Some.a y) c.on_ints.result) b (subst (λ x. GivesAnswer (on_ints c.args.op x (to_z w64 (of_z w64 c.in-Some-int_in.b))) c.on_ints.result) a c.on_ints.ensures))
 
 pub evaluate_field-returns-in-Some-clause-gives : goal.evaluate_field-returns-in-Some-clause-gives
 evaluate_field-returns-in-Some-clause-gives g t c =
