@@ -28,7 +28,7 @@ use Rattle.flow_simnet.specs.Links.{cut}
 use Rattle.flow_simnet.specs.Links as table
 use Rattle.flow_world.specs.Happening.{Happens, Ordered, LineComes, Comes, begins}
 use Rattle.flow_world.specs.Shows.{OutsideShows}
-use Rattle.flow_world.proofs.Events.{link_cut, link_healed}
+use Rattle.flow_world.proofs.Events.{found, link_cut, link_healed, on_time}
 use Rattle.flow_world.proofs.Putting.{puts_one}
 use Rattle.flow_events.specs.Showing.{PlacesShow, ScriptShows, WorldShows}
 use Rattle.flow_events.specs.Coming.{NextShows}
