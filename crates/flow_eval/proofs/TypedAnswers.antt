@@ -3,6 +3,7 @@ use Rattle.std.proofs.Common.{◌≡◌, ℕ, zero, suc, ℤ, pos, Bool, true, f
 use Rattle.std.specs.Prelude.{nat_le, int_le, take, drop}
 use Rattle.std.specs.declared.option.Option.{Option}
 use Rattle.std.specs.declared.option.Option.TheVariants.{None, Some}
+use Rattle.flow_base.proofs.Bools.{and_left, and_right}
 use Rattle.flow_tree.specs.declared.expr.Op.{Op}
 use Rattle.flow_tree.specs.declared.expr.Op.TheVariants.{Or, And, Eq, Ne, Lt, Le, Gt, Ge, Add, Sub, Mul, Div, Rem}
 use Rattle.flow_ast.specs.declared.predefined.Predefined.{Predefined}
@@ -24,14 +25,6 @@ use Rattle.flow_eval.specs.Typed.{reference_type, HasType, HaveTypes, CellsFit}
 use Rattle.flow_eval.proofs.TypedValues.{some_same, none_some, bytes_same, is_int_value, is_bool_value, is_text_value, field_at, value_got}
 
 -- two types that are said to be the same are
-pub and_left : (a b : Bool) → a && b ≡ true → a ≡ true
-and_left true b e = refl
-and_left false b e = e
-
-pub and_right : (a b : Bool) → a && b ≡ true → b ≡ true
-and_right true b e = e
-and_right false b e = absurd (cc)
-
 pub type_same : (t u : TypeTree) → same_type t u ≡ true → t ≡ u
 type_same IntType IntType e = refl
 type_same BoolType BoolType e = refl

@@ -4,6 +4,7 @@ use Rattle.std.specs.Prelude.{neg_ℤ}
 use Rattle.std.specs.Option.{option_map}
 use Rattle.std.specs.declared.option.Option.{Option}
 use Rattle.std.specs.declared.option.Option.TheVariants.{None, Some}
+use Rattle.flow_base.proofs.Bools.{and_left, and_right}
 use Rattle.flow_tree.specs.declared.expr.Op.{Op}
 use Rattle.flow_tree.specs.declared.expr.Op.TheVariants.{Or, And, Eq, Ne, Lt, Le, Gt, Ge, Add, Sub, Mul, Div, Rem}
 use Rattle.flow_ast.specs.declared.predefined.Predefined.{Predefined}
@@ -22,7 +23,7 @@ use Rattle.flow_ast.specs.Fits.{scope_over}
 use Rattle.flow_eval.specs.Typed.{HasType, HaveTypes, CellsFit, VariablesFit}
 use Rattle.flow_eval.specs.WellTyped.{Safe}
 use Rattle.flow_eval.proofs.TypedValues.{some_same, none_some, param_type, is_int_value, is_bool_value, id_there, no_id}
-use Rattle.flow_eval.proofs.TypedAnswers.{and_left, and_right, type_same, applied_some, binary_by, Answered, is_strict, whole_typed, operated_typed, call_typed, field_typed, method_typed}
+use Rattle.flow_eval.proofs.TypedAnswers.{type_same, applied_some, binary_by, Answered, is_strict, whole_typed, operated_typed, call_typed, field_typed, method_typed}
 
 pub then_good : {A B : Type 0} (P : A → Type 0) (Q : B → Type 0) (r : Res A) (go : A → ℕ → Res B) → Safe P r → ((x : A) (left : ℕ) → P x → Safe Q (go x left)) → Safe Q (then r go)
 then_good P Q (Done x left) go g k = k x left g

@@ -14,10 +14,11 @@ use Rattle.flow_tree.specs.Grammar.{sign_at, name_at, node_word, ExprRule, numbe
 use Rattle.flow_tree.proofs.GrammarLists.{spots_append, spots_begin, keeps_append, keeps_begin}
 use Rattle.flow_exprs.specs.Machine.{called, Stack, Top, State, Want, Have, WantArgs, WantName, WantOpen, WantClose, Dead, closed_tree, closed_stack, step, height, head_height, hole, fits_stack, fits}
 use Rattle.std.specs.Prelude.{pos}
+use Rattle.flow_base.proofs.Bools.{and_left, and_right}
 use Rattle.flow_tree.specs.GrammarToken.{Derives}
 use Rattle.flow_exprs.proofs.Sound.{sign_spot, Own, Front, need, HaveRead, HasRead, height_some}
 use Rattle.flow_exprs.proofs.Steps.{closed}
-use Rattle.flow_exprs.proofs.Reading.{step_reads, plug, and_left, and_right, le_true}
+use Rattle.flow_exprs.proofs.Reading.{step_reads, plug, le_true}
 
 abbrev pub nowhere : Place
 nowhere = record { line = 0; column = 0; byte = 0 }

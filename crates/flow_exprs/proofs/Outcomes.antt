@@ -10,13 +10,14 @@ use Rattle.flow_tree.specs.Grammar.{level, ExprRule}
 use Rattle.flow_tree.proofs.GrammarLists.{spots_append}
 use Rattle.flow_exprs.specs.Machine.{Negation, Minus, Stack, Top, InParen, InUnary, InTwo, InArgs, State, Want, Have, WantArgs, WantName, WantOpen, WantClose, Dead, closed_tree, closed_stack, step, height, hole, fits_stack, fits}
 use Rattle.std.proofs.Common.{◌-◌, length, take, drop}
+use Rattle.flow_base.proofs.Bools.{and_left, and_right, bool_cases}
 use Rattle.flow_tree.specs.declared.token.Tokens.{Tokens}
 use Rattle.flow_tree.specs.GrammarToken.{Derives}
 use Rattle.flow_tree.specs.GrammarAnswer.{place_at, ReadsAll, IsRead, IsMissing, IsTooDeep}
 use Rattle.flow_exprs.specs.Machine.{Outcome, Ended, ShortAt, DeepAt, at_end, halt, turn, run}
 use Rattle.flow_exprs.proofs.Sound.{HasRead, HaveRead, Front}
 use Rattle.flow_exprs.proofs.Steps.{nat_lt_ge, closed}
-use Rattle.flow_exprs.proofs.Reading.{and_left, and_right, le_true}
+use Rattle.flow_exprs.proofs.Reading.{le_true}
 use Rattle.flow_exprs.proofs.Goes.{Alive, good_state, feed, has_read, feed_dead, feed_append, alive_or_dead, whole_derived}
 use Rattle.flow_exprs.proofs.Complete.{settle, reads}
 use Rattle.flow_exprs.proofs.Fits.{Along, FirstKeep, fit}
@@ -50,10 +51,6 @@ turn_alive k S (WantName t K) o a = refl
 turn_alive k S (WantOpen K) o a = refl
 turn_alive k S (WantClose K) o a = refl
 turn_alive k S Dead o a = absurd a
-
-bool_cases : (b : Bool) → (b ≡ true) ⊎ (b ≡ false)
-bool_cases true = inl refl
-bool_cases false = inr refl
 
 runs : (xs : List Spot) (S : State) (k : ℕ) → Alive S → fits S ≡ true → Halts S k xs (run k S xs) ⊎ Deepens S k xs (run k S xs)
 runs [] S k a f = inl (record { count = 0; within = omega arith; alive = a; fit = f; stuck = λ h. absurd (omega arith); is = let e : k ≡ k + 0 = omega arith in ap (λ n. halt n S) e })

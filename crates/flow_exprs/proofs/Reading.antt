@@ -1,7 +1,8 @@
 -- The machine goes on with what it has read, and what it has read can be completed.
-use Rattle.std.proofs.Common.{◌≡◌, ℕ, suc, ◌+◌, ◌≤◌, max, List, [], ◌∷◌, ◌++◌, refl, sym, ap, ◌∙◌, subst, arith, append_assoc, Bool, true}
-use Rattle.std.specs.Prelude.{nat_le, ◌&&◌}
+use Rattle.std.proofs.Common.{◌≡◌, ℕ, suc, ◌+◌, ◌≤◌, max, List, [], ◌∷◌, ◌++◌, refl, sym, ap, ◌∙◌, subst, arith, append_assoc, true}
+use Rattle.std.specs.Prelude.{nat_le}
 use Rattle.std.proofs.lemmas.List.{append-nil}
+use Rattle.flow_base.proofs.Bools.{and_left, and_right}
 use Rattle.flow_base.specs.declared.place.Place.{Place}
 use Rattle.flow_tree.specs.declared.token.Token.{Token}
 use Rattle.flow_tree.specs.declared.token.Token.TheVariants as token
@@ -196,12 +197,6 @@ kind_step base Dead k toks x p e f = tt
 
 pub step_reads : (base : ℕ) (S : State) (x : Spot) (toks : List Spot) → HasRead base S toks → HasRead base (step S x) (toks ++ x ∷ [])
 step_reads base S x toks f = kind_step base S (kind_of x.token) toks x.token x.at (kind_spot x.token x.at) f
-
-pub and_left : (a b : Bool) → a && b ≡ true → a ≡ true
-and_left a b h = grind arith
-
-pub and_right : (a b : Bool) → a && b ≡ true → b ≡ true
-and_right a b h = grind arith
 
 pub le_true : (a b : ℕ) → nat_le a b ≡ true → a ≤ b
 le_true a b h = grind arith

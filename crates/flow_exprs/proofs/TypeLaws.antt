@@ -2,6 +2,7 @@
 use Rattle.std.proofs.Common.{◌≡◌, ℕ, zero, suc, ◌+◌, ◌-◌, ◌≤◌, ◌<◌, List, [], ◌∷◌, ◌++◌, length, take, drop, refl, sym, ap, ◌∙◌, subst, arith, append_assoc, Bool, true, false, cond, ◌⊎◌, inl, inr, length-append}
 use Rattle.std.specs.Prelude.{nat_le, ◌&&◌}
 use Rattle.std.proofs.lemmas.List.{append-nil}
+use Rattle.flow_base.proofs.Bools.{and_left, and_right, bool_cases}
 use Rattle.flow_base.specs.declared.place.Place.{Place}
 use Rattle.flow_tree.specs.declared.token.Token.{Token}
 use Rattle.flow_tree.specs.declared.token.Token.TheVariants as token
@@ -20,7 +21,7 @@ use Rattle.flow_exprs.specs.declared.ty.TypeKind.{TypeKind}
 use Rattle.flow_exprs.specs.declared.ty.TypeKind.TheVariants.{Plain, Future, FutureStream, Promise, PromiseStream, Less, Greater, Other}
 use Rattle.flow_exprs.specs.TypeMachine.{type_word_kind, type_sign_kind, type_kind_of, plain_of, type_or_void, Around, Bottom, Inside, TypeState, WantType, WantLess, HaveType, DeadType, type_greater, type_step_kind, type_step, type_height, type_hole, around_fits, type_fits, TypeOutcome, TypeEnded, TypeShort, TypeDeep, type_halt, type_turn, type_run}
 use Rattle.flow_exprs.proofs.Sound.{spot, sign_spot}
-use Rattle.flow_exprs.proofs.Reading.{and_left, and_right, le_true}
+use Rattle.flow_exprs.proofs.Reading.{le_true}
 use Rattle.flow_exprs.proofs.Goes.{nowhere}
 use Rattle.flow_exprs.proofs.Fits.{and_true, FirstKeep, keep_first, keep_append}
 
@@ -288,10 +289,6 @@ record DeepensType (S : TypeState) (k : ℕ) (xs : List Spot) (o : TypeOutcome) 
   fit : type_fits (feed_type S (take count xs)) ≡ true
   deep : type_fits (feed_type S (take (suc count) xs)) ≡ false
   is : o ≡ TypeDeep (k + count)
-
-bool_cases : (b : Bool) → (b ≡ true) ⊎ (b ≡ false)
-bool_cases true = inl refl
-bool_cases false = inr refl
 
 runs_type : (xs : List Spot) (S : TypeState) (k : ℕ) → AliveType S → type_fits S ≡ true → HaltsType S k xs (type_run k S xs) ⊎ DeepensType S k xs (type_run k S xs)
 runs_type [] S k a f = inl (record { count = 0; within = omega arith; alive = a; fit = f; stuck = λ h. absurd (omega arith); is = let e : k ≡ k + 0 = omega arith in ap (λ n. type_halt n S) e })

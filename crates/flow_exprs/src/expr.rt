@@ -6,14 +6,14 @@ ghost use Rattle.std.specs.Option.{option_map};
 ghost use Rattle.flow_tree.specs.Tree.{VoidExpr, VarExpr, NotExpr, NegExpr, BinaryExpr, ParenExpr, FieldExpr, MethodExpr, CallExpr};
 ghost use Rattle.flow_tree.specs.View.{expr_of, exprs_of};
 ghost use Rattle.flow_tree.specs.Grammar.{level, ExprRule};
-ghost use Rattle.flow_tree.specs.GrammarAnswer.{ReaderAnswer, place_at};
+ghost use Rattle.flow_tree.specs.GrammarAnswer.{ReaderAnswer};
 ghost use Rattle.flow_exprs.specs.Kinds.{kind_at};
 ghost use Rattle.flow_exprs.specs.Machine.{height};
-ghost use Rattle.flow_exprs.specs.Answer.{Answer, ArgsAnswer, GoesAnswer, RefusalIs, NoSign, next_op, leaf_of_word, leaf_of, leaf_at, ident_of, ident_at};
+ghost use Rattle.flow_exprs.specs.Answer.{Answer, ArgsAnswer, GoesAnswer, RefusalIs, NoSign, next_op, leaf_of_word, leaf_of, leaf_at, ident_at};
 
 use crate::kind::{self, Kind};
 use crate::stop::Stop;
-use flow_base::place::Place;
+use crate::token::{place, token_name};
 use flow_tree::expr::{Expr, Op};
 use flow_tree::fault::{Rule, SourceFault};
 use flow_tree::limits::DEPTH;
@@ -99,19 +99,6 @@ fn token_leaf(alloc: Global, token: &Token) -> Result<Option<Expr>, Stop>
     }
 }
 
-// The name that this token is.
-fn token_name(alloc: Global, token: &Token, at: Place) -> Result<Option<Ident>, Stop>
-    ensures { MatchResult result (λ o. o ≡ ident_of token.now at) (λ e. e ≡ Stop.NoMemory) }
-{
-    match token {
-        Token::Name(name) => Ok(Some(Ident {
-            name: name.copy(alloc)?,
-            at,
-        })),
-        Token::Number(_) | Token::Text(_) | Token::Word(_) | Token::Sign(_) => Ok(None),
-    }
-}
-
 // The expression that the token here is by itself.
 fn read_leaf(alloc: Global, spots: &[Spot], at: usize) -> Result<Option<Expr>, Stop>
     ensures { MatchResult result (λ o. option_map expr_of o ≡ leaf_at spots.now at)
@@ -128,7 +115,7 @@ fn read_name(alloc: Global, spots: &[Spot], at: usize) -> Result<Option<Ident>, 
     ensures { MatchResult result (λ o. o ≡ ident_at spots.now at) (λ e. e ≡ Stop.NoMemory) }
 {
     match spots.get(at) {
-        Some(spot) => token_name(alloc, &spot.token, spot.at),
+        Some(spot) => Ok(token_name(alloc, &spot.token, spot.at)?),
         None => Ok(None),
     }
 }
@@ -490,16 +477,6 @@ pub fn refusal(tokens: &Tokens, stop: Stop) -> SourceFault
             at: place(tokens, k),
         },
         Stop::NoMemory => SourceFault::OutOfMemory,
-    }
-}
-
-// The place of this token, or of the end.
-fn place(tokens: &Tokens, k: usize) -> Place
-    ensures { result ≡ place_at tokens.now k }
-{
-    match tokens.spots.get(k) {
-        Some(spot) => spot.at,
-        None => tokens.end,
     }
 }
 

@@ -5,4 +5,5 @@ pub mod expr;
 pub mod kind;
 pub mod laws;
 pub mod stop;
+pub mod token;
 pub mod ty;

@@ -6,6 +6,7 @@ use Rattle.std.specs.List.{list_all}
 use Rattle.std.proofs.lemmas.List.Folds.{list_all-append, list_any-append}
 use Rattle.std.specs.declared.option.Option.{Option}
 use Rattle.std.specs.declared.option.Option.TheVariants.{None, Some}
+use Rattle.flow_base.proofs.Bools.{and_left, and_right}
 use Rattle.flow_base.specs.declared.place.Place.{Place}
 use Rattle.flow_tree.specs.declared.ty.Ident.{Ident}
 use Rattle.flow_tree.specs.Tree.{TypeTree, IntType, BoolType, ExprTree, ExprTrees, IntExpr, TextExpr, BoolExpr, VoidExpr, VarExpr, CallExpr, FieldExpr, MethodExpr, NotExpr, NegExpr, BinaryExpr, ParenExpr, NoExprs, MoreExprs}
@@ -158,14 +159,6 @@ in_none s q e = cc
 -- uses that are not lost
 abbrev pub AllFresh : List Use → Type 0
 AllFresh us = list_all (λ (u : Use). not u.stale) us ≡ true
-
-and_left : (a b : Bool) → a && b ≡ true → a ≡ true
-and_left true b e = refl
-and_left false b e = cc
-
-and_right : (a b : Bool) → a && b ≡ true → b ≡ true
-and_right true b e = e
-and_right false b e = cc
 
 pub fresh_left : (us ws : List Use) → AllFresh (us ++ ws) → AllFresh us
 fresh_left us ws h = and_left (list_all (λ (u : Use). not u.stale) us) (list_all (λ (u : Use). not u.stale) ws) (sym (list_all-append (λ (u : Use). not u.stale) us ws) ∙ h)

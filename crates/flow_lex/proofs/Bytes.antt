@@ -3,6 +3,7 @@ use Rattle.std.proofs.Common.{◌≡◌, ℕ, zero, suc, ◌+◌, ◌≤◌, Lis
 use Rattle.std.specs.Prelude.{not, ◌&&◌, ◌||◌, eqb, nat_lt}
 use Rattle.std.specs.List.{list_all, prefix_len}
 use Rattle.std.proofs.lemmas.Bool.Decides.{nat_tests}
+use Rattle.flow_base.proofs.Bools.{and_left, and_right}
 use Rattle.flow_base.specs.Names.{letter, digit, name_byte, is_name_text}
 use Rattle.flow_tree.specs.declared.token.Token.{Token}
 use Rattle.flow_tree.specs.declared.token.Token.TheVariants as token
@@ -13,14 +14,6 @@ use Rattle.flow_tree.specs.declared.token.Sign as signs
 use Rattle.flow_tree.specs.declared.token.Sign.TheVariants.{OpenRound}
 use Rattle.flow_tree.specs.Spelling.{word_bytes, sign_bytes, is_number_text, Spells}
 use Rattle.flow_lex.specs.Next.{sign_byte}
-
-pub and_left : (a b : Bool) → (a && b) ≡ true → a ≡ true
-and_left true b h = refl
-and_left false b h = cc
-
-pub and_right : (a b : Bool) → (a && b) ≡ true → b ≡ true
-and_right true b h = h
-and_right false b h = cc
 
 pub both : (a b : Bool) → a ≡ true → b ≡ true → (a && b) ≡ true
 both true b h k = k

@@ -5,13 +5,14 @@ use Rattle.std.specs.List.{list_all, prefix_len}
 use Rattle.std.proofs.lemmas.Bool.Decides.{nat_tests}
 use Rattle.std.proofs.lemmas.List.{length-take}
 use Rattle.std.proofs.lemmas.List.Sums.{prefix_len-le-length}
+use Rattle.flow_base.proofs.Bools.{and_right}
 use Rattle.flow_base.specs.Names.{letter, digit, name_byte, is_name_text}
 use Rattle.flow_tree.specs.declared.token.Token.TheVariants as token
 use Rattle.flow_tree.specs.declared.token.Token.TheVariants.{Name, Number, Text}
 use Rattle.flow_tree.specs.declared.token.Sign as signs
 use Rattle.flow_tree.specs.Spelling.{sign_bytes, IsLongest}
 use Rattle.flow_lex.specs.Next.{sign_byte}
-use Rattle.flow_lex.proofs.Bytes.{and_right, both, prefix_all, prefix_passes, word_is_name, sign_short, letter_no_digit, letter_no_sign, digit_no_sign, quote_no_letter, quote_no_sign, begins}
+use Rattle.flow_lex.proofs.Bytes.{both, prefix_all, prefix_passes, word_is_name, sign_short, letter_no_digit, letter_no_sign, digit_no_sign, quote_no_letter, quote_no_sign, begins}
 
 -- a name goes on as long as its bytes do
 pub name_longest : (b : ℕ) (w : List ℕ) → letter b ≡ true → IsLongest (suc (prefix_len name_byte w)) (b ∷ w)

@@ -9,12 +9,13 @@ use Rattle.std.proofs.lemmas.List.{length-take}
 use Rattle.std.proofs.lemmas.List.Sums.{prefix_len-le-length}
 use Rattle.std.proofs.lemmas.Int.Digits.{digits_value_more}
 use Rattle.std.proofs.lemmas.Str.Parse.{digits_value-take-le}
+use Rattle.flow_base.proofs.Bools.{and_left, and_right}
 use Rattle.flow_base.specs.Names.{digit}
 use Rattle.flow_tree.specs.declared.token.Token.TheVariants as token
 use Rattle.flow_tree.specs.declared.token.Token.TheVariants.{Name, Number, Text}
 use Rattle.flow_tree.specs.Spelling.{is_number_text, IsLongest}
 use Rattle.flow_lex.specs.Next.{FoundNumber}
-use Rattle.flow_lex.proofs.Bytes.{and_left, and_right, both, true_false, prefix_all, prefix_passes, letter_no_digit, digit_no_sign, quote_no_digit, number_first, begins}
+use Rattle.flow_lex.proofs.Bytes.{both, true_false, prefix_all, prefix_passes, letter_no_digit, digit_no_sign, quote_no_digit, number_first, begins}
 
 pub digit_value_of : (b : ℕ) → digit b ≡ true → digit_value b ≡ b - 48
 digit_value_of b h = grind (arith, nat_tests)

@@ -1,5 +1,5 @@
 -- Laws by which the next token, and what begins with it, narrow a part.
-use Rattle.std.proofs.Common.{◌≡◌, ℕ, zero, suc, ◌<◌, List, [], ◌∷◌, ◌++◌, length, refl, sym, ap, ◌∙◌, subst, arith}
+use Rattle.std.proofs.Common.{◌≡◌, ℕ, zero, suc, ◌<◌, List, [], ◌∷◌, ◌++◌, length, sym, ap, ◌∙◌, subst, arith}
 use Rattle.std.specs.declared.option.Option.{Option}
 use Rattle.flow_tree.specs.declared.token.Token.{Token}
 use Rattle.flow_tree.specs.declared.token.Spot.{Spot}
@@ -10,6 +10,7 @@ use Rattle.flow_parse.specs.Failing.{Sees, Never, Only}
 use Rattle.flow_parse.proofs.Looking.{Looks, first_of}
 use Rattle.flow_parse.proofs.Exact.{sees_looks}
 use Rattle.flow_parse.proofs.Begins.{Starts}
+use Rattle.flow_parse.proofs.Spots.{length_begin}
 
 -- a part that is empty where the next token says so
 pub nil_only : {A : Type 0} (R : List Marked → A → Type 0) (F : A → List Marked → Type 0) (a : A) (o : Option Token) (ts : List Spot) → first_of ts ≡ o → ((w z : List Marked) (b : A) → R w b → F b z → Looks o (w ++ z) → (b ≡ a) × (w ≡ [])) → Only R F a 0 ts
@@ -27,10 +28,6 @@ sees_begin n j ts p [] z s = s
 sees_begin n zero ts p (x ∷ w) z s = tt
 sees_begin n (suc j) [] p (x ∷ w) z s = absurd s
 sees_begin n (suc j) (t ∷ ts) p (x ∷ w) z s = (s.0, s.1.1, s.2)
-
-length_begin : (p : Part) (w : List Marked) → length (begin p w) ≡ length w
-length_begin p [] = refl
-length_begin p (x ∷ w) = refl
 
 module _ {A : Type 0} (R : List Marked → A → Type 0) (F : A → List Marked → Type 0) (p : Part) where
   pub marks_never : (n j : ℕ) (ts : List Spot) → Never R F n j ts → Never (Marks p R) F n j ts

@@ -1,3 +1,4 @@
+pub mod Spots
 pub mod Exact
 pub mod ExactParts
 pub mod Failing

@@ -11,6 +11,7 @@ use Rattle.flow_tree.specs.GrammarAnswer.{place_at}
 use Rattle.flow_parse.specs.Follow.{AtEnd}
 use Rattle.flow_parse.specs.Failing.{Sees, Never, Stops}
 use Rattle.flow_parse.specs.ParseAnswer.{GoodTo, begun, whole, FailsBy, FailsLimit}
+use Rattle.flow_parse.proofs.Spots.{spots_take}
 
 sees_begun : (n : ℕ) (xs ys : List Marked) → Keeps n xs → Sees n (length (spots_of xs)) (spots_of xs ++ spots_of ys) (xs ++ ys)
 sees_begun n [] ys k = tt
@@ -66,11 +67,6 @@ never_good t n k h f (whole p d) =
 
 pub good_program : (t : Tokens) (n : ℕ) (ts : List Spot) → Good (DeclsRule 1) n ts → Good (ProgramRule t.end) n ts
 good_program t n ts g = record { read = g.read; rest = g.rest; tree = record { decls = g.tree; end = t.end }; rule = program g.rule; is = g.is; keeps = g.keeps }
-
-spots_take : (k : ℕ) (xs : List Marked) → spots_of (take k xs) ≡ take k (spots_of xs)
-spots_take zero xs = refl
-spots_take (suc k) [] = refl
-spots_take (suc k) (x ∷ xs) = ap (λ y. x.spot ∷ y) (spots_take k xs)
 
 keeps_take : (n k : ℕ) (xs : List Marked) → Keeps n xs → Keeps n (take k xs)
 keeps_take n zero xs h = tt

@@ -1,5 +1,5 @@
 -- Types and expressions that were read.
-use Rattle.std.proofs.Common.{◌≡◌, ℕ, ◌+◌, ◌-◌, ◌≤◌, ◌<◌, List, [], ◌∷◌, ◌++◌, length, drop, refl, sym, ap, ◌∙◌, subst, arith, length-append, length-drop}
+use Rattle.std.proofs.Common.{◌≡◌, ℕ, ◌+◌, ◌-◌, ◌≤◌, ◌<◌, List, [], ◌∷◌, ◌++◌, length, drop, sym, ap, ◌∙◌, subst, arith, length-append, length-drop}
 use Rattle.std.specs.Prelude.{IfOk, Result, Ok, Err}
 use Rattle.std.proofs.lemmas.List.{take-append-drop}
 use Rattle.flow_tree.specs.declared.token.Sign.TheVariants as sign
@@ -13,7 +13,7 @@ use Rattle.flow_tree.specs.declared.ty.Ty.{Ty}
 use Rattle.flow_tree.specs.declared.expr.Expr.{Expr}
 use Rattle.flow_tree.specs.View.{type_of, expr_of}
 use Rattle.flow_tree.specs.Tree.{TypeTree, ExprTree}
-use Rattle.flow_tree.specs.GrammarToken.{Part, Node, Marked, begin, spots_of}
+use Rattle.flow_tree.specs.GrammarToken.{Node, Marked, begin, spots_of}
 use Rattle.flow_tree.specs.Grammar.{sign_at, name_at, op_sign, TypeRule, int_type, bool_type, string_type, void_type, error_type, named_type, wrapped_type, ExprRule, number, text, truth, falsehood, void, variable, call, paren, field, method, negation, minus, binary}
 use Rattle.flow_tree.specs.GrammarAnswer.{IsRead, ReaderAnswer}
 use Rattle.flow_tree.proofs.GrammarLists.{length_spots}
@@ -26,10 +26,6 @@ use Rattle.flow_parse.proofs.ReaderStops.{Nodes, expr_nodes, type_nodes, depth_k
 use Rattle.flow_parse.specs.Follow.{ExprEnds}
 
 -- a type and an expression have a token at least
-length_begin : (p : Part) (xs : List Marked) → length (begin p xs) ≡ length xs
-length_begin p [] = refl
-length_begin p (x ∷ xs) = refl
-
 expr_some : {k d : ℕ} {xs : List Marked} {t : ExprTree} → ExprRule k d xs t → 0 < length xs
 expr_some (number n p) = omega arith
 expr_some (text t p) = omega arith

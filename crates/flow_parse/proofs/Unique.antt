@@ -17,6 +17,7 @@ use Rattle.flow_parse.specs.Reading.{Opening, Named, Then, Any}
 use Rattle.flow_parse.specs.Parts.{Placed, Marks, Begun}
 use Rattle.flow_parse.proofs.Looking.{Looks, first_of, Back}
 use Rattle.flow_parse.proofs.Begins.{Starts}
+use Rattle.flow_parse.proofs.Spots.{length_begin}
 
 -- of fewer than k tokens, what is read is one part, however it is read
 abbrev pub Uniq : {A : Type 0} → ℕ → (List Marked → A → Type 0) → (A → List Marked → Type 0) → Type 0
@@ -104,10 +105,6 @@ uniq_opening ps x k w z v u a b lt r g s h e =
 spots_begin : (p : Part) (w z : List Marked) → spots_of (begin p w ++ z) ≡ spots_of (w ++ z)
 spots_begin p [] z = refl
 spots_begin p (x ∷ w) z = refl
-
-length_begin : (p : Part) (w : List Marked) → length (begin p w) ≡ length w
-length_begin p [] = refl
-length_begin p (x ∷ w) = refl
 
 pub uniq_marks : {A : Type 0} (R : List Marked → A → Type 0) (F : A → List Marked → Type 0) (p : Part) (k : ℕ) → Uniq k R F → Uniq k (Marks p R) F
 uniq_marks R F p k f w z v u a b lt r g s h e =

@@ -10,10 +10,10 @@ use Rattle.flow_parse.specs.Follow.{ExprEnds}
 use Rattle.flow_parse.proofs.Unique.{Uniq}
 use Rattle.flow_parse.proofs.Readers.{keeps_two, expr_ends}
 
-spots_take : (n : ℕ) (v u : List Marked) → n ≤ length v → spots_of (take n v) ≡ take n (spots_of (v ++ u))
-spots_take zero v u h = refl
-spots_take (suc n) [] u h = absurd (omega arith)
-spots_take (suc n) (x ∷ v) u h = ap (λ y. x.spot ∷ y) (spots_take n v u (omega arith))
+spots_within : (n : ℕ) (v u : List Marked) → n ≤ length v → spots_of (take n v) ≡ take n (spots_of (v ++ u))
+spots_within zero v u h = refl
+spots_within (suc n) [] u h = absurd (omega arith)
+spots_within (suc n) (x ∷ v) u h = ap (λ y. x.spot ∷ y) (spots_within n v u (omega arith))
 
 next_take : (w : List Marked) (y : Marked) (z : List Marked) → take (suc (length w)) (spots_of (w ++ y ∷ z)) ≡ spots_of w ++ y.spot ∷ []
 next_take [] y z = refl
@@ -33,7 +33,7 @@ no_longer d w (y ∷ z) v u a b r f s e lt =
       rest = drop n v;
       tree = b;
       rule = subst (λ k. ExprRule 0 d k b) (sym (take-append-drop n v)) s;
-      is = spots_take n v u (omega arith) ∙ ap (take n) (sym e) ∙ next_take w y z;
+      is = spots_within n v u (omega arith) ∙ ap (take n) (sym e) ∙ next_take w y z;
       keeps = keeps_two (take n v);
     })
 

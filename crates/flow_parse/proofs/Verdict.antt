@@ -5,10 +5,11 @@ use Rattle.flow_base.specs.declared.place.Place.{Place}
 use Rattle.flow_tree.specs.declared.token.Tokens.{Tokens}
 use Rattle.flow_tree.specs.declared.token.Spot.{Spot}
 use Rattle.flow_tree.specs.Decls.{ProgramTree}
-use Rattle.flow_tree.specs.GrammarToken.{Part, Declaration, Statement, Node, Variable, Branch, Marked, spots_of, InLimits, AllInLimits, Keeps, Derives, Good}
+use Rattle.flow_tree.specs.GrammarToken.{Part, Declaration, Statement, Node, Variable, Branch, Marked, InLimits, AllInLimits, Keeps, Derives, Good}
 use Rattle.flow_tree.specs.GrammarDecl.{ProgramRule, IsProgram}
 use Rattle.flow_tree.specs.GrammarAnswer.{place_at}
 use Rattle.flow_parse.specs.ParseAnswer.{GoodTo, begun, whole, FailsBy, FailsLimit}
+use Rattle.flow_parse.proofs.Spots.{spots_take}
 
 -- fewer limits are kept too
 fewer_part : (m n : ℕ) (p : Part) → m ≤ n → InLimits n p → InLimits m p
@@ -37,11 +38,6 @@ keeps_take : (n k : ℕ) (xs : List Marked) → Keeps n xs → Keeps n (take k x
 keeps_take n zero xs h = tt
 keeps_take n (suc k) [] h = tt
 keeps_take n (suc k) (x ∷ xs) h = (h.0, keeps_take n k xs h.1)
-
-spots_take : (k : ℕ) (xs : List Marked) → spots_of (take k xs) ≡ take k (spots_of xs)
-spots_take zero xs = refl
-spots_take (suc k) [] = refl
-spots_take (suc k) (x ∷ xs) = ap (λ y. x.spot ∷ y) (spots_take k xs)
 
 -- a program is good up to each of its tokens, and up to the end
 pub program_good : (t : Tokens) (n k : ℕ) (p : ProgramTree) → k ≤ length t.spots.items → Derives (ProgramRule t.end) n t.spots.items p → GoodTo t n k

@@ -12,8 +12,9 @@ ghost use Rattle.flow_parse.specs.Views.{routine_out};
 
 use crate::simple::{Around, Counts};
 use crate::stmt::block;
-use crate::token::{begins_type, is_sign, is_word, name, place, refused, sign, ty, word};
+use crate::token::{begins_type, is_sign, is_word, name, refused, sign, ty, word};
 use flow_base::place::Place;
+use flow_exprs::token::place;
 use flow_tree::decl::{ActorDecl, Decl, FunctionDecl, Param, RecordDecl};
 use flow_tree::fault::{Rule, SourceFault};
 use flow_tree::limits::VARIABLES;

@@ -15,10 +15,9 @@ ghost use Rattle.flow_parse.specs.Parts.{Test, StatePart, IntoPart, OperandPart,
 ghost use Rattle.flow_parse.specs.Views.{counts_of, Within, into_out, stmt_out, waiting_out, Stands};
 
 use crate::build;
-use crate::token::{
-    begins_wait, expr, is_sign, is_word, name, place, read_name, refused, sign, ty,
-};
+use crate::token::{begins_wait, expr, is_sign, is_word, name, read_name, refused, sign, ty};
 use flow_base::place::Place;
+use flow_exprs::token::place;
 use flow_tree::expr::Expr;
 use flow_tree::fault::{Rule, SourceFault};
 use flow_tree::limits::{DEPTH, VARIABLES};

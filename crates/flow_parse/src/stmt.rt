@@ -23,9 +23,10 @@ use crate::simple::{
     Around, Counts, ReadStmt, change, ended, init, more_names, simple, test, waiting,
 };
 use crate::token::{
-    begins_type, expr, is_name, is_sign, is_type_word, is_word, name, place, refused, sign, word,
+    begins_type, expr, is_name, is_sign, is_type_word, is_word, name, refused, sign, word,
 };
 use flow_base::place::Place;
+use flow_exprs::token::place;
 use flow_tree::expr::Expr;
 use flow_tree::fault::{Rule, SourceFault};
 use flow_tree::limits::{BRANCHES, DEPTH, STATEMENTS};

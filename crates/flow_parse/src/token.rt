@@ -7,13 +7,13 @@ ghost use Rattle.flow_tree.specs.View.{type_of, expr_of};
 ghost use Rattle.flow_tree.specs.Grammar.{TypeRule, ExprRule};
 ghost use Rattle.flow_parse.specs.Reading.{token_at, Tok, Named, Any, Answer};
 ghost use Rattle.flow_parse.specs.Openers.{AsFirst, NameToken, ExprToken, TypeToken, TypeWord, WaitToken};
-ghost use Rattle.flow_exprs.specs.Answer.{ident_of, ident_at};
+ghost use Rattle.flow_exprs.specs.Answer.{ident_at};
 ghost use Rattle.flow_parse.specs.Follow.{ExprEnds};
 
 use flow_base::memory::NoMemory;
-use flow_base::place::Place;
 use flow_exprs::expr::parse_expr;
 use flow_exprs::kind::{self, Kind};
+use flow_exprs::token::{place, token_name};
 use flow_exprs::ty::parse_type;
 use flow_tree::expr::Expr;
 use flow_tree::fault::{Rule, SourceFault};
@@ -21,16 +21,6 @@ use flow_tree::limits::DEPTH;
 use flow_tree::token::{Sign, Token, Tokens, Word};
 use flow_tree::ty::{Ident, Ty};
 use std::alloc::Global;
-
-/// The place of this token, or of the end.
-pub fn place(tokens: &Tokens, k: usize) -> Place
-    ensures { result ≡ place_at tokens.now k }
-{
-    match tokens.spots.get(k) {
-        Some(spot) => spot.at,
-        None => tokens.end,
-    }
-}
 
 /// The refusal by this rule at this token, or at the end.
 pub fn refused(tokens: &Tokens, rule: Rule, k: usize) -> SourceFault
@@ -127,19 +117,6 @@ pub fn word(tokens: &Tokens, at: usize, wanted: Word) -> Result<usize, SourceFau
         return Err(refused(tokens, Rule::S(5), at));
     }
     Ok(at + 1)
-}
-
-// The name that this token is.
-fn token_name(alloc: Global, token: &Token, at: Place) -> Result<Option<Ident>, NoMemory>
-    ensures { IfOk result (λ o. o ≡ ident_of token.now at) }
-{
-    match token {
-        Token::Name(name) => Ok(Some(Ident {
-            name: name.copy(alloc)?,
-            at,
-        })),
-        Token::Number(_) | Token::Text(_) | Token::Word(_) | Token::Sign(_) => Ok(None),
-    }
 }
 
 /// The name that stands here, if one does.

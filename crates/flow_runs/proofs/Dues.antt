@@ -41,10 +41,6 @@ due_placed p k x (y ∷ ys) = by_test (comes_before x y) (due_placed p k x ys)
         let m : due p k (placed x ys) ≡ a + due p k ys = r in omega (arith, m)
 
 -- what a process doesn't hear of any more
-and_left : (a b : Bool) → a && b ≡ true → a ≡ true
-and_left true b h = refl
-and_left false b h = absurd cc
-
 gone_sets : (p k : ℕ) (x : What) → is_of p x ≡ false → sets p k x ≡ false
 gone_sets p k (Boots q) h = refl
 gone_sets p k (Rings q n) h = ap (λ b. b && nat_eq k n) h

@@ -4,6 +4,7 @@ use Rattle.std.proofs.lemmas.Bool.Decides.{nat_tests}
 use Rattle.std.specs.Prelude.{nat_le, codes}
 use Rattle.std.specs.Fmt.{signed_decimal}
 use Rattle.std.specs.List.{list_all}
+use Rattle.flow_base.proofs.Bools.{and_left}
 use Rattle.flow_base.specs.declared.place.Place.{Place}
 use Rattle.flow_base.specs.Names.{letter, digit, name_byte, is_name_text}
 use Rattle.flow_tree.specs.declared.token.Token.TheVariants.{Number}
@@ -16,7 +17,7 @@ use Rattle.flow_tree.specs.Tree.{TypeTree, ExprTree, ExprTrees, IntExpr, TextExp
 use Rattle.flow_tree.specs.GrammarToken.{Node, Marked, opens, begin}
 use Rattle.flow_tree.specs.Grammar.{sign_at, node_sign, Wrapper, FutureOf, FutureStreamOf, PromiseOf, PromiseStreamOf, wrapper_word, wrapped, TypeRule, int_type, bool_type, string_type, void_type, error_type, named_type, wrapped_type, level, op_sign, ExprRule, number, text, truth, falsehood, void, variable, call, paren, field, method, negation, minus, binary, ArgsRule, no_args, some_args, MoreArgsRule, end_args, more_args}
 use Rattle.flow_tree.specs.Canon.{type_text, minus_gap, expr_text, args_text, more_args_text, bare_ident, bare_expr, bare_exprs}
-use Rattle.flow_lex.proofs.Bytes.{and_left, true_false, word_is_name}
+use Rattle.flow_lex.proofs.Bytes.{true_false, word_is_name}
 use Rattle.flow_show.proofs.Going.{Piece, nothing, both, as_rule, begun, spaced, under}
 use Rattle.flow_show.proofs.TokenPieces.{Apart, name_piece, word_piece, sign_piece, Ends, opens_expr, open_round_ends, close_round_ends, comma_ends, dot_ends, not_ends, minus_ends, less_ends, greater_greater, space_ends}
 use Rattle.flow_show.proofs.ValuePieces.{number_piece, text_piece, decimal_opens}

@@ -4,6 +4,7 @@ use Rattle.std.proofs.Math.Seq.{take-append_seam}
 use Rattle.std.proofs.lemmas.Bool.Decides.{nat_tests}
 use Rattle.std.specs.Prelude.{◌&&◌, ◌||◌, eqb, nat_lt}
 use Rattle.std.specs.List.{list_all, prefix_len}
+use Rattle.flow_base.proofs.Bools.{and_left, and_right}
 use Rattle.flow_base.specs.declared.place.Place.{Place}
 use Rattle.flow_base.specs.Names.{letter, digit, name_byte, is_name_text}
 use Rattle.flow_tree.specs.declared.token.Token.TheVariants as token
@@ -15,7 +16,7 @@ use Rattle.flow_tree.specs.Spelling.{word_bytes, sign_bytes, begins_gap}
 use Rattle.flow_tree.specs.Lexing.{TokenAt}
 use Rattle.flow_tree.specs.GrammarToken.{Part, opens}
 use Rattle.flow_lex.specs.Next.{sign_byte}
-use Rattle.flow_lex.proofs.Bytes.{and_left, and_right, both as both_true, true_false, word_is_name}
+use Rattle.flow_lex.proofs.Bytes.{both as both_true, true_false, word_is_name}
 use Rattle.flow_lex.proofs.Longest.{FoundName, finds_name}
 use Rattle.flow_lex.proofs.Tables.{sign_missing}
 use Rattle.flow_lex.proofs.Tokens.{token_of, name_found, found_word, sign_one, sign_two}

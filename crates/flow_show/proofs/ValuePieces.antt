@@ -8,6 +8,7 @@ use Rattle.std.proofs.lemmas.Str.Parse.{digit_from_value}
 use Rattle.std.specs.Prelude.{◌&&◌, ◌==◌, nat_lt, nat_le, if◌then◌else◌}
 use Rattle.std.specs.Str.Parse.{AllDigits, digits_value}
 use Rattle.std.specs.List.{list_all, prefix_len}
+use Rattle.flow_base.proofs.Bools.{and_left, and_right}
 use Rattle.flow_base.specs.declared.place.Place.{Place}
 use Rattle.flow_base.specs.Names.{digit, name_byte}
 use Rattle.flow_tree.specs.declared.token.Token.TheVariants.{Number, Text}
@@ -15,7 +16,7 @@ use Rattle.flow_tree.specs.Spelling.{plain_byte, escaped, hex_value, Piece as Sp
 use Rattle.flow_tree.specs.Lexing.{TokenAt}
 use Rattle.flow_tree.specs.GrammarToken.{Part, opens}
 use Rattle.flow_lex.specs.Next.{FoundNumber}
-use Rattle.flow_lex.proofs.Bytes.{and_left, and_right, both as both_true}
+use Rattle.flow_lex.proofs.Bytes.{both as both_true}
 use Rattle.flow_lex.proofs.Numbers.{finds_zero, finds_number}
 use Rattle.flow_lex.proofs.Pieces.{text_longest}
 use Rattle.flow_lex.proofs.Tokens.{token_of}
