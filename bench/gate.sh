@@ -1,6 +1,6 @@
 #!/bin/sh
 # Processor minutes of the gate by crate, as a table: bench/gate.sh [WORD..], by default of `rt ci --anew`, which proves all from nothing.
-# Looks every two seconds at the prover's processes of this machine, so nothing else should run; what ends in between is counted by half.
+# Looks every two seconds at the prover's processes that the gate started; what ends in between is counted up to the last look.
 top=$(cd "$(dirname "$0")/.." && pwd)
 [ $# -gt 0 ] || set -- rt ci --anew
 log=$(mktemp) || exit 1
@@ -8,15 +8,22 @@ begun=$(date +%s)
 (cd "$top" && exec "$@") >"$log" 2>&1 &
 gate=$!
 while kill -0 "$gate" 2>/dev/null; do
-    ps -eo pid=,cputimes=,args= | awk '
-        $3 ~ /\/rattle$/ {
-            crate = "?"; phase = "proof"
-            for (i = 4; i <= NF; i++) {
-                if ($i == "--crate-name") crate = $(i + 1)
-                if ($i == "--test") phase = "tests"
+    ps -eo pid=,ppid=,cputimes=,args= | awk -v gate="$gate" '
+        { parent[$1] = $2; spent[$1] = $3 }
+        $4 ~ /\/rattle$/ {
+            crate[$1] = "?"; phase[$1] = "proof"
+            for (i = 5; i <= NF; i++) {
+                if ($i == "--crate-name") crate[$1] = $(i + 1)
+                if ($i == "--test") phase[$1] = "tests"
             }
-            if ($0 ~ /rt-edit/) phase = "edits"
-            print $1, crate, phase, $2
+            if ($0 ~ /rt-edit/) phase[$1] = "edits"
+        }
+        END {
+            for (pid in crate) {
+                at = pid
+                while (at > 1 && at != gate) at = parent[at]
+                if (at == gate) print pid, crate[pid], phase[pid], spent[pid]
+            }
         }'
     sleep 2
 done | awk '
