@@ -1,5 +1,5 @@
 -- A run in memory of the classes of a program shows what the program shows by its text.
-use Rattle.std.specs.Prelude.{◌≡◌, ◌≤◌, ◌+◌, ◌^◌, ℕ, Bool, List, length, slice_get, Result}
+use Rattle.std.specs.Prelude.{◌≡◌, ◌≤◌, ◌+◌, ◌^◌, ℕ, Bool, List, ◌++◌, length, slice_get, Result}
 use Rattle.std.specs.declared.option.Option.TheVariants.{None, Some}
 use Rattle.flow_base.specs.declared.fault.OutFault.{OutFault}
 use Rattle.flow_tree.specs.declared.decl.Program.{Program}
@@ -15,9 +15,10 @@ use Rattle.flow_lower.specs.Weighing.{first_heavy}
 use Rattle.flow_lower.specs.Compiled.{Has}
 use Rattle.flow_awake.specs.Awake.{AreWhole}
 use Rattle.flow_world.specs.Around.{Puts}
+use Rattle.flow_world.specs.Telling.{tells, whole, failed}
 use Rattle.flow_run.specs.declared.ending.Ending.{Ending}
 use Rattle.flow_run.specs.Ends.{end_line, LastIs}
-use Rattle.flow_run.specs.Tracing.{Traces}
+use Rattle.flow_run.specs.Tracing.{Traces, Begins, TracesPart}
 use Rattle.flow_framed.specs.Framed.{SourceShown, ClassShown}
 
 -- each class has 2^32 places at most
@@ -41,3 +42,19 @@ module _ {A : Type 0} (puts : A → Line → Result (Unit {0}) OutFault → A �
       → IsInRange (seen file) → Traces puts with_frames c file a e b
       → (lines : List Line) × SourceShown with_frames (program_of program) (seen file) lines × Puts puts a lines b
       × LastIs (end_line e) lines
+
+  -- Of valid classes what is put of a trace that has begun is a first part of what is shown of them.
+  abbrev pub ClassesBegun : Type 0
+  ClassesBegun =
+      (c : RawClasses) (file : World0) (with_frames : Bool) (a b : A) → AreWhole (raw_of c) → HaveFewPlaces (raw_of c)
+      → IsInRange (seen file) → Begins puts with_frames c file a b
+      → (part rest : List Line) × ClassShown with_frames (raw_of c) (seen file) (part ++ rest) × Puts puts a part b
+
+  -- Where a line of the classes of a text failed, all that is shown of the text was told, up to that line.
+  abbrev pub ProgramInPart : Type 0
+  ProgramInPart =
+      (text : List ℕ) (program : Program) (c : RawClasses) (file : World0) (with_frames : Bool) (a b : A)
+      → IsSound text program → first_heavy (program_of program).decls ≡ None → Has (program_of program) (raw_of c)
+      → IsInRange (seen file) → TracesPart (tells puts) with_frames c file (whole a) (failed b)
+      → (lines : List Line) × SourceShown with_frames (program_of program) (seen file) lines
+      × Puts (tells puts) (whole a) lines (failed b)

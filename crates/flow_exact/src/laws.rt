@@ -1,6 +1,6 @@
 // Runs of classes and of programs.
 
-ghost use Rattle.flow_exact.specs.Exact.{ClassesShown, ProgramShown};
+ghost use Rattle.flow_exact.specs.Exact.{ClassesShown, ProgramShown, ProgramInPart};
 
 use flow_trace::out::LineOut;
 
@@ -10,7 +10,9 @@ pub fn classes_shown<L: LineOut>()
     ensures { ClassesShown L.puts }
 {}
 
-/// The lines that it puts of a program's classes are what is shown of the program by its text.
+/// The lines that it puts of a program's classes are what is shown of the program by its text; where a line failed, what is
+/// shown was put up to that line.
 pub fn programs_shown<L: LineOut>()
-    ensures { ProgramShown L.puts }
+    ensures whole { ProgramShown L.puts }
+    ensures part { ProgramInPart L.puts }
 {}

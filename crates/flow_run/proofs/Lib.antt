@@ -1,4 +1,4 @@
 pub mod Framing
-pub mod MovedHosts
-pub mod MovedEvents
+pub mod MovedTraces
+pub mod Parts
 pub mod Writing

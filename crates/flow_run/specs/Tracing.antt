@@ -90,3 +90,22 @@ module _ {A : Type 0} (puts : A → Line → Result (Unit {0}) OutFault → A �
     pub head : puts a line.Head (Ok tt) headed
     pub goes : GoesTo first headed e left before
     pub ended : puts before (end_line e) (Ok tt) b
+
+  -- some of these events, or all up to the end of the run
+  pub data GoesPart (w : Seen) (a b : A) : Type 0 where
+    some : {v : Seen} → Goes w a v b → GoesPart w a b
+    to_end : {e : Ending} {v : Seen} → GoesTo w a e v b → GoesPart w a b
+
+  -- the trace has begun: its first line, and some of the events
+  pub record Begins (classes : RawClasses) (file : World0) (a b : A) : Type 0 where
+    pub first : Seen
+    pub last : Seen
+    pub headed : A
+    pub starts : Starts classes file first
+    pub head : puts a line.Head (Ok tt) headed
+    pub goes : Goes first headed last b
+
+  -- A first part of the trace, or all of it.
+  pub data TracesPart (classes : RawClasses) (file : World0) (a b : A) : Type 0 where
+    begun : Begins classes file a b → TracesPart classes file a b
+    all : {e : Ending} → Traces classes file a e b → TracesPart classes file a b

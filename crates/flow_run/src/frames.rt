@@ -4,6 +4,7 @@ ghost use Rattle.std.specs.Prelude.{◌≡◌, ◌≤◌, drop, length, map, sli
 ghost use Rattle.flow_machine.specs.Cause.{RunCause};
 ghost use Rattle.flow_machine.specs.declared.host.RunFault.TheVariants.{Failed};
 ghost use Rattle.flow_world.specs.Around.{Puts};
+ghost use Rattle.flow_world.specs.Telling.{tells, whole, failed};
 ghost use Rattle.flow_world.specs.Worlds.{world_seen};
 ghost use Rattle.flow_run.specs.Tracing.{name_of, own_count, callback_line, frames_lines, own_lines};
 ghost use Rattle.flow_run.specs.Tracing.{process_lines, world_lines, lines_if};
@@ -16,25 +17,55 @@ use flow_trace::line::Line;
 use flow_trace::out::LineOut;
 use flow_world::World;
 use flow_world::put::put;
+use flow_world::teller::{Teller, unless_failed};
 use std::alloc::Global;
+use std::snapshot::Snapshot;
 
-/// Puts the frames of the unfinished actors where they are asked for.
+/// Puts the frames of the unfinished actors where they are asked for: all of them, or up to the line that failed.
 pub fn put_frames_if<L: LineOut>(
     with_frames: bool,
     alloc: Global,
     world: &World,
     out: &mut L,
 ) -> Result<(), RunFault>
-    ensures puts { OnOk result
-        (Puts L.puts out.old (lines_if with_frames (world_seen world.now)) out.new) }
+    ensures puts { OnOk result (Puts (tells L.puts)
+        (whole out.old) (lines_if with_frames (world_seen world.now)) (whole out.new)) }
+    ensures part { IsErrOf result Failed → Puts (tells L.puts)
+        (whole out.old) (lines_if with_frames (world_seen world.now)) (failed out.new) }
     ensures cause { RunCause (L.faults out.old) (L.faults out.new) result }
     ensures kept { L.kept out.new ≡ L.kept out.old }
 {
     if with_frames {
-        put_frames(alloc, world, out)
+        tell_frames(alloc, world, out)
     } else {
         Ok(())
     }
+}
+
+/// Puts the frames of the unfinished actors: all of them, or up to the line that failed.
+fn tell_frames<L: LineOut>(alloc: Global, world: &World, out: &mut L) -> Result<(), RunFault>
+    ensures puts { OnOk result (Puts (tells L.puts)
+        (whole out.old) (world_lines (world_seen world.now)) (whole out.new)) }
+    ensures part { IsErrOf result Failed → Puts (tells L.puts)
+        (whole out.old) (world_lines (world_seen world.now)) (failed out.new) }
+    ensures cause { RunCause (L.faults out.old) (L.faults out.new) result }
+    ensures kept { L.kept out.new ≡ L.kept out.old }
+{
+    let before = Snapshot::of(&*out);
+    let mut teller = Teller {
+        out,
+        fault: None,
+        before,
+    };
+    let done = put_frames(alloc, world, &mut teller);
+    let Teller {
+        out,
+        fault,
+        before: _,
+    } = teller;
+    // No effect at run time. The proof reads what `out` is from this use of it.
+    let _ = &*out;
+    unless_failed(done, fault)
 }
 
 #[tactic(auto, using(flow_machine::proofs::Causes::cause_before))]

@@ -1,11 +1,13 @@
 // Traces that go out as they are made.
 
-ghost use Rattle.std.specs.Prelude.{IfOk};
+ghost use Rattle.std.specs.Prelude.{IfOk, IsErrOf};
 ghost use Rattle.flow_trace.specs.Bytes.{Bytes};
 ghost use Rattle.flow_machine.specs.Cause.{RunCause};
+ghost use Rattle.flow_machine.specs.declared.host.RunFault.TheVariants.{Failed};
 ghost use Rattle.flow_worldfile.specs.Worlds.{IsInRange, seen};
+ghost use Rattle.flow_world.specs.Telling.{tells, whole, failed};
 ghost use Rattle.flow_run.specs.Ends.{end_line};
-ghost use Rattle.flow_run.specs.Tracing.{Traces};
+ghost use Rattle.flow_run.specs.Tracing.{Traces, TracesPart};
 ghost use Rattle.flow_run.specs.Written.{put_bytes};
 ghost use Rattle.flow_trace.specs.Out.{Grows, GrowsTo};
 
@@ -22,7 +24,8 @@ use std::snapshot::Snapshot;
 
 /// Runs classes in a world and writes the lines of the trace, each as it is made, with the frames after each event that was
 /// not spent where they are asked for: where the run comes to its end, what was written is the bytes of these lines, from the
-/// first to the last. What was written before stays as it is. `Failed` comes only where the sink's count of faults rose.
+/// first to the last; where the sink failed, of the lines up to one in an event, in the frames after it or at the end, of which a
+/// first part may be written. What was written before stays as it is. `Failed` comes only where the sink's count of faults rose.
 pub fn write_trace<S: Sink>(
     alloc: Global,
     classes: ClassProgram,
@@ -33,8 +36,10 @@ pub fn write_trace<S: Sink>(
     requires { IsInRange (seen world) }
     ensures cause { RunCause (S.seen out.old).faults (S.seen out.new).faults result }
     ensures grows { Grows (S.seen out.old).written (S.seen out.new).written }
-    ensures traces { IfOk result (λ ending. Traces put_bytes with_frames classes world
-        (S.seen out.old).written ending (S.seen out.new).written) }
+    ensures traces { IfOk result (λ ending. Traces (tells put_bytes) with_frames classes world
+        (whole (S.seen out.old).written) ending (whole (S.seen out.new).written)) }
+    ensures part { IsErrOf result Failed → TracesPart (tells put_bytes) with_frames classes world
+        (whole (S.seen out.old).written) (failed (S.seen out.new).written) }
     ensures last { IfOk result (λ ending. GrowsTo
         (S.seen out.old).written (S.seen out.new).written (Bytes (end_line ending))) }
 {

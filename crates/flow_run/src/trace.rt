@@ -1,11 +1,13 @@
 // The trace of classes in a world.
 
-ghost use Rattle.std.specs.Prelude.{◌≡◌, false, IfOk};
+ghost use Rattle.std.specs.Prelude.{◌≡◌, false, IfOk, IsErrOf};
 ghost use Rattle.flow_machine.specs.Cause.{RunCause};
+ghost use Rattle.flow_machine.specs.declared.host.RunFault.TheVariants.{Failed};
 ghost use Rattle.flow_worldfile.specs.Worlds.{IsInRange, seen};
+ghost use Rattle.flow_world.specs.Telling.{tells, whole, failed};
 ghost use Rattle.flow_world.specs.Worlds.{world_seen};
 ghost use Rattle.flow_run.specs.Ends.{PutLast, end_line};
-ghost use Rattle.flow_run.specs.Tracing.{GoesTo, Traces};
+ghost use Rattle.flow_run.specs.Tracing.{GoesTo, GoesPart, Traces, TracesPart};
 
 use crate::ending::Ending;
 use crate::frames::put_frames_if;
@@ -20,7 +22,7 @@ use std::alloc::Global;
 
 #[tactic(auto, using(flow_machine::proofs::Causes::cause_before))]
 /// Runs classes in a world and puts the lines of the trace, from the first to the last, with the frames after each event
-/// that was not spent where they are asked for.
+/// that was not spent where they are asked for; or those up to the line that failed.
 pub fn put_trace<L: LineOut>(
     alloc: Global,
     classes: ClassProgram,
@@ -31,8 +33,10 @@ pub fn put_trace<L: LineOut>(
     requires { IsInRange (seen world) }
     ensures cause { RunCause (L.faults out.old) (L.faults out.new) result }
     ensures kept { L.kept out.new ≡ L.kept out.old }
-    ensures traces { IfOk result (λ ending.
-        Traces L.puts with_frames classes world out.old ending out.new) }
+    ensures traces { IfOk result (λ ending. Traces (tells L.puts) with_frames classes world
+        (whole out.old) ending (whole out.new)) }
+    ensures part { IsErrOf result Failed → TracesPart (tells L.puts) with_frames classes world
+        (whole out.old) (failed out.new) }
     ensures last { IfOk result (λ ending. PutLast L.puts (end_line ending) out.new) }
 {
     let mut world = World::start(alloc, classes, world)?;
@@ -43,7 +47,7 @@ pub fn put_trace<L: LineOut>(
 }
 
 #[tactic(auto, using(flow_machine::proofs::Causes::cause_before))]
-/// Runs events up to the end of the run.
+/// Runs events up to the end of the run, or to one a line of which failed.
 fn put_events<L: LineOut>(
     alloc: Global,
     world: &mut World,
@@ -51,9 +55,10 @@ fn put_events<L: LineOut>(
     out: &mut L,
 ) -> Result<Ending, RunFault>
     requires { world.old.ended ≡ false }
-    ensures goes { IfOk result (λ ending.
-        GoesTo L.puts with_frames
-        (world_seen world.old) out.old ending (world_seen world.new) out.new) }
+    ensures goes { IfOk result (λ ending. GoesTo (tells L.puts) with_frames
+        (world_seen world.old) (whole out.old) ending (world_seen world.new) (whole out.new)) }
+    ensures part { IsErrOf result Failed → GoesPart (tells L.puts) with_frames
+        (world_seen world.old) (whole out.old) (failed out.new) }
     ensures cause { RunCause (L.faults out.old) (L.faults out.new) result }
     ensures kept { L.kept out.new ≡ L.kept out.old }
 {

@@ -223,13 +223,15 @@ pub record AreLines (r : ProgramRun) (ending : Ending) (lines : List Line) : Typ
   pub shown : SourceShown r.frames (program_of r.program.value) (seen r.world) lines
   pub last : LastIs (end_line ending) lines
 
--- What was told of a run that ended: the bytes of its lines, which were handed on, with the status of its end. Of a run that
--- broke off what stands here is less: what was written before it stays, but not which bytes came then; with status 6 where the
--- sink failed, which its count then shows, 7 where there was no memory, or 15 where the classes led where no valid class comes.
+-- What was told of a run that ended: the bytes of its lines, which were handed on, with the status of its end. Or a first part
+-- of the bytes of all lines that are shown, with status 6, where the sink failed, which its count then shows. Of a run that broke
+-- off else what stands here is less: what was written before it stays, but not which bytes came then; with status 7 where there
+-- was no memory, or 15 where the classes led where no valid class comes.
 pub data ReportedRun (r : ProgramRun) (before after : SinkSeen) : ℕ → Type 0 where
   ended : (ending : Ending) (lines : List Line) → AreLines r ending lines → Appends before.written after.written (bytes_of lines)
       → after.handed ≡ after.written → ReportedRun r before after (ending_status ending)
-  run_write_fault : Grows before.written after.written → Rose before.faults after.faults → ReportedRun r before after 6
+  run_write_fault : (lines : List Line) → SourceShown r.frames (program_of r.program.value) (seen r.world) lines
+      → AppendsPart before.written after.written (bytes_of lines) → Rose before.faults after.faults → ReportedRun r before after 6
   run_no_memory : Grows before.written after.written → ReportedRun r before after 7
   astray : Grows before.written after.written → ReportedRun r before after 15
 

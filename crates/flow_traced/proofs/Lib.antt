@@ -1,3 +1,4 @@
 pub mod Codes
+pub mod Onwards
 pub mod Whole
 pub mod Quietly

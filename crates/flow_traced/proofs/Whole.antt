@@ -29,11 +29,13 @@ use Rattle.flow_run.specs.declared.ending.Ending.TheVariants.{Idle, Bound, Spent
 use Rattle.flow_run.specs.Ends.{end_line}
 use Rattle.flow_run.specs.Tracing.{Goes, no_event, one_more, last_answer}
 use Rattle.flow_framed.specs.Framed.{seen_if, Shows, ends, spent, event}
-use Rattle.flow_traced.specs.Traced.{EventsFollow, SpentFollows, KeepsOn, FramesShown, TraceFollows}
+use Rattle.flow_traced.specs.Traced.{EventsFollow, SpentFollows, KeepsOn, FramesShown, TraceFollows, BeginningFollows}
 use Rattle.flow_traced.proofs.Codes.{code_stays}
+use Rattle.flow_traced.proofs.Onwards.{goes_on}
 
 module _ (Rests : Process → Proc Frame → Type 0) (Keeps : World Frame → Type 0) (IsCode : Code → Type 0) {A : Type 0} (puts : A → Line → Result (Unit {0}) OutFault → A → Type 0) (r : RawTree) (with_frames : Bool) where
-  -- so many events ran: the world of the definitions that is shown then, and how what is shown from it on is shown from the first on
+  -- so many events ran: the world of the definitions that is shown then; how what is shown from it on is shown from the first on;
+  -- and what is shown from the first on goes on from there
   record Went (m : World Frame) (a : A) (u : Seen) (b : A) : Type 0 where
     last : World Frame
     shows : WorldShows Rests u last
@@ -43,6 +45,8 @@ module _ (Rests : Process → Proc Frame → Type 0) (Keeps : World Frame → Ty
     lines : List Line
     put : Puts puts a lines b
     goes : (rest : List Line) → Shows (classes r) frame_spot with_frames last rest → Shows (classes r) frame_spot with_frames m (lines ++ rest)
+    onwards : (all : List Line) → Shows (classes r) frame_spot with_frames m all
+        → (rest : List Line) × (all ≡ lines ++ rest) × Shows (classes r) frame_spot with_frames last rest
 
   went : EventsFollow Rests Keeps IsCode puts r → KeepsOn Rests Keeps IsCode r → FramesShown Rests Keeps IsCode with_frames r → (w u : Seen) (m : World Frame) (a b : A) → IsCode w.code → raw_of w.code.program ≡ r → WorldShows Rests w m → Keeps m → Goes puts with_frames w a u b → Went m a u b
   went law on seen_law w _ m a _ code text s k no_event = record {
@@ -54,6 +58,7 @@ module _ (Rests : Process → Proc Frame → Type 0) (Keeps : World Frame → Ty
     lines = [];
     put = no_line;
     goes = λ rest run. run;
+    onwards = λ all run. (all, refl, run);
   }
   went law on seen_law w v m a d code text s k (one_more {u = u} {b = b} {c = c} before does frames) =
       let so_far = went law on seen_law w u m a b code text s k before in
@@ -79,6 +84,11 @@ module _ (Rests : Process → Proc Frame → Type 0) (Keeps : World Frame → Ty
         goes = λ rest run.
             subst (λ ls. Shows (classes r) frame_spot with_frames m ls) (sym (append_assoc so_far.lines (own ++ views) rest ∙ ap (λ ls. so_far.lines ++ ls) (append_assoc own views rest)))
             (so_far.goes (own ++ (views ++ rest)) (event begun left ongoing shown.event.begins shown.event.follows shown.rests run));
+        onwards = λ all run.
+            let x = so_far.onwards all run in
+            let y = goes_on (classes r) frame_spot with_frames so_far.last begun left x.0 ongoing shown.event.begins shown.event.follows shown.rests x.2 in
+            let together = append_assoc so_far.lines (own ++ views) y.0 ∙ ap (λ ls. so_far.lines ++ ls) (append_assoc own views y.0) in
+            (y.0, x.1 ∙ ap (λ ls. so_far.lines ++ ls) y.1 ∙ sym together, y.2);
       }
 
   -- the end of a run: the lines of its last event, if that was spent, and its last line
@@ -124,3 +134,13 @@ trace_follows Rests Keeps IsCode {A} puts with_frames c file a b e fresh code ke
       more_lines t.head put_rest,
       (line.Head ∷ (so_far.lines ++ over.own), ap (λ ls. line.Head ∷ ls) (sym (append_assoc so_far.lines over.own (end_line e ∷ [])))),
     )
+
+pub beginning_follows :
+    (Rests : Process → Proc Frame → Type 0) (Keeps : World Frame → Type 0) (IsCode : Code → Type 0) {A : Type 0} (puts : A → Line → Result (Unit {0}) OutFault → A → Type 0)
+    → BeginningFollows Rests Keeps IsCode puts
+beginning_follows Rests Keeps IsCode {A} puts with_frames c file a b lines fresh code keeps on seen_law events t shown =
+    let r = raw_of c in
+    let first = start_shown Rests c file t.first fresh t.starts in
+    let so_far = went Rests Keeps IsCode puts r with_frames events on seen_law t.first t.last (at_start (seen file)) t.headed b (code t.first t.starts) (ap raw_of t.starts.program) first keeps t.goes in
+    let x = so_far.onwards shown.rest shown.shows in
+    (line.Head ∷ so_far.lines, x.0, shown.with_head ∙ ap (λ ls. line.Head ∷ ls) x.1, more_lines t.head so_far.put)

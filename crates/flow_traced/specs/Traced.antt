@@ -1,5 +1,5 @@
 -- A run in memory is a run of the definitions.
-use Rattle.std.specs.Prelude.{◌≡◌, Bool, List, Result}
+use Rattle.std.specs.Prelude.{◌≡◌, Bool, List, ◌++◌, Result}
 use Rattle.std.specs.declared.option.Option.TheVariants.{None, Some}
 use Rattle.std.specs.declared.alloc.Global.{Global}
 use Rattle.flow_base.specs.declared.fault.OutFault.{OutFault}
@@ -30,7 +30,7 @@ use Rattle.flow_world.specs.Starting.{Starts}
 use Rattle.flow_events.specs.Showing.{WorldShows}
 use Rattle.flow_run.specs.declared.ending.Ending.{Ending}
 use Rattle.flow_run.specs.Ends.{end_line, LastIs}
-use Rattle.flow_run.specs.Tracing.{Traces, lines_if}
+use Rattle.flow_run.specs.Tracing.{Traces, Begins, lines_if}
 use Rattle.flow_framed.specs.Framed.{ClassShown, seen_if}
 
 -- What is meant by a process in memory that rests and shows one of the definitions, by what a world of the
@@ -90,6 +90,16 @@ module _ (Rests : Process → Proc Frame → Type 0) (Keeps : World Frame → Ty
       → EventsFollow puts (raw_of c) → SpentFollows puts (raw_of c) → Traces puts with_frames c file a e b
       → (lines : List Line) × ClassShown with_frames (raw_of c) (seen file) lines
       × Puts puts a lines b × LastIs (end_line e) lines
+
+  -- And what was put of a trace that has begun is a first part of all that is shown of them.
+  abbrev pub BeginningFollows : {A : Type 0} (puts : A → Line → Result (Unit {0}) OutFault → A → Type 0) → Type 0
+  BeginningFollows {A} puts =
+      (with_frames : Bool) (c : RawClasses) (file : World0) (a b : A) (lines : List Line)
+      → ((memory : Global) → Rests (never_ran memory) idle) → ((w : Seen) → Starts c file w → IsCode w.code)
+      → Keeps (at_start (seen file)) → KeepsOn (raw_of c) → FramesShown with_frames (raw_of c)
+      → EventsFollow puts (raw_of c) → Begins puts with_frames c file a b
+      → ClassShown with_frames (raw_of c) (seen file) lines
+      → (part rest : List Line) × (lines ≡ part ++ rest) × Puts puts a part b
 
 -- an event leaves the code as it is
 abbrev pub CodeStays : {A : Type 0} (puts : A → Line → Result (Unit {0}) OutFault → A → Type 0) → Type 0

@@ -7,7 +7,7 @@ ghost use Rattle.flow_meaning.specs.World.{World};
 ghost use Rattle.flow_steps.specs.declared.process.Process.{Process};
 ghost use Rattle.flow_class.specs.Classes.{RawTree};
 ghost use Rattle.flow_traced.specs.Quiet.{CutFollows, HealFollows, FailureFollows};
-ghost use Rattle.flow_traced.specs.Traced.{CodeStays, TraceFollows};
+ghost use Rattle.flow_traced.specs.Traced.{BeginningFollows, CodeStays, TraceFollows};
 
 use flow_trace::out::LineOut;
 
@@ -27,8 +27,10 @@ pub trait Boundary {
 /// with its lines, and, if frames are asked for, those of a world in memory are those seen of the world
 /// that it shows, the lines that are put of classes in a world, from the first to the last, are what is
 /// shown of these classes in it; without frames, a trace of them.
+/// And what was put of a trace that has begun is a first part of all that is shown of these classes.
 pub fn trace_follows<B: Boundary, L: LineOut>()
-    ensures { TraceFollows B.rests B.keeps B.is_code L.puts }
+    ensures whole { TraceFollows B.rests B.keeps B.is_code L.puts }
+    ensures part { BeginningFollows B.rests B.keeps B.is_code L.puts }
 {}
 
 /// An event leaves the code as it is.

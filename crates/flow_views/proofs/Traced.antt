@@ -12,9 +12,9 @@ use Rattle.flow_meaning.specs.Process.{Proc}
 use Rattle.flow_meaning.specs.World.{World}
 use Rattle.flow_steps.specs.declared.process.Process.{Process}
 use Rattle.flow_traced.specs.Traced.{EventBegan, EventsFollow, SpentFollows, KeepsOn, FramesShown}
-use Rattle.flow_traced.proofs.Whole.{trace_follows}
+use Rattle.flow_traced.proofs.Whole.{trace_follows, beginning_follows}
 use Rattle.flow_views.specs.Waiting.{WorldWaits}
-use Rattle.flow_views.specs.Shown.{RestsShow, KeepsCount, FramesTraced}
+use Rattle.flow_views.specs.Shown.{RestsShow, KeepsCount, FramesTraced, BeginningTraced}
 use Rattle.flow_views.proofs.Waiting.{start_waits, event_waits}
 use Rattle.flow_views.proofs.Worlds.{frames_follow}
 
@@ -49,3 +49,9 @@ module _ (Rests : Process → Proc Frame → Type 0) (Keeps : World Frame → Ty
       let r = raw_of c in
       trace_follows Rests Waits IsCode puts with_frames c file a b e fresh code (keeps, start_waits (seen file)) (keeps_on r on) (frames with_frames r shows count)
       (events puts r event_law) (spent puts r spent_law) t
+
+  pub beginning_traced : {A : Type 0} (puts : A → Line → Result (Unit {0}) OutFault → A → Type 0) → BeginningTraced Rests Keeps IsCode puts
+  beginning_traced puts with_frames c file a b lines fresh code keeps on shows count event_law t shown =
+      let r = raw_of c in
+      beginning_follows Rests Waits IsCode puts with_frames c file a b lines fresh code (keeps, start_waits (seen file)) (keeps_on r on) (frames with_frames r shows count)
+      (events puts r event_law) t shown

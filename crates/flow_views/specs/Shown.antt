@@ -1,5 +1,5 @@
 -- The lines of frames and callbacks that a world in memory puts are what is seen of the world that it shows.
-use Rattle.std.specs.Prelude.{◌≡◌, Bool, true, List, Result, length}
+use Rattle.std.specs.Prelude.{◌≡◌, Bool, true, List, ◌++◌, Result, length}
 use Rattle.std.specs.declared.alloc.Global.{Global}
 use Rattle.flow_base.specs.declared.fault.OutFault.{OutFault}
 use Rattle.flow_trace.specs.declared.line.Line.{Line}
@@ -20,7 +20,7 @@ use Rattle.flow_world.specs.Ending.{Seen}
 use Rattle.flow_world.specs.Starting.{Starts}
 use Rattle.flow_run.specs.declared.ending.Ending.{Ending}
 use Rattle.flow_run.specs.Ends.{end_line, LastIs}
-use Rattle.flow_run.specs.Tracing.{Traces}
+use Rattle.flow_run.specs.Tracing.{Traces, Begins}
 use Rattle.flow_picture.specs.Shows.{Shows}
 use Rattle.flow_picture.specs.Rested.{Sorted}
 use Rattle.flow_framed.specs.Framed.{ClassShown}
@@ -55,3 +55,14 @@ module _ (Rests : Process → Proc Frame → Type 0) (Keeps : World Frame → Ty
       → SpentFollows Rests Keeps IsCode puts (raw_of c) → Traces puts with_frames c file a e b
       → (lines : List Line) × ClassShown with_frames (raw_of c) (seen file) lines
       × Puts puts a lines b × LastIs (end_line e) lines
+
+  -- And what was put of a trace that has begun is a first part of all that is shown of them.
+  abbrev pub BeginningTraced : {A : Type 0} (puts : A → Line → Result (Unit {0}) OutFault → A → Type 0)
+      → Type 0
+  BeginningTraced {A} puts =
+      (with_frames : Bool) (c : RawClasses) (file : World0) (a b : A) (lines : List Line)
+      → ((memory : Global) → Rests (never_ran memory) idle) → ((w : Seen) → Starts c file w → IsCode w.code)
+      → Keeps (at_start (seen file)) → KeepsOn Rests Keeps IsCode (raw_of c)
+      → RestsShow (raw_of c) → KeepsCount → EventsFollow Rests Keeps IsCode puts (raw_of c)
+      → Begins puts with_frames c file a b → ClassShown with_frames (raw_of c) (seen file) lines
+      → (part rest : List Line) × (lines ≡ part ++ rest) × Puts puts a part b

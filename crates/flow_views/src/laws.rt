@@ -4,7 +4,7 @@ ghost use Rattle.flow_class.specs.Classes.{RawTree};
 ghost use Rattle.flow_views.specs.Waiting.{StartWaits, EventWaits};
 ghost use Rattle.flow_views.specs.Views.{ViewsShown};
 ghost use Rattle.flow_views.specs.Told.{WorldTold};
-ghost use Rattle.flow_views.specs.Shown.{FramesFollow, FramesTraced};
+ghost use Rattle.flow_views.specs.Shown.{BeginningTraced, FramesFollow, FramesTraced};
 
 use flow_trace::out::LineOut;
 use flow_traced::laws::Boundary;
@@ -25,9 +25,11 @@ pub fn views_shown()
 /// Whatever is meant by a boundary, if a process in memory that rests shows one of the definitions: the
 /// frames and callbacks of each process and the count of unfinished actors that a world in memory answers
 /// are the views of the world that it shows; the lines of frames and callbacks that it puts are those seen
-/// of that world; and so the lines that are put of classes in a world are what is shown of these classes.
+/// of that world; and so the lines that are put of classes in a world are what is shown of these classes, and
+/// those of a trace that has begun are a first part of that.
 pub fn frames_traced<B: Boundary, L: LineOut>()
     ensures told { (r : RawTree) → WorldTold B.rests r }
     ensures frames { (r : RawTree) → FramesFollow B.rests B.keeps B.is_code r }
     ensures traces { FramesTraced B.rests B.keeps B.is_code L.puts }
+    ensures part { BeginningTraced B.rests B.keeps B.is_code L.puts }
 {}

@@ -8,10 +8,11 @@ use Rattle.flow_worldfile.specs.declared.world.Act.{Act}
 use Rattle.flow_worldfile.specs.declared.world.At.{At}
 use Rattle.flow_timers.specs.Pending.{Pending, is_at, next_event, event_at, without_event}
 use Rattle.flow_machine.specs.declared.host.Burst.{Burst}
+use Rattle.flow_machine.specs.declared.host.Burst.TheVariants.{Rested, Spent}
 use Rattle.flow_world.specs.declared.outside.What.{What}
 use Rattle.flow_world.specs.Changes.{Surroundings, FirstTaken, with_events}
 use Rattle.flow_world.specs.Ending.{Seen, first_act, lines_after}
-use Rattle.flow_world.specs.Happening.{Ordered, Happened, LineComes, EventComes, with_outside}
+use Rattle.flow_world.specs.Happening.{Ordered, Happened, LineComes, EventComes, with_outside, ends}
 
 module _ {A : Type 0} (puts : A → Line → Result (Unit {0}) OutFault → A → Type 0) where
   pub line_comes : (ls : List At) (x : Act) (w v : Seen) (a b : A) (e : Burst) → Some x ≡ first_act ls
@@ -45,3 +46,8 @@ first_taken (x ∷ xs) m n t k h e =
 pub none_taken : (es : List (Pending What)) (m : Surroundings) → None ≡ next_event es → FirstTaken es None m m
 none_taken [] m h = refl
 none_taken (x ∷ xs) m h = absurd (cc)
+
+-- none may follow an event that failed, as while it ran
+pub ended_again : (e : Burst) (w : Seen) → w.ended ≡ true → w ≡ record (ends e w) { ended = true }
+ended_again Rested w h = ap (λ b. record w { ended = b }) h
+ended_again Spent w h = ap (λ b. record w { ended = b }) h

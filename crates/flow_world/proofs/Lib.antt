@@ -6,7 +6,9 @@ pub mod Events
 pub mod ServedAround
 pub mod Listening
 pub mod Numbers
-pub mod Moved
+pub mod MovedHosts
+pub mod MovedEvents
 pub mod Happenings
 pub mod Putting
+pub mod Telling
 pub mod Beginnings

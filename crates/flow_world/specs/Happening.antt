@@ -238,6 +238,13 @@ module _ {A : Type 0} (puts : A → Line → Result (Unit {0}) OutFault → A �
     pub does : Comes scripted (begins time w) a e left b
     pub after : v ≡ ends e left
 
+  -- An event in which a put failed went on to its end, and none may follow.
+  pub record Breaks (w : Seen) (a : A) (v : Seen) (b : A) : Type 0 where
+    pub burst : Burst
+    pub left : Seen
+    pub happens : Happens w a burst left b
+    pub ended : v ≡ record left { ended = true }
+
   -- What a call for the next event does.
   abbrev pub EventDoes : Event → Seen → A → Seen → A → Type 0
   EventDoes Ran w a v b = Happens w a Rested v b

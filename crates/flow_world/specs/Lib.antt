@@ -10,4 +10,5 @@ pub mod Shows
 pub mod Standing
 pub mod Views
 pub mod Starting
+pub mod Telling
 pub mod Worlds

@@ -14,6 +14,7 @@ mod ports;
 pub mod put;
 mod script;
 mod starting;
+pub mod teller;
 pub mod world;
 
 pub use event::Event;

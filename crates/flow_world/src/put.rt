@@ -1,8 +1,10 @@
 // Putting lines.
 
-ghost use Rattle.std.specs.Prelude.{◌≡◌, Ok, map, OnOk};
+ghost use Rattle.std.specs.Prelude.{◌≡◌, Ok, Err, map, OnOk, IsErrOf};
+ghost use Rattle.flow_base.specs.declared.fault.OutFault.TheVariants.{Failed};
 ghost use Rattle.flow_meaning.specs.World.{kept_line};
 ghost use Rattle.flow_machine.specs.Cause.{RunCause};
+ghost use Rattle.flow_machine.specs.declared.host.RunFault.TheVariants as run;
 ghost use Rattle.flow_world.specs.Around.{Puts};
 
 use flow_machine::host::RunFault;
@@ -14,6 +16,7 @@ use std::alloc::Global;
 /// Puts a line. `Failed` comes only where the count of faults rose.
 pub fn put<L: LineOut>(out: &mut L, line: &Line) -> Result<(), RunFault>
     ensures puts { OnOk result (L.puts out.old line.now (Ok tt) out.new) }
+    ensures fails { IsErrOf result run.Failed → L.puts out.old line.now (Err Failed) out.new }
     ensures cause { RunCause (L.faults out.old) (L.faults out.new) result }
     ensures kept { L.kept out.new ≡ L.kept out.old }
 {

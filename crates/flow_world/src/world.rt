@@ -4,12 +4,14 @@ ghost use Rattle.std.specs.Prelude.{◌≡◌, ◌+◌, ◌-◌, ◌^◌, ◌<�
 ghost use Rattle.flow_worldfile.specs.Worlds.{IsInRange, seen};
 ghost use Rattle.flow_worldfile.specs.declared.world.Act.TheVariants as act;
 ghost use Rattle.flow_simnet.specs.Links.{cut, healed};
+ghost use Rattle.flow_machine.specs.declared.host.Burst.{Burst as Ended};
 ghost use Rattle.flow_machine.specs.declared.host.Burst.TheVariants.{Rested};
 ghost use Rattle.flow_machine.specs.declared.host.RunFault.TheVariants.{Failed};
 ghost use Rattle.flow_machine.specs.Cause.{RunCause};
 ghost use Rattle.flow_world.specs.Ending.{MeansEvent, WithinEvent, next};
 ghost use Rattle.flow_world.specs.Worlds.{world_seen};
-ghost use Rattle.flow_world.specs.Happening.{EventDoes, Comes, LineComes, EventComes, Ordered, Happened};
+ghost use Rattle.flow_world.specs.Telling.{tells, whole, failed};
+ghost use Rattle.flow_world.specs.Happening.{EventDoes, Breaks, Comes, LineComes, EventComes, Ordered, Happened};
 ghost use Rattle.flow_world.specs.Happening.{Killed, Arrived, Taken, Answered, Runs, Fails, HeardIn};
 ghost use Rattle.flow_world.specs.Happening.{Vanishes, HeldAt, ActsAt, begins, with_net};
 ghost use Rattle.flow_world.specs.Starting.{Starts};
@@ -24,6 +26,7 @@ use crate::place::Place;
 use crate::put::{put, put_kept};
 use crate::script::Script;
 use crate::starting::{first_boots, fresh_disks, fresh_places};
+use crate::teller::{Teller, unless_failed};
 use flow_base::ids::{CellId, ProcId};
 use flow_base::memory::NoMemory;
 use flow_code::program::Code;
@@ -37,6 +40,7 @@ use flow_valid::program::ClassProgram;
 use flow_value::value::{Outcome, Value};
 use flow_worldfile::{Act, World0};
 use std::alloc::Global;
+use std::snapshot::Snapshot;
 
 /// A world: its classes, its processes and what is outside of them, and how far its run has come.
 #[derive(Drop)]
@@ -104,14 +108,16 @@ impl World {
         self.ended
     }
 
-    #[tactic(auto, using(flow_machine::proofs::Causes::cause_before))]
     /// Runs the next event and puts its lines. With no event pending and no line of the script left it is idle, and else,
-    /// with as many events run as the bound, the bound is reached; neither puts a line, and both are answered again.
+    /// with as many events run as the bound, the bound is reached; neither puts a line, and both are answered again. Where a
+    /// put fails the event goes on to its end, with no line more, and then that fault is answered.
     pub fn event<L: LineOut>(&mut self, out: &mut L) -> Result<Event, RunFault>
         requires { self.old.ended ≡ false }
         ensures means { MeansEvent (world_seen self.old) result (world_seen self.new) }
-        ensures does { IfOk result (λ e. EventDoes L.puts e
-            (world_seen self.old) out.old (world_seen self.new) out.new) }
+        ensures does { IfOk result (λ e. EventDoes (tells L.puts) e
+            (world_seen self.old) (whole out.old) (world_seen self.new) (whole out.new)) }
+        ensures breaks { IsErrOf result Failed → Breaks (tells L.puts)
+            (world_seen self.old) (whole out.old) (world_seen self.new) (failed out.new) }
         ensures cause { RunCause (L.faults out.old) (L.faults out.new) result }
         ensures kept { L.kept out.new ≡ L.kept out.old }
     {
@@ -121,13 +127,48 @@ impl World {
         if self.ran >= self.events {
             return Ok(Event::BoundReached);
         }
-        match self.comes(time, scripted, out)? {
+        match self.carries_out(time, scripted, out)? {
             Burst::Spent => Ok(Event::Spent),
             Burst::Rested => {
                 self.ended = false;
                 Ok(Event::Ran)
             }
         }
+    }
+
+    /// Carries out what comes next to its end. The fault of a put is answered then.
+    fn carries_out<L: LineOut>(
+        &mut self,
+        time: u64,
+        scripted: bool,
+        out: &mut L,
+    ) -> Result<Burst, RunFault>
+        requires { self.old.ran < self.old.events }
+        ensures comes { IfOk result (λ e. Comes (tells L.puts) scripted (begins time
+            (world_seen self.old)) (whole out.old) e (world_seen self.new) (whole out.new)) }
+        ensures breaks { IsErrOf result Failed → (e : Ended) × Comes (tells L.puts) scripted (begins time
+            (world_seen self.old)) (whole out.old) e (world_seen self.new) (failed out.new) }
+        ensures ended { self.new.ended ≡ true }
+        ensures bound { self.new.events ≡ self.old.events }
+        ensures ran { OnOk result (self.new.ran ≡ self.old.ran + 1) }
+        ensures cause { RunCause (L.faults out.old) (L.faults out.new) result }
+        ensures kept { L.kept out.new ≡ L.kept out.old }
+    {
+        let before = Snapshot::of(&*out);
+        let mut teller = Teller {
+            out,
+            fault: None,
+            before,
+        };
+        let burst = self.comes(time, scripted, &mut teller);
+        let Teller {
+            out,
+            fault,
+            before: _,
+        } = teller;
+        // No effect at run time. The proof reads what `out` is from this use of it.
+        let _ = &*out;
+        unless_failed(burst, fault)
     }
 
     /// The time of what comes next, and whether it is a line of the script: one comes before all pending events of the

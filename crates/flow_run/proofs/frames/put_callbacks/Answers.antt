@@ -1,4 +1,4 @@
-use Rattle.std.proofs.Common.{rules, map, drop, sym, subst, arith}
+use Rattle.std.proofs.Common.{rules, map, sym, subst, arith}
 use Rattle.std.proofs.lemmas.List.{drop_more, drop_all}
 use Rattle.flow_world.specs.Around.{Puts, no_line, more_lines}
 use Rattle.flow_run.specs.Tracing.{callback_line}

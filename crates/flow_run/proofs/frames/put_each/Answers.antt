@@ -1,8 +1,8 @@
-use Rattle.std.proofs.Common.{rules, ◌≡◌, ◌+◌, ◌∷◌, drop, get_or, sym, ap, ◌∙◌, subst, arith}
+use Rattle.std.proofs.Common.{rules, ◌+◌, drop, sym, subst, arith}
 use Rattle.std.proofs.lemmas.List.{drop_more, drop_all}
 use Rattle.flow_world.specs.Around.{Puts, no_line}
 use Rattle.flow_world.proofs.Putting.{puts_more}
-use Rattle.flow_run.specs.Tracing.{frames_lines, own_lines}
+use Rattle.flow_run.specs.Tracing.{frames_lines}
 use Rattle.flow_run.proofs.frames.put_each.Goals as goal
 
 pub loop-frame-preserved : goal.loop-frame-preserved

@@ -1,5 +1,4 @@
-use Rattle.std.proofs.Common.{◌≡◌, ◌≤◌, List, drop}
-use Rattle.flow_trace.specs.declared.line.Line.{Line}
+use Rattle.std.proofs.Common.{◌≡◌, ◌≤◌, drop}
 use Rattle.flow_world.specs.Around.{Puts}
 use Rattle.flow_run.specs.Tracing.{frames_lines}
 use Rattle.flow_run.proofs.frames.put_each.Given as goal

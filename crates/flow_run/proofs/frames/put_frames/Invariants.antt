@@ -1,6 +1,5 @@
-use Rattle.std.proofs.Common.{◌≡◌, ◌≤◌, ◌-◌, ℕ, List}
+use Rattle.std.proofs.Common.{◌≡◌, ◌≤◌, ◌-◌}
 use Rattle.std.specs.List.{flat_map, range_with_len}
-use Rattle.flow_trace.specs.declared.line.Line.{Line}
 use Rattle.flow_world.specs.Around.{Puts}
 use Rattle.flow_world.specs.Worlds.{world_seen}
 use Rattle.flow_run.specs.Tracing.{process_lines, world_lines}

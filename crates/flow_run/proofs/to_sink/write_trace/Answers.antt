@@ -1,9 +1,10 @@
 use Rattle.std.proofs.Common.{rules, sym, ap, subst, ◌∙◌}
 use Rattle.std.proofs.lemmas.Result.{IfOk-weaker}
 use Rattle.flow_trace.specs.Out.{Grows}
-use Rattle.flow_run.specs.Tracing.{Traces}
+use Rattle.flow_run.specs.Tracing.{Traces, TracesPart}
 use Rattle.flow_run.specs.Written.{put_bytes}
-use Rattle.flow_run.proofs.MovedEvents.{traces_by}
+use Rattle.flow_world.specs.Telling.{tells, whole, failed}
+use Rattle.flow_run.proofs.MovedTraces.{seen_of, told_by, traces_by, part_by}
 use Rattle.flow_run.proofs.to_sink.write_trace.Goals as goal
 
 pub returns-clause-traces : goal.returns-clause-traces
@@ -11,9 +12,17 @@ returns-clause-traces g c =
     let name = ap (λ k. k.0) c.put_trace-ending.ensures.kept in
     IfOk-weaker c.put_trace-ending.result _ _
     (λ ending t.
-    let moved = traces_by (λ w. (g.S.Sink.seen w.out.now).written) _ put_bytes (λ a b l p. p.1.whole) c.args.with_frames c.args.classes c.args.world _ ending _ t in
-    subst (λ v. Traces put_bytes c.args.with_frames c.args.classes c.args.world (g.S.Sink.seen c.args.out.now).written ending (g.S.Sink.seen v).written) (search rules) moved)
+    let moved = traces_by (seen_of (λ w. (g.S.Sink.seen w.out.now).written)) _ (tells put_bytes)
+    (told_by (λ w. (g.S.Sink.seen w.out.now).written) _ put_bytes (λ a b l answer p. p.1)) c.args.with_frames c.args.classes c.args.world _ ending _ t in
+    subst (λ v. Traces (tells put_bytes) c.args.with_frames c.args.classes c.args.world (whole (g.S.Sink.seen c.args.out.now).written) ending (whole (g.S.Sink.seen v).written)) (search rules) moved)
     c.put_trace-ending.ensures.traces
+
+pub returns-clause-part : goal.returns-clause-part
+returns-clause-part g c = λ fails.
+    let name = ap (λ k. k.0) c.put_trace-ending.ensures.kept in
+    let moved = part_by (seen_of (λ w. (g.S.Sink.seen w.out.now).written)) _ (tells put_bytes)
+    (told_by (λ w. (g.S.Sink.seen w.out.now).written) _ put_bytes (λ a b l answer p. p.1)) c.args.with_frames c.args.classes c.args.world _ _ (c.put_trace-ending.ensures.part fails) in
+    subst (λ v. TracesPart (tells put_bytes) c.args.with_frames c.args.classes c.args.world (whole (g.S.Sink.seen c.args.out.now).written) (failed (g.S.Sink.seen v).written)) (search rules) moved
 
 pub returns-clause-last : goal.returns-clause-last
 returns-clause-last g c =

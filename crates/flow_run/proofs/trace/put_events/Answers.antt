@@ -1,8 +1,10 @@
 use Rattle.std.proofs.Common.{rules, ◌≡◌, refl, subst, arith}
 use Rattle.flow_world.specs.declared.event.Event.TheVariants.{Ran, Idle, BoundReached, Spent}
 use Rattle.flow_world.specs.Happening.{EventDoes}
+use Rattle.flow_world.specs.Telling.{tells, whole}
 use Rattle.flow_world.specs.Worlds.{world_seen}
-use Rattle.flow_run.specs.Tracing.{no_event, one_more}
+use Rattle.flow_run.specs.Tracing.{no_event, one_more, some}
+use Rattle.flow_run.proofs.Parts.{part_of_event}
 use Rattle.flow_run.proofs.trace.put_events.Goals as goal
 
 pub events-init : goal.events-init
@@ -18,9 +20,9 @@ returns-in-Idle-clause-goes g c =
     let is : c.in_ok-event.field-0 ≡ Idle = search rules in
     record {
       last = world_seen c.events.world;
-      before = c.events.out;
+      before = whole c.events.out;
       goes = c.events.invariant.goes;
-      ends = subst (λ e. EventDoes g.L.LineOut.puts e (world_seen c.events.world) c.events.out (world_seen c.event.new.self) c.event.new.out) is c.in_ok-event.ensures.does;
+      ends = subst (λ e. EventDoes (tells g.L.LineOut.puts) e (world_seen c.events.world) (whole c.events.out) (world_seen c.event.new.self) (whole c.event.new.out)) is c.in_ok-event.ensures.does;
     }
 
 pub returns-in-BoundReached-clause-goes : goal.returns-in-BoundReached-clause-goes
@@ -28,9 +30,9 @@ returns-in-BoundReached-clause-goes g c =
     let is : c.in_ok-event.field-0 ≡ BoundReached = search rules in
     record {
       last = world_seen c.events.world;
-      before = c.events.out;
+      before = whole c.events.out;
       goes = c.events.invariant.goes;
-      ends = subst (λ e. EventDoes g.L.LineOut.puts e (world_seen c.events.world) c.events.out (world_seen c.event.new.self) c.event.new.out) is c.in_ok-event.ensures.does;
+      ends = subst (λ e. EventDoes (tells g.L.LineOut.puts) e (world_seen c.events.world) (whole c.events.out) (world_seen c.event.new.self) (whole c.event.new.out)) is c.in_ok-event.ensures.does;
     }
 
 pub returns-in-Spent-clause-goes : goal.returns-in-Spent-clause-goes
@@ -38,9 +40,9 @@ returns-in-Spent-clause-goes g c =
     let is : c.in_ok-event.field-0 ≡ Spent = search rules in
     record {
       last = world_seen c.events.world;
-      before = c.events.out;
+      before = whole c.events.out;
       goes = c.events.invariant.goes;
-      ends = subst (λ e. EventDoes g.L.LineOut.puts e (world_seen c.events.world) c.events.out (world_seen c.event.new.self) c.event.new.out) is c.in_ok-event.ensures.does;
+      ends = subst (λ e. EventDoes (tells g.L.LineOut.puts) e (world_seen c.events.world) (whole c.events.out) (world_seen c.event.new.self) (whole c.event.new.out)) is c.in_ok-event.ensures.does;
     }
 
 pub events-preserved : goal.events-preserved
@@ -51,6 +53,17 @@ events-preserved g c =
       risen = search rules;
       same = search rules;
       goes = one_more c.events.invariant.goes
-          (subst (λ e. EventDoes g.L.LineOut.puts e (world_seen c.events.world) c.events.out (world_seen c.event.new.self) c.event.new.out) is c.in_ok-event.ensures.does)
+          (subst (λ e. EventDoes (tells g.L.LineOut.puts) e (world_seen c.events.world) (whole c.events.out) (world_seen c.event.new.self) (whole c.event.new.out)) is c.in_ok-event.ensures.does)
           c.in_ok-put_frames_if-in-Ran.ensures.puts;
     }
+
+pub returns-in_err-event-clause-part : goal.returns-in_err-event-clause-part
+returns-in_err-event-clause-part g c = λ failed.
+    part_of_event g.L.LineOut.puts c.args.with_frames _ _ _ (whole c.args.out.now) (whole c.events.out) _ c.events.invariant.goes (c.event.ensures.breaks (search rules))
+
+pub returns-in_err-put_frames_if-in-Ran-clause-part : goal.returns-in_err-put_frames_if-in-Ran-clause-part
+returns-in_err-put_frames_if-in-Ran-clause-part g c = λ failed.
+    let is : c.in_ok-event.field-0 ≡ Ran = search rules in
+    some (one_more c.events.invariant.goes
+    (subst (λ e. EventDoes (tells g.L.LineOut.puts) e (world_seen c.events.world) (whole c.events.out) (world_seen c.event.new.self) (whole c.event.new.out)) is c.in_ok-event.ensures.does)
+    (c.put_frames_if.ensures.part (search rules)))

@@ -7,13 +7,15 @@ use Rattle.flow_top.proofs.report.report_run.Goals as goal
 pub returns-in-Err : goal.returns-in-Err
 returns-in-Err g c =
     subst (ReportedRun c.args.run _ _) (sym c.run_fault_status.ensures)
-    (broke_off c.args.run _ _ c.in-Err.fault c.write_trace.ensures.grows (λ e. c.write_trace.ensures.cause.failed (c.in-Err.is ∙ ap Err e)))
+    (broke_off c.args.run _ _ c.in-Err.fault c.requires c.write_trace.ensures.grows (λ e. c.write_trace.ensures.part (c.in-Err.is ∙ ap Err e))
+    (λ e. c.write_trace.ensures.cause.failed (c.in-Err.is ∙ ap Err e)))
 
 pub returns-in-Err-flush : goal.returns-in-Err-flush
 returns-in-Err-flush g c =
     let grown = subst (λ w. Grows ((g.S.Sink.seen c.args.out.now).written) w) (sym c.flush.ensures.bytes) c.write_trace.ensures.grows in
     subst (ReportedRun c.args.run _ _) (sym c.fault_status.ensures)
-    (unflushed c.args.run _ _ c.in-Err-flush.fault grown (λ e. rose_after _ _ _ c.write_trace.ensures.cause.kept (c.flush.ensures.cause.failed (c.in-Err-flush.is ∙ ap Err e))))
+    (unflushed c.args.run _ _ _ c.in-Ok.ending c.in-Err-flush.fault c.requires c.in-Ok.ensures.traces c.flush.ensures.bytes grown
+    (λ e. rose_after _ _ _ c.write_trace.ensures.cause.kept (c.flush.ensures.cause.failed (c.in-Err-flush.is ∙ ap Err e))))
 
 pub returns : goal.returns
 returns g c =

@@ -1,6 +1,6 @@
 use Rattle.flow_views.proofs.Worlds.{frames_follow}
 use Rattle.flow_views.proofs.Told.{world_told}
-use Rattle.flow_views.proofs.Traced.{frames_traced}
+use Rattle.flow_views.proofs.Traced.{frames_traced, beginning_traced}
 use Rattle.flow_views.proofs.laws.frames_traced.Goals as goal
 
 pub returns-clause-frames : goal.returns-clause-frames
@@ -11,3 +11,6 @@ returns-clause-traces g c = frames_traced g.B.Boundary.rests g.B.Boundary.keeps 
 
 pub returns-clause-told : goal.returns-clause-told
 returns-clause-told g c = λ r. world_told g.B.Boundary.rests r
+
+pub returns-clause-part : goal.returns-clause-part
+returns-clause-part g c = beginning_traced g.B.Boundary.rests g.B.Boundary.keeps g.B.Boundary.is_code g.L.LineOut.puts

@@ -1,9 +1,9 @@
 use Rattle.std.proofs.Common.{rules, ◌≡◌, ap, ◌∙◌}
 use Rattle.std.proofs.lemmas.Result.{IfOk-weaker}
 use Rattle.flow_meaning.specs.Outside as meaning
-use Rattle.flow_world.specs.Around.{shows, wrote}
+use Rattle.flow_world.specs.Around.{Puts, shows, wrote}
 use Rattle.flow_world.specs.Changes.{seen}
-use Rattle.flow_world.proofs.Moved.{does_to}
+use Rattle.flow_world.proofs.MovedHosts.{does_to}
 use Rattle.flow_world.proofs.deed.acts.Goals as goal
 
 pub returns-clause-acts : goal.returns-clause-acts
@@ -21,7 +21,7 @@ returns-clause-acts g c =
     in
     record {
       me = h.me;
-      does = does_to (λ k. record { me = k.me; ports = k.ports.now; outside = seen k.outside.now; out = k.out.now }) meaning.host shows (wrote g.L.LineOut.puts) _ _ _ _ _ _ _ _ _ _ same does;
+      does = does_to (λ k. record { me = k.me; ports = k.ports.now; outside = seen k.outside.now; out = k.out.now }) meaning.host shows (wrote g.L.LineOut.puts) (λ k ls n. Puts g.L.LineOut.puts k.out.now ls n.out.now) (λ a b ls w. w) _ _ _ _ _ _ _ _ _ _ same does;
       up = c.up_after-place.ensures;
     })
     c.does-burst.ensures.does

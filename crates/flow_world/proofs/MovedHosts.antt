@@ -1,6 +1,7 @@
--- What a process and its host do is what they do where the host is seen as something else that shows and writes the same.
+-- What a process and its host do is what they do where the host is seen as something else that shows the same, and has written
+-- these lines where the host has.
 use Rattle.std.proofs.Common.{◌≡◌, ℕ, ap, subst}
-use Rattle.std.specs.Prelude.{◌+◌, ◌^◌, ℤ, ◌-ℤ◌, nat_le, Bool, true, false, List}
+use Rattle.std.specs.Prelude.{◌+◌, ◌^◌, ℤ, ◌-ℤ◌, nat_le, Bool, true, false, List, [], ◌∷◌}
 use Rattle.std.specs.declared.option.Option.{Option}
 use Rattle.std.specs.declared.option.Option.TheVariants.{None, Some}
 use Rattle.flow_base.specs.declared.ids.ActorId.{ActorId}
@@ -9,7 +10,7 @@ use Rattle.flow_trace.specs.declared.line.Line.{Line}
 use Rattle.flow_code.specs.declared.program.Code.{Code}
 use Rattle.flow_eval.specs.Predefined.{natural}
 use Rattle.flow_meaning.specs.Numbered.{Numbered}
-use Rattle.flow_meaning.specs.Asks.{DiskCall}
+use Rattle.flow_meaning.specs.Asks.{DiskCall, Request, Drew}
 use Rattle.flow_meaning.specs.Burst.{Host}
 use Rattle.flow_meaning.specs.Effects.{between, is_port, judged}
 use Rattle.flow_steps.specs.declared.call.Call.{Call}
@@ -20,41 +21,43 @@ use Rattle.flow_steps.specs.Doing.{unasked}
 use Rattle.flow_machine.specs.declared.host.Burst.{Burst}
 use Rattle.flow_machine.specs.declared.machine.Machine.{Machine}
 use Rattle.flow_machine.specs.Requests.{asked_of}
+use Rattle.flow_machine.specs.Hosting.{Serves}
 use Rattle.flow_machine.specs.Serving.{Thrown, DrawServed, DelayServed, DiskServed, PortOpened, ListenServed, SendServed, Served, ServedIf, may_send}
 use Rattle.flow_machine.specs.Bursts.{Bursts, rests, runs_out, asks, MainBursts}
 use Rattle.flow_world.specs.declared.deed.Deed.{Deed}
 use Rattle.flow_world.specs.declared.deed.Deed.TheVariants.{Boots, Stops, Delivers, Brings}
 use Rattle.flow_world.specs.Deeds.{Does, Follows}
 
-module _ {A B W : Type 0} (f : A → B) (serves : Host W) (shows : B → Numbered ℕ → W → Type 0) (wrote : B → List Line → B → Type 0) where
+module _ {A B W : Type 0} (f : A → B) (serves : Host W) (shows : B → Numbered ℕ → W → Type 0) (wrote : B → List Line → B → Type 0)
+    (written : A → List Line → A → Type 0) (as_well : (a b : A) (ls : List Line) → written a ls b → wrote (f a) ls (f b)) where
   abbrev shown : A → Numbered ℕ → W → Type 0
   shown a ps w = shows (f a) ps w
 
-  abbrev written : A → List Line → A → Type 0
-  written a ls b = wrote (f a) ls (f b)
+  serves_by : (r : Request) (a b : A) → Serves serves shown written r a b → Serves serves shows wrote r (f a) (f b)
+  serves_by r a b t = λ ps w s. (as_well a b _ (t ps w s).0, (t ps w s).1)
 
   thrown_by : (i : ActorId) (error : ℕ) (p q : Process) (a b : A) → Thrown serves shown written i error p a q b → Thrown serves shows wrote i error p (f a) q (f b)
   thrown_by i error p q a b t = record { thrown = t.thrown; quiet = ap f t.quiet }
 
   draw_by : (fits : Bool) (i : ActorId) (g : Goal) (lo : ℤ) (width : ℕ) (p q : Process) (a b : A)
       → DrawServed serves shown written fits i g lo width p a q b → DrawServed serves shows wrote fits i g lo width p (f a) q (f b)
-  draw_by true i g lo width p q a b t = record { number = t.number; drawn = t.drawn; given = t.given }
+  draw_by true i g lo width p q a b t = record { number = t.number; drawn = (serves_by Drew a b t.drawn.0, t.drawn.1); given = t.given }
   draw_by false i g lo width p q a b t = thrown_by i _ p q a b t
 
   delay_by : (fits : Bool) (i : ActorId) (g : Goal) (time : ℕ) (p q : Process) (a b : A)
       → DelayServed serves shown written fits i g time p a q b → DelayServed serves shows wrote fits i g time p (f a) q (f b)
-  delay_by true i g time p q a b t = record { cell = t.cell; given = t.given; served = t.served }
+  delay_by true i g time p q a b t = record { cell = t.cell; given = t.given; served = serves_by _ a b t.served }
   delay_by false i g time p q a b t = thrown_by i _ p q a b t
 
   disk_by : (asked : Option (DiskCall ℕ)) (i : ActorId) (g : Goal) (p q : Process) (a b : A)
       → DiskServed serves shown written asked i g p a q b → DiskServed serves shows wrote asked i g p (f a) q (f b)
-  disk_by (Some asked) i g p q a b t = record { cell = t.cell; given = t.given; served = t.served }
+  disk_by (Some asked) i g p q a b t = record { cell = t.cell; given = t.given; served = serves_by _ a b t.served }
   disk_by None i g p q a b t = thrown_by i _ p q a b t
 
   opened_by : (in_use : Bool) (i : ActorId) (g : Goal) (port : ℕ) (p q : Process) (a b : A)
       → PortOpened serves shown written in_use i g port p a q b → PortOpened serves shows wrote in_use i g port p (f a) q (f b)
   opened_by true i g port p q a b t = thrown_by i _ p q a b t
-  opened_by false i g port p q a b t = record { cell = t.cell; given = t.given; listens = t.listens }
+  opened_by false i g port p q a b t = record { cell = t.cell; given = t.given; listens = (as_well a b [] t.listens.0, t.listens.1) }
 
   listen_by : (fits : Bool) (i : ActorId) (g : Goal) (port : ℕ) (p q : Process) (a b : A)
       → ListenServed serves shown written fits i g port p a q b → ListenServed serves shows wrote fits i g port p (f a) q (f b)
@@ -63,17 +66,17 @@ module _ {A B W : Type 0} (f : A → B) (serves : Host W) (shows : B → Numbere
 
   send_by : (fits : Bool) (i : ActorId) (number port : ℕ) (text : List ℕ) (p q : Process) (a b : A)
       → SendServed serves shown written fits i number port text p a q b → SendServed serves shows wrote fits i number port text p (f a) q (f b)
-  send_by true i number port text p q a b t = record { goes = t.goes; served = t.served }
+  send_by true i number port text p q a b t = record { goes = t.goes; served = serves_by _ a b t.served }
   send_by false i number port text p q a b t = thrown_by i _ p q a b t
 
   served_by : (n : ℕ) (c : Call) (p q : Process) (a b : A) → Served serves shown written n c p a q b → Served serves shows wrote n c p (f a) q (f b)
-  served_by n (call.Line l) p q a b t = t
+  served_by n (call.Line l) p q a b t = (t.0, (as_well a b (l ∷ []) t.1.0, t.1.1))
   served_by n (call.Draw i g lo hi) p q a b t = draw_by (between (hi -ℤ lo) 1 (2 ^ 32)) i g lo (natural (hi -ℤ lo)) p q a b t
   served_by n (call.Delay i g ticks) p q a b t = delay_by (nat_le (p.time + natural ticks) (2 ^ 62)) i g (p.time + natural ticks) p q a b t
   served_by n (call.Listen i g port) p q a b t = listen_by (is_port port) i g (natural port) p q a b t
   served_by n (call.Disk i g request) p q a b t = disk_by (judged (asked_of request)) i g p q a b t
   served_by n (call.SendTo i number port text) p q a b t = send_by (may_send n number port) i (natural number) (natural port) text p q a b t
-  served_by n (call.Unlisten k) p q a b t = t
+  served_by n (call.Unlisten k) p q a b t = (t.0, (as_well a b [] t.1.0, t.1.1))
 
   served_if_by : (n : ℕ) (c : Option Call) (p q : Process) (a b : A) → ServedIf serves shown written n c p a q b → ServedIf serves shows wrote n c p (f a) q (f b)
   served_if_by n None p q a b t = (t.0, ap f t.1)
@@ -103,7 +106,7 @@ module _ {A B W : Type 0} (f : A → B) (serves : Host W) (shows : B → Numbere
   follows_by code (Delivers k o) m p q a b e t = bursts_by code m.processes _ q a b e t
   follows_by code (Brings k v) m p q a b e t = bursts_by code m.processes _ q a b e t
 
-  does_by : (code : Code) (now turns : ℕ) (d : Deed) (m : Machine) (a : A) (e : Burst) (n : Machine) (b : A)
+  pub does_by : (code : Code) (now turns : ℕ) (d : Deed) (m : Machine) (a : A) (e : Burst) (n : Machine) (b : A)
       → Does serves shown written code now turns d m a e n b → Does serves shows wrote code now turns d m (f a) e n (f b)
   does_by code now turns d m a e n b t = record {
     follows = follows_by code d m _ n.process a b e t.follows;

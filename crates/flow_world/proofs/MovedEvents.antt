@@ -1,5 +1,4 @@
--- What an event does, and the trace of classes in a world, are the same where what is written is seen as something else, if each
--- line that is put is put there too.
+-- What an event does is the same where what is written is seen as something else, if each line that is put is put there too.
 use Rattle.std.proofs.Common.{ℕ, ap}
 use Rattle.std.specs.Prelude.{Bool, true, false, List, [], ◌∷◌, Result, Ok}
 use Rattle.std.specs.declared.option.Option.{Option}
@@ -11,8 +10,6 @@ use Rattle.flow_trace.specs.declared.line.Line.{Line}
 use Rattle.flow_worldfile.specs.declared.world.Act.{Act}
 use Rattle.flow_worldfile.specs.declared.world.Act.TheVariants as act
 use Rattle.flow_worldfile.specs.declared.world.At.{At}
-use Rattle.flow_worldfile.specs.declared.world.World0.{World0}
-use Rattle.flow_class.specs.declared.class.RawClasses.{RawClasses}
 use Rattle.flow_code.specs.declared.program.Code.{Code}
 use Rattle.flow_timers.specs.Pending.{Pending}
 use Rattle.flow_simnet.specs.declared.packet.Packet.{Packet}
@@ -30,13 +27,11 @@ use Rattle.flow_world.specs.Around.{Inside, Puts, no_line, more_lines, shows, wr
 use Rattle.flow_world.specs.Changes.{Surroundings}
 use Rattle.flow_world.specs.Ending.{Seen}
 use Rattle.flow_world.specs.Happening.{Acts, RunsUnless, Runs, Killed, Ordered, Taken, Arrived, Answered, Happened, LineComes, EventComes, Comes, Happens, EventDoes}
-use Rattle.flow_run.specs.declared.ending.Ending.{Ending}
-use Rattle.flow_run.specs.Tracing.{Goes, no_event, one_more, Traces}
-use Rattle.flow_run.proofs.MovedHosts.{does_by}
+use Rattle.flow_world.proofs.MovedHosts.{does_by}
 
 module _ {A B : Type 0} (f : A → B) (puts : A → Line → Result (Unit {0}) OutFault → A → Type 0) (puts_there : B → Line → Result (Unit {0}) OutFault → B → Type 0)
     (there : (a b : A) (l : Line) → puts a l (Ok tt) b → puts_there (f a) l (Ok tt) (f b)) where
-  lines_by : (a b : A) (ls : List Line) → Puts puts a ls b → Puts puts_there (f a) ls (f b)
+  pub lines_by : (a b : A) (ls : List Line) → Puts puts a ls b → Puts puts_there (f a) ls (f b)
   lines_by a _ [] no_line = no_line
   lines_by a b (l ∷ ls) (more_lines {b = c} t rest) = more_lines (there a c l t) (lines_by c b ls rest)
 
@@ -136,11 +131,11 @@ module _ {A B : Type 0} (f : A → B) (puts : A → Line → Result (Unit {0}) O
   event_by [] w a e v b t = absurd t
   event_by (x ∷ xs) w a e v b t = happened_by x.what _ a e v b t
 
-  comes_by : (scripted : Bool) (w : Seen) (a : A) (e : Burst) (v : Seen) (b : A) → Comes puts scripted w a e v b → Comes puts_there scripted w (f a) e v (f b)
+  pub comes_by : (scripted : Bool) (w : Seen) (a : A) (e : Burst) (v : Seen) (b : A) → Comes puts scripted w a e v b → Comes puts_there scripted w (f a) e v (f b)
   comes_by true w a e v b t = line_by w.script w a e v b t
   comes_by false w a e v b t = event_by w.outside.timers.pending w a e v b t
 
-  happens_by : (w : Seen) (a : A) (e : Burst) (v : Seen) (b : A) → Happens puts w a e v b → Happens puts_there w (f a) e v (f b)
+  pub happens_by : (w : Seen) (a : A) (e : Burst) (v : Seen) (b : A) → Happens puts w a e v b → Happens puts_there w (f a) e v (f b)
   happens_by w a e v b t = record {
     time = t.time;
     scripted = t.scripted;
@@ -151,34 +146,8 @@ module _ {A B : Type 0} (f : A → B) (puts : A → Line → Result (Unit {0}) O
     after = t.after;
   }
 
-  does_event_by : (e : Event) (w : Seen) (a : A) (v : Seen) (b : A) → EventDoes puts e w a v b → EventDoes puts_there e w (f a) v (f b)
+  pub does_event_by : (e : Event) (w : Seen) (a : A) (v : Seen) (b : A) → EventDoes puts e w a v b → EventDoes puts_there e w (f a) v (f b)
   does_event_by Ran w a v b t = happens_by w a Rested v b t
   does_event_by Spent w a v b t = happens_by w a SpentBurst v b t
   does_event_by Idle w a v b t = (t.0, t.1, ap f t.2)
   does_event_by BoundReached w a v b t = (t.0, t.1, t.2, ap f t.3)
-
-  goes_by : (frames : Bool) (w : Seen) (a : A) (v : Seen) (b : A) → Goes puts frames w a v b → Goes puts_there frames w (f a) v (f b)
-  goes_by frames w a _ _ no_event = no_event
-  goes_by frames w a v d (one_more {u = u} {b = b} {c = c} goes does puts_frames) =
-      one_more (goes_by frames w a u b goes) (does_event_by Ran u b v c does) (lines_by c d _ puts_frames)
-
-  -- the trace of classes in a world
-  pub traces_by : (frames : Bool) (classes : RawClasses) (file : World0) (a : A) (e : Ending) (b : A)
-      → Traces puts frames classes file a e b → Traces puts_there frames classes file (f a) e (f b)
-  traces_by frames classes file a e b t =
-      let goes = t.goes in
-      record {
-        first = t.first;
-        left = t.left;
-        headed = f t.headed;
-        before = f t.before;
-        starts = t.starts;
-        head = there a t.headed _ t.head;
-        goes = record {
-          last = goes.last;
-          before = f goes.before;
-          goes = goes_by frames t.first t.headed goes.last goes.before goes.goes;
-          ends = does_event_by _ goes.last goes.before t.left t.before goes.ends;
-        };
-        ended = there t.before b _ t.ended;
-      }
