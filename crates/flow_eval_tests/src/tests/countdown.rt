@@ -80,7 +80,8 @@ fn returned(value: Expr) -> Stmt
 }
 
 fn if_stmt(test: Expr, then: Vec<Stmt>) -> Stmt
-    ensures { (k : Body) → stmt_of result k ≡ IfStmt start (expr_of test) (body_of then.items) k }
+    ensures { (k : Body) → stmt_of result k
+        ≡ IfStmt start (expr_of test) (body_of then.items) k }
 {
     Stmt {
         at: START,
@@ -97,7 +98,8 @@ fn zero(alloc: Global) -> Result<Vec<Stmt>, NoMemory>
 }
 
 fn zero_first(alloc: Global) -> Result<Stmt, NoMemory>
-    ensures { IfOk result (λ s. (k : Body) → stmt_of s k ≡ IfStmt start (BinaryExpr Eq n (IntExpr (pos 0))) (ReturnStmt start (IntExpr (pos 0)) End) k) }
+    ensures { let zero = IntExpr (pos 0) in IfOk result (λ s. (k : Body) → stmt_of s k
+        ≡ IfStmt start (BinaryExpr Eq n zero) (ReturnStmt start zero End) k) }
 {
     let test = with_int(alloc, Op::Eq, variable(alloc)?, 0)?;
     let then = zero(alloc)?;
@@ -105,7 +107,8 @@ fn zero_first(alloc: Global) -> Result<Stmt, NoMemory>
 }
 
 fn one_more(alloc: Global) -> Result<Expr, NoMemory>
-    ensures { IfOk result (λ e. expr_of e ≡ BinaryExpr Add (call_f (BinaryExpr Sub n (IntExpr (pos 1)))) (IntExpr (pos 1))) }
+    ensures { let one = IntExpr (pos 1) in IfOk result (λ e. expr_of e
+        ≡ BinaryExpr Add (call_f (BinaryExpr Sub n one)) one) }
 {
     let less = with_int(alloc, Op::Sub, variable(alloc)?, 1)?;
     with_int(alloc, Op::Add, call_f(alloc, less)?, 1)
@@ -121,7 +124,8 @@ fn body(alloc: Global) -> Result<Vec<Stmt>, NoMemory>
 }
 
 fn params(alloc: Global) -> Result<Vec<Param>, NoMemory>
-    ensures { IfOk result (λ v. map param_of v.items ≡ record { ty = IntType; name = word (codes "n") } ∷ []) }
+    ensures { IfOk result (λ v. map param_of v.items
+        ≡ record { ty = IntType; name = word (codes "n") } ∷ []) }
 {
     let mut params = Vec::new(alloc);
     params.push(Param {
@@ -145,7 +149,8 @@ fn countdown(alloc: Global) -> Result<FunctionDecl, NoMemory>
 }
 
 fn program(alloc: Global) -> Result<Plain, NoMemory>
-    ensures { IfOk result (λ p. (p.records.items ≡ []) × (map function_of p.functions.items ≡ countdown ∷ [])) }
+    ensures { IfOk result (λ p. (p.records.items ≡ [])
+        × (map function_of p.functions.items ≡ countdown ∷ [])) }
 {
     let mut functions = Vec::new(alloc);
     functions.push(countdown(alloc)?)?;
