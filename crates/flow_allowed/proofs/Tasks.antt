@@ -96,7 +96,7 @@ at_no_wait r f vars (Body (NewInstr q)) t h = refl
 at_no_wait r f vars o t h = absurd h
 
 -- the last of some operands
-last_fits : (r : RawTree) (types : CellTypes) (f : Frame) (n : ℕ) (qs : List Ref) (q : Ref) → OperandsFit r types f n (qs ++ q ∷ []) → (t : TypeTree) × NextOperand f (n + length qs) t × Fits r types (RefValue q.0 q.1) t
+pub last_fits : (r : RawTree) (types : CellTypes) (f : Frame) (n : ℕ) (qs : List Ref) (q : Ref) → OperandsFit r types f n (qs ++ q ∷ []) → (t : TypeTree) × NextOperand f (n + length qs) t × Fits r types (RefValue q.0 q.1) t
 last_fits r types f n [] q h = let z : n ≡ n + 0 = omega arith in (h.0.0, subst (λ b. NextOperand f b h.0.0) z h.0.1, h.0.2)
 last_fits r types f n (x ∷ qs) q h =
     let a = last_fits r types f (suc n) qs q h.1 in
@@ -109,7 +109,7 @@ kind_in t = kind.Future
 kind_is : (i k : ℕ) {x y : Kind} {s z : Spot} → Keep i s (x, k) ≡ Keep i z (y, k) → x ≡ y
 kind_is i k h = ap kind_in h
 
-next_is : (i : ℕ) (ts : List Task) → NextStep i ts → (rest : List Task) × (ts ≡ Run i ∷ rest)
+pub next_is : (i : ℕ) (ts : List Task) → NextStep i ts → (rest : List Task) × (ts ≡ Run i ∷ rest)
 next_is i (Run j ∷ ts) h = (ts, ap (λ n. Run n ∷ ts) (sym h))
 next_is i ts h = absurd h
 
@@ -120,7 +120,7 @@ module _ (r : RawTree) (code : Code) (program : IsProgram r code) (ls : List Lin
   abbrev k : Kept r p
   k = now.kept
 
-  rules : ClassRules r (heads r)
+  pub rules : ClassRules r (heads r)
   rules = class_rules r program.whole.valid.valid program.whole.valid.written (functions_kept r program.whole.valid.valid program.whole.valid.functions)
 
   abbrev code_by : CodedBy r code.classes.items
@@ -131,7 +131,7 @@ module _ (r : RawTree) (code : Code) (program : IsProgram r code) (ls : List Lin
     q = popped o.below p
 
     -- where an actor is in no state of a wait, it stands at the instruction of its frame
-    instruction_is : (i : ℕ) (e : Entry) (f : Frame) (s : Stand) → (a : Acts r start.heap q i e f) → a.memory.state ≡ 0 → StandsNow code.classes.items (actor_id i) start s → s.instruction ≡ f.instr
+    pub instruction_is : (i : ℕ) (e : Entry) (f : Frame) (s : Stand) → (a : Acts r start.heap q i e f) → a.memory.state ≡ 0 → StandsNow code.classes.items (actor_id i) start s → s.instruction ≡ f.instr
     instruction_is i e f s a state stands =
         stands.stands.instruction ∙ ap (λ x. x.instruction) (same_of (sym stands.at ∙ a.framed)) ∙ by_position a.stands.position
       where
@@ -140,18 +140,18 @@ module _ (r : RawTree) (code : Code) (program : IsProgram r code) (ls : List Lin
         by_position (at_wait g z w) = absurd (zero_suc (sym z ∙ state))
 
     -- an actor that stands at no wait is in no state of one
-    no_state : (i : ℕ) (e : Entry) (f : Frame) → (a : Acts r start.heap q i e f) → (wait_spot f).group ≡ 0 → a.memory.state ≡ 0
+    pub no_state : (i : ℕ) (e : Entry) (f : Frame) → (a : Acts r start.heap q i e f) → (wait_spot f).group ≡ 0 → a.memory.state ≡ 0
     no_state i e f a none = by_position a.stands.position
       where
         by_position : Position a.memory f → a.memory.state ≡ 0
         by_position (here z b n) = z
         by_position (at_wait g z w) = w ∙ none
 
-    shown_off : ((z : _) (j : ℕ) → Rattle.flow_meaning.specs.Occ.in_task z j o.top ≡ 0) → Shown r ls nothing_in_hand start q
+    pub shown_off : ((z : _) (j : ℕ) → Rattle.flow_meaning.specs.Occ.in_task z j o.top ≡ 0) → Shown r ls nothing_in_hand start q
     shown_off none = as_many_shown r ls _ nothing_in_hand start q (λ z j. let a = none z j in omega (arith, a)) o.shown
 
     -- the next step of an actor
-    run_allowed : (i : ℕ) → o.top ≡ Run i → StateIsNone start.heap i → MayGo code r ls start q i
+    pub run_allowed : (i : ℕ) → o.top ≡ Run i → StateIsNone start.heap i → MayGo code r ls start q i
     run_allowed i is state = by_operands a.entry.operands refl
       where
         tops : p.core.tasks ≡ Run i ∷ o.below
@@ -193,7 +193,7 @@ module _ (r : RawTree) (code : Code) (program : IsProgram r code) (ls : List Lin
             })
 
     -- a branch that was taken
-    give_allowed : (i b : ℕ) (v : Outcome) → o.top ≡ Give i b (outcome_of v) → MayGet code r ls start q i b v
+    pub give_allowed : (i b : ℕ) (v : Outcome) → o.top ≡ Give i b (outcome_of v) → MayGet code r ls start q i b v
     give_allowed i b v is = by_outcome v is
       where
         with_actor : (x : _) → p.core.tasks ≡ Give i b x ∷ o.below → (e : Entry) × ((f : Frame) × (Acts r start.heap q i e f × MayBranch code r ls start q i b e f))
@@ -304,7 +304,7 @@ module _ (r : RawTree) (code : Code) (program : IsProgram r code) (ls : List Lin
             place_there r.records (typed_by k.types) a.frame place a.doing.1.holds (root_listed a.frame.code text.path place root (both_parts (names.has_place a.frame.code) (path_place text.path) (expr_places text.expr) named).0)
 
     -- an operand, by an actor whose task is next
-    keep_allowed : (i n cell : ℕ) → SameTask q (task.Keep (actor_id i) n (record { 0 = cell })) o.top → StateIsNone start.heap i → MayKeepOne code r start q i cell o.top
+    pub keep_allowed : (i n cell : ℕ) → SameTask q (task.Keep (actor_id i) n (record { 0 = cell })) o.top → StateIsNone start.heap i → MayKeepOne code r start q i cell o.top
     keep_allowed i n cell same state = record {
       rest = rest;
       next = ap (λ ts. popped ts p) under.1;
@@ -380,7 +380,7 @@ module _ (r : RawTree) (code : Code) (program : IsProgram r code) (ls : List Lin
     may_go_on (task.Catch i e) taken o state done = may_plainly (task.Catch i e) tt taken o
     may_go_on (task.Close i v) taken o state done = may_plainly (task.Close i v) tt taken o
 
-  same_wait : (t : stack.Task) (start : Process) → TopTaken t m start → InNoWait m.heap t → InNoWait start.heap t
+  pub same_wait : (t : stack.Task) (start : Process) → TopTaken t m start → InNoWait m.heap t → InNoWait start.heap t
   same_wait (task.Run i) start taken h = subst (λ (x : Process). StateIsNone x.heap i.0) (sym taken.rest) h
   same_wait (task.Keep i c j) start taken h = subst (λ (x : Process). StateIsNone x.heap i.0) (sym taken.rest) h
   same_wait (task.Give i b v) start taken h = tt
@@ -391,7 +391,7 @@ module _ (r : RawTree) (code : Code) (program : IsProgram r code) (ls : List Lin
   same_wait (task.Catch i e) start taken h = tt
   same_wait (task.Close i v) start taken h = tt
 
-  still_sorted : (t : stack.Task) (start : Process) → TopTaken t m start → Sorted start.heap
+  pub still_sorted : (t : stack.Task) (start : Process) → TopTaken t m start → Sorted start.heap
   still_sorted t start taken =
       let s = now.sorted in
       subst (λ (z : Process). Sorted z.heap) (sym taken.rest) (record { cells = s.cells; streams = s.streams; actors = s.actors; frames = s.frames; ports = s.ports })

@@ -63,7 +63,7 @@ use Rattle.flow_asked.specs.Next as law
 use Rattle.flow_asked.specs.Next.{MayAskNext, MayAffect, MayCallOn, MayChooseBy}
 
 -- as many operands as callbacks
-as_many : (n : ℕ) (qs : List Ref) → length (held_from n qs) ≡ length qs
+pub as_many : (n : ℕ) (qs : List Ref) → length (held_from n qs) ≡ length qs
 as_many n [] = refl
 as_many n (q ∷ qs) = ap suc (as_many (suc n) qs)
 

@@ -1,5 +1,5 @@
 -- The burst that begins with the call of `main` is a burst of the class machine.
-use Rattle.std.proofs.Common.{◌≡◌, ℕ, Bool, true, false, List, [], ◌∷◌, ◌++◌, refl, sym, ap, ◌∙◌, subst, if◌then◌else◌}
+use Rattle.std.proofs.Common.{◌≡◌, ◌⊎◌, inl, inr, ℕ, Bool, true, false, List, [], ◌∷◌, ◌++◌, refl, sym, ap, ◌∙◌, subst, if◌then◌else◌}
 use Rattle.std.specs.Prelude.{pos, nat_lt, ◌-◌}
 use Rattle.std.specs.declared.option.Option.TheVariants.{None, Some}
 use Rattle.flow_base.specs.declared.ids.ProcId.{ProcId}
@@ -50,7 +50,7 @@ use Rattle.flow_kept.proofs.Once.{sorted_stays}
 use Rattle.flow_kept.proofs.Quiet.{Quiet, Speaks, quiet_then, quiet_is, quiet_speaks, speaks_is, speaks_stay, tells, on_heap_quiet, turned_quiet, doing_quiet}
 use Rattle.flow_kept.proofs.Rising.{and_then, made_stays, hold_stays, hold_all_stays, started_stays}
 use Rattle.flow_allowed.specs.Tasking.{IsProgram}
-use Rattle.flow_bursts.specs.Bursting.{Steadfast, and_more, Follows}
+use Rattle.flow_bursts.specs.Bursting.{Steadfast, Abroad, and_more, Follows}
 use Rattle.flow_boundaries.specs.Bringing.{Resting}
 use Rattle.flow_brought.proofs.Following.{event_follows}
 use Rattle.flow_goes.proofs.Goes.{program_follows}
@@ -126,56 +126,73 @@ module _ {A W : Type 0} (serves : Host W) (shows : A → Numbered ℕ → W → 
     world_after : shows a booted.core.ports w
     world_after = subst (λ ps. shows a ps w) (sym (boot_ports r ((classes r).fresh (classes r).main (IntValue (pos me.0) ∷ [])) (on_core (begin turns) p))) world
 
-    -- no turn is left for the call
-    waits_goes : (e : Burst) (n told k : Process) (b c : A) → MainCalled code me start n → nat_lt 0 start.left ≡ false → n ≡ turned start → memory.Follows r [] nothing_in_hand n booted
-        → ServedIf serves shows wrote processes n.asked (unasked n) a told b → Bursts serves shows wrote code processes told b e k c → Goes [] a booted w e k c
-    waits_goes e n told k b c calls t is (memory.shows s) served bursts = absurd (both_ways (ap (λ (z : Process). z.spent) is ∙ ap (λ x. (if x then record start { left = start.left - 1 } else record start { spent = true }).spent) t) s.unspent)
-    waits_goes e n told k b c calls t is (memory.ends s) served bursts =
+    -- no turn is left for the call: the event is spent
+    waits_spent : (n told : Process) (b : A) → nat_lt 0 start.left ≡ false → n ≡ turned start → memory.Follows r [] nothing_in_hand n booted
+        → ServedIf serves shows wrote processes n.asked (unasked n) a told b → AreSpent [] told booted × (told ≡ unasked n) × (b ≡ a)
+    waits_spent n told b t is (memory.shows s) served = absurd (both_ways (ap (λ (z : Process). z.spent) is ∙ ap (λ x. (if x then record start { left = start.left - 1 } else record start { spent = true }).spent) t) s.unspent)
+    waits_spent n told b t is (memory.ends s) served =
         let none : n.asked ≡ None = ap (λ (z : Process). z.asked) is ∙ turned_asked start ∙ rest.shown.asked in
         let quiet : (told ≡ unasked n) × (b ≡ a) = subst (λ o. ServedIf serves shows wrote processes o (unasked n) a told b) none served in
-        let asked : told.asked ≡ None = ap (λ (z : Process). z.asked) quiet.0 in
-        let are : AreSpent [] told booted = record {
-          spent = ap (λ (z : Process). z.spent) quiet.0 ∙ s.spent;
-          halted = s.halted;
-          lines = s.lines ∙ ap (λ o. [] ++ memory.told o) (none ∙ sym asked);
-        } in
-        subst (λ z. Goes [] z booted w e k c) quiet.1
-        (event_follows serves shows wrote code processes r program steady now told k b c booted w e
-        (record { follows = memory.ends are; sorted = still_sorted n told calls quiet.0; poised = still_poised n told calls quiet.0; asked = asked; time = at_time n told calls quiet.0 })
-        kept (subst (λ z. shows z booted.core.ports w) (sym quiet.1) world_after) clock time among bursts)
+        let asked : told.asked ≡ None = ap (λ (z : Process). z.asked) quiet.0 in (
+          record {
+            spent = ap (λ (z : Process). z.spent) quiet.0 ∙ s.spent;
+            halted = s.halted;
+            lines = s.lines ∙ ap (λ o. [] ++ memory.told o) (none ∙ sym asked);
+          },
+          quiet.0,
+          quiet.1,
+        )
 
-    -- a turn is left, and the line of the start is written
-    line_goes : (e : Burst) (n told k : Process) (b c : A) (l : Line) → MainCalled code me start n → n.asked ≡ Some (call.Line l) → Shown r [] nothing_in_hand n booted
-        → Served serves shows wrote processes (call.Line l) (unasked n) a told b → Bursts serves shows wrote code processes told b e k c → Goes [] a booted w e k c
-    line_goes e n told k b c l calls asked s served bursts =
+    waits_goes : (e : Burst) (n told k : Process) (b c : A) → MainCalled code me start n → nat_lt 0 start.left ≡ false → n ≡ turned start → memory.Follows r [] nothing_in_hand n booted
+        → ServedIf serves shows wrote processes n.asked (unasked n) a told b → Bursts serves shows wrote code processes told b e k c → Goes [] a booted w e k c
+    waits_goes e n told k b c calls t is follows_it served bursts =
+        let x = waits_spent n told b t is follows_it served in
+        subst (λ z. Goes [] z booted w e k c) x.2
+        (event_follows serves shows wrote code processes r program steady now told k b c booted w e
+        (record { follows = memory.ends x.0; sorted = still_sorted n told calls x.1; poised = still_poised n told calls x.1; asked = ap (λ (z : Process). z.asked) x.1; time = at_time n told calls x.1 })
+        kept (subst (λ z. shows z booted.core.ports w) (sym x.2) world_after) clock time among bursts)
+
+    -- a turn is left, and the line of the start is written: a burst begins
+    line_abroad : (n told : Process) (b : A) (l : Line) → MainCalled code me start n → n.asked ≡ Some (call.Line l) → Shown r [] nothing_in_hand n booted
+        → Served serves shows wrote processes (call.Line l) (unasked n) a told b → wrote a (l ∷ []) b × (told ≡ unasked n) × Abroad serves shows wrote code processes r (l ∷ []) told b booted w
+    line_abroad n told b l calls asked s served =
         let x = line_written serves shows wrote r nothing_in_hand [] n told a b booted w processes l s asked world_after served in
-        let at = at_time n told calls served.0 in
-        after_line l a b c booted w e k x.0
-        (program_follows serves shows wrote code processes r program steady (l ∷ []) told k b c booted w e (record {
-          between = record {
-            shown = x.1.shown;
-            sorted = still_sorted n told calls served.0;
-            kept = subst (λ h. UnlessStopped h (Kept r booted)) x.1.shown.goes kept;
-          };
-          asked = x.1.served;
-          world = x.1.world;
-          time = at ∙ time;
-          clock = subst (λ t. program_time t ≡ pos t) (sym at) clock;
-          among = among;
-          poised = still_poised n told calls served.0;
-        }) bursts)
+        let at = at_time n told calls served.0 in (
+          x.0,
+          served.0,
+          record {
+            between = record {
+              shown = x.1.shown;
+              sorted = still_sorted n told calls served.0;
+              kept = subst (λ h. UnlessStopped h (Kept r booted)) x.1.shown.goes kept;
+            };
+            asked = x.1.served;
+            world = x.1.world;
+            time = at ∙ time;
+            clock = subst (λ t. program_time t ≡ pos t) (sym at) clock;
+            among = among;
+            poised = still_poised n told calls served.0;
+          },
+        )
+
+    started_unspent : (n : Process) → nat_lt 0 start.left ≡ true → MainStarts code me (turned start) n → n.spent ≡ true → ⊥
+    started_unspent n t st spent =
+        let one : n.spent ≡ st.between.spent = ap (λ (z : Process). z.spent) st.starts.told in
+        let two : st.between.spent ≡ (turned start).spent = ap (λ (z : Process). z.spent) st.enrols.made in
+        let unspent : (turned start).spent ≡ false = ap (λ x. (if x then record start { left = start.left - 1 } else record start { spent = true }).spent) t in
+        both_ways spent (one ∙ two ∙ unspent)
+
+    -- where it starts, the line of the start is asked for
+    start_line : (n : Process) → (st : MainStarts code me (turned start) n) → n.asked ≡ Some (call.Line (line.Start st.actor st.starts.of.name))
+    start_line n st = ap (λ (z : Process). z.asked) st.starts.told
 
     starts_goes : (e : Burst) (n told k : Process) (b c : A) → MainCalled code me start n → nat_lt 0 start.left ≡ true → MainStarts code me (turned start) n → memory.Follows r [] nothing_in_hand n booted
         → ServedIf serves shows wrote processes n.asked (unasked n) a told b → Bursts serves shows wrote code processes told b e k c → Goes [] a booted w e k c
     starts_goes e n told k b c calls t st (memory.shows s) served bursts =
         let l = line.Start st.actor st.starts.of.name in
-        let asked : n.asked ≡ Some (call.Line l) = ap (λ (z : Process). z.asked) st.starts.told in
-        line_goes e n told k b c l calls asked s (subst (λ o. ServedIf serves shows wrote processes o (unasked n) a told b) asked served) bursts
-    starts_goes e n told k b c calls t st (memory.ends s) served bursts =
-        let one : n.spent ≡ st.between.spent = ap (λ (z : Process). z.spent) st.starts.told in
-        let two : st.between.spent ≡ (turned start).spent = ap (λ (z : Process). z.spent) st.enrols.made in
-        let unspent : (turned start).spent ≡ false = ap (λ x. (if x then record start { left = start.left - 1 } else record start { spent = true }).spent) t in
-        absurd (both_ways s.spent (one ∙ two ∙ unspent))
+        let x = line_abroad n told b l calls (start_line n st) s (subst (λ o. ServedIf serves shows wrote processes o (unasked n) a told b) (start_line n st) served) in
+        after_line l a b c booted w e k x.0 (program_follows serves shows wrote code processes r program steady (l ∷ []) told k b c booted w e x.2 bursts)
+    starts_goes e n told k b c calls t st (memory.ends s) served bursts = absurd (started_unspent n t st s.spent)
 
     pub boot_goes : (e : Burst) (k : Process) (c : A) → MainBursts serves shows wrote code processes me start a e k c → Goes [] a booted w e k c
     boot_goes e k c x = by_call x.calls
@@ -183,3 +200,16 @@ module _ {A W : Type 0} (serves : Host W) (shows : A → Numbered ℕ → W → 
         by_call : MainCalled code me start x.called → Goes [] a booted w e k c
         by_call (main_waits t is) = waits_goes e x.called x.told k x.between c x.calls t is (follows x.called x.calls) x.line x.bursts
         by_call (main_starts t st) = starts_goes e x.called x.told k x.between c x.calls t st (follows x.called x.calls) x.line x.bursts
+
+    -- after the call and its line a burst begins, or the event is spent
+    pub main_begins : (n told : Process) (b : A) → MainCalled code me start n → ServedIf serves shows wrote processes n.asked (unasked n) a told b
+        → ((l : Line) × (told ≡ unasked n) × Abroad serves shows wrote code processes r (l ∷ []) told b booted w) ⊎ (told.spent ≡ true)
+    main_begins n told b calls served = by_call calls (follows n calls)
+      where
+        by_call : MainCalled code me start n → memory.Follows r [] nothing_in_hand n booted → ((l : Line) × (told ≡ unasked n) × Abroad serves shows wrote code processes r (l ∷ []) told b booted w) ⊎ (told.spent ≡ true)
+        by_call (main_waits t is) f = inr (waits_spent n told b t is f served).0.spent
+        by_call (main_starts t st) (memory.shows s) =
+            let l = line.Start st.actor st.starts.of.name in
+            let x = line_abroad n told b l calls (start_line n st) s (subst (λ o. ServedIf serves shows wrote processes o (unasked n) a told b) (start_line n st) served) in
+            inl (l, x.1, x.2)
+        by_call (main_starts t st) (memory.ends s) = absurd (started_unspent n t st s.spent)

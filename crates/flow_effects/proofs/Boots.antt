@@ -46,7 +46,7 @@ use Rattle.flow_effects.specs.Starting.{MayStart}
 use Rattle.flow_effects.proofs.Starts.{same_class, fresh_actor, label_is, celled, enrolled_shown, may_turned, some_left, none_left}
 
 -- a number is seen as itself
-int_seen : (n : ℤ) → value_of (Int n) ≡ IntValue n
+pub int_seen : (n : ℤ) → value_of (Int n) ≡ IntValue n
 int_seen n = ap value_of (sym (rolls-Int n)) ∙ fold-roll-Value ValueTree value_step (layer.Int n)
 
 -- what comes out is what the definitions have

@@ -227,11 +227,11 @@ call_coded c k (NewInstr q) called args e = absurd (apart (ActCode (act.World ca
 call_coded c k (DropInstr ns) called args e = absurd (cc (e))
 
 -- both take paths apart alike
-before_same : (y : Ident) (ys : List Ident) → coding.before_last y ys ≡ meaning.before_last y ys
+pub before_same : (y : Ident) (ys : List Ident) → coding.before_last y ys ≡ meaning.before_last y ys
 before_same y [] = refl
 before_same y (z ∷ zs) = ap (λ l. y ∷ l) (before_same z zs)
 
-last_same : (y : Ident) (ys : List Ident) → coding.last_name y ys ≡ meaning.last_of y ys
+pub last_same : (y : Ident) (ys : List Ident) → coding.last_name y ys ≡ meaning.last_of y ys
 last_same y [] = refl
 last_same y (z ∷ zs) = last_same z zs
 

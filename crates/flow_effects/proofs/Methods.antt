@@ -78,7 +78,7 @@ there_over : (p : Proc Frame) (qs : List Ref) → AllThere p qs → AllThere p (
 there_over p [] t = tt
 there_over p (q ∷ qs) t = (t.0, there_over p qs t.1)
 
-sent_there : (p : Proc Frame) (called : Method) (us : List ValueTree) (o : OutcomeTree) → sent called us ≡ Some o → AllThere p (refs_of (arg us 0)) → AllThere p (refs_in (value_in o))
+pub sent_there : (p : Proc Frame) (called : Method) (us : List ValueTree) (o : OutcomeTree) → sent called us ≡ Some o → AllThere p (refs_of (arg us 0)) → AllThere p (refs_in (value_in o))
 sent_there p method.Send us o e t =
     let same : GoodOutcome (arg us 0) ≡ o = cc (e) in subst (λ z. AllThere p (refs_in (value_in z))) same (there_over p (refs_of (arg us 0)) t)
 sent_there p method.SendError us o e t = by_error (error_of (arg us 0)) e
@@ -108,7 +108,7 @@ sorted_put h i (Some k) g s = record {
 }
 
 -- a send asks nothing, and a cancel only that its line be written
-sending_asked : (i : ActorId) (kd : Kind) (k : ℕ) (o : Outcome) (m : Process) → (sending i kd k o m).asked ≡ m.asked
+pub sending_asked : (i : ActorId) (kd : Kind) (k : ℕ) (o : Outcome) (m : Process) → (sending i kd k o m).asked ≡ m.asked
 sending_asked i kd k o m = by_tests (complete_at kd k m.heap) (nat_lt 0 m.left)
   where
     by_tests : (b c : Bool)
@@ -117,7 +117,7 @@ sending_asked i kd k o m = by_tests (complete_at kd k m.heap) (nat_lt 0 m.left)
     by_tests false true = turned_asked m
     by_tests false false = turned_asked m
 
-cancelled_told : (d : Dropped) (m : Process) → m.asked ≡ None → IsTold (cancelled_if d m).asked
+pub cancelled_told : (d : Dropped) (m : Process) → m.asked ≡ None → IsTold (cancelled_if d m).asked
 cancelled_told (after.Cancel a) m none = tt
 cancelled_told after.Nothing m none = nothing_told m.asked none
 cancelled_told after.Freed m none = nothing_told m.asked none

@@ -42,7 +42,7 @@ use Rattle.flow_written.proofs.Compiled.{compiled_few}
 use Rattle.flow_exact.specs.Exact.{HaveFewPlaces, ClassesShown, ProgramShown, ClassesBegun, ProgramInPart}
 
 -- a world that starts has the code of its classes
-code_first : (c : RawClasses) (file : World0) → AreWhole (raw_of c) → HaveFewPlaces (raw_of c) → (w : Seen) → Starts c file w → IsProgram (raw_of c) w.code
+pub code_first : (c : RawClasses) (file : World0) → AreWhole (raw_of c) → HaveFewPlaces (raw_of c) → (w : Seen) → Starts c file w → IsProgram (raw_of c) w.code
 code_first c file whole few w s = record {
   whole = whole;
   coded = record { program = ap raw_of s.program; coded = s.coded };

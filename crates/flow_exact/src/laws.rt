@@ -1,6 +1,7 @@
 // Runs of classes and of programs.
 
-ghost use Rattle.flow_exact.specs.Exact.{ClassesShown, ProgramShown, ProgramInPart};
+ghost use Rattle.flow_world.specs.Telling.{tells};
+ghost use Rattle.flow_exact.specs.Exact.{ClassesShown, ClassesSure, ProgramShown, ProgramInPart, ProgramSure};
 
 use flow_trace::out::LineOut;
 
@@ -15,4 +16,10 @@ pub fn classes_shown<L: LineOut>()
 pub fn programs_shown<L: LineOut>()
     ensures whole { ProgramShown L.puts }
     ensures part { ProgramInPart L.puts }
+{}
+
+/// No run in memory of valid classes goes astray, nor of a program's classes, whatever becomes of the lines that it puts.
+pub fn runs_sure<L: LineOut>()
+    ensures classes { ClassesSure (tells L.puts) }
+    ensures programs { ProgramSure (tells L.puts) }
 {}

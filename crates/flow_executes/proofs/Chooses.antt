@@ -60,7 +60,7 @@ as_many_held : (n : ℕ) (rs : List Ref) → length (held_from n rs) ≡ length 
 as_many_held n [] = refl
 as_many_held n (q ∷ rs) = ap suc (as_many_held (suc n) rs)
 
-nothing_mapped : {A B : Type 0} (g : A → B) (o : Option A) → None ≡ option_map g o → o ≡ None
+pub nothing_mapped : {A B : Type 0} (g : A → B) (o : Option A) → None ≡ option_map g o → o ≡ None
 nothing_mapped g None e = refl
 nothing_mapped g (Some a) e = absurd (cc (e))
 

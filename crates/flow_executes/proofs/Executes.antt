@@ -76,7 +76,7 @@ kinds_same (Some (PromiseType t)) = refl
 kinds_same (Some (PromiseStreamType t)) = refl
 
 -- a call statement of a plain function
-function_is : (o : Option Predefined) (k : Option ℕ) (n : ℕ) → act_named o k ≡ Some (act.Function n) → (o ≡ None) × (k ≡ Some n)
+pub function_is : (o : Option Predefined) (k : Option ℕ) (n : ℕ) → act_named o k ≡ Some (act.Function n) → (o ≡ None) × (k ≡ Some n)
 function_is (Some p) k n e = absurd (cc (e))
 function_is None None n e = absurd (cc (e))
 function_is None (Some j) n e = let same : j ≡ n = cc (e) in (refl, ap (λ y. Some y) same)

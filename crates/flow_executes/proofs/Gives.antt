@@ -12,14 +12,12 @@ use Rattle.flow_class.specs.Classes.{CallbackTree, RawTree}
 use Rattle.flow_code.specs.declared.program.Code.{Code}
 use Rattle.flow_trace.specs.declared.line.Line.{Line}
 use Rattle.flow_frame.specs.Frames.{FrameTree}
-use Rattle.flow_cancel.specs.declared.task.Task.TheVariants as task
 use Rattle.flow_cancel.specs.Heap.{actor_id}
 use Rattle.flow_cancel.specs.Dropping.{dropping}
 use Rattle.flow_meaning.specs.Numbered.{put}
 use Rattle.flow_meaning.specs.Cells.{Ref}
 use Rattle.flow_meaning.specs.Process.{Run, Give, Throw, Store, Keep, Entry, Proc}
 use Rattle.flow_meaning.specs.Occ.{Scan, refs_in, in_task}
-use Rattle.flow_meaning.specs.Work as work
 use Rattle.flow_meaning.specs.Work.{pushed}
 use Rattle.flow_meaning.specs.Step.{silent, replaced, give, store, popped, step_if, step, proc, on_core}
 use Rattle.flow_meaning.specs.Class.{stored, store_at, take_callback, take_at, class_names, classes}
@@ -33,15 +31,14 @@ use Rattle.flow_steps.specs.declared.frames.Stand.{Stand}
 use Rattle.flow_steps.specs.declared.next.Pace.{Pace}
 use Rattle.flow_steps.specs.declared.next.Pace.TheVariants.{On, Off}
 use Rattle.flow_steps.specs.declared.process.Process.{Process}
-use Rattle.flow_steps.specs.Holding.{on_heap, refs_dropped}
+use Rattle.flow_steps.specs.Holding.{on_heap, refs_dropped, value_refs}
 use Rattle.flow_steps.specs.Standing.{StandsNow, next_stand, noted, gone, values, GoesTo}
-use Rattle.flow_steps.specs.Tasks.{TopTaken, bound as bound_in}
+use Rattle.flow_steps.specs.Tasks.{TopTaken, bound as bound_in, BranchAt, bound_over}
 use Rattle.flow_follows.specs.Shown.{Shown, shows, with_task}
 use Rattle.flow_follows.specs.Placing.{Acts, Stood, with_memory}
 use Rattle.flow_frame.specs.declared.held.Held.{Held}
 use Rattle.flow_steps.specs.Waiting.{Keeps, kept_marked, kept_unready, kept_ready}
 use Rattle.flow_follows.specs.Going.{MayMove}
-use Rattle.flow_follows.specs.Going as going
 use Rattle.flow_follows.proofs.Working.{changed, as_many_shown, task_done, refs_dropped_shown}
 use Rattle.flow_follows.proofs.Places.{dropped_values}
 use Rattle.flow_follows.proofs.Lost.{put_over, unchanged}
@@ -49,12 +46,28 @@ use Rattle.flow_follows.proofs.Parting.{acts_by, no_keep_under}
 use Rattle.flow_follows.proofs.Kept.{operand_follows}
 use Rattle.flow_follows.proofs.Moving.{goes_in}
 use Rattle.flow_follows.proofs.Gone.{value_bound}
-use Rattle.flow_executes.specs.Going.{no_more, then_on, moves, chooses, Onward, InClass, by_value, by_operand}
-use Rattle.flow_executes.specs.Giving as law
+use Rattle.flow_executes.specs.Going.{no_more, then_on, moves, chooses, Onward, InClass, by_value, by_operand, GoesBy, MayStep}
 use Rattle.flow_executes.proofs.Onward.{same_memory, goes_after}
 use Rattle.flow_executes.proofs.Paths.{path_put}
 use Rattle.flow_executes.proofs.Choices.{goes_kept}
 use Rattle.flow_executes.proofs.Telling.{over_told, keeps_told}
+use Rattle.flow_steps.specs.Stepping.{OnAfter}
+use Rattle.flow_executes.specs.Giving.{MayRun, MayBranch}
+use Rattle.flow_follows.specs.Keeping.{MayKeep}
+use Rattle.flow_picture.specs.Standing.{next_callback}
+use Rattle.flow_value.specs.declared.value.Kind.{Kind}
+use Rattle.flow_base.specs.declared.ids.CellId.{CellId}
+use Rattle.flow_code.specs.declared.class.Branch.{Branch}
+use Rattle.flow_meaning.specs.Asks.{Supply}
+use Rattle.flow_cancel.specs.declared.task.Task.TheVariants as task
+use Rattle.flow_meaning.specs.Work as work
+use Rattle.flow_follows.specs.Going as going
+use Rattle.flow_executes.specs.Giving as law
+
+-- A row of steps of the class machine leads to where an actor goes on, in its class.
+pub record GoesFrom (code : Code) (r : RawTree) (ls : List Line) (x : Scan) (w : Supply) (i class : ℕ) (start : Proc Frame) (pace : Pace) (n : Process) : Type 0 where
+  pub goes : GoesBy r ls x w i class start pace n
+  pub stands : (t : Stand) → pace ≡ On t → InClass code class t
 
 module _ (r : RawTree) (ls : List Line) (m : Process) (p : Proc Frame) (i : ℕ) (e : Entry) (f : Frame) where
   -- in the same state
@@ -62,7 +75,7 @@ module _ (r : RawTree) (ls : List Line) (m : Process) (p : Proc Frame) (i : ℕ)
   same_state q g a b = ap (λ (y : FrameTree Value). y.state) (same_memory r m.heap m.heap p q i e e f g refl b a)
 
   -- where the code has it stand is in its class
-  in_class : (code : Code) (s : Stand) → Acts r m.heap p i e f → StandsNow code.classes.items (actor_id i) m s → InClass code e.class s
+  pub in_class : (code : Code) (s : Stand) → Acts r m.heap p i e f → StandsNow code.classes.items (actor_id i) m s → InClass code e.class s
   in_class code s a now =
       let same : now.frame ≡ a.memory = let b = now.at in let c = a.framed in cc (b, c) in record {
         class = ap (slice_get code.classes.items) (a.class ∙ ap (λ (y : FrameTree Value). y.class) (sym same)) ∙ now.stands.class;
@@ -83,21 +96,26 @@ module _ (r : RawTree) (ls : List Line) (m : Process) (p : Proc Frame) (i : ℕ)
   keeps_there s t x start n pace on (kept_marked q marked is) = absurd (cc (on))
   keeps_there s t x start n pace on (kept_ready q b unmarked ready at takes) = absurd (cc (on))
 
+  -- An actor that is free takes its next step from where the code has it stand.
+  pub free_steps : (x : Scan) (code : Code) (st : Stood r ls x m p i e f) → st.acts.memory.state ≡ 0 → MayRun code m p i e f → (s : Stand) → StandsNow code.classes.items (actor_id i) m s → MayStep r ls x s m p i e f
+  free_steps x code st zero_state may s stands =
+      moves (record {
+        block = f.block;
+        instr = f.instr;
+        state = f.state;
+        stood = unchanged r ls i e x m p f st;
+        told = λ h. refl;
+        acting = st.acts.acting;
+        standing = (may.stands s stands).0;
+        instruction = (may.stands s stands).1;
+        free = record { waits = may.free.waits; keeps = may.free.keeps };
+        operands = may.operands;
+      }) (λ h. same_state (proc p.core (put p.actors i f)) f (unchanged r ls i e x m p f st).acts st.acts ∙ zero_state)
+
   pub run_begins : law.RunBegins r ls m p i e f
   run_begins x code n st zero_state may runs = record {
     stand = runs.stand;
-    may = moves (record {
-      block = f.block;
-      instr = f.instr;
-      state = f.state;
-      stood = unchanged r ls i e x m p f st;
-      told = λ h. refl;
-      acting = st.acts.acting;
-      standing = (may.stands runs.stand runs.stands).0;
-      instruction = (may.stands runs.stand runs.stands).1;
-      free = record { waits = may.free.waits; keeps = may.free.keeps };
-      operands = may.operands;
-    }) (λ h. same_state (proc p.core (put p.actors i f)) f (unchanged r ls i e x m p f st).acts st.acts ∙ zero_state);
+    may = free_steps x code st zero_state may runs.stand runs.stands;
     stands = in_class code runs.stand st.acts runs.stands;
     runs = runs.runs;
   }
@@ -134,41 +152,50 @@ module _ (r : RawTree) (ls : List Line) (m : Process) (p : Proc Frame) (i : ℕ)
       by_place None = refl
       by_place (Some q) = refl
 
-  pub give_goes : law.GiveGoes r ls m p i e f
-  give_goes x code w number v n st none may is =
+  -- One that gets what a branch took goes on at that branch.
+  pub given_goes : (x : Scan) (code : Code) (w : Supply) (number : ℕ) (v : Value) (s t : Stand) (branch : Branch) (pace : Pace) (n : Process) → Stood r ls (with_refs (value_refs v) x) m p i e f
+      → MayBranch code r ls m p i number e f → StandsNow code.classes.items (actor_id i) m s → BranchAt s number branch → GoesTo s branch.block 0 t
+      → OnAfter t (bound_over i branch.into v m.heap) (on_heap (bound_in i branch.into v) m) pace n
+      → GoesFrom code r ls x w i e.class (on_core (pushed (Give i number (GoodOutcome (value_of v)))) p) pace n
+  given_goes x code w number v s t branch pace n st may stands at to after =
       let u = value_of v in
       let over = going.over_at r ls m p i e f may.callback.into u in
       let g : Frame = go may.callback.block (going.memory_at r ls m p i e f may.callback.into u) f in
-      let standing = may.stands is.stand is.stands in
-      let same = may.same is.stand is.branch is.stands is.at in
-      let move : MayMove is.stand p i e f = record {
+      let standing = may.stands s stands in
+      let same = may.same s branch stands at in
+      let move : MayMove s p i e f = record {
         actor = standing.actor;
         slots = standing.slots;
         free = record { waits = may.free.waits; keeps = may.free.keeps };
         operands = may.operands;
       } in
-      let bound = value_bound r ls m p i e f x is.stand is.goes is.branch.block is.branch.into may.callback.into v is.pace is.between st move same.1 is.to is.after in
-      let there = subst (λ b. going.AfterValues r ls m p i e f x is.goes (refs_in over) (go b (going.memory_at r ls m p i e f may.callback.into u) f) is.pace is.between) same.0 bound in
+      let bound_there = value_bound r ls m p i e f x s t branch.block branch.into may.callback.into v pace n st move same.1 to after in
+      let there = subst (λ b. going.AfterValues r ls m p i e f x t (refs_in over) (go b (going.memory_at r ls m p i e f may.callback.into u) f) pace n) same.0 bound_there in
       let start : Proc Frame = on_core (pushed (Give i number (GoodOutcome u))) p in
       let ran : Proc Frame = on_core (pushed (Run i)) p in
-      let after : Proc Frame = proc (work.dropping (refs_in over) ran.core) (put p.actors i g) in
-      let one : step (classes r) w start ≡ Some (silent after) =
+      let end : Proc Frame = proc (work.dropping (refs_in over) ran.core) (put p.actors i g) in
+      let one : step (classes r) w start ≡ Some (silent end) =
       ap (λ h. step_if (classes r) w h start) st.shown.goes
       ∙ ap (λ a. Some (give (classes r) i number (GoodOutcome u) a p)) st.acts.acting
       ∙ ap (λ k. Some (replaced i (take_at (class_names r) number u f k) ran)) may.fetched
       ∙ ap (λ k. Some (replaced i (take_callback (class_names r) u f k) ran)) may.at
       ∙ ap (λ k. Some (replaced i k ran)) (taken_by may.callback u) in record {
+        goes = record {
+          after = end;
+          steps = then_on start end end one (no_more end);
+          onward = after_task x t (refs_in over) g pace n (ap (λ (y : Stand). y.noted) to.same) there;
+        };
+        stands = λ y on. subst (InClass code e.class) (goes_after t y _ _ n pace after on) (goes_in_class code e.class s t branch.block 0 (in_class code s st.acts stands) to);
+      }
+
+  pub give_goes : law.GiveGoes r ls m p i e f
+  give_goes x code w number v n st none may is =
+      let from = given_goes x code w number v is.stand is.goes is.branch is.pace is.between st may is.stands is.at is.to is.after in record {
         pace = is.pace;
         between = is.between;
         began = by_value is.goes _ i is.branch.into v is.after;
-        goes = record {
-          after = after;
-          steps = then_on start after after one (no_more after);
-          onward = after_task x is.goes (refs_in over) g is.pace is.between (ap (λ (y : Stand). y.noted) is.to.same) there;
-        };
-        stands = λ t on.
-            subst (InClass code e.class) (goes_after is.goes t _ _ is.between is.pace is.after on)
-            (goes_in_class code e.class is.stand is.goes is.branch.block 0 (in_class code is.stand st.acts is.stands) is.to);
+        goes = from.goes;
+        stands = from.stands;
         told = λ off. over_told is.goes _ (on_heap (bound_in i is.branch.into v) m) is.between is.pace none is.after;
         further = is.further;
       }
@@ -224,7 +251,7 @@ module _ (r : RawTree) (ls : List Line) (m : Process) (p : Proc Frame) (i : ℕ)
       }
 
 -- the task of the actor is taken off
-run_off : (r : RawTree) (ls : List Line) (m start : Process) (p : Proc Frame) (i : ℕ) (x : Scan) → Shown r ls x m (on_core (pushed (Run i)) p) → TopTaken (task.Run (actor_id i)) m start → Shown r ls x start p
+pub run_off : (r : RawTree) (ls : List Line) (m start : Process) (p : Proc Frame) (i : ℕ) (x : Scan) → Shown r ls x m (on_core (pushed (Run i)) p) → TopTaken (task.Run (actor_id i)) m start → Shown r ls x start p
 run_off r ls m start p i x s taken =
     let ran : Proc Frame = on_core (pushed (Run i)) p in
     let a = popped_shown r m.heap ran (task.Run (actor_id i)) taken.tasks s.holds.shows taken.top in
@@ -251,30 +278,40 @@ module _ (r : RawTree) (m : Process) (p : Proc Frame) (i : ℕ) (e : Entry) (f :
       by_position (at_wait g b c) = absurd (cc (zero_state, b))
 
 module _ (r : RawTree) (ls : List Line) (m : Process) (p : Proc Frame) (i : ℕ) (e : Entry) (f : Frame) where
-  pub keep_goes : law.KeepGoes r ls m p i e f
-  keep_goes x code w group kd k n st zero_state none mays is =
+  -- One that keeps an operand goes on where it stands; its own task is the next.
+  pub kept_goes : (x : Scan) (code : Code) (w : Supply) (group : ℕ) (kd : Kind) (k : CellId) (start : Process) (s : Stand) (pace : Pace) (n : Process)
+      → (st : Stood r ls (with_refs ((kd, k.0) ∷ []) x) m (on_core (pushed (Run i)) p) i e f) → st.acts.memory.state ≡ 0 → m.asked ≡ None
+      → ((s : Stand) (start : Process) → start.heap.frames ≡ m.heap.frames → StandsNow code.classes.items (actor_id i) start s → MayKeep s p i group (kd, k.0) e f)
+      → TopTaken (task.Run (actor_id i)) m start → StandsNow code.classes.items (actor_id i) start s → Keeps s (record { callback = next_callback e f; cell = k }) start pace n
+      → GoesFrom code r ls x w i e.class (on_core (pushed (Keep i (wait_spot f) (kd, k.0))) (on_core (pushed (Run i)) p)) pace n
+  kept_goes x code w group kd k start s pace n st zero_state none mays next stands keeps =
       let q : Ref = (kd, k.0) in
-      let start = is.start in
-      let frames : start.heap.frames ≡ m.heap.frames = ap (λ (y : Process). y.heap.frames) is.next.rest in
-      let actors : start.heap.actors ≡ m.heap.actors = ap (λ (y : Process). y.heap.actors) is.next.rest in
+      let frames : start.heap.frames ≡ m.heap.frames = ap (λ (y : Process). y.heap.frames) next.rest in
+      let actors : start.heap.actors ≡ m.heap.actors = ap (λ (y : Process). y.heap.actors) next.rest in
       let ran : Proc Frame = on_core (pushed (Run i)) p in
       let st1 : Stood r ls (with_refs (q ∷ []) x) start p i e f = record {
-        shown = run_off r ls m start p i (with_refs (q ∷ []) x) st.shown is.next;
+        shown = run_off r ls m start p i (with_refs (q ∷ []) x) st.shown next;
         acts = acts_by r m.heap start.heap ran p i e f frames actors refl refl st.acts;
       } in
-      let may = mays is.stand start frames is.stands in
-      let asks_none : start.asked ≡ None = ap (λ (y : Process). y.asked) is.next.rest ∙ none in
+      let may = mays s start frames stands in
+      let asks_none : start.asked ≡ None = ap (λ (y : Process). y.asked) next.rest ∙ none in
       let state = ap (λ (y : FrameTree Value). y.state) (same_memory r m.heap start.heap ran p i e e f f frames st.acts st1.acts) ∙ zero_state in
-      let after = operand_follows r ls start p i e f x is.stand group q is.pace is.between st1 state asks_none may is.keeps in
-      let first : Proc Frame = on_core (pushed (Keep i (wait_spot f) q)) ran in record {
+      let after = operand_follows r ls start p i e f x s group q pace n st1 state asks_none may keeps in
+      let first : Proc Frame = on_core (pushed (Keep i (wait_spot f) q)) ran in
+      let stands_at : s.instruction ≡ f.instr = stands_here r start p i e f code s st1.acts state stands in record {
+        goes = goes_kept r ls start p i e f x s w q group first pace n st1.shown.goes st1.acts stands.stands.noted stands_at may (no_more first) after;
+        stands = λ t on. subst (InClass code e.class) (keeps_there r ls m p i e f s t _ start n pace on keeps) (in_class r ls start p i e f code s st1.acts stands);
+      }
+
+  pub keep_goes : law.KeepGoes r ls m p i e f
+  keep_goes x code w group kd k n st zero_state none mays is =
+      let from = kept_goes x code w group kd k is.start is.stand is.pace is.between st zero_state none mays is.next is.stands is.keeps in
+      let asks_none : is.start.asked ≡ None = ap (λ (y : Process). y.asked) is.next.rest ∙ none in record {
         pace = is.pace;
         between = is.between;
         began = by_operand is.stand _ is.start (actor_id i) is.next is.keeps;
-        goes = goes_kept r ls start p i e f x is.stand w q group first is.pace is.between st1.shown.goes st1.acts is.stands.stands.noted
-            (stands_here r start p i e f code is.stand st1.acts state is.stands) may (no_more first) after;
-        stands = λ t on.
-            subst (InClass code e.class) (keeps_there r ls m p i e f is.stand t _ start is.between is.pace on is.keeps)
-            (in_class r ls start p i e f code is.stand st1.acts is.stands);
-        told = λ off. keeps_told is.stand _ start is.between is.pace asks_none is.keeps;
+        goes = from.goes;
+        stands = from.stands;
+        told = λ off. keeps_told is.stand _ is.start is.between is.pace asks_none is.keeps;
         further = is.further;
       }

@@ -35,7 +35,7 @@ use Rattle.flow_executes.proofs.Ends.{step_follows}
 use Rattle.flow_executes.proofs.Telling.{step_told}
 
 -- what asks something doesn't go on at once
-asks_off : (code : Code) (s : Stand) (m : Process) (pace : Pace) (n : Process) (t : Stand) → pace ≡ On t → Asks code s m pace n → ⊥
+pub asks_off : (code : Code) (s : Stand) (m : Process) (pace : Pace) (n : Process) (t : Stand) → pace ≡ On t → Asks code s m pace n → ⊥
 asks_off code s m pace n t on (by_effect aim eff args at does) = stays.by_effect code s t _ eff args.items m n pace s on does
 asks_off code s m pace n t on (by_act called args at does) = let a = evaluated_on s _ _ m _ t pace n on does in never t (sym a.1.1.0 ∙ on)
 asks_off code s m pace n t on (by_method aim g args at does) = stays.by_method code s t aim g args.items m n pace on does
@@ -43,36 +43,36 @@ asks_off code s m pace n t on (by_operand number group b eff args end last of at
 
 module _ (r : RawTree) (w : Supply) where
   -- rows one after the other
-  joined : (p q z : Proc Frame) → Silent r w p q → Silent r w q z → Silent r w p z
+  pub joined : (p q z : Proc Frame) → Silent r w p q → Silent r w q z → Silent r w p z
   joined p q z (no_more a) row = row
   joined p q z (then_on a b c one rest) row = then_on a b z one (joined b q z rest row)
 
   -- a process that takes a step isn't stopped
-  unstopped : (p : Proc Frame) (o : Option Halt) (x : Stepped Frame) → p.core.halted ≡ o → step (classes r) w p ≡ Some x → o ≡ None
+  pub unstopped : (p : Proc Frame) (o : Option Halt) (x : Stepped Frame) → p.core.halted ≡ o → step (classes r) w p ≡ Some x → o ≡ None
   unstopped p None x h e = refl
   unstopped p (Some k) x h e = absurd (let a : None ≡ Some x = sym (ap (λ o. step_if (classes r) w o p) h) ∙ e in cc (a))
 
   module _ (holds : Proc Frame → Type 0) (allows : Allows r w holds) where
-    holds_then : (p q : Proc Frame) → Silent r w p q → holds p → q.core.halted ≡ None → holds q
+    pub holds_then : (p q : Proc Frame) → Silent r w p q → holds p → q.core.halted ≡ None → holds q
     holds_then p q (no_more a) h goes = h
     holds_then p q (then_on a b c one (no_more d)) h goes = allows.kept a b h one goes
     holds_then p q (then_on a b c one (then_on d g z two rest)) h goes = holds_then b q (then_on d g z two rest) (allows.kept a b h one (unstopped b b.core.halted (silent g) refl two)) goes
 
 -- what is known of an actor that takes a step
 module _ (r : RawTree) (ls : List Line) (x : Scan) (s : Stand) (m : Process) (p : Proc Frame) (i : ℕ) (e : Entry) (f : Frame) where
-  entered : MayStep r ls x s m p i e f → thing p.core.entries i ≡ Some e
+  pub entered : MayStep r ls x s m p i e f → thing p.core.entries i ≡ Some e
   entered (moves st zero) = st.stood.acts.entered
   entered (chooses at) = at.stood.acts.entered
 
-  acting : MayStep r ls x s m p i e f → thing p.actors i ≡ Some f
+  pub acting : MayStep r ls x s m p i e f → thing p.actors i ≡ Some f
   acting (moves st zero) = st.acting
   acting (chooses at) = at.stood.acts.acting
 
-  goes_on : MayStep r ls x s m p i e f → p.core.halted ≡ None
+  pub goes_on : MayStep r ls x s m p i e f → p.core.halted ≡ None
   goes_on (moves st zero) = st.stood.shown.goes
   goes_on (chooses at) = at.stood.shown.goes
 
-  class_of : MayStep r ls x s m p i e f → slice_get r.classes e.class ≡ Some f.code
+  pub class_of : MayStep r ls x s m p i e f → slice_get r.classes e.class ≡ Some f.code
   class_of (moves st zero) = ap (slice_get r.classes) st.stood.acts.class ∙ st.stood.acts.stands.code
   class_of (chooses at) = ap (slice_get r.classes) at.stood.acts.class ∙ at.stood.acts.stands.code
 
@@ -100,7 +100,7 @@ module _ (r : RawTree) (ls : List Line) (x : Scan) (w : Supply) (holds : Proc Fr
   })
 
   module _ (i : ℕ) where
-    in_program : (s : Stand) (m : Process) (p : Proc Frame) (e : Entry) (f : Frame) → holds (on_core (pushed (Run i)) p) → MayStep r ls x s m p i e f → InClass code e.class s → InProgram r code s f
+    pub in_program : (s : Stand) (m : Process) (p : Proc Frame) (e : Entry) (f : Frame) → holds (on_core (pushed (Run i)) p) → MayStep r ls x s m p i e f → InClass code e.class s → InProgram r code s f
     in_program s m p e f held may here = record {
       program = program;
       standing = in_code_of r code e.class s f (coded_by program) here (class_of r ls x s m p i e f may);

@@ -52,7 +52,7 @@ use Rattle.flow_follows.proofs.Working.{changed, as_many_shown, turn_taken, refs
 use Rattle.flow_follows.proofs.Brought.{found_single}
 
 -- the outcome and the actor's own promise in hand
-abbrev in_hand : Outcome → Option ℕ → Scan
+abbrev pub in_hand : Outcome → Option ℕ → Scan
 in_hand o result s j = count s j (outcome_refs o) + (count_maybe s j PromiseSide result + 0)
 
 -- the numbers of single results rise
@@ -166,7 +166,7 @@ module _ (r : RawTree) (ls : List Line) (o : Outcome) (k : ℕ) (n : Process) (q
       counted = gone_counts;
     }) refl refl refl
 
-lone_by : (q t : Proc Frame) (o : Outcome) (k : ℕ) → t.core.cells ≡ q.core.cells → t.core.made ≡ q.core.made → references PromiseSide k t ≡ references PromiseSide k q → Lone q o k → Lone t o k
+pub lone_by : (q t : Proc Frame) (o : Outcome) (k : ℕ) → t.core.cells ≡ q.core.cells → t.core.made ≡ q.core.made → references PromiseSide k t ≡ references PromiseSide k q → Lone q o k → Lone t o k
 lone_by q t o k a b c l = record {
   waiters = l.waiters;
   at = ap (λ cs. thing cs k) a ∙ l.at;
@@ -247,7 +247,7 @@ module _ (r : RawTree) (ls : List Line) (m : Process) (p : Proc Frame) (i : Acto
   abbrev left_proc : Proc Frame
   left_proc = without_actor i.0 p
 
-  forgotten : Shown r ls (in_hand o entry.result) (on_heap (finished i.0) m) left_proc
+  pub forgotten : Shown r ls (in_hand o entry.result) (on_heap (finished i.0) m) left_proc
   forgotten = changed r ls (with_refs (outcome_refs o) nothing_in_hand) (in_hand o entry.result) m p left_proc (finished i.0 m.heap) s (record {
     shows = finished_shown r m.heap p i.0 may.most s.holds.shows may.actor may.free sorted.actors sorted.frames sound.entries may.actors;
     counted = λ z j.
@@ -257,7 +257,7 @@ module _ (r : RawTree) (ls : List Line) (m : Process) (p : Proc Frame) (i : Acto
         let d = none_kept z j entry.suspended entry may.operands in omega (arith, a, b, c, d);
   }) refl refl refl
 
-  lone : (k : ℕ) → entry.result ≡ Some k → Lone left_proc o k
+  pub lone : (k : ℕ) → entry.result ≡ Some k → Lone left_proc o k
   lone k e = by_cell (thing p.core.cells k) refl (sound.owned.result i.0 k entry may.actor.entered e)
     where
       none_left : references PromiseSide k p ≡ 1 → references PromiseSide k left_proc ≡ 0

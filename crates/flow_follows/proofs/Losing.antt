@@ -17,6 +17,8 @@ use Rattle.flow_meaning.specs.Dropping.{Loss, Kept, Freed, Broken, Orphan, Unhea
 use Rattle.flow_meaning.specs.Step.{on_core}
 use Rattle.flow_meaning.specs.Frame.{Frame}
 use Rattle.flow_picture.specs.Counted.{references, frames_hold, nothing_in_hand}
+use Rattle.flow_picture.specs.Holds.{There}
+use Rattle.flow_picture.specs.Rested.{Sorted}
 use Rattle.flow_picture.specs.Losing.{RightCell, Losing, Same, free_port}
 use Rattle.flow_picture.specs.Losing as losing
 use Rattle.flow_picture.proofs.Loss.{loss_follows}
@@ -108,19 +110,24 @@ module _ (r : RawTree) (ls : List Line) (m : Process) (p : Proc Frame) (kd : Kin
       shows (unlisten_shown r ls k (with_heap h m) (on_core (suffer k (Unheard q)) p)
       (freed_shown h (λ d. record d { ports = removed d.ports q }) (λ d. refl) (λ d. refl) (λ d. refl) (λ d. refl) f) none)
 
+-- the reference that is in hand may be lost
+pub losing_of : (r : RawTree) (ls : List Line) (m : Process) (p : Proc Frame) (kd : Kind) (k : ℕ) → Shown r ls (λ s j. one s j (side_of kd) k) m p → Sound p → Sorted m.heap
+    → (t : There p (kd, k)) → Losing r m.heap p kd k t.cell
+losing_of r ls m p kd k s sound sorted t = record {
+  shows = s.holds.shows;
+  counted = s.holds.counted;
+  cell = t.at;
+  right = t.right;
+  owned = sound.owned;
+  numbers = sound.numbers;
+  entries = sound.entries;
+  sorted = sorted;
+}
+
 pub ref_lost : (r : RawTree) (ls : List Line) (m : Process) (p : Proc Frame) → law.RefLost r ls m p
 ref_lost r ls m p kd k s none sound sorted t =
     let y = loss (side_of kd) (references PromiseSide k p) (references FutureSide k p) t.cell (owner k p.core.entries) (port_of k p.core.ports) in
-    let l : Losing r m.heap p kd k t.cell = record {
-      shows = s.holds.shows;
-      counted = s.holds.counted;
-      cell = t.at;
-      right = t.right;
-      owned = sound.owned;
-      numbers = sound.numbers;
-      entries = sound.entries;
-      sorted = sorted;
-    } in
+    let l : Losing r m.heap p kd k t.cell = losing_of r ls m p kd k s sound sorted t in
     subst (λ o. Follows r ls nothing_in_hand (lost kd k m) (on_core (lose_cell (frames_hold p.actors) (side_of kd) k o) p)) (sym t.at)
     (by_case r ls m p kd k t.cell s none sound t.at t.right (dropped kd k m.heap) y (loss_follows r m.heap p kd k t.cell l)
     (broken_open (side_of kd) (references PromiseSide k p) (references FutureSide k p) t.cell (owner k p.core.entries) (port_of k p.core.ports)))

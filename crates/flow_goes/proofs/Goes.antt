@@ -66,6 +66,7 @@ use Rattle.flow_executes.proofs.Quiet.{step_quiet}
 use Rattle.flow_executes.proofs.Choices.{with_last}
 use Rattle.flow_poised.proofs.Next.{at_next_step, at_kept_operand}
 use Rattle.flow_poised.proofs.Branches.{branched}
+use Rattle.flow_poised.specs.Poised.{Branched}
 use Rattle.flow_effects.specs.Asking as effects
 use Rattle.flow_effects.specs.Asking.{AsksAs, Answered, draws, delays, listens, disks, sends}
 use Rattle.flow_asked.proofs.Answers.{ask_follows}
@@ -79,7 +80,7 @@ use Rattle.flow_allowed.proofs.Tasks.{any_goes}
 use Rattle.flow_goes.specs.Goes as law
 
 -- what is told, in the words of each crate
-told_here : (o : Option Call) → OnlyTells o → IsTold o
+pub told_here : (o : Option Call) → OnlyTells o → IsTold o
 told_here None h = tt
 told_here (Some (call.Line l)) h = tt
 told_here (Some (call.Unlisten k)) h = tt
@@ -89,7 +90,7 @@ told_here (Some (call.Listen i g t)) h = absurd h
 told_here (Some (call.Disk i g d)) h = absurd h
 told_here (Some (call.SendTo i t port text)) h = absurd h
 
-told_there : (o : Option Call) → effects.IsTold o → IsTold o
+pub told_there : (o : Option Call) → effects.IsTold o → IsTold o
 told_there None h = tt
 told_there (Some (call.Line l)) h = tt
 told_there (Some (call.Unlisten k)) h = tt
@@ -126,22 +127,25 @@ leads_quiet code m n none (stays_there _) = quiet_still m
 leads_quiet code m n none (goes_on s t _ between _ one rest) =
     let a = step_after code s m between (On t) none one in quiet_then m between n a (leads_quiet code between n (a.asked ∙ none) rest)
 
-calm_sorted : (m n : Process) → Calm m n → Sorted m.heap → Sorted n.heap
+pub calm_sorted : (m n : Process) → Calm m n → Sorted m.heap → Sorted n.heap
 calm_sorted m n calm s =
     let r = calm.heap.rise (record { cells = s.cells; streams = s.streams; actors = s.actors; frames = s.frames }) in
     record { cells = r.cells; streams = r.streams; actors = r.actors; frames = r.frames; ports = subst (λ ps. (k : ℕ) → has_number (Rattle.flow_cancel.specs.Heap.without_number ps k) k ≡ false) (sym calm.heap.ports) s.ports }
 
-began_after : (m : Process) (pace : Pace) (between : Process) → m.asked ≡ None → Began m pace between → After pace m between
+pub leads_sorted : (code : Code) (m n : Process) → Leads code m n → n.asked ≡ None → Sorted m.heap → Sorted n.heap
+leads_sorted code m n leads none sorted = calm_sorted m n (leads_quiet code m n (sym (leads_asked code m n leads) ∙ none) leads).calm sorted
+
+pub began_after : (m : Process) (pace : Pace) (between : Process) → m.asked ≡ None → Began m pace between → After pace m between
 began_after m pace between none (by_value t vs i into v after) =
     let k = on_heap (bound i into v) m in after_then pace m k between (on_heap_quiet (bound i into v) m (bound_stays i into v m.heap)) (left_over t vs k between pace none after)
 began_after m pace between none (by_operand s x start i taken keeps) =
     let a = popped_quiet (task.Run i) m start taken in after_then pace m start between a (keeps_after s x start between pace (a.asked ∙ none) keeps)
 
-after_calm : (pace : Pace) (m n : Process) → After pace m n → Calm m n
+pub after_calm : (pace : Pace) (m n : Process) → After pace m n → Calm m n
 after_calm (On t) m n a = a.calm
 after_calm Off m n a = a.calm
 
-after_asked : (pace : Pace) (m n : Process) → m.asked ≡ None → After pace m n → (n.asked ≡ None) ⊎ (pace ≡ Off)
+pub after_asked : (pace : Pace) (m n : Process) → m.asked ≡ None → After pace m n → (n.asked ≡ None) ⊎ (pace ≡ Off)
 after_asked (On t) m n none a = inl (a.asked ∙ none)
 after_asked Off m n none a = inr refl
 
@@ -194,10 +198,10 @@ module _ (r : RawTree) (code : Code) (program : IsProgram r code) where
       by_posture true c g is h = few_held c g is h.0 h.1.holds
       by_posture false c g is h = by_doing c g (tasks_of i p.core.tasks) is h
 
-  running : (p : Proc Frame) (i : ℕ) (e : Entry) (f : Frame) → Kept r (on_core (pushed (Run i)) p) → thing p.core.entries i ≡ Some e → thing p.actors i ≡ Some f → Running r p i e f
+  pub running : (p : Proc Frame) (i : ℕ) (e : Entry) (f : Frame) → Kept r (on_core (pushed (Run i)) p) → thing p.core.entries i ≡ Some e → thing p.actors i ≡ Some f → Running r p i e f
   running p i e f k at acting = record { whole = program.whole; kept = k; entered = at; acting = acting }
 
-  allows : (w : Supply) → Allows r w (Kept r)
+  pub allows : (w : Supply) → Allows r w (Kept r)
   allows w = record {
     kept = kept_on w;
     next = λ p i e f k at acting. step_allowed r w p i e f (running p i e f k at acting);
@@ -209,7 +213,7 @@ module _ (r : RawTree) (code : Code) (program : IsProgram r code) where
     state_is h q i e f a zero_state g at = let same : a.memory ≡ g = same_of (sym a.framed ∙ at) in subst (λ (z : FrameTree Value). z.state ≡ 0) same zero_state
 
     -- an actor that is to take its next step, or to keep an operand, is in no state of a wait
-    no_wait : Rattle.flow_poised.specs.Poised.Poised m.heap → (t : stack.Task) (start : Process) → TopTaken t m start → InNoWait m.heap t
+    pub no_wait : Rattle.flow_poised.specs.Poised.Poised m.heap → (t : stack.Task) (start : Process) → TopTaken t m start → InNoWait m.heap t
     no_wait poised t start taken = by_task t (top_follows r ls m p t start now.shown taken)
       where
         by_task : (t : stack.Task) → TopOff r ls t start p → InNoWait m.heap t
@@ -280,7 +284,7 @@ module _ (r : RawTree) (code : Code) (program : IsProgram r code) where
           sound = sound_off r full x.held (Run i) x.process.core.tasks refl
 
           at_ask : Sorted x.memory.heap
-          at_ask = calm_sorted from x.memory (leads_quiet code from x.memory (sym (leads_asked code from x.memory x.leads) ∙ x.none) x.leads).calm sorted
+          at_ask = leads_sorted code from x.memory x.leads x.none sorted
 
           by_answer : Answered r ls nothing_in_hand (serves.supply w) x.process i x.entry Off n → Goes
           by_answer (effects.by_itself s told) =
@@ -333,11 +337,14 @@ pub program_goes : {A W : Type 0} (serves : Host W) (shown_by : A → Numbered �
 program_goes serves shown_by wrote code processes r program ls m start n a p w t now taken done =
     task_goes r code program serves shown_by wrote processes ls m start n a p w t now taken done
 
+-- each wait of a program has a branch
+pub branches_of : (r : RawTree) (code : Code) → IsProgram r code → Branched code.classes.items
+branches_of r code program =
+    let coded : CodedBy r code.classes.items = record { names = program.coded.coded.names; class = program.coded.coded.class; are_coded = program.coded.coded.are_coded } in
+    branched r code.classes.items coded
+    (λ k c n g at there none. subst HasCallback none (callback_there c.groups n g (program.whole.groups k c at) there))
+
 pub program_follows : {A W : Type 0} (serves : Host W) (shown_by : A → Numbered ℕ → W → Type 0) (wrote : A → List Line → A → Type 0) (code : Code) (processes : ℕ) (r : RawTree) → law.ProgramFollows serves shown_by wrote code processes r
 program_follows serves shown_by wrote code processes r program steady ls m n a b p w e now bursts =
-    let coded : CodedBy r code.classes.items = record { names = program.coded.coded.names; class = program.coded.coded.class; are_coded = program.coded.coded.are_coded } in
-    let branches =
-    branched r code.classes.items coded
-    (λ k c n g at there none. subst HasCallback none (callback_there c.groups n g (program.whole.groups k c at) there)) in
-    burst_follows serves shown_by wrote code processes r (record { valid = program.whole.valid; coded = program.coded }) branches steady
+    burst_follows serves shown_by wrote code processes r (record { valid = program.whole.valid; coded = program.coded }) (branches_of r code program) steady
     (program_goes serves shown_by wrote code processes r program) ls m n a b p w e now bursts

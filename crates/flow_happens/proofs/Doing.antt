@@ -80,14 +80,14 @@ disk_line_is (ask.Size file) (Size n) o k = refl
 disk_line_is (ask.Size file) Failed o k = refl
 
 -- what a disk answers, and a packet, refer to nothing
-answers_plain : (reply : DiskReply) → refs_in (value_in (disk_outcome reply)) ≡ []
+pub answers_plain : (reply : DiskReply) → refs_in (value_in (disk_outcome reply)) ≡ []
 answers_plain (Text bytes) = refl
 answers_plain Done = refl
 answers_plain (Size n) = refl
 answers_plain Failed = refl
 
 -- nothing is seen as itself
-void_seen : value_of Void ≡ VoidValue
+pub void_seen : value_of Void ≡ VoidValue
 void_seen = ap value_of (sym rolls-Void) ∙ fold-roll-Value ValueTree value_step layer.Void
 
 -- the packet of a number, that no pending event brings, is taken off
@@ -160,7 +160,7 @@ module _ (r : RawTree) {A : Type 0} (puts : A → Line → Result (Unit {0}) Out
         of_value z = alone (line.Timer o.ran o.time p k) (with_core (ready m p.0) (deliver k.0 (GoodOutcome z))) o
 
   -- what a disk of a process serves shows
-  serves : (m : World Frame) (u : Seen) (o : Outside) (p : ProcId) (g : Begins m u o p) (n : Surroundings) (d : Disk) → n.time ≡ u.outside.time → OutsideShows n (with_disk o p.0 d)
+  pub serves : (m : World Frame) (u : Seen) (o : Outside) (p : ProcId) (g : Begins m u o p) (n : Surroundings) (d : Disk) → n.time ≡ u.outside.time → OutsideShows n (with_disk o p.0 d)
       → Begins m (with_outside n u) (with_disk o o.active d) p
   serves m u o p g n d same shown =
       let s = g.going in
@@ -220,7 +220,7 @@ module _ (r : RawTree) {A : Type 0} (puts : A → Line → Result (Unit {0}) Out
         plain = ap (λ z. refs_in (value_in z)) t.answer ∙ answers_plain t.reply
 
     -- who hears it, by both
-    heard_is : (port : ℕ) (heard : Option CellId) → Found u.places p.0 → HeardIn (slice_get u.places p.0) port heard → option_map (λ k. k.0) heard ≡ listener (ready m p.0) port
+    pub heard_is : (port : ℕ) (heard : Option CellId) → Found u.places p.0 → HeardIn (slice_get u.places p.0) port heard → option_map (λ k. k.0) heard ≡ listener (ready m p.0) port
     heard_is port heard f hears = by_up f.at.up refl (subst (λ z. HeardIn z port heard) f.there hears)
       where
         up_is : f.at.up ≡ (place_of m.places p.0).up

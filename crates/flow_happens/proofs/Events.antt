@@ -57,7 +57,7 @@ no_single : (u : TypeTree) → packets ≡ FutureType u → ⊥
 no_single u e = cc
 
 -- the stream of a port is there
-heard_there : (r : RawTree) (p : Proc Frame) (port k : ℕ) → Kept r p → thing p.core.ports port ≡ Some k → There p (kind.PromiseStream, k)
+pub heard_there : (r : RawTree) (p : Proc Frame) (port k : ℕ) → Kept r p → thing p.core.ports port ≡ Some k → There p (kind.PromiseStream, k)
 heard_there r p port k h heard = by_cell (thing p.core.cells k) refl (subst (λ t. CellAt r h.types t (thing p.core.cells k)) (h.fits.ports port k heard) (h.fits.cells k))
   where
     by_cell : (o : Option Cell) → thing p.core.cells k ≡ o → CellAt r h.types (Some packets) o → There p (kind.PromiseStream, k)
@@ -66,7 +66,7 @@ heard_there r p port k h heard = by_cell (thing p.core.cells k) refl (subst (λ 
     by_cell (Some (Stream queue end w)) q f = record { cell = Stream queue end w; at = q; right = tt }
 
 -- the packet that comes is brought by no other event
-none_other : (n : ℕ) (p : ProcId) (e : Pending What) (es : List (Pending What)) → e.what ≡ what.Arrives p n → coming n (e ∷ es) ≤ 1 → coming n es ≡ 0
+pub none_other : (n : ℕ) (p : ProcId) (e : Pending What) (es : List (Pending What)) → e.what ≡ what.Arrives p n → coming n (e ∷ es) ≤ 1 → coming n es ≡ 0
 none_other n p e es is once =
     let one : brings n e.what ≡ 1 = ap (brings n) is ∙ ap (λ (t : _). if t then 1 else 0) (same_number n) in omega (arith, once, one)
 

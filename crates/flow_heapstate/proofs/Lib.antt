@@ -7,3 +7,4 @@ pub mod Recounting
 pub mod Filled
 pub mod Restored
 pub mod Whole
+pub mod Judged

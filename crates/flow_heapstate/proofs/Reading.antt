@@ -50,7 +50,57 @@ module _ {A : Type 0} where
       let here : nat_lt n x.0 ≡ true = grind (arith, nat_tests, rising.0) in
       rw here (ap (λ ys. x ∷ ys) (all_above n x.0 xs most (omega (arith, rising.0)) rising.1))
 
-  -- the next thing is the first of those above
+  pub no_more : (xs : Numbered A) (n m : ℕ) → n ≤ m → length (things_above m xs) ≤ length (things_above n xs)
+  no_more [] n m l = omega arith
+  no_more (x ∷ xs) n m l = by (nat_lt n x.0) refl (nat_lt m x.0) refl (no_more xs n m l)
+    where
+      by : (a : Bool) → nat_lt n x.0 ≡ a → (b : Bool) → nat_lt m x.0 ≡ b → length (things_above m xs) ≤ length (things_above n xs)
+          → length (things_above m (x ∷ xs)) ≤ length (things_above n (x ∷ xs))
+      by true s true t r = rw (s, t) (omega (arith, r))
+      by true s false t r = rw (s, t) (omega (arith, r))
+      by false s true t r =
+          let over : m < x.0 = grind (arith, nat_tests) in
+          let under : x.0 ≤ n = grind (arith, nat_tests) in
+          absurd (omega (arith, over, under, l))
+      by false s false t r = rw (s, t) r
+
+  -- what is read next is there and above, whatever the order
+  pub record IsFound (xs : Numbered A) (n m : ℕ) : Type 0 where
+    pub there : IsSome (thing xs m)
+    pub above : n < m
+    pub fewer : length (things_above m xs) < length (things_above n xs)
+
+  pub next_found : (xs : Numbered A) (n m : ℕ) → Some m ≡ next_above xs n → IsFound xs n m
+  next_found [] n m e = absurd (cc)
+  next_found (x ∷ xs) n m e = by (nat_lt n x.0) refl (λ h. next_found xs n m h)
+    where
+      some : {Y : Type 0} {a b : Y} → Some a ≡ Some b → a ≡ b
+      some h = cc
+
+      by : (b : Bool) → nat_lt n x.0 ≡ b → (Some m ≡ next_above xs n → IsFound xs n m) → IsFound (x ∷ xs) n m
+      by true t go =
+          let is : m ≡ x.0 = some (rw t at e) in
+          let here : nat_eq m x.0 ≡ true = grind (arith, nat_tests) in
+          let past : nat_lt m x.0 ≡ false = grind (arith, nat_tests) in
+          let over : n < x.0 = grind (arith, nat_tests) in
+          let rest = no_more xs n m (omega (arith, is, over)) in
+          record {
+            there = rw here refl;
+            above = omega (arith, is, over);
+            fewer = rw (t, past) (omega (arith, rest));
+          }
+      by false t go =
+          let rest = go (rw t at e) in
+          let before : x.0 < m = grind (arith, nat_tests, rest.above) in
+          let other : nat_eq m x.0 ≡ false = grind (arith, nat_tests) in
+          let past : nat_lt m x.0 ≡ false = grind (arith, nat_tests) in
+          record {
+            there = rw other rest.there;
+            above = rest.above;
+            fewer = rw (t, past) rest.fewer;
+          }
+
+  -- where numbers rise, it is the first of those above
   pub record IsNext (xs : Numbered A) (n m : ℕ) : Type 0 where
     pub what : A
     pub there : thing xs m ≡ Some what

@@ -140,6 +140,12 @@ parts_of h = record {
   actors = map (actor_part h.actors.things) h.frames.things;
 }
 
+-- numbers rise
+pub record NumbersRise (h : HeapTree) : Type 0 where
+  pub cells : IsRising 0 h.cells.things h.cells.greatest
+  pub streams : IsRising 0 h.streams.things h.streams.greatest
+  pub frames : IsRising 0 h.frames.things h.frames.greatest
+
 -- A heap rests: there is no task; each unfinished actor is suspended and not marked, and has a frame,
 -- and no other actor has one; numbers rise; and what is noted of ports and requests is noted of streams
 -- and single results.

@@ -1,8 +1,8 @@
-// The state of a heap that rests.
+// The state of a heap.
 
 ghost use Rattle.std.specs.Prelude.{◌≡◌, IfOk, IsSome, map};
 ghost use Rattle.flow_numbered.specs.Numbered.{thing, IsRising};
-ghost use Rattle.flow_heapstate.specs.State.{cell_kept, cell_part, stream_kept, stream_part, actor_kept, actor_part, parts_kept, parts_of, Rests};
+ghost use Rattle.flow_heapstate.specs.State.{cell_kept, cell_part, stream_kept, stream_part, actor_kept, actor_part, parts_kept, parts_of, NumbersRise};
 
 use crate::parts::{actor_state, cell_state, stream_state};
 use crate::state::{ActorState, CellState, HeapState, StreamState};
@@ -13,9 +13,8 @@ use std::alloc::Global;
 
 // The single results of a heap, by rising number.
 fn cells(alloc: Global, heap: &Heap) -> Result<Vec<CellState>, NoMemory>
-    requires { IsRising 0 heap.now.cells.things heap.now.cells.greatest }
-    ensures { IfOk result (λ v. map cell_kept v.items
-        ≡ map (cell_part heap.now.requests) heap.now.cells.things) }
+    ensures { IfOk result (λ v. IsRising 0 heap.now.cells.things heap.now.cells.greatest
+        → map cell_kept v.items ≡ map (cell_part heap.now.requests) heap.now.cells.things) }
 {
     let mut listed = Vec::new(alloc);
     let mut last = CellId(0);
@@ -28,9 +27,8 @@ fn cells(alloc: Global, heap: &Heap) -> Result<Vec<CellState>, NoMemory>
 
 // The streams of a heap, by rising number.
 fn streams(alloc: Global, heap: &Heap) -> Result<Vec<StreamState>, NoMemory>
-    requires { IsRising 0 heap.now.streams.things heap.now.streams.greatest }
-    ensures { IfOk result (λ v. map stream_kept v.items
-        ≡ map (stream_part heap.now.ports) heap.now.streams.things) }
+    ensures { IfOk result (λ v. IsRising 0 heap.now.streams.things heap.now.streams.greatest
+        → map stream_kept v.items ≡ map (stream_part heap.now.ports) heap.now.streams.things) }
 {
     let mut listed = Vec::new(alloc);
     let mut last = CellId(0);
@@ -43,9 +41,8 @@ fn streams(alloc: Global, heap: &Heap) -> Result<Vec<StreamState>, NoMemory>
 
 // The actors of a heap, by rising number.
 fn actors(alloc: Global, heap: &Heap) -> Result<Vec<ActorState>, NoMemory>
-    requires { IsRising 0 heap.now.frames.things heap.now.frames.greatest }
-    ensures { IfOk result (λ v. map actor_kept v.items
-        ≡ map (actor_part heap.now.actors.things) heap.now.frames.things) }
+    ensures { IfOk result (λ v. IsRising 0 heap.now.frames.things heap.now.frames.greatest
+        → map actor_kept v.items ≡ map (actor_part heap.now.actors.things) heap.now.frames.things) }
 {
     let mut listed = Vec::new(alloc);
     let mut last = ActorId(0);
@@ -56,10 +53,9 @@ fn actors(alloc: Global, heap: &Heap) -> Result<Vec<ActorState>, NoMemory>
     Ok(listed)
 }
 
-/// The state of a heap that rests.
+/// The state of a heap: all of one that rests. Tasks, and where an actor stands that runs, are left out.
 pub fn state(alloc: Global, heap: &Heap) -> Result<HeapState, NoMemory>
-    requires { Rests heap.now }
-    ensures { IfOk result (λ s. parts_kept s ≡ parts_of heap.now) }
+    ensures { IfOk result (λ s. NumbersRise heap.now → parts_kept s ≡ parts_of heap.now) }
 {
     Ok(HeapState {
         cells_made: heap.last_cell(),

@@ -5,7 +5,10 @@ ghost use Rattle.std.specs.List.{flat_map};
 ghost use Rattle.flow_value.specs.Values.{refs_of};
 ghost use Rattle.flow_value.specs.View.{value_of, outcome_of, ref_of};
 ghost use Rattle.flow_heapstate.specs.State.{place_of, cell_kept, stream_kept, actor_kept, parts_kept};
-ghost use Rattle.flow_heapstate.specs.Referring.{Adds, waits_of, content_refs, place_refs, cell_refs, stream_refs, actor_refs, named, stored_refs};
+ghost use Rattle.flow_heapstate.specs.Referring.{Adds, waits_of, content_refs, place_refs, cell_refs, stream_refs, actor_refs, result_refs, named, stored_refs};
+ghost use Rattle.flow_heapstate.specs.Referring.{references as all_references};
+ghost use Rattle.flow_heapstate.specs.Sound.{results, value_refs};
+ghost use Rattle.flow_heapstate.specs.Judging.{held_refs, queue_refs, HasFound};
 
 use crate::state::{ActorState, CellState, HeapState, StreamState};
 use flow_base::ids::CellId;
@@ -175,4 +178,105 @@ pub(crate) fn references(alloc: Global, state: &HeapState) -> Result<Vec<(Kind, 
         found.push((Kind::Future, cell))?;
     }
     Ok(found)
+}
+
+// Adds what all single results hold.
+fn add_contents(
+    alloc: Global,
+    parts: &[CellState],
+    found: &mut Vec<(Kind, CellId)>,
+) -> Result<(), NoMemory>
+    ensures { OnOk result (Adds found.old.items (flat_map held_refs (map cell_kept parts.now))
+        found.new.items) }
+{
+    for part in parts {
+        add_content(alloc, &part.content, found)?;
+    }
+    Ok(())
+}
+
+// Adds the elements of all streams.
+fn add_queues(
+    alloc: Global,
+    parts: &[StreamState],
+    found: &mut Vec<(Kind, CellId)>,
+) -> Result<(), NoMemory>
+    ensures { OnOk result (Adds found.old.items (flat_map queue_refs (map stream_kept parts.now))
+        found.new.items) }
+{
+    for part in parts {
+        add_elements(alloc, &part.queue, found)?;
+    }
+    Ok(())
+}
+
+// Adds the promise of an actor for its result.
+fn add_result(part: &ActorState, found: &mut Vec<(Kind, CellId)>) -> Result<(), NoMemory>
+    ensures { OnOk result (Adds found.old.items (result_refs (actor_kept part.now)) found.new.items) }
+{
+    if let Some(cell) = part.result {
+        found.push((Kind::Promise, cell))?;
+    }
+    Ok(())
+}
+
+// Adds the promises of all actors for their results.
+fn add_results(parts: &[ActorState], found: &mut Vec<(Kind, CellId)>) -> Result<(), NoMemory>
+    ensures { OnOk result (Adds found.old.items (flat_map result_refs (map actor_kept parts.now))
+        found.new.items) }
+{
+    for part in parts {
+        add_result(part, found)?;
+    }
+    Ok(())
+}
+
+// The references of a state, and which of them are promises for results and which stand in values.
+#[derive(Drop)]
+pub(crate) struct Found {
+    pub(crate) all: Vec<(Kind, CellId)>,
+    pub(crate) results: Vec<(Kind, CellId)>,
+    pub(crate) values: Vec<(Kind, CellId)>,
+}
+
+// The promises of the actors of a state for their results.
+fn results(alloc: Global, state: &HeapState) -> Result<Vec<(Kind, CellId)>, NoMemory>
+    ensures { IfOk result (λ found. map ref_of found.items ≡ results (parts_kept state.now)) }
+{
+    let mut found = Vec::new(alloc);
+    add_results(&state.actors, &mut found)?;
+    Ok(found)
+}
+
+// The references that stand in the values of a state.
+fn values(alloc: Global, state: &HeapState) -> Result<Vec<(Kind, CellId)>, NoMemory>
+    ensures { IfOk result (λ found. map ref_of found.items ≡ value_refs (parts_kept state.now)) }
+{
+    let mut found = Vec::new(alloc);
+    add_contents(alloc, &state.cells, &mut found)?;
+    add_queues(alloc, &state.streams, &mut found)?;
+    add_actors(alloc, &state.actors, &mut found)?;
+    Ok(found)
+}
+
+// All references of a state.
+fn all(alloc: Global, state: &HeapState) -> Result<Vec<(Kind, CellId)>, NoMemory>
+    ensures { IfOk result (λ found. map ref_of found.items
+        ≡ all_references (parts_kept state.now)) }
+{
+    let mut found = results(alloc, state)?;
+    let stored = references(alloc, state)?;
+    found.extend_from_slice(&stored)?;
+    Ok(found)
+}
+
+/// The references of a state, sorted out.
+pub(crate) fn found_in(alloc: Global, state: &HeapState) -> Result<Found, NoMemory>
+    ensures { IfOk result (λ found. HasFound (parts_kept state.now) found) }
+{
+    Ok(Found {
+        all: all(alloc, state)?,
+        results: results(alloc, state)?,
+        values: values(alloc, state)?,
+    })
 }

@@ -38,6 +38,10 @@ module _ {A W : Type 0} (serves : Host W) (shows : A → Numbered ℕ → W → 
       wrote a [] b
       × ((ps : Numbered ℕ) (w : W) → shows a ps w → thing ps port ≡ None → port_of k ps ≡ None → shows b (added ps port k) w)
 
+  -- the lines of a request are written, and no more is said
+  abbrev pub LinesOf : Request → A → A → Type 0
+  LinesOf r a b = (ps : Numbered ℕ) (w : W) → shows a ps w → wrote a (serves.serve r w).0 b
+
   -- and then they don't any more
   abbrev pub Unlistens : (cell : ℕ) → A → A → Type 0
   Unlistens k a b = wrote a [] b × ((ps : Numbered ℕ) (w : W) → shows a ps w → shows b (unheard k ps) w)

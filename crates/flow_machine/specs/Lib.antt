@@ -1,3 +1,4 @@
+pub mod Breaking
 pub mod Bursts
 pub mod Cause
 pub mod Hosting

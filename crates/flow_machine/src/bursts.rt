@@ -1,11 +1,14 @@
 // Bursts: steps, and what each asks of the world around the process.
 
-ghost use Rattle.std.specs.Prelude.{◌≡◌, ◌+◌, ◌^◌, ◌-ℤ◌, nat_le, None, IfOk, OnOk};
+ghost use Rattle.std.specs.Prelude.{◌≡◌, ◌+◌, ◌^◌, ◌-ℤ◌, nat_le, None, Some, IfOk, OnOk, IfErr, OnErr, IsErrOf};
 ghost use Rattle.flow_eval.specs.Predefined.{natural};
 ghost use Rattle.flow_meaning.specs.Effects.{between, is_port, judged};
 ghost use Rattle.flow_steps.specs.Doing.{unasked};
 ghost use Rattle.flow_machine.specs.Bursts.{Bursts};
+ghost use Rattle.flow_machine.specs.Breaking.{IsOperand, ServingAmiss, Unwritten, DrawBroke, SendBroke};
+ghost use Rattle.flow_machine.specs.Breaking.{ServingBroke, ServingBrokeIf, BreaksOff};
 ghost use Rattle.flow_machine.specs.Cause.{RunCause};
+ghost use Rattle.flow_machine.specs.declared.host.RunFault.TheVariants.{Astray};
 ghost use Rattle.flow_machine.specs.Requests.{asked_of};
 ghost use Rattle.flow_machine.specs.Serving.{DrawServed, DelayServed, ListenServed, DiskServed};
 ghost use Rattle.flow_machine.specs.Serving.{SendServed, may_send, Served, ServedIf};
@@ -33,6 +36,9 @@ fn draw<H: Host>(
         actor goal lo width process.old host.old process.new host.new) }
     ensures cause { RunCause (H.faults host.old) (H.faults host.new) result }
     ensures kept { H.kept host.new ≡ H.kept host.old }
+    ensures broke { OnErr result
+        (DrawBroke H.serves H.shows H.wrote H.broke host.old host.new) }
+    ensures astray { IsErrOf result Astray → IsOperand goal }
 {
     match width(lo, hi) {
         Some(width) => {
@@ -56,6 +62,9 @@ fn delay<H: Host>(
         actor goal time process.old host.old process.new host.new) }
     ensures cause { RunCause (H.faults host.old) (H.faults host.new) result }
     ensures kept { H.kept host.new ≡ H.kept host.old }
+    ensures broke { OnErr result
+        (Unwritten H.serves H.shows H.wrote H.broke host.old host.new) }
+    ensures astray { IsErrOf result Astray → ⊥ }
 {
     match time_after(process.now(), ticks) {
         Some(at) => {
@@ -79,6 +88,9 @@ fn listen<H: Host>(
         actor goal (natural port) process.old host.old process.new host.new) }
     ensures cause { RunCause (H.faults host.old) (H.faults host.new) result }
     ensures kept { H.kept host.new ≡ H.kept host.old }
+    ensures broke { OnErr result
+        (Unwritten H.serves H.shows H.wrote H.broke host.old host.new) }
+    ensures astray { IsErrOf result Astray → ⊥ }
 {
     let Some(port) = port_of(port) else {
         process.throw(actor, BAD_ARGUMENT)?;
@@ -104,6 +116,9 @@ fn ask_disk<H: Host>(
         actor goal process.old host.old process.new host.new) }
     ensures cause { RunCause (H.faults host.old) (H.faults host.new) result }
     ensures kept { H.kept host.new ≡ H.kept host.old }
+    ensures broke { OnErr result
+        (Unwritten H.serves H.shows H.wrote H.broke host.old host.new) }
+    ensures astray { IsErrOf result Astray → ⊥ }
 {
     match judged(call) {
         Some(ask) => {
@@ -128,6 +143,9 @@ fn send_to<H: Host>(
         actor (natural to.0) (natural to.1) text from.old host.old from.new host.new) }
     ensures cause { RunCause (H.faults host.old) (H.faults host.new) result }
     ensures kept { H.kept host.new ≡ H.kept host.old }
+    ensures broke { OnErr result
+        (SendBroke H.serves H.shows H.wrote H.broke (natural to.0) (natural to.1) text host.old host.new) }
+    ensures astray { IsErrOf result Astray → ⊥ }
 {
     let (number, port) = to;
     let (Some(to), Some(port)) = (process(processes, number), port_of(port)) else {
@@ -151,6 +169,9 @@ fn ask_other<H: Host>(
         process.old host.old process.new host.new) }
     ensures cause { RunCause (H.faults host.old) (H.faults host.new) result }
     ensures kept { H.kept host.new ≡ H.kept host.old }
+    ensures broke { OnErr result
+        (ServingBroke H.serves H.shows H.wrote H.broke call host.old host.new) }
+    ensures astray { IsErrOf result Astray → ServingAmiss (Some call) }
 {
     match call {
         Call::Line(line) => {
@@ -182,6 +203,9 @@ pub(crate) fn ask<H: Host>(
         (unasked process.old) host.old process.new host.new) }
     ensures cause { RunCause (H.faults host.old) (H.faults host.new) result }
     ensures kept { H.kept host.new ≡ H.kept host.old }
+    ensures broke { OnErr result
+        (ServingBrokeIf H.serves H.shows H.wrote H.broke process.old.asked host.old host.new) }
+    ensures astray { IsErrOf result Astray → ServingAmiss process.old.asked }
 {
     match process.take_asked() {
         Some(call) => ask_other(process, processes, call, host),
@@ -189,7 +213,7 @@ pub(crate) fn ask<H: Host>(
     }
 }
 
-#[tactic(auto, using(crate::proofs::Causes::cause_before, crate::proofs::Rows::burst_rests, crate::proofs::Rows::burst_spent, crate::proofs::Rows::burst_asks))]
+#[tactic(auto, using(crate::proofs::Causes::cause_before, crate::proofs::Rows::burst_rests, crate::proofs::Rows::burst_spent, crate::proofs::Rows::burst_asks, crate::proofs::Rows::further_asks, crate::proofs::Rows::tasks_break, crate::proofs::Rows::asks_break, crate::proofs::Rows::numbers_end))]
 /// Steps of a process, of so many, until no task is left, or a turn is needed and none is left.
 pub(crate) fn burst<H: Host>(
     process: &mut Process,
@@ -202,6 +226,8 @@ pub(crate) fn burst<H: Host>(
         process.old host.old e process.new host.new) }
     ensures cause { RunCause (H.faults host.old) (H.faults host.new) result }
     ensures kept { H.kept host.new ≡ H.kept host.old }
+    ensures breaks { IfErr result (λ f. BreaksOff H.serves H.shows H.wrote H.broke
+        code.now processes process.old host.old f host.new) }
 {
     for _step in 0..u64::MAX {
         match process.run_tasks(code)? {
@@ -210,5 +236,5 @@ pub(crate) fn burst<H: Host>(
             Next::Asks => ask(process, processes, host)?,
         }
     }
-    Err(RunFault::Astray)
+    Err(RunFault::OutOfMemory)
 }

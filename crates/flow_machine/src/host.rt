@@ -1,13 +1,13 @@
 // The world around a process, and how a burst ends.
 
-ghost use Rattle.std.specs.Prelude.{◌≡◌, ℕ, ◌+◌, ◌^◌, ◌<◌, ◌≤◌, pos, ◌+ℤ◌, ◌≤ℤ◌, ◌<ℤ◌, List, [], ◌∷◌, is_some, IfOk, OnOk};
+ghost use Rattle.std.specs.Prelude.{◌≡◌, ℕ, ◌+◌, ◌^◌, ◌<◌, ◌≤◌, pos, ◌+ℤ◌, ◌≤ℤ◌, ◌<ℤ◌, List, [], ◌∷◌, is_some, IfOk, OnOk, OnErr};
 ghost use Rattle.flow_base.specs.Faults.{HasCause};
 ghost use Rattle.flow_trace.specs.declared.line.Line.{Line};
 ghost use Rattle.flow_meaning.specs.Numbered.{Numbered, thing};
 ghost use Rattle.flow_meaning.specs.Asks.{Timer, Packet, Disks};
 ghost use Rattle.flow_meaning.specs.Burst as meaning;
 ghost use Rattle.flow_machine.specs.Requests.{IsAllowed, call_of};
-ghost use Rattle.flow_machine.specs.Hosting.{Serves, Draws, Writes, Listens, Unlistens};
+ghost use Rattle.flow_machine.specs.Hosting.{Serves, Draws, Writes, LinesOf, Listens, Unlistens};
 
 use flow_base::fault::OutFault;
 use flow_base::ids::{CellId, ProcId};
@@ -43,10 +43,14 @@ pub trait Host {
     /// Which lines were written between one moment and a later one.
     ghost wrote: { Self → List Line → Self → Type 0 };
 
+    /// Of which lines at most a first part was written, where a call broke off.
+    ghost broke: { Self → List Line → Self → Type 0 };
+
     /// Writes a line of the trace.
     fn line(&mut self, line: &Line) -> Result<(), OutFault>
         ensures written { OnOk result
             (Writes serves shows wrote (line.now ∷ []) self.old self.new) }
+        ensures broke { OnErr result (broke self.old (line.now ∷ []) self.new) }
         ensures cause { HasCause (faults self.old) (faults self.new) result }
         ensures kept { Self.kept self.new ≡ Self.kept self.old };
 
@@ -58,6 +62,7 @@ pub trait Host {
         ensures drawn { IfOk result (λ n. Draws serves shows wrote lo width n self.old self.new) }
         ensures from { IfOk result (λ n. lo ≤ℤ n) }
         ensures below { IfOk result (λ n. n <ℤ (lo +ℤ pos width)) }
+        ensures broke { OnErr result (broke self.old [] self.new) }
         ensures faults { faults self.old ≤ faults self.new }
         ensures kept { Self.kept self.new ≡ Self.kept self.old };
 
@@ -66,6 +71,7 @@ pub trait Host {
         requires { at ≤ 2 ^ 62 }
         ensures served { OnOk result
             (Serves serves shows wrote (Timer cell.0 at) self.old self.new) }
+        ensures broke { OnErr result (broke self.old [] self.new) }
         ensures faults { faults self.old ≤ faults self.new }
         ensures kept { Self.kept self.new ≡ Self.kept self.old };
 
@@ -74,6 +80,8 @@ pub trait Host {
         requires { to.0 < processes (Self.kept self.old) }
         ensures served { OnOk result
             (Serves serves shows wrote (Packet to.0 port text) self.old self.new) }
+        ensures broke { OnErr result
+            (LinesOf serves shows broke (Packet to.0 port text) self.old self.new) }
         ensures cause { HasCause (faults self.old) (faults self.new) result }
         ensures kept { Self.kept self.new ≡ Self.kept self.old };
 
@@ -85,6 +93,7 @@ pub trait Host {
     /// The process listens at a port where it does not yet: the elements for it come to this stream, by `arrive`.
     fn listen(&mut self, port: u16, cell: CellId) -> Result<(), NoMemory>
         ensures listens { OnOk result (Listens serves shows wrote port cell.0 self.old self.new) }
+        ensures broke { OnErr result (broke self.old [] self.new) }
         ensures faults { faults self.old ≤ faults self.new }
         ensures kept { Self.kept self.new ≡ Self.kept self.old };
 
@@ -99,6 +108,7 @@ pub trait Host {
         requires { IsAllowed ask }
         ensures served { OnOk result
             (Serves serves shows wrote (Disks cell.0 (call_of ask)) self.old self.new) }
+        ensures broke { OnErr result (broke self.old [] self.new) }
         ensures faults { faults self.old ≤ faults self.new }
         ensures kept { Self.kept self.new ≡ Self.kept self.old };
 

@@ -1,6 +1,6 @@
 // One process.
 
-ghost use Rattle.std.specs.Prelude.{◌≡◌, ◌<◌, ◌≤◌, ◌^◌, is_some, length, IfOk};
+ghost use Rattle.std.specs.Prelude.{◌≡◌, ◌<◌, ◌≤◌, ◌^◌, is_some, length, IfOk, IfErr};
 ghost use Rattle.flow_value.specs.declared.value.Kind.TheVariants as kind;
 ghost use Rattle.flow_value.specs.declared.value.Outcome.TheVariants as outcome;
 ghost use Rattle.flow_steps.specs.Doing.{never_ran, begun, vanished};
@@ -8,6 +8,8 @@ ghost use Rattle.flow_steps.specs.Holding.{on_heap};
 ghost use Rattle.flow_steps.specs.Bringing.{brought, answered, main_dropped};
 ghost use Rattle.flow_steps.specs.Views.{frames_in, callbacks_in};
 ghost use Rattle.flow_machine.specs.Bursts.{Bursts, MainBursts};
+ghost use Rattle.flow_steps.specs.AmissTasks.{AnswerAmiss, BringAmiss};
+ghost use Rattle.flow_machine.specs.Breaking.{MainBreaksOff, BringingBreaksOff};
 ghost use Rattle.flow_machine.specs.Cause.{RunCause};
 
 use crate::bursts::{ask, burst};
@@ -51,7 +53,7 @@ impl Machine {
         self.processes
     }
 
-    #[tactic(auto, using(crate::proofs::Causes::cause_before, crate::proofs::Rows::main_bursts))]
+    #[tactic(auto, using(crate::proofs::Causes::cause_before, crate::proofs::Rows::main_bursts, crate::proofs::Rows::main_breaks, crate::proofs::Rows::line_breaks, crate::proofs::Rows::after_main))]
     /// Calls `main` with the process's number, and does all that follows: `Rested` where nothing is left to do, `Spent` where
     /// a turn is needed and none is left. `Failed` comes only where the host's count of faults rose. `Astray` comes
     /// where a result of `main` is held already, or where the classes lead to where no valid class comes.
@@ -68,6 +70,8 @@ impl Machine {
             e self.new.process host.new) }
         ensures cause { RunCause (H.faults host.old) (H.faults host.new) result }
         ensures host { H.kept host.new ≡ H.kept host.old }
+        ensures breaks { IfErr result (λ f. MainBreaksOff H.serves H.shows H.wrote H.broke code.now
+            self.old.processes self.old.me (begun now turns self.old.process) host.old f host.new) }
         ensures processes { self.new.processes ≡ self.old.processes }
         ensures me { self.new.me ≡ self.old.me }
     {
@@ -77,6 +81,7 @@ impl Machine {
         burst(&mut self.process, self.processes, code, host)
     }
 
+    #[tactic(auto, using(crate::proofs::Rows::bringing_breaks, crate::proofs::Rows::after_bringing))]
     /// Brings the answer to an open request: its cell is set and fires, and then the request's promise is dropped.
     pub fn deliver<H: Host>(
         &mut self,
@@ -94,6 +99,11 @@ impl Machine {
             e self.new.process host.new) }
         ensures cause { RunCause (H.faults host.old) (H.faults host.new) result }
         ensures host { H.kept host.new ≡ H.kept host.old }
+        ensures breaks { let start = begun now turns self.old.process in
+            IfErr result (λ f. BringingBreaksOff H.serves H.shows H.wrote H.broke code.now self.old.processes
+            (AnswerAmiss cell.0 outcome start.heap)
+            (brought kind.Promise cell.0 outcome (on_heap (answered cell.0) start)) host.old
+            f host.new) }
         ensures processes { self.new.processes ≡ self.old.processes }
         ensures me { self.new.me ≡ self.old.me }
     {
@@ -102,6 +112,7 @@ impl Machine {
         burst(&mut self.process, self.processes, code, host)
     }
 
+    #[tactic(auto, using(crate::proofs::Rows::bringing_breaks, crate::proofs::Rows::after_bringing))]
     /// Brings an element to a port's stream, which fires.
     pub fn arrive<H: Host>(
         &mut self,
@@ -119,6 +130,10 @@ impl Machine {
             e self.new.process host.new) }
         ensures cause { RunCause (H.faults host.old) (H.faults host.new) result }
         ensures host { H.kept host.new ≡ H.kept host.old }
+        ensures breaks { let start = begun now turns self.old.process in
+            IfErr result (λ f. BringingBreaksOff H.serves H.shows H.wrote H.broke code.now self.old.processes
+            (BringAmiss kind.PromiseStream cell.0 (outcome.Value item) start.heap)
+            (brought kind.PromiseStream cell.0 (outcome.Value item) start) host.old f host.new) }
         ensures processes { self.new.processes ≡ self.old.processes }
         ensures me { self.new.me ≡ self.old.me }
     {
@@ -127,6 +142,7 @@ impl Machine {
         burst(&mut self.process, self.processes, code, host)
     }
 
+    #[tactic(auto, using(crate::proofs::Rows::bringing_breaks, crate::proofs::Rows::after_bringing))]
     /// Drops the hold on the result of `main`, if there is one.
     pub fn stop<H: Host>(
         &mut self,
@@ -142,6 +158,9 @@ impl Machine {
             e self.new.process host.new) }
         ensures cause { RunCause (H.faults host.old) (H.faults host.new) result }
         ensures host { H.kept host.new ≡ H.kept host.old }
+        ensures breaks { let start = begun now turns self.old.process in
+            IfErr result (λ f. BringingBreaksOff H.serves H.shows H.wrote H.broke code.now self.old.processes ⊥
+            (on_heap (main_dropped start.heap.main) start) host.old f host.new) }
         ensures processes { self.new.processes ≡ self.old.processes }
         ensures me { self.new.me ≡ self.old.me }
     {

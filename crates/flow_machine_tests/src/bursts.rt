@@ -48,6 +48,8 @@ impl Host for Lines {
 
     ghost wrote = { λ _ _ _. Unit {0} };
 
+    ghost broke = { λ _ _ _. Unit {0} };
+
     fn line(&mut self, line: &Line) -> Result<(), OutFault> {
         self.lines.put(line)
     }

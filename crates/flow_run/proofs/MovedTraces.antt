@@ -12,8 +12,10 @@ use Rattle.flow_world.specs.declared.event.Event.TheVariants.{Ran}
 use Rattle.flow_world.specs.Ending.{Seen}
 use Rattle.flow_world.specs.Telling.{Telling, TellsAfter, tells}
 use Rattle.flow_world.proofs.MovedEvents.{lines_by, does_event_by}
+use Rattle.flow_world.proofs.MovedAmiss.{event_amiss_by}
 use Rattle.flow_run.specs.declared.ending.Ending.{Ending}
 use Rattle.flow_run.specs.Tracing.{Goes, no_event, one_more, Traces, Begins, TracesPart, begun, all}
+use Rattle.flow_run.specs.Straying.{EventsAmiss, event_amiss, frames_amiss, TraceAmiss}
 
 -- where lines are told, seen as something else
 module _ {A B : Type 0} (f : A → B) (puts : A → Line → Result (Unit {0}) OutFault → A → Type 0) (puts_there : B → Line → Result (Unit {0}) OutFault → B → Type 0)
@@ -71,3 +73,18 @@ module _ {A B : Type 0} (f : A → B) (puts : A → Line → Result (Unit {0}) O
   pub part_by : (frames : Bool) (classes : RawClasses) (file : World0) (a b : A) → TracesPart puts frames classes file a b → TracesPart puts_there frames classes file (f a) (f b)
   part_by frames classes file a b (begun t) = begun (begins_by frames classes file a b t)
   part_by frames classes file a b (all {e = e} t) = all (traces_by frames classes file a e b t)
+
+  -- it goes astray there, too
+  events_amiss_by : (frames : Bool) (w : Seen) (a : A) → EventsAmiss puts frames w a → EventsAmiss puts_there frames w (f a)
+  events_amiss_by frames w a (event_amiss {v = v} {b = b} goes t) = event_amiss (goes_by frames w a v b goes) (event_amiss_by f puts puts_there there v b t)
+  events_amiss_by frames w a (frames_amiss {u = u} {v = v} {b = b} {c = c} goes does t) =
+      frames_amiss (goes_by frames w a u b goes) (does_event_by f puts puts_there there Ran u b v c does) t
+
+  pub amiss_by : (frames : Bool) (classes : RawClasses) (file : World0) (a : A) → TraceAmiss puts frames classes file a → TraceAmiss puts_there frames classes file (f a)
+  amiss_by frames classes file a t = record {
+    first = t.first;
+    headed = f t.headed;
+    starts = t.starts;
+    head = there a t.headed _ t.head;
+    events = events_amiss_by frames t.first t.headed t.events;
+  }

@@ -1,3 +1,4 @@
 pub mod Ends
 pub mod Tracing
 pub mod Written
+pub mod Straying

@@ -2,12 +2,13 @@
 
 ghost use Rattle.std.specs.Prelude.{◌≡◌, false, IfOk, IsErrOf};
 ghost use Rattle.flow_machine.specs.Cause.{RunCause};
-ghost use Rattle.flow_machine.specs.declared.host.RunFault.TheVariants.{Failed};
+ghost use Rattle.flow_machine.specs.declared.host.RunFault.TheVariants.{Failed, Astray};
 ghost use Rattle.flow_worldfile.specs.Worlds.{IsInRange, seen};
 ghost use Rattle.flow_world.specs.Telling.{tells, whole, failed};
 ghost use Rattle.flow_world.specs.Worlds.{world_seen};
 ghost use Rattle.flow_run.specs.Ends.{PutLast, end_line};
 ghost use Rattle.flow_run.specs.Tracing.{GoesTo, GoesPart, Traces, TracesPart};
+ghost use Rattle.flow_run.specs.Straying.{EventsAmiss, TraceAmiss};
 
 use crate::ending::Ending;
 use crate::frames::put_frames_if;
@@ -37,6 +38,8 @@ pub fn put_trace<L: LineOut>(
         (whole out.old) ending (whole out.new)) }
     ensures part { IsErrOf result Failed → TracesPart (tells L.puts) with_frames classes world
         (whole out.old) (failed out.new) }
+    ensures astray { IsErrOf result Astray → TraceAmiss (tells L.puts) with_frames classes world
+        (whole out.old) }
     ensures last { IfOk result (λ ending. PutLast L.puts (end_line ending) out.new) }
 {
     let mut world = World::start(alloc, classes, world)?;
@@ -59,6 +62,8 @@ fn put_events<L: LineOut>(
         (world_seen world.old) (whole out.old) ending (world_seen world.new) (whole out.new)) }
     ensures part { IsErrOf result Failed → GoesPart (tells L.puts) with_frames
         (world_seen world.old) (whole out.old) (failed out.new) }
+    ensures astray { IsErrOf result Astray → EventsAmiss (tells L.puts) with_frames
+        (world_seen world.old) (whole out.old) }
     ensures cause { RunCause (L.faults out.old) (L.faults out.new) result }
     ensures kept { L.kept out.new ≡ L.kept out.old }
 {
@@ -70,5 +75,5 @@ fn put_events<L: LineOut>(
             Event::Spent => return Ok(Ending::Spent),
         }
     }
-    Err(RunFault::Astray)
+    Err(RunFault::OutOfMemory)
 }

@@ -133,7 +133,7 @@ read_asked vs file offset count f o n =
     ∙ ap (λ x. bind x (λ offset. bind (int_of (arg vs 2)) (λ count. Some (asks.Disk (asks.ReadCall file offset count))))) o
     ∙ ap (λ x. bind x (λ count. Some (asks.Disk (asks.ReadCall file offset count)))) n
 
-first_kept : (vs : List Value) → arg (map value_of (set vs 2 Void)) 0 ≡ arg (map value_of vs) 0
+pub first_kept : (vs : List Value) → arg (map value_of (set vs 2 Void)) 0 ≡ arg (map value_of vs) 0
 first_kept [] = refl
 first_kept (v ∷ vs) = refl
 

@@ -25,6 +25,7 @@ use Rattle.flow_code.specs.declared.class.Aim.{Aim}
 use Rattle.flow_code.specs.declared.class.Branch.{Branch}
 use Rattle.flow_code.specs.declared.class.Effect.{Effect}
 use Rattle.flow_code.specs.declared.class.Group.{Group}
+use Rattle.flow_code.specs.declared.class.Instruction.{Instruction}
 use Rattle.flow_code.specs.declared.class.Instruction.TheVariants as instruction
 use Rattle.flow_code.specs.declared.class.Last.TheVariants as last
 use Rattle.flow_code.specs.declared.program.Code.{Code}
@@ -50,6 +51,7 @@ use Rattle.flow_steps.specs.Bringing.{closed}
 use Rattle.flow_steps.specs.Standing.{StandsNow, GoesTo, next_stand, noted, values, lost_from, Assigns}
 use Rattle.flow_steps.specs.Waiting.{BranchOf, TakesBranch, Keeps}
 use Rattle.flow_steps.specs.Stepping.{OnAfter, GoesOn, Runs, IsClose}
+use Rattle.flow_steps.specs.AmissTasks.{EffectTo}
 use Rattle.flow_steps.specs.Tasks.{RunsNow, BranchAt, bound_over, bound, ValueGiven, Stored, TopTaken, IsKept, FailsBy, Raises, Raised, FiresAt, Fires, next_waiter, WaiterTakes, Closes, MainStarts, MainCalled, main_waits, main_starts, Tasks, no_task}
 
 pub runs_now : (code : Code) (i : ActorId) (s : Stand) (p q : Process) → StandsNow code.classes.items i p s → Runs code s p q → RunsNow code i p q
@@ -75,21 +77,25 @@ value_given code i n v s t b old vs pace p one between q at is o e g a go = reco
   further = go;
 }
 
-pub stored_by : (code : Code) (i : ActorId) (v : Value) (s : Stand) (aim : Aim) (f : Effect) (args : Vec Resolved Global) (old : Option Value) (p one two q : Process)
-    → StandsNow code.classes.items i p s → Some (instruction.Effect aim f args) ≡ slice_get s.block.now.body.items s.instruction
+pub stored_by : (code : Code) (i : ActorId) (v : Value) (s : Stand) (x : Instruction) (aim : Aim) (old : Option Value) (p one two q : Process)
+    → StandsNow code.classes.items i p s → Some x ≡ slice_get s.block.now.body.items s.instruction → EffectTo x aim
     → Assigns code.fields i aim v p old one → two ≡ on_heap (dropping (values old)) one → q ≡ noted (next_stand s) two → Stored code i v p q
-stored_by code i v s aim f args old p one two q at is a d n = record {
+stored_by code i v s x aim old p one two q at is to a d n = record {
   stand = s;
   aim = aim;
   old = old;
   between = one;
   stands = at;
-  effect = f;
-  args = args;
-  at = sym is;
+  effect = to.effect;
+  args = to.args;
+  at = sym is ∙ ap Some to.is;
   assigns = a;
   goes = n ∙ ap (noted (next_stand s)) d;
 }
+
+-- an instruction that is an effect
+pub effect_to : (x : Instruction) (aim : Aim) (e : Effect) (args : Vec Resolved Global) → x ≡ instruction.Effect aim e args → EffectTo x aim
+effect_to x aim e args is = record { effect = e; args = args; is = is }
 
 pub kept_by : (code : Code) (i : ActorId) (x : Held) (s : Stand) (pace : Pace) (p start between q : Process) → TopTaken (task.Run i) p start
     → StandsNow code.classes.items i start s → Keeps s x start pace between → GoesOn code pace between q → IsKept code i x p q

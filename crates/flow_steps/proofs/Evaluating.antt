@@ -1,5 +1,5 @@
 -- What an actor does with what evaluation comes to.
-use Rattle.std.proofs.Common.{◌≡◌, ℕ, Bool, List, map, Result, Ok, Err, IfOk, OnOk, refl, sym, subst}
+use Rattle.std.proofs.Common.{◌≡◌, ℕ, Bool, List, map, Result, Ok, Err, IfOk, OnOk, inl, inr, refl, sym, subst}
 use Rattle.std.proofs.lemmas.Result.{IfOk-weaker}
 use Rattle.std.specs.declared.vec.Vec.{Vec}
 use Rattle.std.specs.declared.alloc.Global.{Global}
@@ -18,6 +18,9 @@ use Rattle.flow_steps.specs.declared.next.Pace.TheVariants.{On, Off}
 use Rattle.flow_steps.specs.declared.process.Process.{Process}
 use Rattle.flow_steps.specs.Standing.{next_stand}
 use Rattle.flow_steps.specs.Stepping.{GoesNext, IsTest}
+use Rattle.flow_steps.specs.Straying.{OnAstray, FrameMissing}
+use Rattle.flow_steps.specs.AmissCalls.{HaltsAmiss, EvaluatesAmiss, meaningless, frame_gone, rest_amiss}
+use Rattle.flow_steps.proofs.Holding.{astray_weaker}
 use Rattle.flow_steps.specs.Sights.{Halted, with_left, Evaluates, gives, throws, runs_out}
 
 module _ {A B : Type 0} (s : Stand) (seen : B → A) (comes_to : Res A) (p mid q : Process) (goes : B → Process → Pace → Process → Type 0) where
@@ -88,3 +91,30 @@ module _ (s : Stand) (p mid q : Process) where
   pub test_done : (comes_to : Res ValueTree) (b : Bool) (one other : ℕ) (t : Stand) → comes_to ≡ Done (BoolValue b) mid.left → mid ≡ with_left mid.left p
       → IsTest s one other b mid (On t) mid → Evaluates s BoolValue comes_to p (IsTest s one other) (On t) mid
   test_done c b one other t e rest is = gives b mid.left (On t) mid e (subst (λ x. IsTest s one other b x (On t) mid) rest is)
+
+-- what an actor does with what evaluation comes to goes astray
+module _ {A B T : Type 0} (s : Stand) (seen : B → A) (comes_to : Res A) (p mid : Process) (rest : B → Process → Type 0) (r : Result T Fault) where
+  pub rest_strays : (b : B) → comes_to ≡ Done (seen b) mid.left → mid ≡ with_left mid.left p → OnAstray r (rest b mid)
+      → OnAstray r (EvaluatesAmiss s seen comes_to p rest)
+  rest_strays b e same m = astray_weaker r _ _ (λ x. rest_amiss b mid.left e (subst (rest b) same x)) m
+
+  pub halt_strays : (h : Halt) → (h ≡ halt.NoMeaning → comes_to ≡ Meaningless) → mid ≡ with_left mid.left p → OnAstray r (HaltsAmiss s h mid.heap)
+      → OnAstray r (EvaluatesAmiss s seen comes_to p rest)
+  halt_strays h none same m = astray_weaker r _ _ by m
+    where
+      by : HaltsAmiss s h mid.heap → EvaluatesAmiss s seen comes_to p rest
+      by (inl f) = frame_gone (subst (λ (x : Process). FrameMissing s.actor.0 x.heap) same f)
+      by (inr e) = meaningless (none e)
+
+module _ {T : Type 0} (s : Stand) (p mid : Process) (r : Result T Fault) (h : Halt) where
+  pub value_strays : (c : Res ValueTree) (rest : Value → Process → Type 0) → Gives c (Err h) mid.left → mid ≡ with_left mid.left p
+      → OnAstray r (HaltsAmiss s h mid.heap) → OnAstray r (EvaluatesAmiss s value_of c p rest)
+  value_strays c rest g = halt_strays s value_of c p mid rest r h (λ e. subst (λ x. Gives c (Err x) mid.left) e g)
+
+  pub values_stray : (c : Res (List ValueTree)) (rest : Vec Value Global → Process → Type 0) → GivesAll c (Err h) mid.left → mid ≡ with_left mid.left p
+      → OnAstray r (HaltsAmiss s h mid.heap) → OnAstray r (EvaluatesAmiss s (λ vs. map value_of vs.items) c p rest)
+  values_stray c rest g = halt_strays s (λ (vs : Vec Value Global). map value_of vs.items) c p mid rest r h (λ e. subst (λ x. GivesAll c (Err x) mid.left) e g)
+
+  pub truth_strays : (c : Res ValueTree) (rest : Bool → Process → Type 0) → GivesTruth c (Err h) mid.left → mid ≡ with_left mid.left p
+      → OnAstray r (HaltsAmiss s h mid.heap) → OnAstray r (EvaluatesAmiss s BoolValue c p rest)
+  truth_strays c rest g = halt_strays s BoolValue c p mid rest r h (λ e. subst (λ x. GivesTruth c (Err x) mid.left) e g)

@@ -1,17 +1,18 @@
 -- References that come to count, one by one.
-use Rattle.std.proofs.Common.{◌≡◌, ℕ, suc, ◌+◌, ◌<◌, ◌≤◌, List, [], ◌∷◌, ◌++◌, length, drop, get_or, refl, ap, sym, ◌∙◌, add-one}
+use Rattle.std.proofs.Common.{◌≡◌, ℕ, suc, ◌+◌, ◌<◌, ◌≤◌, List, [], ◌∷◌, ◌++◌, length, drop, get_or, inl, inr, refl, ap, sym, ◌∙◌, subst, add-one}
 use Rattle.std.proofs.lemmas.Bool.{false≢true}
 use Rattle.std.proofs.lemmas.List.{drop_all}
 use Rattle.flow_value.specs.declared.value.Value.{Value}
 use Rattle.flow_value.specs.declared.value.Outcome.{Outcome}
 use Rattle.flow_value.specs.declared.value.Kind.TheVariants as kind
 use Rattle.std.specs.Option.{IsSome, IsSomeAnd, ForSome}
+use Rattle.std.specs.Prelude.{Result, Ok, Err}
 use Rattle.std.specs.declared.option.Option.{Option}
 use Rattle.std.specs.declared.option.Option.TheVariants.{None, Some}
 use Rattle.flow_base.specs.declared.ids.ActorId.{ActorId}
 use Rattle.flow_base.specs.declared.ids.CellId.{CellId}
 use Rattle.flow_value.specs.declared.value.Value.TheVariants.{Ref}
-use Rattle.flow_numbered.specs.Numbered.{Store, thing, with_thing}
+use Rattle.flow_numbered.specs.Numbered.{Store, thing, put, with_thing}
 use Rattle.flow_cell.specs.declared.counts.Side.{Side}
 use Rattle.flow_cell.specs.declared.counts.Side.TheVariants.{Promise}
 use Rattle.flow_cell.specs.Cells.{CellTree, held, released}
@@ -23,6 +24,7 @@ use Rattle.flow_value.specs.Values.{refs_of, refs_of_all}
 use Rattle.flow_value.specs.View.{value_of, values_of}
 use Rattle.flow_cancel.specs.Heap.{HeapTree, cell_id, next_cell, finished}
 use Rattle.flow_cancel.specs.Dropping.{drops}
+use Rattle.flow_cancel.proofs.Puts.{found_put}
 use Rattle.flow_meaning.specs.Cells as cells
 use Rattle.flow_resolved.proofs.Maps.{drop_more}
 use Rattle.flow_picture.specs.Changes.{cell_put, stream_put}
@@ -31,6 +33,9 @@ use Rattle.flow_steps.specs.declared.call.Goal.{Goal}
 use Rattle.flow_steps.specs.declared.process.Process.{Process}
 use Rattle.flow_steps.specs.Doing.{doing}
 use Rattle.flow_steps.specs.Bringing.{made, requested, heard, OpenGiven, PortGiven, promise_ended, without_promise, closing, closed}
+use Rattle.flow_steps.specs.declared.errors.Fault.{Fault}
+use Rattle.flow_steps.specs.declared.errors.Fault.TheVariants as fault
+use Rattle.flow_steps.specs.Straying.{Strays, OnAstray, CellMissing, StreamMissing, SomeMissing}
 use Rattle.flow_steps.specs.Holding.{on_heap, cell_holding, stream_holding, result_filled, stream_filled, value_refs, IsGiving, Gives}
 
 pub hold_append : (rs ss : List cells.Ref) (h : HeapTree) → hold_all (rs ++ ss) h ≡ hold_all ss (hold_all rs h)
@@ -58,6 +63,32 @@ fields_step vs i d old new all lt put inv =
 
 pub fields_end : (vs : List Value) (i : ℕ) (old all : HeapTree) → length vs ≤ i → fields_held (drop i vs) old ≡ all → old ≡ all
 fields_end vs i old all le inv = ap (λ l. fields_held l old) (sym (drop_all i vs le)) ∙ inv
+
+-- a reference of the first of two rows is missing, or, once all of those count, one of the second
+pub missing_first : (qs rs : List cells.Ref) (h : HeapTree) → SomeMissing qs h → SomeMissing (qs ++ rs) h
+missing_first [] rs h m = absurd m
+missing_first (q ∷ qs) rs h (inl m) = inl m
+missing_first (q ∷ qs) rs h (inr m) = inr (missing_first qs rs (hold q.0 q.1 h) m)
+
+pub missing_later : (qs rs : List cells.Ref) (h : HeapTree) → SomeMissing rs (hold_all qs h) → SomeMissing (qs ++ rs) h
+missing_later [] rs h m = m
+missing_later (q ∷ qs) rs h m = inr (missing_later qs rs (hold q.0 q.1 h) m)
+
+-- so of the fields from one on
+abbrev pub fields_missing : List Value → HeapTree → Type 0
+fields_missing vs h = SomeMissing (refs_of_all (values_of vs)) h
+
+pub field_missing : (vs : List Value) (i : ℕ) (d : Value) (h : HeapTree) (X : Type 0) → i < length vs → (fields_missing (drop i vs) h → X)
+    → SomeMissing (refs_of (value_of (get_or vs i d))) h → X
+field_missing vs i d h X lt on m =
+    on (subst (λ l. fields_missing l h) (sym (drop_more vs i d lt)) (missing_first (refs_of (value_of (get_or vs i d))) (refs_of_all (values_of (drop (suc i) vs))) h m))
+
+pub missing_step : (vs : List Value) (i : ℕ) (d : Value) (old new : HeapTree) (X : Type 0) → i < length vs → new ≡ hold_all (refs_of (value_of (get_or vs i d))) old
+    → (fields_missing (drop i vs) old → X) → fields_missing (drop (i + 1) vs) new → X
+missing_step vs i d old new X lt put on m =
+    let here : fields_missing (drop (suc i) vs) new = subst (λ k. fields_missing (drop k vs) new) (add-one i) m in
+    on (subst (λ l. fields_missing l old) (sym (drop_more vs i d lt))
+    (missing_later (refs_of (value_of (get_or vs i d))) (refs_of_all (values_of (drop (suc i) vs))) old (subst (λ g. fields_missing (drop (suc i) vs) g) put here)))
 
 pub value_alone : (v : Value) (h : HeapTree) → hold_all (refs_of (value_of v)) h ≡ hold_all (refs_of (value_of v) ++ []) h
 value_alone v h = ap (λ rs. hold_all rs h) (sym (no_more (refs_of (value_of v))))
@@ -103,6 +134,43 @@ stream_filled_by k o p set held all is e f = f ∙ ap (doing (task.Fire (cell_id
         → doing (task.Fire (cell_id k)) (on_heap (hold kind.FutureStream k) set) ≡ on_heap (λ h. send_stream k o c h) p
     by (Some m) q = ap (λ s. doing (task.Fire (cell_id k)) (on_heap (hold kind.FutureStream k) s)) q
     by None q = absurd q
+
+-- So the cell, or the stream, that got content is not missing.
+pub strays_weaker : (e : Fault) (X Y : Type 0) → (X → Y) → Strays e X → Strays e Y
+strays_weaker fault.OutOfMemory X Y h m = tt
+strays_weaker fault.Astray X Y h m = h m
+
+pub astray_weaker : {T : Type 0} (r : Result T Fault) (X Y : Type 0) → (X → Y) → OnAstray r X → OnAstray r Y
+astray_weaker (Ok t) X Y h m = tt
+astray_weaker (Err e) X Y h m = strays_weaker e X Y h m
+
+pub set_there : (k : ℕ) (o : Outcome) (p q : Process) → IsSomeAnd (thing p.heap.cells.things k) (λ c. q ≡ on_heap (cell_put k (record c { content = Some o })) p)
+    → CellMissing k q.heap → ⊥
+set_there k o p q is missing = by (thing p.heap.cells.things k) refl is
+  where
+    by : (c : Option (CellTree Outcome)) → thing p.heap.cells.things k ≡ c → IsSomeAnd c (λ c. q ≡ on_heap (cell_put k (record c { content = Some o })) p) → ⊥
+    by None at is = absurd is
+    by (Some m) at is =
+        let there = found_put p.heap.cells.things k m (record m { content = Some o }) at in
+        let now = ap (λ (x : Process). thing x.heap.cells.things k) is in cc (there, now, missing)
+
+pub sent_there : (k : ℕ) (o : Outcome) (p q : Process) → IsSomeAnd (thing p.heap.streams.things k) (λ s. q ≡ on_heap (stream_put k (sent o s)) p)
+    → StreamMissing k q.heap → ⊥
+sent_there k o p q is missing = by (thing p.heap.streams.things k) refl is
+  where
+    by : (c : Option (StreamTree Value)) → thing p.heap.streams.things k ≡ c → IsSomeAnd c (λ s. q ≡ on_heap (stream_put k (sent o s)) p) → ⊥
+    by None at is = absurd is
+    by (Some m) at is =
+        let there = found_put p.heap.streams.things k m (sent o m) at in
+        let now = ap (λ (x : Process). thing x.heap.streams.things k) is in cc (there, now, missing)
+
+pub set_strays : (e : Fault) (X : Type 0) (k : ℕ) (o : Outcome) (p q : Process) → IsSomeAnd (thing p.heap.cells.things k) (λ c. q ≡ on_heap (cell_put k (record c { content = Some o })) p)
+    → Strays e (CellMissing k q.heap) → Strays e X
+set_strays e X k o p q is m = strays_weaker e (CellMissing k q.heap) X (λ n. absurd (set_there k o p q is n)) m
+
+pub send_strays : (e : Fault) (X : Type 0) (k : ℕ) (o : Outcome) (p q : Process) → IsSomeAnd (thing p.heap.streams.things k) (λ s. q ≡ on_heap (stream_put k (sent o s)) p)
+    → Strays e (StreamMissing k q.heap) → Strays e X
+send_strays e X k o p q is m = strays_weaker e (StreamMissing k q.heap) X (λ n. absurd (sent_there k o p q is n)) m
 
 -- a result that is given
 pub given_all : (g : Goal) (i : ActorId) (v : Value) (t : Task) (p held on all : Process) → IsGiving g i v t

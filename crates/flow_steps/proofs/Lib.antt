@@ -9,3 +9,10 @@ pub mod Acts
 pub mod Stepped
 pub mod Done
 pub mod Listing
+pub mod Straying
+pub mod Before
+pub mod Afterwards
+pub mod Amiss
+pub mod Called
+pub mod TasksAmiss
+pub mod Going

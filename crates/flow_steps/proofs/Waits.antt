@@ -55,7 +55,7 @@ pub copy_taken : (k : ℕ) (r : Result Outcome Fault) (p q : Process) → IfOk r
 copy_taken k (Ok o) p q c e = copied c e
 copy_taken k (Err x) p q c e = e
 
-abbrev is_stream : Option Kind → Bool
+abbrev pub is_stream : Option Kind → Bool
 is_stream (Some kind.PromiseStream) = true
 is_stream (Some kind.FutureStream) = true
 is_stream _ = false
@@ -238,7 +238,7 @@ frames_stay i x h = by (thing h.cells.things x.cell.0) (thing h.streams.things x
     by None None = refl
 
 -- an operand more is registered, or refused, after those before
-held_here : (xs : List Held) (k : ℕ) (x : Held) → Some x ≡ slice_get xs k → x ≡ get_or xs k x
+pub held_here : (xs : List Held) (k : ℕ) (x : Held) → Some x ≡ slice_get xs k → x ≡ get_or xs k x
 held_here xs k x e = same_Some x (get_or xs k x) (e ∙ slice_get-get_or xs k x (slice_get_within xs k x (sym e)))
 
 pub next_registered : (i : ℕ) (xs : List Held) (k : ℕ) (x : Held) (h g : HeapTree) (b : Bool) (p q : Process) → p.heap ≡ h → Some x ≡ slice_get xs k → Registers (register i x h) b p q → b ≡ true

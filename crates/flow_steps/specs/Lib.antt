@@ -10,3 +10,9 @@ pub mod Acting
 pub mod Stepping
 pub mod Tasks
 pub mod Views
+pub mod Straying
+pub mod AmissWaits
+pub mod AmissAsks
+pub mod AmissCalls
+pub mod AmissSteps
+pub mod AmissTasks

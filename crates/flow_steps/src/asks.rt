@@ -1,12 +1,16 @@
 // Call statements: messages, sends, cancelling, and calls of functions.
 
-ghost use Rattle.std.specs.Prelude.{◌≡◌, IfOk, OnOk, Some, map, slice_get};
+ghost use Rattle.std.specs.Prelude.{◌≡◌, ◌⊎◌, IfOk, OnOk, None, Some, map, slice_get};
 ghost use Rattle.flow_value.specs.View.{value_of, outcome_of};
 ghost use Rattle.flow_meaning.specs.Lines.{print_line};
 ghost use Rattle.flow_meaning.specs.Evaluating.{sent};
 ghost use Rattle.flow_steps.specs.Standing.{values};
 ghost use Rattle.flow_steps.specs.Acting.{args_of, IsMessage, Printed, PredefinedCalled, MethodCalled};
 ghost use Rattle.flow_steps.specs.Bringing.{complete_at, sending};
+ghost use Rattle.flow_steps.specs.Holding.{outcome_refs};
+ghost use Rattle.flow_steps.specs.Straying.{OnAstray, Missing, SomeMissing};
+ghost use Rattle.flow_steps.specs.AmissAsks.{NoMessage, PredefinedAmiss, MethodAmiss};
+ghost use Rattle.flow_eval.specs.Answers.{arg};
 
 use crate::call::Call;
 use crate::effects::{int_at, take_text};
@@ -29,7 +33,8 @@ fn first(args: Vec<Value>) -> Option<Value>
 
 /// The line of a printed value.
 fn print_line(alloc: Global, actor: ActorId, value: Value) -> Result<Line, Fault>
-    ensures { IfOk result (λ l. print_line actor.0 (value_of value) ≡ Some l) }
+    ensures done { IfOk result (λ l. print_line actor.0 (value_of value) ≡ Some l) }
+    ensures astray { OnAstray result (print_line actor.0 (value_of value) ≡ None) }
 {
     match value {
         Value::Int(n) => Ok(Line::PrintInt(actor, n)),
@@ -41,12 +46,14 @@ fn print_line(alloc: Global, actor: ActorId, value: Value) -> Result<Line, Fault
     }
 }
 
-/// What a method sends: `send` a value, `sendError` an error.
+/// What a method sends: `send` a value, void where it has no argument; `sendError` an error.
 fn sent(method: Method, arg: Option<Value>) -> Result<Outcome, Fault>
-    ensures { IfOk result (λ o. sent method (map value_of (values arg)) ≡ Some (outcome_of o)) }
+    ensures done { IfOk result (λ o. sent method (map value_of (values arg))
+        ≡ Some (outcome_of o)) }
+    ensures astray { OnAstray result (sent method (map value_of (values arg)) ≡ None) }
 {
     match (method, arg) {
-        (Method::Send, Some(value)) => Ok(Outcome::Value(value)),
+        (Method::Send, arg) => Ok(Outcome::Value(arg.unwrap_or(Value::Void))),
         (Method::SendError, Some(Value::Error(error))) => Ok(Outcome::Error(error)),
         _ => Err(Fault::Astray),
     }
@@ -54,7 +61,8 @@ fn sent(method: Method, arg: Option<Value>) -> Result<Outcome, Fault>
 
 /// A text that is sent to a port of a process.
 fn send_to(alloc: Global, actor: ActorId, args: Vec<Value>) -> Result<Call, Fault>
-    ensures { IfOk result (λ c. IsMessage actor (args_of args) c) }
+    ensures done { IfOk result (λ c. IsMessage actor (args_of args) c) }
+    ensures astray { OnAstray result (NoMessage (args_of args)) }
 {
     let mut args = args;
     let process = int_at(&args, 0)?;
@@ -64,10 +72,11 @@ fn send_to(alloc: Global, actor: ActorId, args: Vec<Value>) -> Result<Call, Faul
 }
 
 impl Process {
-    #[tactic(auto, using(crate::proofs::Acts::printed_by))]
+    #[tactic(auto, using(crate::proofs::Acts::printed_by, crate::proofs::Amiss::nothing_printed))]
     // A value is printed.
     fn print(&mut self, actor: ActorId, args: Vec<Value>) -> Result<(), Fault>
-        ensures { OnOk result (Printed actor (args_of args) self.old self.new) }
+        ensures done { OnOk result (Printed actor (args_of args) self.old self.new) }
+        ensures astray { OnAstray result (print_line actor.0 (arg (args_of args) 0) ≡ None) }
     {
         let Some(value) = first(args) else {
             return Err(Fault::Astray);
@@ -86,7 +95,8 @@ impl Process {
         call: Predefined,
         args: Vec<Value>,
     ) -> Result<(), Fault>
-        ensures { OnOk result (PredefinedCalled actor call args self.old self.new) }
+        ensures done { OnOk result (PredefinedCalled actor call args self.old self.new) }
+        ensures astray { OnAstray result (PredefinedAmiss actor call args) }
     {
         match call {
             Predefined::Trace => self.print(actor, args),
@@ -101,7 +111,8 @@ impl Process {
 
     // Whether nothing more can be sent into the cell of a kind of reference, if there is one.
     fn is_complete(&self, kind: Kind, cell: CellId) -> Result<bool, Fault>
-        ensures { IfOk result (λ b. b ≡ complete_at kind cell.0 self.now.heap) }
+        ensures done { IfOk result (λ b. b ≡ complete_at kind cell.0 self.now.heap) }
+        ensures astray { OnAstray result (Missing kind cell.0 self.now.heap) }
     {
         match kind {
             Kind::Promise | Kind::Future => {
@@ -127,7 +138,9 @@ impl Process {
         cell: CellId,
         outcome: Outcome,
     ) -> Result<(), Fault>
-        ensures { OnOk result (self.new ≡ sending actor kind cell.0 outcome self.old) }
+        ensures done { OnOk result (self.new ≡ sending actor kind cell.0 outcome self.old) }
+        ensures astray { OnAstray result (Missing kind cell.0 self.old.heap
+            ⊎ SomeMissing (outcome_refs outcome) self.old.heap) }
     {
         if self.is_complete(kind, cell)? {
             return self.throw(actor, ALREADY_SET);
@@ -150,7 +163,8 @@ impl Process {
         cell: CellId,
         arg: Option<Value>,
     ) -> Result<(), Fault>
-        ensures { OnOk result (MethodCalled actor method kind cell arg self.old self.new) }
+        ensures done { OnOk result (MethodCalled actor method kind cell arg self.old self.new) }
+        ensures astray { OnAstray result (MethodAmiss method kind cell arg self.old.heap) }
     {
         match kind {
             Kind::Promise | Kind::PromiseStream => {

@@ -1,6 +1,6 @@
 // Waits: operands, the branch that is taken, and suspending.
 
-ghost use Rattle.std.specs.Prelude.{◌≡◌, ◌∷◌, OnOk, IfOk, Some, length, slice_get};
+ghost use Rattle.std.specs.Prelude.{◌≡◌, ◌∷◌, OnOk, IfOk, None, Some, length, slice_get};
 ghost use Rattle.std.specs.Option.{IsSomeAnd, option_copied};
 ghost use Rattle.flow_value.specs.View.{outcome_of};
 ghost use Rattle.flow_numbered.specs.Numbered.{thing};
@@ -13,6 +13,9 @@ ghost use Rattle.flow_steps.specs.Bringing.{head_of};
 ghost use Rattle.flow_code.specs.declared.class.Last.TheVariants.{Choose};
 ghost use Rattle.flow_cancel.specs.declared.task.Task.TheVariants.{Run};
 ghost use Rattle.flow_steps.specs.Drops.{DropsOver};
+ghost use Rattle.flow_steps.specs.Straying.{OnAstray, FrameMissing};
+ghost use Rattle.flow_steps.specs.AmissWaits.{NoWait, NoBranchOf, NoCopyIn, NoHead, NothingTaken, TakesAmiss, KeepsAmiss, NoCell, SomeNoCell, WaitsAmiss};
+ghost use Rattle.flow_steps.specs.AmissTasks.{NotNewest, KeptAmiss};
 ghost use Rattle.flow_steps.specs.Waiting.{BranchOf, Takes, BranchTaken, TakesBranch, left_for, marked_at, operand_kept, Keeps, callbacks_of, first_ready, register, register_all, Registers, suspended_at, Waits};
 ghost use Rattle.flow_steps.specs.Tasks.{TopTaken, IsKept};
 
@@ -40,7 +43,8 @@ pub(crate) fn branch_in(group: &Group, place: usize) -> Option<&Branch>
 
 /// The number of the group of the wait that ends a block.
 pub(crate) fn group_at(block: &Block) -> Result<u32, Fault>
-    ensures { IfOk result (λ g. block.now.last ≡ Choose g) }
+    ensures done { IfOk result (λ g. block.now.last ≡ Choose g) }
+    ensures astray { OnAstray result (NoWait block.now) }
 {
     match &block.last {
         Last::Choose(group) => Ok(*group),
@@ -48,10 +52,11 @@ pub(crate) fn group_at(block: &Block) -> Result<u32, Fault>
     }
 }
 
-#[tactic(auto, using(crate::proofs::Waits::branch_is))]
+#[tactic(auto, using(crate::proofs::Waits::branch_is, crate::proofs::Amiss::no_group_there, crate::proofs::Amiss::begins_later))]
 /// The number of a branch in its group, from its number through the class.
 pub(crate) fn branch_of(stand: &Stand<'_>, callback: u32) -> Result<u32, Fault>
-    ensures { IfOk result (λ b. BranchOf stand.now callback b) }
+    ensures done { IfOk result (λ b. BranchOf stand.now callback b) }
+    ensures astray { OnAstray result (NoBranchOf stand.now callback) }
 {
     let number = group_at(stand.block)?;
     let Some(group) = stand.class.group(number) else {
@@ -64,10 +69,11 @@ pub(crate) fn branch_of(stand: &Stand<'_>, callback: u32) -> Result<u32, Fault>
 }
 
 impl Process {
-    #[tactic(auto, using(crate::proofs::Waits::copy_taken, crate::proofs::Waits::first_taken, crate::proofs::Waits::no_result))]
+    #[tactic(auto, using(crate::proofs::Waits::copy_taken, crate::proofs::Waits::first_taken, crate::proofs::Waits::no_result, crate::proofs::Amiss::copy_amiss, crate::proofs::Amiss::first_amiss_at, crate::proofs::Amiss::nothing_there))]
     // What a branch takes from a cell that is ready: a copy of the outcome, the first element, or else the end.
     fn taken_from(&mut self, cell: CellId) -> Result<Outcome, Fault>
-        ensures { IfOk result (λ o. Takes cell.0 o self.old self.new) }
+        ensures done { IfOk result (λ o. Takes cell.0 o self.old self.new) }
+        ensures astray { OnAstray result (NothingTaken cell.0 self.old.heap) }
     {
         match self.kind_at(cell) {
             Some(Kind::Future | Kind::Promise) => self.copied_from(cell),
@@ -76,12 +82,15 @@ impl Process {
         }
     }
 
+    #[tactic(auto, using(crate::proofs::Amiss::nothing_set, crate::proofs::Amiss::copy_missing))]
     // A copy of what a single result holds, whose references count.
     fn copied_from(&mut self, cell: CellId) -> Result<Outcome, Fault>
         ensures copy { IfOk result (λ o. content_in self.old.heap.cells cell.0
             ≡ Some (outcome_of o)) }
         ensures counted { IfOk result (λ o. self.new
             ≡ on_heap (hold_all (outcome_refs o)) self.old) }
+        ensures astray { OnAstray result (NoCopyIn (thing self.old.heap.cells.things cell.0)
+            self.old.heap) }
     {
         if self.heap.cells().references(cell).is_none() {
             return Err(Fault::Astray);
@@ -94,6 +103,7 @@ impl Process {
         Ok(copy)
     }
 
+    #[tactic(auto, using(crate::proofs::Amiss::nothing_first))]
     // The first element of a stream, or else its end.
     fn popped_from(&mut self, cell: CellId) -> Result<Outcome, Fault>
         ensures first { IfOk result (λ o. IsSomeAnd (thing self.old.heap.streams.things cell.0)
@@ -101,6 +111,7 @@ impl Process {
         ensures rest { OnOk result (IsSomeAnd (thing self.old.heap.streams.things cell.0)
             (λ s. self.new ≡ on_heap (stream_put cell.0 (record s { queue = tail s.queue }))
             self.old)) }
+        ensures astray { OnAstray result (NoHead (thing self.old.heap.streams.things cell.0)) }
     {
         if self.heap.streams().references(cell).is_none() {
             return Err(Fault::Astray);
@@ -116,13 +127,14 @@ impl Process {
     pub(crate) fn leave_for(&mut self, stand: &Stand<'_>, task: Task) -> Result<(), Fault>
         ensures left { OnOk result (self.new ≡ on_heap (left_for stand.now task) self.old) }
         ensures drops { OnOk result (DropsOver (task ∷ self.old.heap.tasks) self.new.heap.tasks) }
+        ensures astray { OnAstray result (FrameMissing stand.now.actor.0 self.old.heap) }
     {
         let actor = stand.actor;
         self.heap.push(task)?;
         self.lose_locals(stand.class, actor)?;
         self.leave(actor)?;
         let Ok(last) = u32::try_from(stand.block.body.len()) else {
-            return Err(Fault::Astray);
+            return Err(Fault::OutOfMemory);
         };
         self.go(actor, stand.place, last)?;
         Ok(())
@@ -131,7 +143,8 @@ impl Process {
     #[tactic(auto, using(crate::proofs::Waits::untaken, crate::proofs::Waits::taken_by))]
     /// A branch, numbered from 0 in its group, takes what its cell gives: a turn, the line; then the actor leaves its wait.
     pub(crate) fn take(&mut self, stand: &Stand<'_>, branch: u32, cell: CellId) -> Result<(), Fault>
-        ensures { OnOk result (TakesBranch stand.now branch cell self.old self.new) }
+        ensures done { OnOk result (TakesBranch stand.now branch cell self.old self.new) }
+        ensures astray { OnAstray result (TakesAmiss stand.now cell.0 self.old.heap) }
     {
         if !self.turn() {
             return Ok(());
@@ -142,7 +155,8 @@ impl Process {
     #[tactic(auto, using(crate::proofs::Waits::branch_taken))]
     // A branch takes what its cell gives, with the line; then the actor leaves its wait.
     fn take_now(&mut self, stand: &Stand<'_>, branch: u32, cell: CellId) -> Result<(), Fault>
-        ensures { OnOk result (BranchTaken stand.now branch cell self.old self.new) }
+        ensures done { OnOk result (BranchTaken stand.now branch cell self.old self.new) }
+        ensures astray { OnAstray result (TakesAmiss stand.now cell.0 self.old.heap) }
     {
         let actor = stand.actor;
         let group = group_at(stand.block)?;
@@ -160,7 +174,8 @@ impl Process {
         stand: &Stand<'a>,
         held: Held,
     ) -> Result<Pace<'a>, Fault>
-        ensures { IfOk result (λ pace. Keeps stand.now held self.old pace self.new) }
+        ensures done { IfOk result (λ pace. Keeps stand.now held self.old pace self.new) }
+        ensures astray { OnAstray result (KeepsAmiss stand.now held self.old.heap) }
     {
         let actor = stand.actor;
         let marked = self.is_marked(actor)?;
@@ -181,7 +196,8 @@ impl Process {
 
     // Whether an unfinished actor is marked as cancelled.
     fn is_marked(&self, actor: ActorId) -> Result<bool, Fault>
-        ensures { IfOk result (λ b. b ≡ marked_at actor.0 self.now.heap) }
+        ensures done { IfOk result (λ b. b ≡ marked_at actor.0 self.now.heap) }
+        ensures astray { OnAstray result (thing self.now.heap.actors.things actor.0 ≡ None) }
     {
         if !self.heap.unfinished(actor) {
             return Err(Fault::Astray);
@@ -192,7 +208,8 @@ impl Process {
     #[tactic(auto, using(crate::proofs::Framing::frame_changed))]
     // The frame of an actor keeps an operand more.
     fn add_operand(&mut self, actor: ActorId, held: Held) -> Result<(), Fault>
-        ensures { OnOk result (self.new ≡ on_heap (operand_kept actor.0 held) self.old) }
+        ensures done { OnOk result (self.new ≡ on_heap (operand_kept actor.0 held) self.old) }
+        ensures astray { OnAstray result (FrameMissing actor.0 self.old.heap) }
     {
         if !self.heap.frames().contains(actor) {
             return Err(Fault::Astray);
@@ -204,7 +221,8 @@ impl Process {
     #[tactic(auto, using(crate::proofs::Done::kept_by))]
     /// The result of an effect is kept as an operand, and the actor, whose task is next, goes on.
     pub(crate) fn keep(&mut self, code: &Code, actor: ActorId, held: Held) -> Result<(), Fault>
-        ensures { OnOk result (IsKept code.now actor held self.old self.new) }
+        ensures done { OnOk result (IsKept code.now actor held self.old self.new) }
+        ensures astray { OnAstray result (KeptAmiss code.now actor held self.old) }
     {
         self.pop_run(actor)?;
         let stand = self.stand_of(code, actor)?;
@@ -215,7 +233,8 @@ impl Process {
 
     // Takes the actor's own task off the stack.
     fn pop_run(&mut self, actor: ActorId) -> Result<(), Fault>
-        ensures { OnOk result (TopTaken (Run actor) self.old self.new) }
+        ensures done { OnOk result (TopTaken (Run actor) self.old self.new) }
+        ensures astray { OnAstray result (NotNewest (Run actor) self.old) }
     {
         match self.heap.next_task() {
             Some(Task::Run(top)) if top == actor => Ok(()),
@@ -241,8 +260,9 @@ impl Process {
 
     // A callback waits at its cell: false where a stream refuses it.
     fn register(&mut self, actor: ActorId, held: Held) -> Result<bool, Fault>
-        ensures { IfOk result (λ all. Registers (register actor.0 held self.old.heap) all self.old
-            self.new) }
+        ensures done { IfOk result (λ all. Registers (register actor.0 held self.old.heap) all
+            self.old self.new) }
+        ensures astray { OnAstray result (NoCell held.cell.0 self.old.heap) }
     {
         let waiter = Waiter {
             actor,
@@ -284,8 +304,10 @@ impl Process {
     #[tactic(auto, using(crate::proofs::Waits::one_registered, crate::proofs::Waits::one_refused, crate::proofs::Waits::all_registered))]
     // All operands wait at their cells in order: false where a stream refuses one.
     fn register_all(&mut self, actor: ActorId) -> Result<bool, Fault>
-        ensures { IfOk result (λ all. Registers (register_all actor.0
+        ensures done { IfOk result (λ all. Registers (register_all actor.0
             (callbacks_of actor.0 self.old.heap) self.old.heap) all self.old self.new) }
+        ensures astray { OnAstray result (SomeNoCell (callbacks_of actor.0 self.old.heap)
+            self.old.heap) }
     {
         let count = self.operands(actor);
         for place in 0..count {
@@ -302,7 +324,8 @@ impl Process {
     #[tactic(auto, using(crate::proofs::Framing::frame_changed))]
     // The frame of an actor goes into a state.
     fn suspend(&mut self, actor: ActorId, group: u32) -> Result<(), Fault>
-        ensures { OnOk result (self.new ≡ on_heap (suspended_at actor.0 group) self.old) }
+        ensures done { OnOk result (self.new ≡ on_heap (suspended_at actor.0 group) self.old) }
+        ensures astray { OnAstray result (FrameMissing actor.0 self.old.heap) }
     {
         if !self.heap.frames().contains(actor) {
             return Err(Fault::Astray);
@@ -315,7 +338,8 @@ impl Process {
     /// All operands are kept. The first that is ready is taken. Otherwise the actor waits for all of them, and its locals
     /// are dropped; where a stream refuses, that is thrown.
     pub(crate) fn wait(&mut self, stand: &Stand<'_>, group: u32) -> Result<(), Fault>
-        ensures { OnOk result (Waits stand.now group self.old self.new) }
+        ensures done { OnOk result (Waits stand.now group self.old self.new) }
+        ensures astray { OnAstray result (WaitsAmiss stand.now self.old.heap) }
     {
         let actor = stand.actor;
         if let Some(held) = self.first_ready(actor) {

@@ -1,7 +1,7 @@
 // Effects: new cells, calls of actors, and what is asked of the world. A bad argument is an error that is thrown where the
 // actor stands.
 
-ghost use Rattle.std.specs.Prelude.{◌≡◌, IfOk, OnOk, Some, map, slice_set};
+ghost use Rattle.std.specs.Prelude.{◌≡◌, IfOk, OnOk, Some, None, map, slice_get, slice_set};
 ghost use Rattle.flow_ast.specs.declared.predefined.Predefined.TheVariants.{ReadFile, WriteFile};
 ghost use Rattle.flow_value.specs.View.{value_of};
 ghost use Rattle.flow_value.specs.declared.value.Value.TheVariants.{Void};
@@ -10,11 +10,13 @@ ghost use Rattle.flow_cancel.specs.Dropping.{refs_in};
 ghost use Rattle.flow_meaning.specs.Asks.{Disk};
 ghost use Rattle.flow_meaning.specs.Evaluating.{world_effect};
 ghost use Rattle.flow_picture.specs.Holds.{hold_all};
-ghost use Rattle.flow_steps.specs.Acting.{disk_of, some_values, Enrols, StartTold, ActorCalled, WorldAsked, EffectMade, EffectDone, IsEffect};
+ghost use Rattle.flow_steps.specs.Acting.{args_of, disk_of, some_values, Enrols, StartTold, ActorCalled, WorldAsked, EffectMade, EffectDone, IsEffect};
 ghost use Rattle.flow_value.specs.declared.value.Value.TheVariants.{Ref};
 ghost use Rattle.flow_cancel.specs.Heap.{next_cell};
 ghost use Rattle.flow_steps.specs.Holding.{on_heap, Gives};
 ghost use Rattle.flow_steps.specs.Bringing.{made, OpenGiven, PortGiven};
+ghost use Rattle.flow_steps.specs.Straying.{OnAstray, SomeMissing};
+ghost use Rattle.flow_steps.specs.AmissCalls.{EnrolsAmiss, MakesAmiss, EffectDoneAmiss, EffectAmiss};
 
 use crate::call::{Call, DiskCall, Goal};
 use crate::errors::Fault;
@@ -34,7 +36,8 @@ use std::alloc::Global;
 
 /// The number that an argument is.
 pub(crate) fn int_at(args: &[Value], place: usize) -> Result<i64, Fault>
-    ensures { IfOk result (λ n. int_of (arg (map value_of args.now) place) ≡ Some n) }
+    ensures done { IfOk result (λ n. int_of (arg (map value_of args.now) place) ≡ Some n) }
+    ensures astray { OnAstray result (int_of (arg (map value_of args.now) place) ≡ None) }
 {
     match args.get(place) {
         Some(Value::Int(n)) => Ok(*n),
@@ -46,6 +49,7 @@ pub(crate) fn int_at(args: &[Value], place: usize) -> Result<i64, Fault>
 pub(crate) fn take_text(alloc: Global, args: &mut [Value], place: usize) -> Result<Text, Fault>
     ensures text { IfOk result (λ t. text_of (arg (map value_of args.old) place) ≡ Some t) }
     ensures rest { OnOk result (args.new ≡ slice_set args.old place Void) }
+    ensures astray { OnAstray result (text_of (arg (map value_of args.old) place) ≡ None) }
 {
     if place >= args.len() {
         return Err(Fault::Astray);
@@ -56,25 +60,12 @@ pub(crate) fn take_text(alloc: Global, args: &mut [Value], place: usize) -> Resu
     }
 }
 
-/// The request to a disk that a predefined call makes.
-fn disk_call(alloc: Global, call: Predefined, args: &mut [Value]) -> Result<DiskCall, Fault>
-    ensures { IfOk result (λ d. world_effect call (map value_of args.old)
-        ≡ Some (Disk (disk_of d))) }
-{
-    match call {
-        Predefined::ReadFile => read_call(alloc, args),
-        Predefined::WriteFile => write_call(alloc, args),
-        Predefined::SyncFile => Ok(DiskCall::Sync(take_text(alloc, args, 0)?)),
-        Predefined::FileSize => Ok(DiskCall::Size(take_text(alloc, args, 0)?)),
-        _ => Err(Fault::Astray),
-    }
-}
-
 #[tactic(auto, using(crate::proofs::Acts::read_asked))]
 // A read.
 fn read_call(alloc: Global, args: &mut [Value]) -> Result<DiskCall, Fault>
-    ensures { IfOk result (λ d. world_effect ReadFile (map value_of args.old)
+    ensures done { IfOk result (λ d. world_effect ReadFile (map value_of args.old)
         ≡ Some (Disk (disk_of d))) }
+    ensures astray { OnAstray result (world_effect ReadFile (map value_of args.old) ≡ None) }
 {
     let offset = int_at(args, 1)?;
     let count = int_at(args, 2)?;
@@ -85,8 +76,9 @@ fn read_call(alloc: Global, args: &mut [Value]) -> Result<DiskCall, Fault>
 #[tactic(auto, using(crate::proofs::Acts::write_asked))]
 // A write.
 fn write_call(alloc: Global, args: &mut [Value]) -> Result<DiskCall, Fault>
-    ensures { IfOk result (λ d. world_effect WriteFile (map value_of args.old)
+    ensures done { IfOk result (λ d. world_effect WriteFile (map value_of args.old)
         ≡ Some (Disk (disk_of d))) }
+    ensures astray { OnAstray result (world_effect WriteFile (map value_of args.old) ≡ None) }
 {
     let offset = int_at(args, 1)?;
     let text = take_text(alloc, args, 2)?;
@@ -99,6 +91,7 @@ impl Process {
     pub(crate) fn new_cell(&mut self, kind: Kind) -> Result<CellId, Fault>
         ensures number { IfOk result (λ k. k.0 ≡ next_cell self.old.heap) }
         ensures made { OnOk result (self.new ≡ on_heap (made kind) self.old) }
+        ensures astray { OnAstray result ⊥ }
     {
         match kind {
             Kind::Promise | Kind::Future => Ok(self.heap.new_result()?),
@@ -116,6 +109,7 @@ impl Process {
         ensures number { IfOk result (λ k. k.0 ≡ next_cell self.old.heap) }
         ensures given { IfOk result (λ k. Gives goal actor (Ref kind k)
             (on_heap (made kind) self.old) self.new) }
+        ensures astray { OnAstray result ⊥ }
     {
         let cell = self.new_cell(kind)?;
         self.gives(actor, goal, Value::Ref(kind, cell))?;
@@ -125,7 +119,8 @@ impl Process {
     #[tactic(auto, using(crate::proofs::Holding::open_given))]
     /// A single result for which the world has an open request.
     pub fn gives_open(&mut self, actor: ActorId, goal: Goal) -> Result<CellId, Fault>
-        ensures { IfOk result (λ k. OpenGiven goal actor k self.old self.new) }
+        ensures done { IfOk result (λ k. OpenGiven goal actor k self.old self.new) }
+        ensures astray { OnAstray result ⊥ }
     {
         let cell = self.gives_new(actor, goal, Kind::Future)?;
         self.hold(Kind::Promise, cell)?;
@@ -136,7 +131,8 @@ impl Process {
     #[tactic(auto, using(crate::proofs::Holding::port_given))]
     /// A stream for a port that nobody listens to.
     pub fn gives_port(&mut self, actor: ActorId, goal: Goal) -> Result<CellId, Fault>
-        ensures { IfOk result (λ k. PortGiven goal actor k self.old self.new) }
+        ensures done { IfOk result (λ k. PortGiven goal actor k self.old self.new) }
+        ensures astray { OnAstray result ⊥ }
     {
         let cell = self.gives_new(actor, goal, Kind::FutureStream)?;
         self.hold(Kind::PromiseStream, cell)?;
@@ -154,8 +150,9 @@ impl Process {
         effect: Effect,
         args: &[Resolved],
     ) -> Result<Pace<'a>, Fault>
-        ensures { IfOk result (λ pace. IsEffect code.now stand.now goal effect args.now self.old
+        ensures done { IfOk result (λ pace. IsEffect code.now stand.now goal effect args.now self.old
             pace self.new) }
+        ensures astray { OnAstray result (EffectAmiss code.now stand.now effect args.now self.old) }
     {
         match self.values(code, stand.actor, args) {
             Ok(args) => self.effect_with(code, stand, goal, effect, args),
@@ -173,8 +170,9 @@ impl Process {
         effect: Effect,
         args: Vec<Value>,
     ) -> Result<Pace<'a>, Fault>
-        ensures { IfOk result (λ pace. EffectDone code.now stand.now goal effect args self.old pace
+        ensures done { IfOk result (λ pace. EffectDone code.now stand.now goal effect args self.old pace
             self.new) }
+        ensures astray { OnAstray result (EffectDoneAmiss code.now stand.now effect args self.old) }
     {
         self.note(*stand)?;
         self.make_effect(code, stand.actor, goal, effect, args)?;
@@ -190,7 +188,8 @@ impl Process {
         effect: Effect,
         args: Vec<Value>,
     ) -> Result<(), Fault>
-        ensures { OnOk result (EffectMade code.now actor goal effect args self.old self.new) }
+        ensures done { OnOk result (EffectMade code.now actor goal effect args self.old self.new) }
+        ensures astray { OnAstray result (MakesAmiss code.now effect args self.old.heap) }
     {
         match effect {
             Effect::World(call) => self.world_effect(actor, goal, call, args),
@@ -207,8 +206,10 @@ impl Process {
         call: Predefined,
         args: Vec<Value>,
     ) -> Result<(), Fault>
-        ensures { OnOk result (WorldAsked actor goal call args self.old self.new) }
+        ensures done { OnOk result (WorldAsked actor goal call args self.old self.new) }
+        ensures astray { OnAstray result (world_effect call (args_of args) ≡ None) }
     {
+        let mut args = args;
         let asked = match call {
             Predefined::RandomInt => {
                 let lo = int_at(&args, 0)?;
@@ -220,10 +221,17 @@ impl Process {
                 self.gives_new(actor, goal, Kind::Future)?;
                 return Ok(());
             }
-            _ => {
-                let mut args = args;
-                Call::Disk(actor, goal, disk_call(self.alloc, call, &mut args)?)
+            Predefined::ReadFile => Call::Disk(actor, goal, read_call(self.alloc, &mut args)?),
+            Predefined::WriteFile => Call::Disk(actor, goal, write_call(self.alloc, &mut args)?),
+            Predefined::SyncFile => {
+                let file = take_text(self.alloc, &mut args, 0)?;
+                Call::Disk(actor, goal, DiskCall::Sync(file))
             }
+            Predefined::FileSize => {
+                let file = take_text(self.alloc, &mut args, 0)?;
+                Call::Disk(actor, goal, DiskCall::Size(file))
+            }
+            _ => return Err(Fault::Astray),
         };
         self.ask(asked);
         Ok(())
@@ -235,6 +243,7 @@ impl Process {
         ensures filled { IfOk result (λ xs. xs.items ≡ some_values args.items) }
         ensures counted { OnOk result (self.new
             ≡ on_heap (hold_all (refs_in args.items)) self.old) }
+        ensures astray { OnAstray result (SomeMissing (refs_in args.items) self.old.heap) }
     {
         let mut filled = Vec::with_capacity(self.alloc, places as usize)?;
         for arg in args {
@@ -252,7 +261,8 @@ impl Process {
         number: u32,
         args: Vec<Value>,
     ) -> Result<(ActorId, CellId), Fault>
-        ensures { IfOk result (λ r. Enrols code.now number args.items r.0 r.1 self.old self.new) }
+        ensures done { IfOk result (λ r. Enrols code.now number args.items r.0 r.1 self.old self.new) }
+        ensures astray { OnAstray result (EnrolsAmiss code.now number args.items self.old.heap) }
     {
         let Some(class) = code.class(number) else {
             return Err(Fault::Astray);
@@ -279,7 +289,8 @@ impl Process {
         class: u32,
         actor: ActorId,
     ) -> Result<(), Fault>
-        ensures { OnOk result (StartTold code.now class actor self.old self.new) }
+        ensures done { OnOk result (StartTold code.now class actor self.old self.new) }
+        ensures astray { OnAstray result (slice_get code.now.classes.items class ≡ None) }
     {
         match code.class(class) {
             Some(class) => {
@@ -301,8 +312,9 @@ impl Process {
         number: u32,
         args: Vec<Value>,
     ) -> Result<(), Fault>
-        ensures { OnOk result (ActorCalled code.now caller goal number args.items self.old
+        ensures done { OnOk result (ActorCalled code.now caller goal number args.items self.old
             self.new) }
+        ensures astray { OnAstray result (EnrolsAmiss code.now number args.items self.old.heap) }
     {
         if !self.turn() {
             return Ok(());

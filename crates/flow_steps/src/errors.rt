@@ -6,10 +6,12 @@ ghost use Rattle.flow_steps.specs.declared.errors.Fault.TheVariants.{OutOfMemory
 use flow_base::memory::NoMemory;
 use std::alloc::{AllocError, AllocFailed};
 
-/// Why a process broke off a step: there was no memory, or no valid class comes here.
+/// Why a process broke off a step.
 #[derive(Clone, Copy, PartialEq, Eq, Debug)]
 pub enum Fault {
+    /// There was no memory, or what counts, numbers or keeps something came to the end of its numbers.
     OutOfMemory,
+    /// Something wasn't there, or didn't fit: no valid class comes here.
     Astray,
 }
 

@@ -5,6 +5,8 @@ ghost use Rattle.flow_value.specs.declared.value.Kind.TheVariants as kind;
 ghost use Rattle.flow_value.specs.declared.value.Outcome.TheVariants as outcome;
 ghost use Rattle.flow_steps.specs.Holding.{on_heap};
 ghost use Rattle.flow_steps.specs.Bringing.{brought, answered, main_dropped};
+ghost use Rattle.flow_steps.specs.Straying.{OnAstray};
+ghost use Rattle.flow_steps.specs.AmissTasks.{MainStartsAmiss, MainAmiss, BringAmiss, AnswerAmiss};
 ghost use Rattle.flow_steps.specs.Tasks.{MainStarts, MainCalled};
 
 use crate::errors::Fault;
@@ -19,7 +21,8 @@ impl Process {
     /// Calls `main` with the process's number, where no result of `main` is held: this one is from the moment that its cell
     /// is made.
     pub fn call_main(&mut self, code: &Code, me: ProcId) -> Result<(), Fault>
-        ensures { OnOk result (MainCalled code.now me self.old self.new) }
+        ensures done { OnOk result (MainCalled code.now me self.old self.new) }
+        ensures astray { OnAstray result (MainAmiss code.now me self.old.heap) }
     {
         if self.heap.main().is_some() {
             return Err(Fault::Astray);
@@ -33,7 +36,8 @@ impl Process {
     #[tactic(auto, using(crate::proofs::Done::main_starts_by))]
     // `main` starts, and its result is held.
     fn start_main(&mut self, code: &Code, me: ProcId) -> Result<(), Fault>
-        ensures { OnOk result (MainStarts code.now me self.old self.new) }
+        ensures done { OnOk result (MainStarts code.now me self.old self.new) }
+        ensures astray { OnAstray result (MainStartsAmiss code.now me self.old.heap) }
     {
         let Some(class) = code.main() else {
             return Err(Fault::Astray);
@@ -48,8 +52,9 @@ impl Process {
 
     /// The answer to an open request: its cell is set and fires, and then the request's promise is dropped.
     pub fn answer(&mut self, cell: CellId, outcome: Outcome) -> Result<(), Fault>
-        ensures { OnOk result (self.new ≡ brought kind.Promise cell.0 outcome
+        ensures done { OnOk result (self.new ≡ brought kind.Promise cell.0 outcome
             (on_heap (answered cell.0) self.old)) }
+        ensures astray { OnAstray result (AnswerAmiss cell.0 outcome self.old.heap) }
     {
         if !self.heap.is_requested(cell) {
             return Err(Fault::Astray);
@@ -61,15 +66,18 @@ impl Process {
 
     /// An element comes to a port's stream, which fires.
     pub fn bring(&mut self, cell: CellId, item: Value) -> Result<(), Fault>
-        ensures { OnOk result (self.new ≡ brought kind.PromiseStream cell.0 (outcome.Value item)
+        ensures done { OnOk result (self.new ≡ brought kind.PromiseStream cell.0 (outcome.Value item)
             self.old) }
+        ensures astray { OnAstray result (BringAmiss kind.PromiseStream cell.0 (outcome.Value item)
+            self.old.heap) }
     {
         self.give_in(Kind::PromiseStream, cell, Outcome::Value(item))
     }
 
     // A turn, and a cell gets content from outside.
     fn give_in(&mut self, kind: Kind, cell: CellId, outcome: Outcome) -> Result<(), Fault>
-        ensures { OnOk result (self.new ≡ brought kind cell.0 outcome self.old) }
+        ensures done { OnOk result (self.new ≡ brought kind cell.0 outcome self.old) }
+        ensures astray { OnAstray result (BringAmiss kind cell.0 outcome self.old.heap) }
     {
         if !self.turn() {
             return Ok(());
@@ -80,7 +88,8 @@ impl Process {
 
     /// The hold on the result of `main` is dropped, if there is one.
     pub fn drop_main(&mut self) -> Result<(), Fault>
-        ensures { OnOk result (self.new ≡ on_heap (main_dropped self.old.heap.main) self.old) }
+        ensures done { OnOk result (self.new ≡ on_heap (main_dropped self.old.heap.main) self.old) }
+        ensures astray { OnAstray result ⊥ }
     {
         if let Some(cell) = self.heap.main() {
             self.heap.set_main(None);

@@ -1,15 +1,16 @@
 // The frames of a process: places, positions, and values that leave them.
 
-ghost use Rattle.std.specs.Prelude.{◌≡◌, ◌∷◌, ◌++◌, ◌<◌, OnOk, IfOk, IfSome, IsSome, slice_get};
+ghost use Rattle.std.specs.Prelude.{◌≡◌, ◌⊎◌, ◌∷◌, ◌++◌, OnOk, IfOk, IfSome, IsSome, IsNone, slice_get};
 ghost use Rattle.std.specs.Option.{option_copied};
-ghost use Rattle.std.specs.declared.option.Option.TheVariants.{Some};
+ghost use Rattle.std.specs.declared.option.Option.TheVariants.{None, Some};
 ghost use Rattle.flow_value.specs.View.{value_of, values_of};
 ghost use Rattle.flow_value.specs.Values.{RecordValue};
 ghost use Rattle.flow_resolved.specs.View.{places_in};
 ghost use Rattle.flow_numbered.specs.Numbered.{thing};
 ghost use Rattle.flow_cancel.specs.Dropping.{dropping};
 ghost use Rattle.flow_steps.specs.Holding.{on_heap};
-ghost use Rattle.flow_steps.specs.Standing.{GoesTo, next_stand, noted_stand, noted, block_in, StandsIn, StandsNow, gone, place_held, place_put, may_refer, referring, exchanged, Assigns, places_taken, places_emptied, place_lost, lost_from};
+ghost use Rattle.flow_steps.specs.Straying.{OnAstray, FrameMissing, NoPlace, SomePlaceMissing, BlockMissing, Nowhere, StandsNowhere, PartMissing, AimsAmiss};
+ghost use Rattle.flow_steps.specs.Standing.{GoesTo, next_stand, noted_stand, noted, block_in, StandsIn, StandsNow, gone, place_held, place_put, may_refer, referring, field_path, exchanged, Assigns, places_taken, places_emptied, place_lost, lost_from};
 ghost use Rattle.flow_steps.specs.Drops.{DropsOver};
 
 use crate::errors::Fault;
@@ -31,7 +32,8 @@ pub(crate) fn may_refer(value: &Value) -> bool
 
 /// A value that left a place joins others, if it may hold references.
 fn keep_referring(values: &mut Vec<Value>, old: Option<Value>) -> Result<(), Fault>
-    ensures { OnOk result (values.new.items ≡ values.old.items ++ referring old) }
+    ensures done { OnOk result (values.new.items ≡ values.old.items ++ referring old) }
+    ensures astray { OnAstray result ⊥ }
 {
     match old {
         Some(value) if may_refer(&value) => Ok(values.push(value)?),
@@ -54,7 +56,8 @@ pub struct Stand<'a> {
 impl<'a> Stand<'a> {
     /// Where the actor stands that goes on at a block and an instruction of it. Its frame doesn't say so yet.
     pub(crate) fn at(&self, place: u32, instruction: u32) -> Result<Stand<'a>, Fault>
-        ensures { IfOk result (λ t. GoesTo self.now place instruction t) }
+        ensures done { IfOk result (λ t. GoesTo self.now place instruction t) }
+        ensures astray { OnAstray result (BlockMissing self.now.class.now place) }
     {
         match self.class.blocks.get(place as usize) {
             Some(block) => Ok(Stand {
@@ -71,7 +74,8 @@ impl<'a> Stand<'a> {
 
     /// Where the actor stands that goes on at its next instruction. Its frame doesn't say so yet.
     pub(crate) fn next(&self) -> Result<Stand<'a>, Fault>
-        ensures { IfOk result (λ t. t ≡ next_stand self.now) }
+        ensures done { IfOk result (λ t. t ≡ next_stand self.now) }
+        ensures astray { OnAstray result ⊥ }
     {
         match self.instruction.checked_add(1) {
             Some(instruction) => Ok(Stand {
@@ -82,7 +86,7 @@ impl<'a> Stand<'a> {
                 instruction,
                 noted: false,
             }),
-            None => Err(Fault::Astray),
+            None => Err(Fault::OutOfMemory),
         }
     }
 }
@@ -106,7 +110,8 @@ fn block_number(class: &Class, at: Standing) -> Option<u32>
 
 /// Where the frame of an actor stands in its class.
 fn stand_in(code: &Code, actor: ActorId, at: Standing) -> Option<Stand<'_>>
-    ensures { IfSome result (λ s. StandsIn code.now.classes.items actor at s) }
+    ensures done { IfSome result (λ s. StandsIn code.now.classes.items actor at s) }
+    ensures nowhere { IsNone result → Nowhere code.now.classes.items at }
 {
     let class = code.class(at.class)?;
     let place = block_number(class, at)?;
@@ -129,8 +134,10 @@ fn exchange(
     path: &[usize],
     value: Value,
 ) -> Option<(Value, Value)>
-    ensures { IfSome result (λ r. exchanged (places_in fields.now) path.now (value_of value)
+    ensures done { IfSome result (λ r. exchanged (places_in fields.now) path.now (value_of value)
         (Some (value_of root)) ≡ Some (Some (value_of r.0), Some (value_of r.1))) }
+    ensures none { IsNone result → field_path (places_in fields.now) path.now
+        (Some (value_of root)) ≡ None }
 {
     let Some((name, rest)) = path.split_first() else {
         return Some((root, value));
@@ -147,7 +154,7 @@ fn exchange(
 }
 
 #[cycle(exchange)]
-#[tactic(auto, using(crate::proofs::Parts::exchanged_field))]
+#[tactic(auto, using(crate::proofs::Parts::exchanged_field, crate::proofs::Before::field_nowhere))]
 // The same of a field of a record.
 fn exchange_field(
     fields: &FieldNames,
@@ -156,9 +163,11 @@ fn exchange_field(
     rest: &[usize],
     value: Value,
 ) -> Option<(Value, Value)>
-    ensures { IfSome result (λ r. exchanged (places_in fields.now) (name ∷ rest.now)
+    ensures done { IfSome result (λ r. exchanged (places_in fields.now) (name ∷ rest.now)
         (value_of value) (Some (RecordValue of.value.id (values_of of.value.fields.items)))
         ≡ Some (Some (value_of r.0), Some (value_of r.1))) }
+    ensures none { IsNone result → field_path (places_in fields.now) (name ∷ rest.now)
+        (Some (RecordValue of.value.id (values_of of.value.fields.items))) ≡ None }
 {
     let Some(place) = fields.place(of.id, name) else {
         return None;
@@ -177,7 +186,8 @@ fn exchange_field(
 impl Process {
     /// Where an actor that has a frame stands.
     pub(crate) fn stand_of<'a>(&self, code: &'a Code, actor: ActorId) -> Result<Stand<'a>, Fault>
-        ensures { IfOk result (λ s. StandsNow code.now.classes.items actor self.now s) }
+        ensures done { IfOk result (λ s. StandsNow code.now.classes.items actor self.now s) }
+        ensures astray { OnAstray result (StandsNowhere code.now.classes.items actor.0 self.now.heap) }
     {
         let Some(at) = self.heap.frames().standing(actor) else {
             return Err(Fault::Astray);
@@ -201,6 +211,7 @@ impl Process {
         ensures changed { OnOk result (self.new
             ≡ on_heap (place_put actor.0 place value) self.old) }
         ensures held { IfOk result (λ o. o ≡ place_held actor.0 place self.old.heap) }
+        ensures astray { OnAstray result (NoPlace actor.0 place self.old.heap) }
     {
         let Some(places) = self.heap.frames().places_of(actor) else {
             return Err(Fault::Astray);
@@ -217,6 +228,7 @@ impl Process {
         ensures tasks { self.new.heap.tasks ≡ self.old.heap.tasks }
         ensures there { OnOk result (IsSome (thing self.old.heap.frames.things actor.0)) }
         ensures gone { OnOk result (self.new ≡ on_heap (gone actor.0 block instruction) self.old) }
+        ensures astray { OnAstray result (FrameMissing actor.0 self.old.heap) }
     {
         if !self.heap.frames().contains(actor) {
             return Err(Fault::Astray);
@@ -229,6 +241,7 @@ impl Process {
     pub(crate) fn note<'a>(&mut self, stand: Stand<'a>) -> Result<Stand<'a>, Fault>
         ensures stand { IfOk result (λ s. s ≡ noted_stand stand.entry) }
         ensures noted { OnOk result (self.new ≡ noted stand.entry self.old) }
+        ensures astray { OnAstray result (FrameMissing stand.entry.actor.0 self.old.heap) }
     {
         if stand.noted {
             return Ok(stand);
@@ -246,7 +259,8 @@ impl Process {
 
     /// Has the frame of an actor go on at its next instruction.
     pub(crate) fn go_on<'a>(&mut self, stand: &Stand<'a>) -> Result<Stand<'a>, Fault>
-        ensures { OnOk result (self.new ≡ noted (next_stand stand.now) self.old) }
+        ensures done { OnOk result (self.new ≡ noted (next_stand stand.now) self.old) }
+        ensures astray { OnAstray result (FrameMissing stand.now.actor.0 self.old.heap) }
     {
         self.note(stand.next()?)
     }
@@ -260,8 +274,11 @@ impl Process {
         aim: &Aim,
         value: Value,
     ) -> Result<Option<Value>, Fault>
-        ensures { IfOk result (λ old. Assigns fields.now actor aim.now value self.old old
+        ensures done { IfOk result (λ old. Assigns fields.now actor aim.now value self.old old
             self.new) }
+        ensures astray { OnAstray result (NoPlace actor.0 aim.now.place self.old.heap
+            ⊎ PartMissing fields.now aim.now.path.items
+            (place_held actor.0 aim.now.place self.old.heap)) }
     {
         let Some(root) = self.put(actor, aim.place, None)? else {
             return Err(Fault::Astray);
@@ -282,8 +299,10 @@ impl Process {
         aim: &Aim,
         value: Value,
     ) -> Result<Option<Value>, Fault>
-        ensures { IfOk result (λ old. Assigns code.now.fields actor aim.now value self.old old
+        ensures done { IfOk result (λ old. Assigns code.now.fields actor aim.now value self.old old
             self.new) }
+        ensures astray { OnAstray result (AimsAmiss code.now.fields actor.0 aim.now
+            self.old.heap) }
     {
         if aim.path.is_empty() {
             return self.put(actor, aim.place, Some(value));
@@ -298,6 +317,7 @@ impl Process {
             ≡ places_taken actor.0 places.now self.old.heap) }
         ensures emptied { OnOk result (self.new
             ≡ on_heap (places_emptied actor.0 places.now) self.old) }
+        ensures astray { OnAstray result (SomePlaceMissing actor.0 places.now self.old.heap) }
     {
         let mut values = Vec::new(self.alloc);
         for place in places {
@@ -310,7 +330,8 @@ impl Process {
     #[tactic(auto, using(flow_cancel::proofs::Drops::drops_last))]
     /// Values that left places are dropped: the references of the first come on top.
     pub(crate) fn drop_values(&mut self, values: Vec<Value>) -> Result<(), Fault>
-        ensures { OnOk result (self.new ≡ on_heap (dropping values.items) self.old) }
+        ensures done { OnOk result (self.new ≡ on_heap (dropping values.items) self.old) }
+        ensures astray { OnAstray result ⊥ }
     {
         let mut values = values;
         while let Some(value) = values.pop() {
@@ -324,6 +345,7 @@ impl Process {
     fn empty(&mut self, actor: ActorId, place: u32) -> Result<(), Fault>
         ensures lost { OnOk result (self.new ≡ on_heap (place_lost actor.0 place) self.old) }
         ensures drops { OnOk result (DropsOver self.old.heap.tasks self.new.heap.tasks) }
+        ensures astray { OnAstray result ⊥ }
     {
         if self.heap.frames().held(actor, place).is_none() {
             return Ok(());
@@ -338,13 +360,14 @@ impl Process {
     fn empty_from(&mut self, actor: ActorId, first: u32) -> Result<(), Fault>
         ensures lost { OnOk result (self.new ≡ on_heap (lost_from actor.0 first) self.old) }
         ensures drops { OnOk result (DropsOver self.old.heap.tasks self.new.heap.tasks) }
+        ensures astray { OnAstray result (FrameMissing actor.0 self.old.heap) }
     {
         if !self.heap.frames().contains(actor) {
             return Err(Fault::Astray);
         }
         let count = self.heap.frames().places_held(actor).len();
         let Ok(last) = u32::try_from(count) else {
-            return Err(Fault::Astray);
+            return Err(Fault::OutOfMemory);
         };
         for place in first..last {
             self.empty(actor, place)?;
@@ -357,13 +380,15 @@ impl Process {
         ensures lost { OnOk result (self.new
             ≡ on_heap (lost_from actor.0 class.now.slots) self.old) }
         ensures drops { OnOk result (DropsOver self.old.heap.tasks self.new.heap.tasks) }
+        ensures astray { OnAstray result (FrameMissing actor.0 self.old.heap) }
     {
         self.empty_from(actor, class.slots)
     }
 
     /// All places are emptied, and what they held is dropped, by falling number, the locals before the slots.
     pub(crate) fn lose_all(&mut self, actor: ActorId) -> Result<(), Fault>
-        ensures { OnOk result (self.new ≡ on_heap (lost_from actor.0 0) self.old) }
+        ensures done { OnOk result (self.new ≡ on_heap (lost_from actor.0 0) self.old) }
+        ensures astray { OnAstray result (FrameMissing actor.0 self.old.heap) }
     {
         self.empty_from(actor, 0)
     }

@@ -1,6 +1,6 @@
 // The step of an actor by its instruction.
 
-ghost use Rattle.std.specs.Prelude.{◌≡◌, ◌+◌, IfOk, OnOk, IfSome, Some, map, slice_get};
+ghost use Rattle.std.specs.Prelude.{◌≡◌, ◌⊎◌, ◌+◌, IfOk, OnOk, IfSome, IsNone, Some, None, map, slice_get};
 ghost use Rattle.flow_tree.specs.DeclView.{function_of};
 ghost use Rattle.flow_tree.specs.declared.limits.TheConstants.{CALL_DEPTH};
 ghost use Rattle.flow_eval.specs.Eval.{function_called};
@@ -21,6 +21,9 @@ ghost use Rattle.flow_steps.specs.Holding.{on_heap};
 ghost use Rattle.flow_steps.specs.Acting.{args_of};
 ghost use Rattle.flow_steps.specs.Stepping.{OnAfter, Does, Ends, StepsOn, Runs, GoesOn, IsSet, IsNew, IsAct, IsChoose, IsMethod, MethodStep, function_result, FunctionCalled, Passes, IsTest, OperandStep, OperandKept, IsReturn, IsThrow, value_for, truth_for, values_for, truth_value};
 ghost use Rattle.flow_steps.specs.Tasks.{RunsNow};
+ghost use Rattle.flow_steps.specs.Straying.{OnAstray, FrameMissing, NoPlace, BlockMissing};
+ghost use Rattle.flow_steps.specs.AmissCalls.{HaltsAmiss, EvaluatesAmiss};
+ghost use Rattle.flow_steps.specs.AmissSteps.{SetAmiss, EmptiesAmiss, FunctionAmiss, ActAmiss, NoReferenceAt, CallsAmiss, MethodStepAmiss, DoesAmiss, TestAmiss, ValueKeptAmiss, AsksAmiss, ChoosesAmiss, ReturnAmiss, ThrowAmiss, LastAmiss, StepAmiss, RunsAmiss, GoesAmiss, RunsNowAmiss};
 
 use crate::branches::branch_in;
 use crate::call::Goal;
@@ -53,8 +56,10 @@ pub enum Pace<'a> {
 
 /// The part of a value to which fields with names of these numbers lead.
 fn part<'a>(fields: &FieldNames, value: &'a Value, path: &[usize]) -> Option<&'a Value>
-    ensures { IfSome result (λ v. field_path (places_in fields.now) path.now
+    ensures done { IfSome result (λ v. field_path (places_in fields.now) path.now
         (Some (value_of value.now)) ≡ Some (value_of v.now)) }
+    ensures none { IsNone result → field_path (places_in fields.now) path.now
+        (Some (value_of value.now)) ≡ None }
 {
     let mut part = value;
     for name in path {
@@ -75,14 +80,15 @@ fn program_time(ticks: u64) -> i64
 
 /// The number through its class of the branch of a group that waits for the operand after so many.
 fn callback_of(group: &Group, kept: usize) -> Result<u32, Fault>
-    ensures { IfOk result (λ n. n ≡ group.now.first + kept) }
+    ensures done { IfOk result (λ n. n ≡ group.now.first + kept) }
+    ensures astray { OnAstray result ⊥ }
 {
     match u32::try_from(kept) {
         Ok(kept) => match group.first.checked_add(kept) {
             Some(callback) => Ok(callback),
-            None => Err(Fault::Astray),
+            None => Err(Fault::OutOfMemory),
         },
-        Err(_) => Err(Fault::Astray),
+        Err(_) => Err(Fault::OutOfMemory),
     }
 }
 
@@ -106,7 +112,8 @@ fn run_function<C: CellView>(
 
 /// A value is forgotten, and the actor goes on at its next instruction.
 fn next_after<'a>(stand: &Stand<'a>, _value: Value) -> Result<Pace<'a>, Fault>
-    ensures { IfOk result (λ pace. pace ≡ On (next_stand stand.now)) }
+    ensures done { IfOk result (λ pace. pace ≡ On (next_stand stand.now)) }
+    ensures astray { OnAstray result ⊥ }
 {
     Ok(Pace::On(stand.next()?))
 }
@@ -149,6 +156,7 @@ impl Process {
     pub(crate) fn halted<'a>(&mut self, stand: &Stand<'a>, halt: Halt) -> Result<Pace<'a>, Fault>
         ensures off { IfOk result (λ pace. pace ≡ Off) }
         ensures halted { OnOk result (Halted stand.now halt self.old self.new) }
+        ensures astray { OnAstray result (HaltsAmiss stand.now halt self.old.heap) }
     {
         self.note(*stand)?;
         match halt {
@@ -232,10 +240,11 @@ impl Process {
         values
     }
 
-    #[tactic(auto, using(crate::proofs::Done::runs_now))]
+    #[tactic(auto, using(crate::proofs::Done::runs_now, crate::proofs::Going::runs_astray, crate::proofs::Going::runs_nowhere))]
     /// An actor takes its next steps from where its frame stands.
     pub(crate) fn run(&mut self, code: &Code, actor: ActorId) -> Result<(), Fault>
-        ensures { OnOk result (RunsNow code.now actor self.old self.new) }
+        ensures done { OnOk result (RunsNow code.now actor self.old self.new) }
+        ensures astray { OnAstray result (RunsNowAmiss code.now actor self.old) }
     {
         let stand = self.stand_of(code, actor)?;
         self.run_from(code, stand)
@@ -243,7 +252,8 @@ impl Process {
 
     /// An actor takes its next steps, by its instructions, up to one after which other tasks come first.
     pub(crate) fn run_from(&mut self, code: &Code, stand: Stand<'_>) -> Result<(), Fault>
-        ensures { OnOk result (Runs code.now stand.entry self.old self.new) }
+        ensures done { OnOk result (Runs code.now stand.entry self.old self.new) }
+        ensures astray { OnAstray result (RunsAmiss code.now stand.entry self.old) }
     {
         let mut stand = stand;
         for _step in 0..u64::MAX {
@@ -252,12 +262,13 @@ impl Process {
                 Pace::Off => return Ok(()),
             }
         }
-        Err(Fault::Astray)
+        Err(Fault::OutOfMemory)
     }
 
     /// An actor goes on after a step, where that leaves nothing to do first.
     pub(crate) fn go_from(&mut self, code: &Code, pace: Pace<'_>) -> Result<(), Fault>
-        ensures { OnOk result (GoesOn code.now pace.entry self.old self.new) }
+        ensures done { OnOk result (GoesOn code.now pace.entry self.old self.new) }
+        ensures astray { OnAstray result (GoesAmiss code.now pace.entry self.old) }
     {
         match pace {
             Pace::On(stand) => self.run_from(code, stand),
@@ -265,10 +276,11 @@ impl Process {
         }
     }
 
-    #[tactic(auto, using(crate::proofs::Stepped::steps_by))]
+    #[tactic(auto, using(crate::proofs::Stepped::steps_by, crate::proofs::Going::step_behind))]
     // An actor takes its next step, by its instruction.
     fn take_step<'a>(&mut self, code: &Code, stand: &Stand<'a>) -> Result<Pace<'a>, Fault>
-        ensures { IfOk result (λ pace. StepsOn code.now stand.now self.old pace self.new) }
+        ensures done { IfOk result (λ pace. StepsOn code.now stand.now self.old pace self.new) }
+        ensures astray { OnAstray result (StepAmiss code.now stand.now self.old) }
     {
         let block = stand.block;
         if let Some(instruction) = instruction_at(block, stand.instruction) {
@@ -287,7 +299,8 @@ impl Process {
         stand: Stand<'a>,
         old: Option<Value>,
     ) -> Result<Pace<'a>, Fault>
-        ensures { IfOk result (λ pace. OnAfter stand.entry (referring old) self.old pace self.new) }
+        ensures done { IfOk result (λ pace. OnAfter stand.entry (referring old) self.old pace self.new) }
+        ensures astray { OnAstray result (FrameMissing stand.entry.actor.0 self.old.heap) }
     {
         match old {
             Some(old) if may_refer(&old) => {
@@ -306,8 +319,9 @@ impl Process {
         stand: &Stand<'a>,
         instruction: &Instruction,
     ) -> Result<Pace<'a>, Fault>
-        ensures { IfOk result (λ pace. Does code.now stand.now instruction.now self.old pace
+        ensures done { IfOk result (λ pace. Does code.now stand.now instruction.now self.old pace
             self.new) }
+        ensures astray { OnAstray result (DoesAmiss code.now stand.now instruction.now self.old) }
     {
         match instruction {
             Instruction::Set(aim, expr) => self.set_aim(code, stand, aim, expr),
@@ -325,9 +339,10 @@ impl Process {
     #[tactic(auto, using(crate::proofs::Stepped::after_values, crate::proofs::Stepped::after_none))]
     // Places are emptied, and what they held is dropped.
     fn empty_places<'a>(&mut self, stand: &Stand<'a>, places: &[u32]) -> Result<Pace<'a>, Fault>
-        ensures { IfOk result (λ pace. OnAfter (next_stand stand.now)
+        ensures done { IfOk result (λ pace. OnAfter (next_stand stand.now)
             (places_taken stand.now.actor.0 places.now self.old.heap)
             (on_heap (places_emptied stand.now.actor.0 places.now) self.old) pace self.new) }
+        ensures astray { OnAstray result (EmptiesAmiss stand.now places.now self.old.heap) }
     {
         let next = stand.next()?;
         let values = self.taken(stand.actor, places)?;
@@ -349,9 +364,12 @@ impl Process {
         aim: &Aim,
         expr: &Resolved,
     ) -> Result<Pace<'a>, Fault>
-        ensures { IfOk result (λ pace. Evaluates stand.now value_of
+        ensures done { IfOk result (λ pace. Evaluates stand.now value_of
             (value_for code.now stand.now.actor.0 expr.now self.old) self.old
             (IsSet code.now stand.now aim.now) pace self.new) }
+        ensures astray { OnAstray result (EvaluatesAmiss stand.now value_of
+            (value_for code.now stand.now.actor.0 expr.now self.old) self.old
+            (SetAmiss code.now stand.now aim.now)) }
     {
         match self.value(code, stand.actor, expr) {
             Ok(value) => self.set_value(code, stand, aim, value),
@@ -368,8 +386,9 @@ impl Process {
         aim: &Aim,
         value: Value,
     ) -> Result<Pace<'a>, Fault>
-        ensures { IfOk result (λ pace. IsSet code.now stand.now aim.now value self.old pace
+        ensures done { IfOk result (λ pace. IsSet code.now stand.now aim.now value self.old pace
             self.new) }
+        ensures astray { OnAstray result (SetAmiss code.now stand.now aim.now value self.old) }
     {
         self.hold_value(&value)?;
         let old = self.assign(code, stand.actor, aim, value)?;
@@ -384,7 +403,8 @@ impl Process {
         place: u32,
         kind: Kind,
     ) -> Result<Pace<'a>, Fault>
-        ensures { IfOk result (λ pace. IsNew stand.now place kind self.old pace self.new) }
+        ensures done { IfOk result (λ pace. IsNew stand.now place kind self.old pace self.new) }
+        ensures astray { OnAstray result (NoPlace stand.now.actor.0 place self.old.heap) }
     {
         let cell = self.new_cell(kind)?;
         self.hold(kind, cell)?;
@@ -401,9 +421,12 @@ impl Process {
         act: Act,
         args: &[Resolved],
     ) -> Result<Pace<'a>, Fault>
-        ensures { IfOk result (λ pace. Evaluates stand.now args_of
+        ensures done { IfOk result (λ pace. Evaluates stand.now args_of
             (values_for code.now stand.now.actor.0 args.now self.old) self.old
             (IsAct code.now stand.now act) pace self.new) }
+        ensures astray { OnAstray result (EvaluatesAmiss stand.now args_of
+            (values_for code.now stand.now.actor.0 args.now self.old) self.old
+            (ActAmiss code.now stand.now act)) }
     {
         match self.values(code, stand.actor, args) {
             Ok(args) => self.act_with(code, stand, act, args),
@@ -419,8 +442,9 @@ impl Process {
         act: Act,
         args: Vec<Value>,
     ) -> Result<Pace<'a>, Fault>
-        ensures { IfOk result (λ pace. IsAct code.now stand.now act args self.old pace
+        ensures done { IfOk result (λ pace. IsAct code.now stand.now act args self.old pace
             self.new) }
+        ensures astray { OnAstray result (ActAmiss code.now stand.now act args self.old) }
     {
         match act {
             Act::World(call) => {
@@ -432,7 +456,7 @@ impl Process {
         }
     }
 
-    #[tactic(auto, using(crate::proofs::Evaluating::value_given, crate::proofs::Evaluating::value_breaks))]
+    #[tactic(auto, using(crate::proofs::Evaluating::value_given, crate::proofs::Evaluating::value_breaks, crate::proofs::Going::more_strays))]
     // A method of the reference at which an actor aims.
     fn method<'a>(
         &mut self,
@@ -442,8 +466,10 @@ impl Process {
         method: Method,
         args: &[Resolved],
     ) -> Result<Pace<'a>, Fault>
-        ensures { IfOk result (λ pace. MethodStep code.now stand.now aim.now method args.now
+        ensures done { IfOk result (λ pace. MethodStep code.now stand.now aim.now method args.now
             self.old pace self.new) }
+        ensures astray { OnAstray result (MethodStepAmiss code.now stand.now aim.now method args.now
+            self.old) }
     {
         match args {
             [] => self.method_with(code, stand, aim, method, None),
@@ -465,8 +491,9 @@ impl Process {
         method: Method,
         sent: Option<Value>,
     ) -> Result<Pace<'a>, Fault>
-        ensures { IfOk result (λ pace. IsMethod code.now stand.now aim.now method sent self.old
+        ensures done { IfOk result (λ pace. IsMethod code.now stand.now aim.now method sent self.old
             pace self.new) }
+        ensures astray { OnAstray result (CallsAmiss code.now stand.now aim.now method sent self.old) }
     {
         let Some((kind, cell)) = self.reference_at(code, stand.actor, aim) else {
             return Err(Fault::Astray);
@@ -478,9 +505,10 @@ impl Process {
 
     // The reference at which an actor aims.
     fn reference_at(&self, code: &Code, actor: ActorId, aim: &Aim) -> Option<(Kind, CellId)>
-        ensures { IfSome result (λ r. field_path (places_in code.now.fields) aim.now.path.items
+        ensures done { IfSome result (λ r. field_path (places_in code.now.fields) aim.now.path.items
             (option_map value_of (place_held actor.0 aim.now.place self.now.heap))
             ≡ Some (RefValue r.0 r.1.0)) }
+        ensures none { IsNone result → NoReferenceAt code.now actor.0 aim.now self.now.heap }
     {
         let root = self.heap.frames().held(actor, aim.place)?;
         match part(code.fields(), root, &aim.path)? {
@@ -497,8 +525,9 @@ impl Process {
         function: usize,
         args: Vec<Value>,
     ) -> Result<Pace<'a>, Fault>
-        ensures { IfOk result (λ pace. FunctionCalled code.now stand.now function args self.old
+        ensures done { IfOk result (λ pace. FunctionCalled code.now stand.now function args self.old
             pace self.new) }
+        ensures astray { OnAstray result (FunctionAmiss code.now stand.now function args self.old) }
     {
         match self.function_value(code, function, args) {
             Ok(value) => next_after(stand, value),
@@ -531,7 +560,8 @@ impl Process {
 
     #[tactic(auto, using(crate::proofs::Stepped::goes_at))]
     fn last<'a>(&mut self, code: &Code, stand: &Stand<'a>, last: &Last) -> Result<Pace<'a>, Fault>
-        ensures { IfOk result (λ pace. Ends code.now stand.now last.now self.old pace self.new) }
+        ensures done { IfOk result (λ pace. Ends code.now stand.now last.now self.old pace self.new) }
+        ensures astray { OnAstray result (LastAmiss code.now stand.now last.now self.old) }
     {
         match last {
             Last::Goto(block) => Ok(Pace::On(stand.at(*block, 0)?)),
@@ -546,7 +576,9 @@ impl Process {
     #[tactic(auto, using(crate::proofs::Stepped::pass_on, crate::proofs::Stepped::pass_off))]
     // A pass of a loop begins: it takes a turn.
     fn pass<'a>(&mut self, stand: &Stand<'a>, block: u32) -> Result<Pace<'a>, Fault>
-        ensures { IfOk result (λ pace. Passes stand.now block self.old pace self.new) }
+        ensures done { IfOk result (λ pace. Passes stand.now block self.old pace self.new) }
+        ensures astray { OnAstray result (BlockMissing stand.now.class.now block
+            ⊎ FrameMissing stand.now.actor.0 self.old.heap) }
     {
         let begin = stand.at(block, 0)?;
         if self.turn() {
@@ -564,9 +596,12 @@ impl Process {
         stand: &Stand<'a>,
         expr: &Resolved,
     ) -> Result<Pace<'a>, Fault>
-        ensures { IfOk result (λ pace. Evaluates stand.now value_of
+        ensures done { IfOk result (λ pace. Evaluates stand.now value_of
             (value_for code.now stand.now.actor.0 expr.now self.old) self.old
             (IsThrow stand.now) pace self.new) }
+        ensures astray { OnAstray result (EvaluatesAmiss stand.now value_of
+            (value_for code.now stand.now.actor.0 expr.now self.old) self.old
+            (ThrowAmiss stand.now)) }
     {
         match self.value(code, stand.actor, expr) {
             Ok(value) => self.throw_with(stand, value),
@@ -576,7 +611,8 @@ impl Process {
 
     // That, with the value known.
     fn throw_with<'a>(&mut self, stand: &Stand<'a>, value: Value) -> Result<Pace<'a>, Fault>
-        ensures { IfOk result (λ pace. IsThrow stand.now value self.old pace self.new) }
+        ensures done { IfOk result (λ pace. IsThrow stand.now value self.old pace self.new) }
+        ensures astray { OnAstray result (ThrowAmiss stand.now value self.old) }
     {
         match value {
             Value::Error(error) => {
@@ -597,9 +633,12 @@ impl Process {
         yes: u32,
         no: u32,
     ) -> Result<Pace<'a>, Fault>
-        ensures { IfOk result (λ pace. Evaluates stand.now truth_value
+        ensures done { IfOk result (λ pace. Evaluates stand.now truth_value
             (truth_for code.now stand.now.actor.0 expr.now self.old) self.old
             (IsTest stand.now yes no) pace self.new) }
+        ensures astray { OnAstray result (EvaluatesAmiss stand.now truth_value
+            (truth_for code.now stand.now.actor.0 expr.now self.old) self.old
+            (TestAmiss stand.now yes no)) }
     {
         match self.truth(code, stand.actor, expr) {
             Ok(true) => Ok(Pace::On(stand.at(yes, 0)?)),
@@ -611,8 +650,9 @@ impl Process {
     #[tactic(auto, using(crate::proofs::Stepped::operand_asked, crate::proofs::Stepped::operands_kept))]
     // The next operand of a wait is asked for; when all are kept, the actor waits.
     fn choose<'a>(&mut self, code: &Code, stand: &Stand<'a>, number: u32) -> Result<Pace<'a>, Fault>
-        ensures { IfOk result (λ pace. IsChoose code.now stand.now number self.old pace
+        ensures done { IfOk result (λ pace. IsChoose code.now stand.now number self.old pace
             self.new) }
+        ensures astray { OnAstray result (ChoosesAmiss code.now stand.now number self.old) }
     {
         let Some(group) = stand.class.group(number) else {
             return Err(Fault::Astray);
@@ -634,8 +674,9 @@ impl Process {
         callback: u32,
         operand: &Operand,
     ) -> Result<Pace<'a>, Fault>
-        ensures { IfOk result (λ pace. OperandStep code.now stand.now callback operand.now self.old
+        ensures done { IfOk result (λ pace. OperandStep code.now stand.now callback operand.now self.old
             pace self.new) }
+        ensures astray { OnAstray result (AsksAmiss code.now stand.now callback operand.now self.old) }
     {
         match operand {
             Operand::Value(expr) => self.value_operand(code, stand, callback, expr),
@@ -654,9 +695,12 @@ impl Process {
         callback: u32,
         expr: &Resolved,
     ) -> Result<Pace<'a>, Fault>
-        ensures { IfOk result (λ pace. Evaluates stand.now value_of
+        ensures done { IfOk result (λ pace. Evaluates stand.now value_of
             (value_for code.now stand.now.actor.0 expr.now self.old) self.old
             (OperandKept stand.now callback) pace self.new) }
+        ensures astray { OnAstray result (EvaluatesAmiss stand.now value_of
+            (value_for code.now stand.now.actor.0 expr.now self.old) self.old
+            (ValueKeptAmiss stand.now callback)) }
     {
         match self.value(code, stand.actor, expr) {
             Ok(value) => self.operand_with(stand, callback, value),
@@ -671,16 +715,15 @@ impl Process {
         callback: u32,
         value: Value,
     ) -> Result<Pace<'a>, Fault>
-        ensures { IfOk result (λ pace. OperandKept stand.now callback value self.old pace
+        ensures done { IfOk result (λ pace. OperandKept stand.now callback value self.old pace
             self.new) }
+        ensures astray { OnAstray result (ValueKeptAmiss stand.now callback value self.old) }
     {
-        match value {
-            Value::Ref(kind, cell) => {
-                self.hold(kind, cell)?;
-                self.keep_operand(stand, Held { callback, cell })
-            }
-            _ => Err(Fault::Astray),
-        }
+        let Value::Ref(kind, cell) = value else {
+            return Err(Fault::Astray);
+        };
+        self.hold(kind, cell)?;
+        self.keep_operand(stand, Held { callback, cell })
     }
 
     #[tactic(auto, using(crate::proofs::Evaluating::value_given, crate::proofs::Evaluating::value_breaks))]
@@ -691,9 +734,12 @@ impl Process {
         stand: &Stand<'a>,
         expr: &Resolved,
     ) -> Result<Pace<'a>, Fault>
-        ensures { IfOk result (λ pace. Evaluates stand.now value_of
+        ensures done { IfOk result (λ pace. Evaluates stand.now value_of
             (value_for code.now stand.now.actor.0 expr.now self.old) self.old
             (IsReturn stand.now) pace self.new) }
+        ensures astray { OnAstray result (EvaluatesAmiss stand.now value_of
+            (value_for code.now stand.now.actor.0 expr.now self.old) self.old
+            (ReturnAmiss stand.now)) }
     {
         match self.value(code, stand.actor, expr) {
             Ok(value) => self.end_with_value(stand, value),
@@ -704,7 +750,8 @@ impl Process {
     #[tactic(auto, using(crate::proofs::Stepped::returns_by))]
     // That, with the value known.
     fn end_with_value<'a>(&mut self, stand: &Stand<'a>, value: Value) -> Result<Pace<'a>, Fault>
-        ensures { IfOk result (λ pace. IsReturn stand.now value self.old pace self.new) }
+        ensures done { IfOk result (λ pace. IsReturn stand.now value self.old pace self.new) }
+        ensures astray { OnAstray result (ReturnAmiss stand.now value self.old) }
     {
         self.hold_value(&value)?;
         self.note(*stand)?;

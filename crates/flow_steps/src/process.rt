@@ -2,6 +2,8 @@
 
 ghost use Rattle.std.specs.Prelude.{◌≡◌, is_some, IfOk};
 ghost use Rattle.std.specs.Option.{option_copied};
+ghost use Rattle.flow_steps.specs.Straying.{OnAstray};
+ghost use Rattle.flow_steps.specs.AmissTasks.{TasksAmiss};
 ghost use Rattle.flow_steps.specs.Tasks.{Tasks};
 ghost use Rattle.flow_steps.specs.Doing.{never_ran, begun, vanished, asking, telling, unasked};
 
@@ -101,9 +103,10 @@ impl Process {
     }
 
     /// Does the newest task, and again, until a step asks something of the world, a turn was wanted in vain, or no task is
-    /// left.
+    /// left. Answers want of memory after `u64::MAX` tasks.
     pub fn run_tasks(&mut self, code: &Code) -> Result<Next, Fault>
-        ensures { IfOk result (λ n. Tasks code.now self.old n self.new) }
+        ensures done { IfOk result (λ n. Tasks code.now self.old n self.new) }
+        ensures astray { OnAstray result (TasksAmiss code.now self.old) }
     {
         for _step in 0..u64::MAX {
             if self.spent {
@@ -117,7 +120,7 @@ impl Process {
                 return Ok(Next::Asks);
             }
         }
-        Err(Fault::Astray)
+        Err(Fault::OutOfMemory)
     }
 }
 

@@ -10,9 +10,12 @@ ghost use Rattle.flow_picture.specs.Changes.{cell_put};
 ghost use Rattle.flow_steps.specs.Holding.{on_heap};
 ghost use Rattle.flow_steps.specs.Bringing.{result_set, end_line, ended_with, closing, closed};
 ghost use Rattle.flow_numbered.specs.Numbered.{thing};
-ghost use Rattle.flow_steps.specs.Doing.{departed};
 ghost use Rattle.flow_steps.specs.Drops.{DropsOver};
 ghost use Rattle.flow_steps.specs.Standing.{referring, values};
+ghost use Rattle.flow_steps.specs.Doing.{departed, doing};
+ghost use Rattle.flow_cancel.specs.declared.task.Task.TheVariants.{Fire};
+ghost use Rattle.flow_steps.specs.Straying.{OnAstray, FrameMissing, LosesAmiss};
+ghost use Rattle.flow_steps.specs.AmissTasks.{StandsAmiss, NoBranchAt, NoPlaceFor, BranchAmiss, GivenAmiss, EffectTo, NoEffect, StoredAmiss, HandlesAmiss, LeavesAmiss, RaisedAmiss, WaiterAmiss, FiresAmiss, NoPromise, ResultAmiss, EndsAmiss, ForgetsAmiss, ClosesAmiss, TaskAmiss};
 ghost use Rattle.flow_steps.specs.Tasks.{BranchAt, Given, ValueGiven, bound_over, bound, Stored, Raises, Raised, FailsBy, caught, with_error, cell_waiter, stream_waiter, next_waiter, WaiterTakes, Fires, drops_one, IsDone};
 
 use crate::branches::{branch_in, branch_of, group_at};
@@ -23,7 +26,7 @@ use flow_base::ids::{ActorId, CellId, ErrorCode};
 use flow_cancel::task::Task;
 use flow_cell::counts::Side;
 use flow_cell::waiter::Waiter;
-use flow_code::class::{Branch, Catcher, Instruction};
+use flow_code::class::{Aim, Branch, Catcher, Instruction};
 use flow_code::program::Code;
 use flow_frame::held::Held;
 use flow_trace::line::Line;
@@ -39,10 +42,11 @@ fn end_line(actor: ActorId, outcome: &Outcome) -> Line
     }
 }
 
-#[tactic(auto, using(crate::proofs::Done::branch_found))]
+#[tactic(auto, using(crate::proofs::Done::branch_found, crate::proofs::TasksAmiss::no_group_found, crate::proofs::TasksAmiss::not_found))]
 /// The branch of this number of the wait at which an actor stands.
 fn branch_at<'a>(stand: &Stand<'a>, branch: u32) -> Result<&'a Branch, Fault>
-    ensures { IfOk result (λ b. BranchAt stand.now branch b.now) }
+    ensures done { IfOk result (λ b. BranchAt stand.now branch b.now) }
+    ensures astray { OnAstray result (NoBranchAt stand.now branch) }
 {
     let number = group_at(stand.block)?;
     let Some(group) = stand.class.group(number) else {
@@ -54,11 +58,24 @@ fn branch_at<'a>(stand: &Stand<'a>, branch: u32) -> Result<&'a Branch, Fault>
     }
 }
 
+#[tactic(auto, using(crate::proofs::Done::effect_to))]
+/// Where an effect aims.
+fn aim_of(instruction: &Instruction) -> Result<&Aim, Fault>
+    ensures done { IfOk result (λ aim. EffectTo instruction.now aim.now) }
+    ensures astray { OnAstray result (NoEffect instruction.now) }
+{
+    match instruction {
+        Instruction::Effect(aim, _, _) => Ok(aim),
+        _ => Err(Fault::Astray),
+    }
+}
+
 impl Process {
     #[tactic(auto, using(crate::proofs::Done::closes_by))]
     /// Does a task that was the newest.
     pub(crate) fn do_task(&mut self, code: &Code, task: Task) -> Result<(), Fault>
-        ensures { OnOk result (IsDone code.now task self.old self.new) }
+        ensures done { OnOk result (IsDone code.now task self.old self.new) }
+        ensures astray { OnAstray result (TaskAmiss code.now task self.old) }
     {
         match task {
             Task::Run(actor) => self.run(code, actor),
@@ -81,7 +98,8 @@ impl Process {
 
     // A reference is dropped: a turn, and it counts no more.
     fn drop_one(&mut self, kind: Kind, cell: CellId) -> Result<(), Fault>
-        ensures { OnOk result (self.new ≡ drops_one kind cell self.old) }
+        ensures done { OnOk result (self.new ≡ drops_one kind cell self.old) }
+        ensures astray { OnAstray result (LosesAmiss kind cell.0 self.old.heap) }
     {
         if !self.turn() {
             return Ok(());
@@ -97,7 +115,8 @@ impl Process {
         branch: u32,
         outcome: Outcome,
     ) -> Result<(), Fault>
-        ensures { OnOk result (Given code.now actor branch outcome self.old self.new) }
+        ensures done { OnOk result (Given code.now actor branch outcome self.old self.new) }
+        ensures astray { OnAstray result (GivenAmiss code.now actor branch outcome self.old) }
     {
         match outcome {
             Outcome::Value(value) => self.give_value(code, actor, branch, value),
@@ -114,7 +133,9 @@ impl Process {
         branch: u32,
         value: Value,
     ) -> Result<(), Fault>
-        ensures { OnOk result (ValueGiven code.now actor branch value self.old self.new) }
+        ensures done { OnOk result (ValueGiven code.now actor branch value self.old self.new) }
+        ensures astray { OnAstray result (StandsAmiss code.now.classes.items actor self.old
+            (BranchAmiss code.now actor branch value self.old)) }
     {
         let stand = self.stand_of(code, actor)?;
         let branch = branch_at(&stand, branch)?;
@@ -136,6 +157,7 @@ impl Process {
             ≡ bound_over actor.0 branch.now.into value self.old.heap) }
         ensures bound { OnOk result (self.new
             ≡ on_heap (bound actor.0 branch.now.into value) self.old) }
+        ensures astray { OnAstray result (NoPlaceFor actor.0 branch.now.into self.old.heap) }
     {
         match branch.into {
             Some(place) => self.put(actor, place, Some(value)),
@@ -146,13 +168,14 @@ impl Process {
     #[tactic(auto, using(crate::proofs::Done::stored_by))]
     // The result of an effect goes into the place of the instruction.
     fn store(&mut self, code: &Code, actor: ActorId, value: Value) -> Result<(), Fault>
-        ensures { OnOk result (Stored code.now actor value self.old self.new) }
+        ensures done { OnOk result (Stored code.now actor value self.old self.new) }
+        ensures astray { OnAstray result (StoredAmiss code.now actor self.old) }
     {
         let stand = self.stand_of(code, actor)?;
-        let Some(Instruction::Effect(aim, _, _)) = instruction_at(stand.block, stand.instruction)
-        else {
+        let Some(instruction) = instruction_at(stand.block, stand.instruction) else {
             return Err(Fault::Astray);
         };
+        let aim = aim_of(instruction)?;
         let old = self.assign(code, actor, aim, value)?;
         self.drop_old(old)?;
         self.go_on(&stand)?;
@@ -162,7 +185,8 @@ impl Process {
     #[tactic(auto, using(crate::proofs::Holding::value_dropped))]
     // What is left over is dropped, if anything.
     fn drop_old(&mut self, old: Option<Value>) -> Result<(), Fault>
-        ensures { OnOk result (self.new ≡ on_heap (dropping (values old)) self.old) }
+        ensures done { OnOk result (self.new ≡ on_heap (dropping (values old)) self.old) }
+        ensures astray { OnAstray result ⊥ }
     {
         if let Some(old) = old {
             self.heap.push_drops(&old)?;
@@ -174,7 +198,8 @@ impl Process {
     // The line; then the operands that are kept are dropped in order, and the values that leave the variables; then the
     // handler begins, or the actor ends.
     fn raise(&mut self, code: &Code, actor: ActorId, error: ErrorCode) -> Result<(), Fault>
-        ensures { OnOk result (Raised code.now actor error self.old self.new) }
+        ensures done { OnOk result (Raised code.now actor error self.old self.new) }
+        ensures astray { OnAstray result (RaisedAmiss code.now actor self.old) }
     {
         let stand = self.stand_of(code, actor)?;
         self.leave_by(actor, &stand.block.catcher, error)?;
@@ -189,7 +214,8 @@ impl Process {
         catcher: &Option<Catcher>,
         error: ErrorCode,
     ) -> Result<(), Fault>
-        ensures { OnOk result (Raises actor catcher.now error self.old self.new) }
+        ensures done { OnOk result (Raises actor catcher.now error self.old self.new) }
+        ensures astray { OnAstray result (LeavesAmiss actor.0 catcher.now self.old.heap) }
     {
         match catcher {
             Some(catcher) => self.caught(actor, catcher, error),
@@ -200,7 +226,8 @@ impl Process {
     #[tactic(auto, using(crate::proofs::Done::fails_by))]
     // An error goes out of an actor, which is closed.
     fn uncaught(&mut self, actor: ActorId, error: ErrorCode) -> Result<(), Fault>
-        ensures { OnOk result (FailsBy actor error self.old self.new) }
+        ensures done { OnOk result (FailsBy actor error self.old self.new) }
+        ensures astray { OnAstray result (FrameMissing actor.0 self.old.heap) }
     {
         let outcome = Box::new(self.alloc, Outcome::Error(error))?;
         self.heap.push(Task::Close(actor, outcome))?;
@@ -210,7 +237,8 @@ impl Process {
 
     // An error goes to a handler.
     fn caught(&mut self, actor: ActorId, catcher: &Catcher, error: ErrorCode) -> Result<(), Fault>
-        ensures { OnOk result (self.new ≡ on_heap (caught actor catcher.now error) self.old) }
+        ensures done { OnOk result (self.new ≡ on_heap (caught actor catcher.now error) self.old) }
+        ensures astray { OnAstray result (HandlesAmiss actor.0 catcher.now self.old.heap) }
     {
         self.heap.push(Task::Catch(actor, error))?;
         let values = self.taken(actor, &catcher.drops)?;
@@ -227,7 +255,8 @@ impl Process {
         place: Option<u32>,
         error: ErrorCode,
     ) -> Result<(), Fault>
-        ensures { OnOk result (self.new ≡ on_heap (with_error actor.0 place error) self.old) }
+        ensures done { OnOk result (self.new ≡ on_heap (with_error actor.0 place error) self.old) }
+        ensures astray { OnAstray result (NoPlaceFor actor.0 place self.old.heap) }
     {
         if let Some(place) = place {
             self.put(actor, place, Some(Value::Error(error)))?;
@@ -239,6 +268,7 @@ impl Process {
     pub(crate) fn leave(&mut self, actor: ActorId) -> Result<(), Fault>
         ensures left { OnOk result (self.new ≡ departed actor.0 self.old) }
         ensures drops { OnOk result (DropsOver self.old.heap.tasks self.new.heap.tasks) }
+        ensures astray { OnAstray result (FrameMissing actor.0 self.old.heap) }
     {
         if !self.heap.frames().contains(actor) {
             return Err(Fault::Astray);
@@ -273,11 +303,12 @@ impl Process {
         self.heap.streams().waiter(cell)
     }
 
-    #[tactic(auto, using(crate::proofs::Done::fires_by))]
+    #[tactic(auto, using(crate::proofs::Done::fires_by, crate::proofs::TasksAmiss::nothing_to_fire, crate::proofs::TasksAmiss::fires_amiss_by))]
     // The oldest waiter takes its branch, and the fire goes on after it. It ends, without a turn, where no waiter is left
     // or, on a stream, neither element nor end.
     fn fire(&mut self, code: &Code, cell: CellId) -> Result<(), Fault>
-        ensures { OnOk result (Fires code.now cell self.old self.new) }
+        ensures done { OnOk result (Fires code.now cell self.old self.new) }
+        ensures astray { OnAstray result (FiresAmiss code.now cell self.old) }
     {
         let Some(kind) = self.kind_at(cell) else {
             return Err(Fault::Astray);
@@ -291,7 +322,8 @@ impl Process {
     #[tactic(auto, using(crate::proofs::Done::waiter_takes))]
     // A waiter of a cell takes its branch, and the fire goes on after it.
     fn fire_to(&mut self, code: &Code, cell: CellId, waiter: Waiter) -> Result<(), Fault>
-        ensures { OnOk result (WaiterTakes code.now cell waiter self.old self.new) }
+        ensures done { OnOk result (WaiterTakes code.now cell waiter self.old self.new) }
+        ensures astray { OnAstray result (WaiterAmiss code.now cell waiter (doing (Fire cell) self.old)) }
     {
         self.heap.push(Task::Fire(cell))?;
         let stand = self.stand_of(code, waiter.actor)?;
@@ -303,8 +335,9 @@ impl Process {
     // The actor is gone: a turn and the line; then its result is set, where a future refers to it, and otherwise the cell
     // goes and the value is dropped.
     fn close(&mut self, actor: ActorId, outcome: Outcome) -> Result<(), Fault>
-        ensures { OnOk result (IsSomeAnd (thing self.old.heap.actors.things actor.0)
+        ensures done { OnOk result (IsSomeAnd (thing self.old.heap.actors.things actor.0)
             (λ n. self.new ≡ closed actor outcome n.result self.old)) }
+        ensures astray { OnAstray result (ClosesAmiss actor.0 self.old.heap) }
     {
         let cell = self.forget(actor)?;
         self.close_result(actor, cell, outcome)?;
@@ -318,7 +351,8 @@ impl Process {
         cell: Option<CellId>,
         outcome: Outcome,
     ) -> Result<(), Fault>
-        ensures { OnOk result (self.new ≡ closing actor outcome cell self.old) }
+        ensures done { OnOk result (self.new ≡ closing actor outcome cell self.old) }
+        ensures astray { OnAstray result (EndsAmiss cell self.old.heap) }
     {
         if !self.turn() {
             return Ok(());
@@ -331,7 +365,8 @@ impl Process {
 
     // The outcome of an actor goes to its result, where it has one that a future refers to; otherwise it is dropped.
     fn end_with(&mut self, cell: Option<CellId>, outcome: Outcome) -> Result<(), Fault>
-        ensures { OnOk result (self.new ≡ ended_with cell outcome self.old) }
+        ensures done { OnOk result (self.new ≡ ended_with cell outcome self.old) }
+        ensures astray { OnAstray result (EndsAmiss cell self.old.heap) }
     {
         let Some(cell) = cell else {
             return self.drop_outcome(&outcome);
@@ -348,6 +383,7 @@ impl Process {
         ensures gone { OnOk result (self.new ≡ on_heap (finished actor.0) self.old) }
         ensures told { IfOk result (λ k. IsSomeAnd (thing self.old.heap.actors.things actor.0)
             (λ n. k ≡ n.result)) }
+        ensures astray { OnAstray result (ForgetsAmiss actor.0 self.old.heap) }
     {
         if !self.heap.unfinished(actor) || !self.heap.may_finish(actor) {
             return Err(Fault::Astray);
@@ -360,7 +396,8 @@ impl Process {
     #[tactic(auto, using(crate::proofs::Holding::promise_ended_by))]
     // A turn, and the result is set and fires. The actor's own promise counts no more.
     fn set_result(&mut self, cell: CellId, outcome: Outcome) -> Result<(), Fault>
-        ensures { OnOk result (self.new ≡ result_set cell.0 outcome self.old) }
+        ensures done { OnOk result (self.new ≡ result_set cell.0 outcome self.old) }
+        ensures astray { OnAstray result (ResultAmiss cell.0 self.old.heap) }
     {
         if !self.turn() {
             return Ok(());
@@ -371,9 +408,10 @@ impl Process {
 
     // A promise of a single result counts no more, where others or futures do.
     fn end_promise(&mut self, cell: CellId) -> Result<(), Fault>
-        ensures { OnOk result (IsSomeAnd (thing self.old.heap.cells.things cell.0)
+        ensures done { OnOk result (IsSomeAnd (thing self.old.heap.cells.things cell.0)
             (λ c. self.new ≡ on_heap (cell_put cell.0
             (record c { references = released Promise c.references })) self.old)) }
+        ensures astray { OnAstray result (NoPromise (thing self.old.heap.cells.things cell.0)) }
     {
         let Some(references) = self.heap.cells().references(cell) else {
             return Err(Fault::Astray);

@@ -1,6 +1,6 @@
 // What a process does to its own state: turns, tasks, counts of references, cells, waits and cancelling.
 
-ghost use Rattle.std.specs.Prelude.{◌≡◌, nat_lt, OnOk, IfOk};
+ghost use Rattle.std.specs.Prelude.{◌≡◌, ◌⊎◌, nat_lt, OnOk, IfOk};
 ghost use Rattle.flow_cancel.specs.declared.task.Task.TheVariants.{Run, Throw};
 ghost use Rattle.std.specs.Option.{IsSomeAnd};
 ghost use Rattle.std.specs.declared.option.Option.TheVariants.{Some};
@@ -9,6 +9,7 @@ ghost use Rattle.flow_stream.specs.Streams.{with_item};
 ghost use Rattle.flow_picture.specs.Changes.{cell_put, stream_put};
 ghost use Rattle.flow_picture.specs.Holds.{hold, hold_all, sent, filled_in};
 ghost use Rattle.flow_steps.specs.Doing.{turned, doing, stopped};
+ghost use Rattle.flow_steps.specs.Straying.{OnAstray, CellMissing, StreamMissing, Missing, SomeMissing, MayNotSet, MayNotSend, MayNotFill, NoReference, LosesAmiss, CancelsAmiss, OwnerAmiss};
 ghost use Rattle.flow_steps.specs.Waiting.{ready_at};
 ghost use Rattle.flow_steps.specs.Holding.{on_heap, cell_holding, stream_holding, value_refs, outcome_refs, refs_dropped, result_filled, stream_filled, IsGiving, Gives, broken, lost, owner_cancelled, kind_in, futures_of};
 
@@ -43,14 +44,16 @@ impl Process {
 
     /// An error is thrown where an actor stands.
     pub fn throw(&mut self, actor: ActorId, error: ErrorCode) -> Result<(), Fault>
-        ensures { OnOk result (self.new ≡ doing (Throw actor error) self.old) }
+        ensures done { OnOk result (self.new ≡ doing (Throw actor error) self.old) }
+        ensures astray { OnAstray result ⊥ }
     {
         Ok(self.heap.push(Task::Throw(actor, error))?)
     }
 
     /// An actor takes its next step after all that comes on top.
     pub fn run_on(&mut self, actor: ActorId) -> Result<(), Fault>
-        ensures { OnOk result (self.new ≡ doing (Run actor) self.old) }
+        ensures done { OnOk result (self.new ≡ doing (Run actor) self.old) }
+        ensures astray { OnAstray result ⊥ }
     {
         Ok(self.heap.push(Task::Run(actor))?)
     }
@@ -58,7 +61,8 @@ impl Process {
     #[tactic(auto, using(crate::proofs::Holding::cell_counted))]
     // A reference to a side of a single result counts.
     fn hold_cell(&mut self, side: Side, cell: CellId) -> Result<(), Fault>
-        ensures { OnOk result (self.new ≡ on_heap (cell_holding side cell.0) self.old) }
+        ensures done { OnOk result (self.new ≡ on_heap (cell_holding side cell.0) self.old) }
+        ensures astray { OnAstray result (CellMissing cell.0 self.old.heap) }
     {
         let Some(references) = self.heap.cells().references(cell) else {
             return Err(Fault::Astray);
@@ -73,7 +77,8 @@ impl Process {
     #[tactic(auto, using(crate::proofs::Holding::stream_counted))]
     // A reference to a side of a stream counts.
     fn hold_stream(&mut self, side: Side, cell: CellId) -> Result<(), Fault>
-        ensures { OnOk result (self.new ≡ on_heap (stream_holding side cell.0) self.old) }
+        ensures done { OnOk result (self.new ≡ on_heap (stream_holding side cell.0) self.old) }
+        ensures astray { OnAstray result (StreamMissing cell.0 self.old.heap) }
     {
         let Some(references) = self.heap.streams().references(cell) else {
             return Err(Fault::Astray);
@@ -87,7 +92,8 @@ impl Process {
 
     /// A reference is stored: it counts.
     pub(crate) fn hold(&mut self, kind: Kind, cell: CellId) -> Result<(), Fault>
-        ensures { OnOk result (self.new ≡ on_heap (hold kind cell.0) self.old) }
+        ensures done { OnOk result (self.new ≡ on_heap (hold kind cell.0) self.old) }
+        ensures astray { OnAstray result (Missing kind cell.0 self.old.heap) }
     {
         match kind {
             Kind::Promise | Kind::Future => self.hold_cell(side_of(kind), cell),
@@ -98,7 +104,8 @@ impl Process {
     #[tactic(auto, using(crate::proofs::Holding::fields_step, crate::proofs::Holding::fields_end))]
     /// A value is stored: its references count.
     pub(crate) fn hold_value(&mut self, value: &Value) -> Result<(), Fault>
-        ensures { OnOk result (self.new ≡ on_heap (hold_all (value_refs value.now)) self.old) }
+        ensures done { OnOk result (self.new ≡ on_heap (hold_all (value_refs value.now)) self.old) }
+        ensures astray { OnAstray result (SomeMissing (value_refs value.now) self.old.heap) }
     {
         match value {
             Value::Struct(record) => {
@@ -117,7 +124,8 @@ impl Process {
     #[tactic(auto, using(crate::proofs::Holding::value_alone))]
     /// An outcome is stored: what it refers to counts.
     pub(crate) fn hold_outcome(&mut self, outcome: &Outcome) -> Result<(), Fault>
-        ensures { OnOk result (self.new ≡ on_heap (hold_all (outcome_refs outcome.now)) self.old) }
+        ensures done { OnOk result (self.new ≡ on_heap (hold_all (outcome_refs outcome.now)) self.old) }
+        ensures astray { OnAstray result (SomeMissing (outcome_refs outcome.now) self.old.heap) }
     {
         match outcome {
             Outcome::Value(value) => self.hold_value(value),
@@ -128,8 +136,9 @@ impl Process {
     #[tactic(auto, using(crate::proofs::Holding::value_dropped))]
     /// What an outcome holds is dropped.
     pub(crate) fn drop_outcome(&mut self, outcome: &Outcome) -> Result<(), Fault>
-        ensures { OnOk result (self.new ≡ on_heap (refs_dropped (outcome_refs outcome.now))
+        ensures done { OnOk result (self.new ≡ on_heap (refs_dropped (outcome_refs outcome.now))
             self.old) }
+        ensures astray { OnAstray result ⊥ }
     {
         match outcome {
             Outcome::Value(value) => Ok(self.heap.push_drops(value)?),
@@ -139,9 +148,10 @@ impl Process {
 
     // A single result is set.
     fn set(&mut self, cell: CellId, outcome: Outcome) -> Result<(), Fault>
-        ensures { OnOk result (IsSomeAnd (thing self.old.heap.cells.things cell.0)
+        ensures done { OnOk result (IsSomeAnd (thing self.old.heap.cells.things cell.0)
             (λ c. self.new ≡ on_heap (cell_put cell.0 (record c { content = Some outcome }))
             self.old)) }
+        ensures astray { OnAstray result (MayNotSet (thing self.old.heap.cells.things cell.0)) }
     {
         if self.heap.cells().references(cell).is_none()
             || self.heap.cells().content(cell).is_some()
@@ -154,8 +164,9 @@ impl Process {
 
     // A stream without an end gets an element.
     fn send(&mut self, cell: CellId, value: Value) -> Result<(), Fault>
-        ensures { OnOk result (IsSomeAnd (thing self.old.heap.streams.things cell.0)
+        ensures done { OnOk result (IsSomeAnd (thing self.old.heap.streams.things cell.0)
             (λ s. self.new ≡ on_heap (stream_put cell.0 (with_item s value)) self.old)) }
+        ensures astray { OnAstray result (MayNotSend (thing self.old.heap.streams.things cell.0)) }
     {
         if self.heap.streams().references(cell).is_none() {
             return Err(Fault::Astray);
@@ -169,9 +180,10 @@ impl Process {
 
     // A stream without an end gets one.
     fn end(&mut self, cell: CellId, error: ErrorCode) -> Result<(), Fault>
-        ensures { OnOk result (IsSomeAnd (thing self.old.heap.streams.things cell.0)
+        ensures done { OnOk result (IsSomeAnd (thing self.old.heap.streams.things cell.0)
             (λ s. self.new ≡ on_heap (stream_put cell.0 (record s { end = Some error }))
             self.old)) }
+        ensures astray { OnAstray result (MayNotSend (thing self.old.heap.streams.things cell.0)) }
     {
         if self.heap.streams().references(cell).is_none() {
             return Err(Fault::Astray);
@@ -185,8 +197,9 @@ impl Process {
 
     // A stream without an end gets an element or its end.
     fn send_outcome(&mut self, cell: CellId, outcome: Outcome) -> Result<(), Fault>
-        ensures { OnOk result (IsSomeAnd (thing self.old.heap.streams.things cell.0)
+        ensures done { OnOk result (IsSomeAnd (thing self.old.heap.streams.things cell.0)
             (λ s. self.new ≡ on_heap (stream_put cell.0 (sent outcome s)) self.old)) }
+        ensures astray { OnAstray result (MayNotSend (thing self.old.heap.streams.things cell.0)) }
     {
         match outcome {
             Outcome::Value(value) => self.send(cell, value),
@@ -196,7 +209,8 @@ impl Process {
 
     // A task comes on top.
     fn push(&mut self, task: Task) -> Result<(), Fault>
-        ensures { OnOk result (self.new ≡ doing task self.old) }
+        ensures done { OnOk result (self.new ≡ doing task self.old) }
+        ensures astray { OnAstray result ⊥ }
     {
         Ok(self.heap.push(task)?)
     }
@@ -204,7 +218,8 @@ impl Process {
     #[tactic(auto, using(crate::proofs::Holding::result_filled_by))]
     // A single result gets content that counts already, and fires.
     fn fill_result(&mut self, cell: CellId, outcome: Outcome) -> Result<(), Fault>
-        ensures { OnOk result (self.new ≡ on_heap (result_filled cell.0 outcome) self.old) }
+        ensures done { OnOk result (self.new ≡ on_heap (result_filled cell.0 outcome) self.old) }
+        ensures astray { OnAstray result (MayNotSet (thing self.old.heap.cells.things cell.0)) }
     {
         self.set(cell, outcome)?;
         self.hold(Kind::Future, cell)?;
@@ -215,7 +230,8 @@ impl Process {
     #[tactic(auto, using(crate::proofs::Holding::stream_filled_by))]
     // A stream gets content that counts already, and fires.
     fn fill_stream(&mut self, cell: CellId, outcome: Outcome) -> Result<(), Fault>
-        ensures { OnOk result (self.new ≡ on_heap (stream_filled cell.0 outcome) self.old) }
+        ensures done { OnOk result (self.new ≡ on_heap (stream_filled cell.0 outcome) self.old) }
+        ensures astray { OnAstray result (MayNotSend (thing self.old.heap.streams.things cell.0)) }
     {
         self.send_outcome(cell, outcome)?;
         self.hold(Kind::FutureStream, cell)?;
@@ -225,7 +241,8 @@ impl Process {
 
     /// The cell of a kind of reference, to which more can be sent, gets content that counts already, and fires.
     pub(crate) fn fill(&mut self, kind: Kind, cell: CellId, outcome: Outcome) -> Result<(), Fault>
-        ensures { OnOk result (self.new ≡ on_heap (filled_in kind cell.0 outcome) self.old) }
+        ensures done { OnOk result (self.new ≡ on_heap (filled_in kind cell.0 outcome) self.old) }
+        ensures astray { OnAstray result (MayNotFill kind cell.0 self.old.heap) }
     {
         match kind {
             Kind::Promise | Kind::Future => self.fill_result(cell, outcome),
@@ -235,7 +252,8 @@ impl Process {
 
     // The task by which the result of an effect goes where it belongs.
     fn giving(&self, actor: ActorId, goal: Goal, value: Value) -> Result<Task, Fault>
-        ensures { IfOk result (λ t. IsGiving goal actor value t) }
+        ensures done { IfOk result (λ t. IsGiving goal actor value t) }
+        ensures astray { OnAstray result (NoReference goal value) }
     {
         match (goal, value) {
             (Goal::Stored, value) => Ok(Task::Store(actor, Box::new(self.alloc, value)?)),
@@ -247,7 +265,9 @@ impl Process {
     #[tactic(auto, using(crate::proofs::Holding::given_all))]
     /// The result of an effect goes where it belongs, and the actor goes on after that.
     pub fn gives(&mut self, actor: ActorId, goal: Goal, value: Value) -> Result<(), Fault>
-        ensures { OnOk result (Gives goal actor value self.old self.new) }
+        ensures done { OnOk result (Gives goal actor value self.old self.new) }
+        ensures astray { OnAstray result (SomeMissing (value_refs value) self.old.heap
+            ⊎ NoReference goal value) }
     {
         self.hold_value(&value)?;
         self.run_on(actor)?;
@@ -258,7 +278,8 @@ impl Process {
 
     /// A reference counts no more, and what that leads to is done.
     pub(crate) fn lose(&mut self, kind: Kind, cell: CellId) -> Result<(), Fault>
-        ensures { OnOk result (self.new ≡ lost kind cell.0 self.old) }
+        ensures done { OnOk result (self.new ≡ lost kind cell.0 self.old) }
+        ensures astray { OnAstray result (LosesAmiss kind cell.0 self.old.heap) }
     {
         if !self.heap.may_drop(kind, cell) {
             return Err(Fault::Astray);
@@ -276,7 +297,8 @@ impl Process {
 
     // A cell is broken: a turn, the line, and the error of a broken promise.
     fn break_cell(&mut self, kind: Kind, cell: CellId) -> Result<(), Fault>
-        ensures { OnOk result (self.new ≡ broken kind cell.0 self.old) }
+        ensures done { OnOk result (self.new ≡ broken kind cell.0 self.old) }
+        ensures astray { OnAstray result (MayNotFill kind cell.0 self.old.heap) }
     {
         if !self.turn() {
             return Ok(());
@@ -288,7 +310,8 @@ impl Process {
 
     /// An unfinished and unmarked actor is cancelled.
     pub(crate) fn cancel(&mut self, actor: ActorId) -> Result<(), Fault>
-        ensures { OnOk result (self.new ≡ stopped actor.0 self.old) }
+        ensures done { OnOk result (self.new ≡ stopped actor.0 self.old) }
+        ensures astray { OnAstray result (CancelsAmiss actor.0 self.old.heap) }
     {
         if !self.heap.unfinished(actor) || !self.heap.frames().contains(actor) {
             return Err(Fault::Astray);
@@ -300,7 +323,8 @@ impl Process {
 
     /// The unfinished and unmarked actor whose result a cell is, if there is one, is cancelled.
     pub(crate) fn cancel_owner(&mut self, cell: CellId) -> Result<(), Fault>
-        ensures { OnOk result (self.new ≡ owner_cancelled cell.0 self.old) }
+        ensures done { OnOk result (self.new ≡ owner_cancelled cell.0 self.old) }
+        ensures astray { OnAstray result (OwnerAmiss cell.0 self.old.heap) }
     {
         let Some(actor) = self.heap.owner(cell) else {
             return Ok(());

@@ -8,18 +8,18 @@ use Rattle.flow_base.specs.Seen.{SinkSeen}
 use Rattle.flow_base.specs.declared.fault.OutFault.{OutFault}
 use Rattle.flow_base.specs.declared.fault.OutFault.TheVariants.{Failed, OutOfMemory}
 use Rattle.flow_trace.specs.Out.{Grows}
-use Rattle.flow_machine.specs.declared.host.RunFault.{RunFault}
-use Rattle.flow_machine.specs.declared.host.RunFault.TheVariants as broken
 use Rattle.flow_trace.specs.declared.line.Line.{Line}
 use Rattle.flow_world.specs.Telling.{tells, whole, failed}
 use Rattle.flow_run.specs.declared.ending.Ending.{Ending}
 use Rattle.flow_run.specs.Tracing.{Traces, TracesPart}
+use Rattle.flow_run.specs.Straying.{TraceAmiss}
 use Rattle.flow_run.specs.Written.{put_bytes, bytes_of}
 use Rattle.flow_run.proofs.Writing.{bytes_put, part_put}
 use Rattle.flow_exact.proofs.Shown.{program_shown, program_in_part}
+use Rattle.flow_exact.proofs.Sure.{program_sure}
 use Rattle.flow_top.specs.declared.outcome.ProgramRun.{ProgramRun}
 use Rattle.flow_top.specs.declared.outcome.Told.{Told}
-use Rattle.flow_top.specs.Run.{text_of, ending_status, fault_status_of, run_fault_status, MayRun, AreLines, ReportedTold, write_fault, no_memory_told, ReportedRun, ended, run_write_fault, run_no_memory, astray}
+use Rattle.flow_top.specs.Run.{text_of, ending_status, fault_status_of, MayRun, AreLines, ReportedTold, write_fault, no_memory_told, ReportedRun, ended, run_write_fault, run_no_memory}
 
 pub whole_part : (a b : Option (List ℕ)) (text : List ℕ) → Appends a b text → AppendsPart a b text
 whole_part a b text p = (text, [], sym (append-nil text), p)
@@ -55,14 +55,18 @@ came_to_end r before after between ending may traces same handed =
     ended ending w.lines w.are w.bytes handed
 
 -- a run broke off
-pub broke_off : (r : ProgramRun) (before after : SinkSeen) (fault : RunFault) → MayRun r → Grows before.written after.written
-    → (fault ≡ broken.Failed → TracesPart (tells put_bytes) r.frames r.classes r.world (whole before.written) (failed after.written))
-    → (fault ≡ broken.Failed → Rose before.faults after.faults) → ReportedRun r before after (run_fault_status fault)
-broke_off r before after broken.Failed may g part rose =
+pub broke_off : (r : ProgramRun) (before after : SinkSeen) (fault : OutFault) → MayRun r → Grows before.written after.written
+    → (fault ≡ Failed → TracesPart (tells put_bytes) r.frames r.classes r.world (whole before.written) (failed after.written))
+    → (fault ≡ Failed → Rose before.faults after.faults) → ReportedRun r before after (fault_status_of fault)
+broke_off r before after Failed may g part rose =
     let shown = program_in_part put_bytes may.text r.program.value r.classes r.world r.frames before.written after.written may.sound may.light may.has may.in_range (part refl) in
     run_write_fault shown.0 shown.1 (part_put _ _ shown.0 shown.2) (rose refl)
-broke_off r before after broken.OutOfMemory may g part rose = run_no_memory g
-broke_off r before after broken.Astray may g part rose = astray g
+broke_off r before after OutOfMemory may g part rose = run_no_memory g
+
+-- it didn't go astray
+pub never_astray : (r : ProgramRun) (written : Option (List ℕ)) → MayRun r → TraceAmiss (tells put_bytes) r.frames r.classes r.world (whole written) → ⊥
+never_astray r written may amiss =
+    program_sure (tells put_bytes) may.text r.program.value r.classes r.world r.frames (whole written) may.sound may.light may.has may.in_range amiss
 
 -- the last flush of a run failed
 pub unflushed : (r : ProgramRun) (before after : SinkSeen) (between : Option (List ℕ)) (ending : Ending) (fault : OutFault) → MayRun r

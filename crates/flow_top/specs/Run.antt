@@ -80,12 +80,6 @@ ending_status Idle = 0
 ending_status Bound = 0
 ending_status Spent = 4
 
--- the status where a run broke off: 15 where the classes, which aren't judged, led where no valid class comes
-abbrev pub run_fault_status : RunFault → ℕ
-run_fault_status broken.Failed = 6
-run_fault_status broken.OutOfMemory = 7
-run_fault_status broken.Astray = 15
-
 -- what a fault of the files comes to
 abbrev pub outcome_of : OutFault → told.Told
 outcome_of fault.Failed = ReadFault
@@ -224,16 +218,14 @@ pub record AreLines (r : ProgramRun) (ending : Ending) (lines : List Line) : Typ
   pub last : LastIs (end_line ending) lines
 
 -- What was told of a run that ended: the bytes of its lines, which were handed on, with the status of its end. Or a first part
--- of the bytes of all lines that are shown, with status 6, where the sink failed, which its count then shows. Of a run that broke
--- off else what stands here is less: what was written before it stays, but not which bytes came then; with status 7 where there
--- was no memory, or 15 where the classes led where no valid class comes.
+-- of the bytes of all lines that are shown, with status 6, where the sink failed, which its count then shows. Or there was no
+-- memory, with status 7: what was written before the run stays, and no more is said.
 pub data ReportedRun (r : ProgramRun) (before after : SinkSeen) : ℕ → Type 0 where
   ended : (ending : Ending) (lines : List Line) → AreLines r ending lines → Appends before.written after.written (bytes_of lines)
       → after.handed ≡ after.written → ReportedRun r before after (ending_status ending)
   run_write_fault : (lines : List Line) → SourceShown r.frames (program_of r.program.value) (seen r.world) lines
       → AppendsPart before.written after.written (bytes_of lines) → Rose before.faults after.faults → ReportedRun r before after 6
   run_no_memory : Grows before.written after.written → ReportedRun r before after 7
-  astray : Grows before.written after.written → ReportedRun r before after 15
 
 abbrev pub Reported : Outcome → SinkSeen → SinkSeen → ℕ → Type 0
 Reported (Told outcome) before after status = ReportedTold outcome before after status

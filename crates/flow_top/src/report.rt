@@ -5,7 +5,9 @@ ghost use Rattle.std.specs.Io.KnownBytes.{Appends};
 ghost use Rattle.flow_base.specs.Bytes.{AppendsPart};
 ghost use Rattle.flow_base.specs.Faults.{HasCause};
 ghost use Rattle.flow_refusal.specs.Refusal.{refusal_text, world_refusal};
-ghost use Rattle.flow_top.specs.Run.{text_of, status_of, world_status, ending_status, fault_status_of, run_fault_status, MayRun, MayTell, ReportedTold, ReportedRun, Reported};
+ghost use Rattle.flow_machine.specs.declared.host.RunFault.TheVariants.{Astray};
+ghost use Rattle.flow_machine.specs.Cause.{fault_of};
+ghost use Rattle.flow_top.specs.Run.{text_of, status_of, world_status, ending_status, fault_status_of, MayRun, MayTell, ReportedTold, ReportedRun, Reported};
 
 use crate::outcome::{Outcome, ProgramRun, Told};
 use flow_base::fault::OutFault;
@@ -19,9 +21,6 @@ use flow_show::show::show_lines;
 use flow_tree::fault::SourceFault;
 use flow_worldfile::WorldFault;
 use std::alloc::Global;
-
-/// The status where classes, which no rule judged, led where no valid class comes.
-const ASTRAY: u8 = 15;
 
 // Writes the line of a refusal.
 fn put_refusal<S: Sink>(alloc: Global, fault: &SourceFault, out: &mut S) -> Result<(), OutFault>
@@ -135,14 +134,15 @@ fn ending_status(ending: Ending) -> u8
     }
 }
 
-// The status where a run broke off.
-fn run_fault_status(fault: RunFault) -> u8
-    ensures { result ≡ run_fault_status fault }
+// The fault of a run that broke off: that of a program's classes never goes astray.
+fn run_fault(fault: RunFault) -> OutFault
+    requires { fault ≡ Astray → ⊥ }
+    ensures { fault_of result ≡ fault }
 {
     match fault {
-        RunFault::Failed => 6,
-        RunFault::OutOfMemory => 7,
-        RunFault::Astray => ASTRAY,
+        RunFault::Failed => OutFault::Failed,
+        RunFault::OutOfMemory => OutFault::OutOfMemory,
+        RunFault::Astray => unreachable!(),
     }
 }
 
@@ -159,7 +159,7 @@ fn report_run<S: Sink>(alloc: Global, run: ProgramRun, out: &mut S) -> u8
     } = run;
     let ending = match write_trace(alloc, classes, world, frames, out) {
         Ok(ending) => ending,
-        Err(fault) => return run_fault_status(fault),
+        Err(fault) => return fault_status(run_fault(fault)),
     };
     if let Err(fault) = out.flush() {
         return fault_status(fault);

@@ -36,19 +36,19 @@ use Rattle.flow_traced.proofs.Onwards.{goes_on}
 module _ (Rests : Process → Proc Frame → Type 0) (Keeps : World Frame → Type 0) (IsCode : Code → Type 0) {A : Type 0} (puts : A → Line → Result (Unit {0}) OutFault → A → Type 0) (r : RawTree) (with_frames : Bool) where
   -- so many events ran: the world of the definitions that is shown then; how what is shown from it on is shown from the first on;
   -- and what is shown from the first on goes on from there
-  record Went (m : World Frame) (a : A) (u : Seen) (b : A) : Type 0 where
-    last : World Frame
-    shows : WorldShows Rests u last
-    keeps : Keeps last
-    code : IsCode u.code
-    text : raw_of u.code.program ≡ r
-    lines : List Line
-    put : Puts puts a lines b
-    goes : (rest : List Line) → Shows (classes r) frame_spot with_frames last rest → Shows (classes r) frame_spot with_frames m (lines ++ rest)
-    onwards : (all : List Line) → Shows (classes r) frame_spot with_frames m all
+  pub record Went (m : World Frame) (a : A) (u : Seen) (b : A) : Type 0 where
+    pub last : World Frame
+    pub shows : WorldShows Rests u last
+    pub keeps : Keeps last
+    pub code : IsCode u.code
+    pub text : raw_of u.code.program ≡ r
+    pub lines : List Line
+    pub put : Puts puts a lines b
+    pub goes : (rest : List Line) → Shows (classes r) frame_spot with_frames last rest → Shows (classes r) frame_spot with_frames m (lines ++ rest)
+    pub onwards : (all : List Line) → Shows (classes r) frame_spot with_frames m all
         → (rest : List Line) × (all ≡ lines ++ rest) × Shows (classes r) frame_spot with_frames last rest
 
-  went : EventsFollow Rests Keeps IsCode puts r → KeepsOn Rests Keeps IsCode r → FramesShown Rests Keeps IsCode with_frames r → (w u : Seen) (m : World Frame) (a b : A) → IsCode w.code → raw_of w.code.program ≡ r → WorldShows Rests w m → Keeps m → Goes puts with_frames w a u b → Went m a u b
+  pub went : EventsFollow Rests Keeps IsCode puts r → KeepsOn Rests Keeps IsCode r → FramesShown Rests Keeps IsCode with_frames r → (w u : Seen) (m : World Frame) (a b : A) → IsCode w.code → raw_of w.code.program ≡ r → WorldShows Rests w m → Keeps m → Goes puts with_frames w a u b → Went m a u b
   went law on seen_law w _ m a _ code text s k no_event = record {
     last = m;
     shows = s;

@@ -20,14 +20,14 @@ use Rattle.flow_views.proofs.Worlds.{frames_follow}
 
 module _ (Rests : Process → Proc Frame → Type 0) (Keeps : World Frame → Type 0) (IsCode : Code → Type 0) where
   -- besides, each frame that waits is in the state of its wait
-  abbrev Waits : World Frame → Type 0
+  abbrev pub Waits : World Frame → Type 0
   Waits m = Keeps m × WorldWaits m
 
   module _ {A : Type 0} (puts : A → Line → Result (Unit {0}) OutFault → A → Type 0) (r : RawTree) where
     began : (m : World Frame) (a b : A) → EventBegan Rests Keeps IsCode puts r m a b → EventBegan Rests Waits IsCode puts r m a b
     began m a b e = record { begun = e.begun; left = e.left; begins = e.begins; follows = e.follows; lines = e.lines }
 
-    events : EventsFollow Rests Keeps IsCode puts r → EventsFollow Rests Waits IsCode puts r
+    pub events : EventsFollow Rests Keeps IsCode puts r → EventsFollow Rests Waits IsCode puts r
     unfolding began
     events law w v m a b code s k h =
         let e = law w v m a b code s k.0 h in
@@ -37,10 +37,10 @@ module _ (Rests : Process → Proc Frame → Type 0) (Keeps : World Frame → Ty
     unfolding began
     spent law w v m a b code s k h = let e = law w v m a b code s k.0 h in record { event = began m a b e.event; spent = e.spent }
 
-  keeps_on : (r : RawTree) → KeepsOn Rests Keeps IsCode r → KeepsOn Rests Waits IsCode r
+  pub keeps_on : (r : RawTree) → KeepsOn Rests Keeps IsCode r → KeepsOn Rests Waits IsCode r
   keeps_on r on m b l k begins follows rests = (on m b l k.0 begins follows rests, event_waits r m b l k.1 begins follows rests)
 
-  frames : (with_frames : Bool) (r : RawTree) → RestsShow Rests Keeps IsCode r → KeepsCount Rests Keeps IsCode → FramesShown Rests Waits IsCode with_frames r
+  pub frames : (with_frames : Bool) (r : RawTree) → RestsShow Rests Keeps IsCode r → KeepsCount Rests Keeps IsCode → FramesShown Rests Waits IsCode with_frames r
   frames true r shows count = frames_follow Rests Waits IsCode r shows (λ m k. count m k.0) (λ m k. k.1)
   frames false r shows count = λ w m text s k. refl
 

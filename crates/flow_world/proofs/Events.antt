@@ -1,5 +1,5 @@
 -- What an event does to what is outside.
-use Rattle.std.proofs.Common.{◌≡◌, ℕ, zero, suc, ◌<◌, Bool, true, false, List, [], ◌∷◌, refl, sym, ap, subst, ◌∙◌, arith, if◌then◌else◌}
+use Rattle.std.proofs.Common.{◌≡◌, ℕ, zero, suc, ◌<◌, Bool, true, false, List, [], ◌∷◌, length, refl, sym, ap, subst, ◌∙◌, arith, if◌then◌else◌}
 use Rattle.std.specs.Prelude.{◌||◌, slice_get, slice_set, slice_index_or}
 use Rattle.std.specs.declared.option.Option.TheVariants.{Some}
 use Rattle.flow_timers.specs.Pending.{Pending}
@@ -144,6 +144,12 @@ requests_are_gone m w p s = record {
   cuts = s.cuts;
   disks = s.disks;
 }
+
+-- what stands at a place of a list is there
+pub at_place : {Y : Type 0} (xs : List Y) (i : ℕ) (x d : Y) → i < length xs → x ≡ slice_index_or xs i d → slice_get xs i ≡ Some x
+at_place [] i x d lt h = absurd (omega (arith, lt))
+at_place (y ∷ ys) zero x d lt h = ap Some (sym h)
+at_place (y ∷ ys) (suc i) x d lt h = at_place ys i x d (omega (arith, lt)) h
 
 -- what stands at a place, and what is read there
 pub found : {Y : Type 0} (xs : List Y) (i : ℕ) (x d : Y) → slice_get xs i ≡ Some x → slice_index_or xs i d ≡ x

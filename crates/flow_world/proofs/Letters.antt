@@ -5,9 +5,13 @@ use Rattle.std.proofs.lemmas.Bool.Decides.{nat_tests}
 use Rattle.std.specs.Map.{remove_entry}
 use Rattle.std.specs.Ordering.{nat_cmp}
 use Rattle.std.specs.BTreeMap.{is_at, insert_entry}
+use Rattle.std.specs.Option.{option_map}
+use Rattle.std.specs.declared.option.Option.{Option}
 use Rattle.std.specs.declared.option.Option.TheVariants.{None, Some}
 use Rattle.flow_cancel.proofs.Noted.{at_number}
+use Rattle.flow_simnet.specs.Links.{numbered}
 use Rattle.flow_simnet.specs.declared.packet.Letter.{Letter}
+use Rattle.flow_simnet.specs.declared.packet.Packet.{Packet}
 use Rattle.flow_world.specs.Shows.{letter_at}
 
 pub same_number : (k : ℕ) → nat_eq k k ≡ true
@@ -52,3 +56,9 @@ letter_left j k (e ∷ es) n = by_test (nat_eq k e.0) refl (letter_left j k es n
         ap (λ t. letter_at (cond t es (e ∷ remove_entry (is_at (nat_cmp k)) es)) j) (at_number k e.0 ∙ f) ∙ sym (ap (λ t. cond t (Some e.1) (letter_at es j)) gone)
     by_test false f rest =
         ap (λ t. letter_at (cond t es (e ∷ remove_entry (is_at (nat_cmp k)) es)) j) (at_number k e.0 ∙ f) ∙ ap (λ o. cond (is_at (nat_cmp j) e.0) (Some e.1) o) rest
+
+-- one that comes was on its way
+pub letter_comes : (n : ℕ) (o : Option Letter) (r : Option Packet) (k : Packet) → r ≡ option_map (numbered n) o → r ≡ Some k
+    → (l : Letter) × (o ≡ Some l) × (k ≡ numbered n l)
+letter_comes n None r k h e = let a : None ≡ Some k = sym h ∙ e in absurd (cc (a))
+letter_comes n (Some l) r k h e = let a : Some k ≡ Some (numbered n l) = sym e ∙ h in (l, refl, cc (a))

@@ -8,6 +8,7 @@ pub mod Listening
 pub mod Numbers
 pub mod MovedHosts
 pub mod MovedEvents
+pub mod MovedAmiss
 pub mod Happenings
 pub mod Putting
 pub mod Telling

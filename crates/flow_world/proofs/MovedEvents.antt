@@ -35,7 +35,7 @@ module _ {A B : Type 0} (f : A → B) (puts : A → Line → Result (Unit {0}) O
   lines_by a _ [] no_line = no_line
   lines_by a b (l ∷ ls) (more_lines {b = c} t rest) = more_lines (there a c l t) (lines_by c b ls rest)
 
-  abbrev inside_by : Inside A → Inside B
+  abbrev pub inside_by : Inside A → Inside B
   inside_by g = record { me = g.me; ports = g.ports; outside = g.outside; out = f g.out }
 
   acts_by : (code : Code) (turns : ℕ) (p : ProcId) (d : Deed) (at : Place) (m : Surroundings) (a : A) (e : Burst) (left : Place) (n : Surroundings) (b : A)

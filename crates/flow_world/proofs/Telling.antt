@@ -8,7 +8,7 @@ use Rattle.flow_base.specs.declared.fault.OutFault.{OutFault}
 use Rattle.flow_base.specs.declared.fault.OutFault.TheVariants as put
 use Rattle.flow_trace.specs.declared.line.Line.{Line}
 use Rattle.flow_machine.specs.declared.host.RunFault.{RunFault}
-use Rattle.flow_machine.specs.declared.host.RunFault.TheVariants.{Failed}
+use Rattle.flow_machine.specs.declared.host.RunFault.TheVariants.{Failed, OutOfMemory, Astray}
 use Rattle.flow_machine.specs.Cause.{RunCause}
 use Rattle.flow_world.specs.Around.{Puts, no_line, more_lines}
 use Rattle.flow_world.specs.Telling.{Telling, TellsAfter, tells, whole, failed, unless_failed}
@@ -44,6 +44,13 @@ module _ {T : Type 0} where
   put_failed (Ok x) (Some put.Failed) c e = refl
   put_failed (Ok x) (Some put.OutOfMemory) c e = absurd (cc)
   put_failed (Err f) fault c e = absurd (nothing_failed (Err f) c e)
+
+  -- what went astray didn't fail
+  pub strayed : (r result : Result T RunFault) (fault : Option OutFault) → result ≡ unless_failed r fault → IsErrOf result Astray → IsErrOf r Astray
+  strayed (Ok x) result None h e = let a : Ok x ≡ Err Astray = sym h ∙ e in absurd (cc (a))
+  strayed (Ok x) result (Some put.Failed) h e = let a : Err Failed ≡ Err Astray = sym h ∙ e in absurd (cc (a))
+  strayed (Ok x) result (Some put.OutOfMemory) h e = let a : Err OutOfMemory ≡ Err Astray = sym h ∙ e in absurd (cc (a))
+  strayed (Err f) result fault h e = sym h ∙ e
 
   -- what holds where an answer is good
   pub if_ok : (P : Type 0) (r : Result T RunFault) → OnOk r P → IfOk r (λ x. P)

@@ -10,5 +10,6 @@ pub mod Shows
 pub mod Standing
 pub mod Views
 pub mod Starting
+pub mod Straying
 pub mod Telling
 pub mod Worlds

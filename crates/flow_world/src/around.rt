@@ -63,6 +63,9 @@ impl<'p, 'w, 'l, L: LineOut> Host for Around<'p, 'w, 'l, L> {
 
     ghost wrote = { λ g ls h. Puts L.puts g.out.now ls h.out.now };
 
+    // Want of memory is free: nothing is said of the lines then.
+    ghost broke = { λ _ _ _. Unit {0} };
+
     fn line(&mut self, line: &Line) -> Result<(), OutFault> {
         self.out.put(line)
     }

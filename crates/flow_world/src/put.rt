@@ -16,6 +16,7 @@ use std::alloc::Global;
 /// Puts a line. `Failed` comes only where the count of faults rose.
 pub fn put<L: LineOut>(out: &mut L, line: &Line) -> Result<(), RunFault>
     ensures puts { OnOk result (L.puts out.old line.now (Ok tt) out.new) }
+    ensures never { ¬ IsErrOf result run.Astray }
     ensures fails { IsErrOf result run.Failed → L.puts out.old line.now (Err Failed) out.new }
     ensures cause { RunCause (L.faults out.old) (L.faults out.new) result }
     ensures kept { L.kept out.new ≡ L.kept out.old }
@@ -29,6 +30,7 @@ pub fn put<L: LineOut>(out: &mut L, line: &Line) -> Result<(), RunFault>
 #[tactic(auto, using(flow_machine::proofs::Causes::cause_before))]
 /// Puts a line for each write of which a disk kept something or nothing.
 pub fn put_kept<L: LineOut>(alloc: Global, fates: &[Kept], out: &mut L) -> Result<(), RunFault>
+    ensures never { ¬ IsErrOf result run.Astray }
     ensures puts { OnOk result (Puts L.puts out.old (map kept_line fates.now) out.new) }
     ensures cause { RunCause (L.faults out.old) (L.faults out.new) result }
     ensures kept { L.kept out.new ≡ L.kept out.old }
@@ -42,6 +44,7 @@ pub fn put_kept<L: LineOut>(alloc: Global, fates: &[Kept], out: &mut L) -> Resul
 // Puts the line of a write.
 fn put_one<L: LineOut>(alloc: Global, kept: &Kept, out: &mut L) -> Result<(), RunFault>
     ensures puts { OnOk result (L.puts out.old (kept_line kept.now) (Ok tt) out.new) }
+    ensures never { ¬ IsErrOf result run.Astray }
     ensures cause { RunCause (L.faults out.old) (L.faults out.new) result }
     ensures kept { L.kept out.new ≡ L.kept out.old }
 {

@@ -1,12 +1,12 @@
 // The world.
 
-ghost use Rattle.std.specs.Prelude.{◌≡◌, ◌+◌, ◌-◌, ◌^◌, ◌<◌, false, true, min, slice_get, IfOk, OnOk, IsErrOf};
+ghost use Rattle.std.specs.Prelude.{◌≡◌, ◌⊎◌, ◌+◌, ◌-◌, ◌^◌, ◌<◌, false, true, min, None, slice_get, IfOk, OnOk, IsErrOf};
 ghost use Rattle.flow_worldfile.specs.Worlds.{IsInRange, seen};
 ghost use Rattle.flow_worldfile.specs.declared.world.Act.TheVariants as act;
 ghost use Rattle.flow_simnet.specs.Links.{cut, healed};
 ghost use Rattle.flow_machine.specs.declared.host.Burst.{Burst as Ended};
 ghost use Rattle.flow_machine.specs.declared.host.Burst.TheVariants.{Rested};
-ghost use Rattle.flow_machine.specs.declared.host.RunFault.TheVariants.{Failed};
+ghost use Rattle.flow_machine.specs.declared.host.RunFault.TheVariants.{Failed, Astray};
 ghost use Rattle.flow_machine.specs.Cause.{RunCause};
 ghost use Rattle.flow_world.specs.Ending.{MeansEvent, WithinEvent, next};
 ghost use Rattle.flow_world.specs.Worlds.{world_seen};
@@ -14,6 +14,8 @@ ghost use Rattle.flow_world.specs.Telling.{tells, whole, failed};
 ghost use Rattle.flow_world.specs.Happening.{EventDoes, Breaks, Comes, LineComes, EventComes, Ordered, Happened};
 ghost use Rattle.flow_world.specs.Happening.{Killed, Arrived, Taken, Answered, Runs, Fails, HeardIn};
 ghost use Rattle.flow_world.specs.Happening.{Vanishes, HeldAt, ActsAt, begins, with_net};
+ghost use Rattle.flow_world.specs.Straying.{NoProcess, NoDisk, NoLink, ActsAtAmiss, RunsAmiss, OrderedAmiss, TakenAmiss, ArrivedAmiss};
+ghost use Rattle.flow_world.specs.Straying.{AnsweredAmiss, HappenedAmiss, LineAmiss, PendingAmiss, ComesAmiss, EventAmiss};
 ghost use Rattle.flow_world.specs.Starting.{Starts};
 ghost use Rattle.flow_world.specs.Views.{frames_at, callbacks_at, live_in};
 
@@ -118,6 +120,7 @@ impl World {
             (world_seen self.old) (whole out.old) (world_seen self.new) (whole out.new)) }
         ensures breaks { IsErrOf result Failed → Breaks (tells L.puts)
             (world_seen self.old) (whole out.old) (world_seen self.new) (failed out.new) }
+        ensures astray { IsErrOf result Astray → EventAmiss (tells L.puts) (world_seen self.old) (whole out.old) }
         ensures cause { RunCause (L.faults out.old) (L.faults out.new) result }
         ensures kept { L.kept out.new ≡ L.kept out.old }
     {
@@ -151,6 +154,8 @@ impl World {
         ensures ended { self.new.ended ≡ true }
         ensures bound { self.new.events ≡ self.old.events }
         ensures ran { OnOk result (self.new.ran ≡ self.old.ran + 1) }
+        ensures astray { IsErrOf result Astray → ComesAmiss (tells L.puts) scripted
+            (begins time (world_seen self.old)) (whole out.old) }
         ensures cause { RunCause (L.faults out.old) (L.faults out.new) result }
         ensures kept { L.kept out.new ≡ L.kept out.old }
     {
@@ -208,6 +213,8 @@ impl World {
         ensures ended { self.new.ended ≡ true }
         ensures bound { self.new.events ≡ self.old.events }
         ensures ran { OnOk result (self.new.ran ≡ self.old.ran + 1) }
+        ensures astray { IsErrOf result Astray → ComesAmiss L.puts scripted
+            (begins time (world_seen self.old)) out.old }
         ensures cause { RunCause (L.faults out.old) (L.faults out.new) result }
         ensures kept { L.kept out.new ≡ L.kept out.old }
     {
@@ -229,6 +236,8 @@ impl World {
         ensures comes { IfOk result (λ e. LineComes L.puts self.old.script
             (world_seen self.old) out.old e (world_seen self.new) out.new) }
         ensures within { WithinEvent (world_seen self.old) (world_seen self.new) }
+        ensures astray { IsErrOf result Astray → LineAmiss L.puts self.old.script
+            (world_seen self.old) out.old }
         ensures cause { RunCause (L.faults out.old) (L.faults out.new) result }
         ensures kept { L.kept out.new ≡ L.kept out.old }
     {
@@ -243,6 +252,8 @@ impl World {
         ensures comes { IfOk result (λ e. EventComes L.puts self.old.outside.timers.pending
             (world_seen self.old) out.old e (world_seen self.new) out.new) }
         ensures within { WithinEvent (world_seen self.old) (world_seen self.new) }
+        ensures astray { IsErrOf result Astray → PendingAmiss L.puts
+            self.old.outside.timers.pending (world_seen self.old) out.old }
         ensures cause { RunCause (L.faults out.old) (L.faults out.new) result }
         ensures kept { L.kept out.new ≡ L.kept out.old }
     {
@@ -258,6 +269,7 @@ impl World {
         ensures ordered { IfOk result (λ e. Ordered L.puts act
             (world_seen self.old) out.old e (world_seen self.new) out.new) }
         ensures within { WithinEvent (world_seen self.old) (world_seen self.new) }
+        ensures astray { IsErrOf result Astray → OrderedAmiss L.puts act (world_seen self.old) out.old }
         ensures cause { RunCause (L.faults out.old) (L.faults out.new) result }
         ensures kept { L.kept out.new ≡ L.kept out.old }
     {
@@ -291,6 +303,7 @@ impl World {
         ensures happened { IfOk result (λ e. Happened L.puts what
             (world_seen self.old) out.old e (world_seen self.new) out.new) }
         ensures within { WithinEvent (world_seen self.old) (world_seen self.new) }
+        ensures astray { IsErrOf result Astray → HappenedAmiss L.puts what (world_seen self.old) out.old }
         ensures cause { RunCause (L.faults out.old) (L.faults out.new) result }
         ensures kept { L.kept out.new ≡ L.kept out.old }
     {
@@ -312,6 +325,7 @@ impl World {
         ensures happens { IfOk result (λ e. Ordered L.puts (act.Boot p)
             (world_seen self.old) out.old e (world_seen self.new) out.new) }
         ensures within { WithinEvent (world_seen self.old) (world_seen self.new) }
+        ensures astray { IsErrOf result Astray → OrderedAmiss L.puts (act.Boot p) (world_seen self.old) out.old }
         ensures cause { RunCause (L.faults out.old) (L.faults out.new) result }
         ensures kept { L.kept out.new ≡ L.kept out.old }
     {
@@ -325,6 +339,7 @@ impl World {
         ensures cut { let net = self.old.outside.net in OnOk result
             (world_seen self.new ≡ with_net (record net { cuts = cut net.cuts p.0 q.0 })
             (world_seen self.old)) }
+        ensures astray { IsErrOf result Astray → NoLink p q (world_seen self.old) }
         ensures cause { ¬ IsErrOf result Failed }
         ensures within { WithinEvent (world_seen self.old) (world_seen self.new) }
     {
@@ -342,6 +357,7 @@ impl World {
         ensures healed { let net = self.old.outside.net in OnOk result
             (world_seen self.new ≡ with_net (record net { cuts = healed net.cuts p.0 q.0 })
             (world_seen self.old)) }
+        ensures astray { IsErrOf result Astray → NoLink p q (world_seen self.old) }
         ensures cause { ¬ IsErrOf result Failed }
         ensures within { WithinEvent (world_seen self.old) (world_seen self.new) }
     {
@@ -357,6 +373,7 @@ impl World {
     fn fails(&mut self, p: ProcId, count: u32) -> Result<Burst, RunFault>
         ensures rests { IfOk result (λ e. e ≡ Rested) }
         ensures fails { OnOk result (Fails p count (world_seen self.old) (world_seen self.new)) }
+        ensures astray { IsErrOf result Astray → NoDisk p (world_seen self.old) }
         ensures cause { ¬ IsErrOf result Failed }
         ensures within { WithinEvent (world_seen self.old) (world_seen self.new) }
     {
@@ -373,6 +390,8 @@ impl World {
         ensures happens { IfOk result (λ e. Killed L.puts p
             (world_seen self.old) out.old e (world_seen self.new) out.new) }
         ensures within { WithinEvent (world_seen self.old) (world_seen self.new) }
+        ensures astray { IsErrOf result Astray → NoDisk p (world_seen self.old)
+            ⊎ NoProcess p (world_seen self.old) }
         ensures cause { RunCause (L.faults out.old) (L.faults out.new) result }
         ensures kept { L.kept out.new ≡ L.kept out.old }
     {
@@ -388,6 +407,7 @@ impl World {
     fn vanishes(&mut self, p: ProcId) -> Result<(), RunFault>
         ensures vanishes { OnOk result (Vanishes p (world_seen self.old) (world_seen self.new)) }
         ensures within { WithinEvent (world_seen self.old) (world_seen self.new) }
+        ensures astray { IsErrOf result Astray → NoProcess p (world_seen self.old) }
         ensures cause { ¬ IsErrOf result Failed }
     {
         let Some(place) = self.places.get_mut(usize::from(p.0)) else {
@@ -411,6 +431,7 @@ impl World {
         ensures arrived { IfOk result (λ e. Arrived L.puts p packet
             (world_seen self.old) out.old e (world_seen self.new) out.new) }
         ensures within { WithinEvent (world_seen self.old) (world_seen self.new) }
+        ensures astray { IsErrOf result Astray → ArrivedAmiss L.puts p packet (world_seen self.old) out.old }
         ensures cause { RunCause (L.faults out.old) (L.faults out.new) result }
         ensures kept { L.kept out.new ≡ L.kept out.old }
     {
@@ -435,6 +456,7 @@ impl World {
         ensures taken { IfOk result (λ e. Taken L.puts heard p packet
             (world_seen self.old) out.old e (world_seen self.new) out.new) }
         ensures within { WithinEvent (world_seen self.old) (world_seen self.new) }
+        ensures astray { IsErrOf result Astray → TakenAmiss L.puts heard p packet (world_seen self.old) out.old }
         ensures cause { RunCause (L.faults out.old) (L.faults out.new) result }
         ensures kept { L.kept out.new ≡ L.kept out.old }
     {
@@ -470,6 +492,7 @@ impl World {
         ensures happens { IfOk result (λ e. Answered L.puts p cell asked.now
             (world_seen self.old) out.old e (world_seen self.new) out.new) }
         ensures within { WithinEvent (world_seen self.old) (world_seen self.new) }
+        ensures astray { IsErrOf result Astray → AnsweredAmiss L.puts p cell asked.now (world_seen self.old) out.old }
         ensures cause { RunCause (L.faults out.old) (L.faults out.new) result }
         ensures kept { L.kept out.new ≡ L.kept out.old }
     {
@@ -487,6 +510,7 @@ impl World {
         ensures happens { IfOk result (λ e. Runs L.puts p deed
             (world_seen self.old) out.old e (world_seen self.new) out.new) }
         ensures within { WithinEvent (world_seen self.old) (world_seen self.new) }
+        ensures astray { IsErrOf result Astray → RunsAmiss L.puts p deed (world_seen self.old) out.old }
         ensures cause { RunCause (L.faults out.old) (L.faults out.new) result }
         ensures kept { L.kept out.new ≡ L.kept out.old }
     {
@@ -498,6 +522,7 @@ impl World {
 
     /// Whether a process has nothing to do for a deed.
     fn holds_already(&self, p: ProcId, deed: &Deed) -> Result<bool, RunFault>
+        ensures astray { IsErrOf result Astray → slice_get self.now.places.items p.0 ≡ None }
         ensures cause { ¬ IsErrOf result Failed }
         ensures held { IfOk result (λ held. HeldAt p deed.now self.now.places.items held) }
     {
@@ -512,6 +537,7 @@ impl World {
         ensures acts { IfOk result (λ e. ActsAt L.puts p deed
             (world_seen self.old) out.old e (world_seen self.new) out.new) }
         ensures within { WithinEvent (world_seen self.old) (world_seen self.new) }
+        ensures astray { IsErrOf result Astray → ActsAtAmiss L.puts p deed (world_seen self.old) out.old }
         ensures cause { RunCause (L.faults out.old) (L.faults out.new) result }
         ensures kept { L.kept out.new ≡ L.kept out.old }
     {

@@ -3,6 +3,7 @@ use Rattle.std.proofs.lemmas.List.{drop_more, drop_all}
 use Rattle.flow_world.specs.Around.{Puts, no_line}
 use Rattle.flow_world.proofs.Putting.{puts_more}
 use Rattle.flow_run.specs.Tracing.{frames_lines}
+use Rattle.flow_run.proofs.Framing.{some_no_class}
 use Rattle.flow_run.proofs.frames.put_each.Goals as goal
 
 pub loop-frame-preserved : goal.loop-frame-preserved
@@ -26,3 +27,7 @@ returns-clause-puts g c =
     let classes = c.args.world.now.code.program.classes.items in
     c.loop-frame.invariant.puts _
     (subst (λ fs. Puts g.L.LineOut.puts c.loop-frame.out (frames_lines classes c.args.p fs c.loop-frame.rest.now) c.loop-frame.out) (sym (drop_all c.loop-frame.frame-index c.args.frames.now (omega (arith, c.loop-frame-test.false)))) no_line)
+
+pub returns-in_err-rest-clause-astray : goal.returns-in_err-rest-clause-astray
+returns-in_err-rest-clause-astray g c = λ astray.
+    some_no_class c.args.world.now.code.program.classes.items c.args.frames.now c.loop-frame.frame-index (record { actor = record { 0 = 0 }; class = 0; state = 0 }) c.loop-frame-test.true (c.put_frame.ensures.astray (search rules))

@@ -41,3 +41,6 @@ returns-clause-puts g c =
     let none : count - k ≡ 0 = omega (arith, c.loop-number-test.false, c.processes-number-end.ensures) in
     c.loop-number.invariant.puts _
     (subst (λ n. Puts g.L.LineOut.puts c.loop-number.out (flat_map lines (range_with_len k n)) c.loop-number.out) (sym none) no_line)
+
+pub returns-in_err-put_process-clause-astray : goal.returns-in_err-put_process-clause-astray
+returns-in_err-put_process-clause-astray g c = λ astray. (record { 0 = c.loop-number.number }, c.put_process.ensures.astray (search rules))

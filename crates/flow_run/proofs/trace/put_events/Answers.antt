@@ -4,6 +4,7 @@ use Rattle.flow_world.specs.Happening.{EventDoes}
 use Rattle.flow_world.specs.Telling.{tells, whole}
 use Rattle.flow_world.specs.Worlds.{world_seen}
 use Rattle.flow_run.specs.Tracing.{no_event, one_more, some}
+use Rattle.flow_run.specs.Straying.{event_amiss, frames_amiss}
 use Rattle.flow_run.proofs.Parts.{part_of_event}
 use Rattle.flow_run.proofs.trace.put_events.Goals as goal
 
@@ -67,3 +68,13 @@ returns-in_err-put_frames_if-in-Ran-clause-part g c = λ failed.
     some (one_more c.events.invariant.goes
     (subst (λ e. EventDoes (tells g.L.LineOut.puts) e (world_seen c.events.world) (whole c.events.out) (world_seen c.event.new.self) (whole c.event.new.out)) is c.in_ok-event.ensures.does)
     (c.put_frames_if.ensures.part (search rules)))
+
+pub returns-in_err-event-clause-astray : goal.returns-in_err-event-clause-astray
+returns-in_err-event-clause-astray g c = λ astray. event_amiss c.events.invariant.goes (c.event.ensures.astray (search rules))
+
+pub returns-in_err-put_frames_if-in-Ran-clause-astray : goal.returns-in_err-put_frames_if-in-Ran-clause-astray
+returns-in_err-put_frames_if-in-Ran-clause-astray g c = λ astray.
+    let is : c.in_ok-event.field-0 ≡ Ran = search rules in
+    frames_amiss c.events.invariant.goes
+    (subst (λ e. EventDoes (tells g.L.LineOut.puts) e (world_seen c.events.world) (whole c.events.out) (world_seen c.event.new.self) (whole c.event.new.out)) is c.in_ok-event.ensures.does)
+    (c.put_frames_if.ensures.astray (search rules))

@@ -46,3 +46,12 @@ returns-in_err-put-2-clause-part g c = λ fails. all {e = c.in_ok-ending.ending}
   goes = c.in_ok-ending.ensures.goes;
   ended = failed_line g.L.LineOut.puts _ _ _ (subst (λ l. g.L.LineOut.puts c.put_events.new.out l (Err Failed) c.put-2.new.out) c.line.ensures (c.put-2.ensures.fails (search rules)));
 })
+
+pub returns-in_err-ending-clause-astray : goal.returns-in_err-ending-clause-astray
+returns-in_err-ending-clause-astray g c = λ astray. record {
+  first = world_seen c.in_ok-world.world;
+  headed = whole c.put.new.out;
+  starts = c.in_ok-world.ensures.starts;
+  head = whole_line g.L.LineOut.puts _ _ _ c.in_ok-put.ensures.puts;
+  events = c.put_events.ensures.astray (search rules);
+}

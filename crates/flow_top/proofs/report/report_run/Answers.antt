@@ -1,19 +1,26 @@
-use Rattle.std.proofs.Common.{Err, ap, sym, ◌∙◌, subst}
+use Rattle.std.proofs.Common.{◌≡◌, Err, ap, sym, ◌∙◌, subst}
 use Rattle.flow_trace.specs.Out.{Grows}
+use Rattle.flow_base.specs.declared.fault.OutFault.{OutFault}
+use Rattle.flow_base.specs.declared.fault.OutFault.TheVariants.{Failed}
+use Rattle.flow_machine.specs.Cause.{fault_of}
 use Rattle.flow_top.specs.Run.{ReportedRun}
-use Rattle.flow_top.proofs.Reporting.{came_to_end, broke_off, unflushed, rose_after}
+use Rattle.flow_top.proofs.Reporting.{came_to_end, broke_off, unflushed, rose_after, never_astray}
 use Rattle.flow_top.proofs.report.report_run.Goals as goal
 
 pub returns-in-Err : goal.returns-in-Err
 returns-in-Err g c =
-    subst (ReportedRun c.args.run _ _) (sym c.run_fault_status.ensures)
-    (broke_off c.args.run _ _ c.in-Err.fault c.requires c.write_trace.ensures.grows (λ e. c.write_trace.ensures.part (c.in-Err.is ∙ ap Err e))
-    (λ e. c.write_trace.ensures.cause.failed (c.in-Err.is ∙ ap Err e)))
+    let is : (f : OutFault) → c.run_fault.result ≡ f → c.write_trace.result ≡ Err (fault_of f) = λ f e. c.in-Err.is ∙ ap Err (sym c.run_fault.ensures ∙ ap fault_of e) in
+    subst (ReportedRun c.args.run _ _) (sym c.fault_status.ensures)
+    (broke_off c.args.run _ _ c.run_fault.result c.requires c.write_trace.ensures.grows (λ e. c.write_trace.ensures.part (is Failed e))
+    (λ e. c.write_trace.ensures.cause.failed (is Failed e)))
+
+pub run_fault-requires : goal.run_fault-requires
+run_fault-requires g c = λ e. never_astray c.args.run _ c.requires (c.write_trace.ensures.astray (c.in-Err.is ∙ ap Err e))
 
 pub returns-in-Err-flush : goal.returns-in-Err-flush
 returns-in-Err-flush g c =
     let grown = subst (λ w. Grows ((g.S.Sink.seen c.args.out.now).written) w) (sym c.flush.ensures.bytes) c.write_trace.ensures.grows in
-    subst (ReportedRun c.args.run _ _) (sym c.fault_status.ensures)
+    subst (ReportedRun c.args.run _ _) (sym c.fault_status-in-Err-flush.ensures)
     (unflushed c.args.run _ _ _ c.in-Ok.ending c.in-Err-flush.fault c.requires c.in-Ok.ensures.traces c.flush.ensures.bytes grown
     (λ e. rose_after _ _ _ c.write_trace.ensures.cause.kept (c.flush.ensures.cause.failed (c.in-Err-flush.is ∙ ap Err e))))
 

@@ -3,7 +3,9 @@ use Rattle.std.proofs.lemmas.Result.{IfOk-weaker}
 use Rattle.flow_meaning.specs.Outside as meaning
 use Rattle.flow_world.specs.Around.{Puts, shows, wrote}
 use Rattle.flow_world.specs.Changes.{seen}
+use Rattle.flow_world.specs.Straying.{anything}
 use Rattle.flow_world.proofs.MovedHosts.{does_to}
+use Rattle.flow_world.proofs.MovedAmiss.{strays_by}
 use Rattle.flow_world.proofs.deed.acts.Goals as goal
 
 pub returns-clause-acts : goal.returns-clause-acts
@@ -25,3 +27,11 @@ returns-clause-acts g c =
       up = c.up_after-place.ensures;
     })
     c.does-burst.ensures.does
+
+pub returns-clause-astray : goal.returns-clause-astray
+returns-clause-astray g c = λ astray.
+    let h = c.does-burst.new.host in
+    record {
+      left = record { me = h.me; ports = h.ports.now; outside = seen h.outside.now; out = h.out.now };
+      strays = strays_by (λ k. record { me = k.me; ports = k.ports.now; outside = seen k.outside.now; out = k.out.now }) meaning.host shows (wrote g.L.LineOut.puts) anything (λ k ls n. Puts g.L.LineOut.puts k.out.now ls n.out.now) (λ k ls n. Unit {0}) (λ a b ls w. w) (λ a b ls w. tt) _ _ _ _ _ _ (c.does-burst.ensures.astray astray);
+    }

@@ -1,11 +1,19 @@
-use Rattle.std.proofs.Common.{rules, ap}
+use Rattle.std.proofs.Common.{rules, ap, sym, ◌∙◌}
 use Rattle.flow_cancel.specs.Heap.{HeapTree}
+use Rattle.flow_steps.specs.AmissCalls.{other_params}
 use Rattle.flow_steps.proofs.Acts.{enrols_by}
 use Rattle.flow_steps.proofs.process.Process.enrol.Goals as goal
 
-pub returns : goal.returns
-returns c =
+pub returns-clause-done : goal.returns-clause-done
+returns-clause-done c =
     let p = c.args.self.now in
     enrols_by _ _ _ _ _ _ _ p (record p { heap = c.new_result.new.self }) c.fill_places.new.self _ c.in-Some.ensures (search rules) c.in_ok-cell.ensures.number
     (ap (λ (h : HeapTree). record p { heap = h }) c.in_ok-cell.ensures.made) c.in_ok-filled.ensures.counted c.in_ok-filled.ensures.filled c.in_ok-actor.ensures.number
     (ap (λ (h : HeapTree). record c.fill_places.new.self { heap = h }) c.in_ok-actor.ensures.started)
+
+pub returns-then-len-class-clause-astray : goal.returns-then-len-class-clause-astray
+returns-then-len-class-clause-astray c =
+    other_params c.in-Some.class.now (sym c.in-Some.ensures) (λ e. c.if-len-class.true (c.len.ensures ∙ c.args.args.ok.0 ∙ e))
+
+pub returns-clause-astray : goal.returns-clause-astray
+returns-clause-astray c = search rules

@@ -4,7 +4,8 @@ use Rattle.flow_world.specs.Happening.{Comes, begins}
 use Rattle.flow_world.specs.Telling.{Telling, tells, whole}
 use Rattle.flow_world.specs.Worlds.{world_seen}
 use Rattle.flow_world.proofs.MovedEvents.{comes_by}
-use Rattle.flow_world.proofs.Telling.{told_whole, told_part}
+use Rattle.flow_world.proofs.MovedAmiss.{comes_amiss_by}
+use Rattle.flow_world.proofs.Telling.{told_whole, told_part, strayed}
 use Rattle.flow_world.proofs.world.World.carries_out.Goals as goal
 
 pub returns-clause-comes : goal.returns-clause-comes
@@ -28,3 +29,8 @@ returns-clause-breaks g c =
     let told : IfOk c.comes-burst.result (λ e. Comes (tells puts) c.args.scripted first (whole c.args.out.now) e left t) =
     IfOk-weaker c.comes-burst.result _ _ (λ e does. comes_by (λ k. record { out = k.out.now; fault = k.fault }) _ (tells puts) (λ a b l p. p) c.args.scripted first _ e left _ does) c.comes-burst.ensures.comes in
     told_part (λ e z. Comes (tells puts) c.args.scripted first (whole c.args.out.now) e left z) t _ c.comes-burst.result c.unless_failed.result (search rules) c.unless_failed.ensures c.comes-burst.ensures.cause told
+
+pub returns-clause-astray : goal.returns-clause-astray
+returns-clause-astray g c = λ astray.
+    comes_amiss_by (λ k. record { out = k.out.now; fault = k.fault }) _ (tells g.L.LineOut.puts) (λ a b l p. p) c.args.scripted (begins c.args.time (world_seen c.args.self.now)) _
+    (c.comes-burst.ensures.astray (strayed c.comes-burst.result _ _ c.unless_failed.ensures astray))

@@ -1,0 +1,9 @@
+use Rattle.std.proofs.Common.{◌≡◌, map, drop}
+use Rattle.flow_heapstate.specs.State.{cell_kept}
+use Rattle.flow_heapstate.specs.Sound.{at_number}
+use Rattle.flow_heapstate.proofs.judging.cell_at.Given as goal
+
+abbrev pub invariant-loop-part : goal.invariant-loop-part
+invariant-loop-part l =
+    at_number (λ c. c.cell) (map cell_kept (drop l.part-index l.state.cells.items)) l.cell.0
+    ≡ at_number (λ c. c.cell) (map cell_kept l.state.cells.items) l.cell.0

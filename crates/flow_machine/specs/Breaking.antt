@@ -1,0 +1,87 @@
+-- How far a burst came that breaks off, and what was written then.
+use Rattle.std.specs.Prelude.{◌≡◌, ◌⊎◌, ℕ, List, [], ◌∷◌}
+use Rattle.std.specs.declared.option.Option.{Option}
+use Rattle.std.specs.declared.option.Option.TheVariants.{None, Some}
+use Rattle.flow_base.specs.declared.ids.ProcId.{ProcId}
+use Rattle.flow_code.specs.declared.program.Code.{Code}
+use Rattle.flow_trace.specs.declared.line.Line.{Line}
+use Rattle.flow_eval.specs.Predefined.{natural}
+use Rattle.flow_meaning.specs.Numbered.{Numbered}
+use Rattle.flow_meaning.specs.Asks.{Drew, Packet}
+use Rattle.flow_meaning.specs.Burst.{Host}
+use Rattle.flow_steps.specs.declared.call.Call.{Call}
+use Rattle.flow_steps.specs.declared.call.Call.TheVariants as call
+use Rattle.flow_steps.specs.declared.call.Goal.{Goal}
+use Rattle.flow_steps.specs.declared.call.Goal.TheVariants as goal
+use Rattle.flow_steps.specs.declared.process.Next.TheVariants as next
+use Rattle.flow_steps.specs.declared.process.Process.{Process}
+use Rattle.flow_steps.specs.Doing.{unasked}
+use Rattle.flow_steps.specs.Tasks.{Tasks, MainCalled}
+use Rattle.flow_steps.specs.AmissTasks.{TasksAmiss, MainAmiss}
+use Rattle.flow_machine.specs.declared.host.RunFault.{RunFault}
+use Rattle.flow_machine.specs.declared.host.RunFault.TheVariants.{OutOfMemory, Astray}
+use Rattle.flow_machine.specs.Hosting.{Serves, LinesOf}
+use Rattle.flow_machine.specs.Serving.{ServedIf}
+
+-- what is given is to be kept as an operand
+abbrev pub IsOperand : Goal → Type 0
+IsOperand goal.Stored = ⊥
+IsOperand (goal.Kept n) = Unit {0}
+
+-- what a step asked goes astray: a drawn number, which is no reference, is to be kept as an operand
+abbrev pub ServingAmiss : Option Call → Type 0
+ServingAmiss (Some (call.Draw i g lo hi)) = IsOperand g
+ServingAmiss _ = ⊥
+
+-- A stands for the host, W for what can change in the world, `serves` for what the world does for a request, `shows` for what the
+-- host shows, `wrote` for the lines that came of it since, and `broke` for lines of which at most a first part did.
+module _ {A W : Type 0} (serves : Host W) (shows : A → Numbered ℕ → W → Type 0) (wrote broke : A → List Line → A → Type 0) where
+  -- no line was to be written
+  abbrev pub Unwritten : A → A → Type 0
+  Unwritten a b = (b ≡ a) ⊎ broke a [] b
+
+  -- what a step asked is served in part
+  abbrev pub DrawBroke : A → A → Type 0
+  DrawBroke a b = Unwritten a b ⊎ Serves serves shows wrote Drew a b
+
+  abbrev pub SendBroke : (number port : ℕ) → List ℕ → A → A → Type 0
+  SendBroke number port text a b = (b ≡ a) ⊎ LinesOf serves shows broke (Packet number port text) a b
+
+  abbrev pub ServingBroke : Call → A → A → Type 0
+  ServingBroke (call.Line l) a b = broke a (l ∷ []) b
+  ServingBroke (call.Draw i g lo hi) a b = DrawBroke a b
+  ServingBroke (call.Delay i g ticks) a b = Unwritten a b
+  ServingBroke (call.Listen i g port) a b = Unwritten a b
+  ServingBroke (call.Disk i g request) a b = Unwritten a b
+  ServingBroke (call.SendTo i number port text) a b = SendBroke (natural number) (natural port) text a b
+  ServingBroke (call.Unlisten k) a b = ⊥
+
+  abbrev pub ServingBrokeIf : Option Call → A → A → Type 0
+  ServingBrokeIf None a b = ⊥
+  ServingBrokeIf (Some c) a b = ServingBroke c a b
+
+  module _ (code : Code) (processes : ℕ) where
+    -- A burst breaks off, with a fault: in its tasks, for want of memory or because one goes astray; where what a step asked is
+    -- served; or so after that.
+    pub data BreaksOff : Process → A → RunFault → A → Type 0 where
+      no_memory : (p : Process) (a : A) → BreaksOff p a OutOfMemory a
+      strays : (p : Process) (a : A) → TasksAmiss code p → BreaksOff p a Astray a
+      serving : (p q : Process) (a b : A) (f : RunFault) → Tasks code p next.Asks q → ServingBrokeIf q.asked a b
+          → (f ≡ Astray → ServingAmiss q.asked) → BreaksOff p a f b
+      further : (p q r : Process) (a b c : A) (f : RunFault) → Tasks code p next.Asks q
+          → ServedIf serves shows wrote processes q.asked (unasked q) a r b → BreaksOff r b f c → BreaksOff p a f c
+
+    -- So does the call of `main`, the line of its start, or the burst that follows.
+    pub data MainBreaksOff (me : ProcId) (p : Process) (a : A) : RunFault → A → Type 0 where
+      uncalled : MainBreaksOff me p a OutOfMemory a
+      main_strays : MainAmiss code me p.heap → MainBreaksOff me p a Astray a
+      untold : (q : Process) (b : A) (f : RunFault) → MainCalled code me p q → ServingBrokeIf q.asked a b
+          → (f ≡ Astray → ServingAmiss q.asked) → MainBreaksOff me p a f b
+      called : (q r : Process) (b c : A) (f : RunFault) → MainCalled code me p q
+          → ServedIf serves shows wrote processes q.asked (unasked q) a r b → BreaksOff r b f c → MainBreaksOff me p a f c
+
+    -- What is brought to a process goes astray, for which there may be no memory either; or the burst that follows breaks off.
+    pub data BringingBreaksOff (amiss : Type 0) (brought : Process) (a : A) : RunFault → A → Type 0 where
+      unbrought : BringingBreaksOff amiss brought a OutOfMemory a
+      bringing_strays : amiss → BringingBreaksOff amiss brought a Astray a
+      is_brought : (f : RunFault) (b : A) → BreaksOff brought a f b → BringingBreaksOff amiss brought a f b

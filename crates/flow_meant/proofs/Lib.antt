@@ -1,0 +1,14 @@
+pub mod Here
+pub mod Froms
+pub mod Aims
+pub mod Assigns
+pub mod Calls
+pub mod Methods
+pub mod Parts
+pub mod Enrolling
+pub mod Effects
+pub mod Operands
+pub mod Choices
+pub mod Instructions
+pub mod Ends
+pub mod Steps

@@ -1,0 +1,31 @@
+use Rattle.std.proofs.Common.{rules}
+use Rattle.flow_steps.specs.AmissTasks.{KeptAmiss, not_next, its_next, nowhere, standing, keeps_amiss, goes_after}
+use Rattle.flow_steps.proofs.Holding.{strays_weaker}
+use Rattle.flow_steps.proofs.process.Process.keep.Goals as goal
+
+pub returns-in_err-pop_run-clause-astray : goal.returns-in_err-pop_run-clause-astray
+returns-in_err-pop_run-clause-astray c =
+    let h = strays_weaker c.in_err-pop_run.field-0.0 _ (KeptAmiss c.args.code.now c.args.actor c.args.held c.args.self.now) not_next
+    c.in_err-pop_run.ensures.astray in
+    search (rules, h)
+
+pub returns-in_err-stand-clause-astray : goal.returns-in_err-stand-clause-astray
+returns-in_err-stand-clause-astray c =
+    let h = strays_weaker c.in_err-stand.field-0.0 _ (KeptAmiss c.args.code.now c.args.actor c.args.held c.args.self.now)
+    (λ m. its_next c.pop_run.new.self c.in_ok-pop_run.ensures.done (nowhere m)) c.in_err-stand.ensures.astray in
+    search (rules, h)
+
+pub returns-in_err-pace-clause-astray : goal.returns-in_err-pace-clause-astray
+returns-in_err-pace-clause-astray c =
+    let h = strays_weaker c.in_err-pace.field-0.0 _ (KeptAmiss c.args.code.now c.args.actor c.args.held c.args.self.now)
+    (λ m. its_next c.pop_run.new.self c.in_ok-pop_run.ensures.done (standing c.in_ok-stand.stand c.in_ok-stand.ensures.done (keeps_amiss m)))
+    c.in_err-pace.ensures.astray in
+    search (rules, h)
+
+pub returns-in_err-go_from-clause-astray : goal.returns-in_err-go_from-clause-astray
+returns-in_err-go_from-clause-astray c =
+    let h = strays_weaker c.in_err-go_from.field-0.0 _ (KeptAmiss c.args.code.now c.args.actor c.args.held c.args.self.now)
+    (λ m. its_next c.pop_run.new.self c.in_ok-pop_run.ensures.done
+    (standing c.in_ok-stand.stand c.in_ok-stand.ensures.done (goes_after c.in_ok-pace.pace c.keep_operand.new.self c.in_ok-pace.ensures.done m)))
+    c.in_err-go_from.ensures.astray in
+    search (rules, h)

@@ -1,0 +1,18 @@
+use Rattle.std.proofs.Common.{rules}
+use Rattle.flow_steps.specs.AmissTasks.{RaisedAmiss, nowhere, standing}
+use Rattle.flow_steps.proofs.Holding.{strays_weaker}
+use Rattle.flow_steps.proofs.process.Process.raise.Goals as goal
+
+pub returns-in_err-stand-clause-astray : goal.returns-in_err-stand-clause-astray
+returns-in_err-stand-clause-astray c =
+    let h = strays_weaker c.in_err-stand.field-0.0 _
+    (RaisedAmiss c.args.code.now c.args.actor c.args.self.now)
+    (λ m. nowhere m) c.in_err-stand.ensures.astray in
+    search (rules, h)
+
+pub returns-in_err-leave_by-clause-astray : goal.returns-in_err-leave_by-clause-astray
+returns-in_err-leave_by-clause-astray c =
+    let h = strays_weaker c.in_err-leave_by.field-0.0 _
+    (RaisedAmiss c.args.code.now c.args.actor c.args.self.now)
+    (λ m. standing c.in_ok-stand.stand c.in_ok-stand.ensures.done m) c.in_err-leave_by.ensures.astray in
+    search (rules, h)

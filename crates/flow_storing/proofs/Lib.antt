@@ -1,0 +1,4 @@
+pub mod Beside
+pub mod Steps
+pub mod Tasks
+pub mod Served

@@ -1,0 +1,9 @@
+pub mod Somewhere
+pub mod Plain
+pub mod Brought
+pub mod Begins
+pub mod Stores
+pub mod Rows
+pub mod Tasks
+pub mod Draws
+pub mod Bursts

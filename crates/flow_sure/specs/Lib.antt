@@ -1,0 +1,3 @@
+pub mod Sure
+pub mod Plain
+pub mod Brought

@@ -1,0 +1,5 @@
+pub mod Mains
+pub mod Deeds
+pub mod Disks
+pub mod Upheld
+pub mod Events
