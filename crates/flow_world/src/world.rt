@@ -120,7 +120,8 @@ impl World {
             (world_seen self.old) (whole out.old) (world_seen self.new) (whole out.new)) }
         ensures breaks { IsErrOf result Failed → Breaks (tells L.puts)
             (world_seen self.old) (whole out.old) (world_seen self.new) (failed out.new) }
-        ensures astray { IsErrOf result Astray → EventAmiss (tells L.puts) (world_seen self.old) (whole out.old) }
+        ensures astray { IsErrOf result Astray →
+            EventAmiss (tells L.puts) (world_seen self.old) (whole out.old) }
         ensures cause { RunCause (L.faults out.old) (L.faults out.new) result }
         ensures kept { L.kept out.new ≡ L.kept out.old }
     {
@@ -269,7 +270,8 @@ impl World {
         ensures ordered { IfOk result (λ e. Ordered L.puts act
             (world_seen self.old) out.old e (world_seen self.new) out.new) }
         ensures within { WithinEvent (world_seen self.old) (world_seen self.new) }
-        ensures astray { IsErrOf result Astray → OrderedAmiss L.puts act (world_seen self.old) out.old }
+        ensures astray { IsErrOf result Astray →
+            OrderedAmiss L.puts act (world_seen self.old) out.old }
         ensures cause { RunCause (L.faults out.old) (L.faults out.new) result }
         ensures kept { L.kept out.new ≡ L.kept out.old }
     {
@@ -303,7 +305,8 @@ impl World {
         ensures happened { IfOk result (λ e. Happened L.puts what
             (world_seen self.old) out.old e (world_seen self.new) out.new) }
         ensures within { WithinEvent (world_seen self.old) (world_seen self.new) }
-        ensures astray { IsErrOf result Astray → HappenedAmiss L.puts what (world_seen self.old) out.old }
+        ensures astray { IsErrOf result Astray →
+            HappenedAmiss L.puts what (world_seen self.old) out.old }
         ensures cause { RunCause (L.faults out.old) (L.faults out.new) result }
         ensures kept { L.kept out.new ≡ L.kept out.old }
     {
@@ -325,7 +328,8 @@ impl World {
         ensures happens { IfOk result (λ e. Ordered L.puts (act.Boot p)
             (world_seen self.old) out.old e (world_seen self.new) out.new) }
         ensures within { WithinEvent (world_seen self.old) (world_seen self.new) }
-        ensures astray { IsErrOf result Astray → OrderedAmiss L.puts (act.Boot p) (world_seen self.old) out.old }
+        ensures astray { IsErrOf result Astray →
+            OrderedAmiss L.puts (act.Boot p) (world_seen self.old) out.old }
         ensures cause { RunCause (L.faults out.old) (L.faults out.new) result }
         ensures kept { L.kept out.new ≡ L.kept out.old }
     {
@@ -431,7 +435,8 @@ impl World {
         ensures arrived { IfOk result (λ e. Arrived L.puts p packet
             (world_seen self.old) out.old e (world_seen self.new) out.new) }
         ensures within { WithinEvent (world_seen self.old) (world_seen self.new) }
-        ensures astray { IsErrOf result Astray → ArrivedAmiss L.puts p packet (world_seen self.old) out.old }
+        ensures astray { IsErrOf result Astray →
+            ArrivedAmiss L.puts p packet (world_seen self.old) out.old }
         ensures cause { RunCause (L.faults out.old) (L.faults out.new) result }
         ensures kept { L.kept out.new ≡ L.kept out.old }
     {
@@ -456,7 +461,8 @@ impl World {
         ensures taken { IfOk result (λ e. Taken L.puts heard p packet
             (world_seen self.old) out.old e (world_seen self.new) out.new) }
         ensures within { WithinEvent (world_seen self.old) (world_seen self.new) }
-        ensures astray { IsErrOf result Astray → TakenAmiss L.puts heard p packet (world_seen self.old) out.old }
+        ensures astray { IsErrOf result Astray →
+            TakenAmiss L.puts heard p packet (world_seen self.old) out.old }
         ensures cause { RunCause (L.faults out.old) (L.faults out.new) result }
         ensures kept { L.kept out.new ≡ L.kept out.old }
     {
@@ -492,7 +498,8 @@ impl World {
         ensures happens { IfOk result (λ e. Answered L.puts p cell asked.now
             (world_seen self.old) out.old e (world_seen self.new) out.new) }
         ensures within { WithinEvent (world_seen self.old) (world_seen self.new) }
-        ensures astray { IsErrOf result Astray → AnsweredAmiss L.puts p cell asked.now (world_seen self.old) out.old }
+        ensures astray { IsErrOf result Astray →
+            AnsweredAmiss L.puts p cell asked.now (world_seen self.old) out.old }
         ensures cause { RunCause (L.faults out.old) (L.faults out.new) result }
         ensures kept { L.kept out.new ≡ L.kept out.old }
     {
@@ -510,7 +517,8 @@ impl World {
         ensures happens { IfOk result (λ e. Runs L.puts p deed
             (world_seen self.old) out.old e (world_seen self.new) out.new) }
         ensures within { WithinEvent (world_seen self.old) (world_seen self.new) }
-        ensures astray { IsErrOf result Astray → RunsAmiss L.puts p deed (world_seen self.old) out.old }
+        ensures astray { IsErrOf result Astray →
+            RunsAmiss L.puts p deed (world_seen self.old) out.old }
         ensures cause { RunCause (L.faults out.old) (L.faults out.new) result }
         ensures kept { L.kept out.new ≡ L.kept out.old }
     {
@@ -537,7 +545,8 @@ impl World {
         ensures acts { IfOk result (λ e. ActsAt L.puts p deed
             (world_seen self.old) out.old e (world_seen self.new) out.new) }
         ensures within { WithinEvent (world_seen self.old) (world_seen self.new) }
-        ensures astray { IsErrOf result Astray → ActsAtAmiss L.puts p deed (world_seen self.old) out.old }
+        ensures astray { IsErrOf result Astray →
+            ActsAtAmiss L.puts p deed (world_seen self.old) out.old }
         ensures cause { RunCause (L.faults out.old) (L.faults out.new) result }
         ensures kept { L.kept out.new ≡ L.kept out.old }
     {
