@@ -3,4 +3,5 @@ pub mod Bursts
 pub mod Cause
 pub mod Hosting
 pub mod Requests
+pub mod Resting
 pub mod Serving

@@ -6,4 +6,5 @@ mod errors;
 pub mod host;
 mod judged;
 pub mod machine;
+pub mod state;
 pub mod views;

@@ -25,9 +25,9 @@ use std::alloc::Global;
 /// One process of so many.
 #[derive(Drop)]
 pub struct Machine {
-    me: ProcId,
-    processes: u8,
-    process: Process,
+    pub(crate) me: ProcId,
+    pub(crate) processes: u8,
+    pub(crate) process: Process,
 }
 
 impl Machine {

@@ -3,3 +3,7 @@
 
 #[cfg(test)]
 mod bursts;
+#[cfg(test)]
+mod heap_again;
+#[cfg(test)]
+mod lines;

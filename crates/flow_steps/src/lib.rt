@@ -13,6 +13,7 @@ mod events;
 pub mod frames;
 pub mod next;
 pub mod process;
+pub mod resting;
 mod seen;
 mod steps;
 pub mod views;
