@@ -52,7 +52,7 @@ use Rattle.flow_kept.proofs.Rising.{and_then, made_stays, hold_stays, hold_all_s
 use Rattle.flow_allowed.specs.Tasking.{IsProgram}
 use Rattle.flow_bursts.specs.Bursting.{Steadfast, Abroad, and_more, Follows}
 use Rattle.flow_boundaries.specs.Bringing.{Resting}
-use Rattle.flow_brought.proofs.Following.{event_follows}
+use Rattle.flow_goes.proofs.Following.{event_follows}
 use Rattle.flow_goes.proofs.Goes.{program_follows}
 use Rattle.flow_deeds.proofs.Mains.{may_start, main_is}
 use Rattle.flow_deeds.proofs.SamePorts.{boot_ports}

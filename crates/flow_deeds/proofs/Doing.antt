@@ -29,7 +29,7 @@ use Rattle.flow_bursts.specs.Bursting.{Wrote, no_line, and_more}
 use Rattle.flow_kept.specs.Kept.{Kept}
 use Rattle.flow_boundaries.specs.Bringing.{IsBrought}
 use Rattle.flow_boundaries.proofs.Bringing.{answer_brings, stop_brings, element_brings}
-use Rattle.flow_brought.proofs.Following.{event_follows, event_rests}
+use Rattle.flow_goes.proofs.Following.{event_follows, event_rests}
 use Rattle.flow_world.specs.declared.deed.Deed.{Deed}
 use Rattle.flow_world.specs.declared.deed.Deed.TheVariants.{Boots, Stops, Delivers, Brings}
 use Rattle.flow_world.specs.declared.place.Place.{Place}

@@ -39,9 +39,9 @@ use Rattle.flow_lasting.specs.Lasting.{Lasting}
 use Rattle.flow_deeds.specs.Settling.{Settled}
 use Rattle.flow_deeds.proofs.Settling.{settled_first}
 use Rattle.flow_happens.proofs.Whole.{happening}
-use Rattle.flow_surely.specs.Events.{Upheld}
-use Rattle.flow_surely.proofs.Events.{event_sure}
-use Rattle.flow_surely.proofs.Upheld.{upheld_starts, upheld_stays}
+use Rattle.flow_exact.specs.Events.{Upheld}
+use Rattle.flow_exact.proofs.Events.{event_sure}
+use Rattle.flow_exact.proofs.Upheld.{upheld_starts, upheld_stays}
 use Rattle.flow_traced.specs.Traced.{EventBegan, EventsFollow}
 use Rattle.flow_traced.proofs.Whole.{Went, went}
 use Rattle.flow_traced.proofs.Codes.{code_stays}

@@ -44,9 +44,9 @@ use Rattle.flow_value.specs.Values.{GoodOutcome}
 use Rattle.flow_machine.specs.declared.host.Burst.TheVariants.{Rested}
 use Rattle.flow_events.specs.Coming.{LineNext, EventNext, NextShows}
 use Rattle.flow_events.proofs.Next.{same_next}
-use Rattle.flow_surely.specs.Deeds.{MayHear}
-use Rattle.flow_surely.specs.Events.{Upheld}
-use Rattle.flow_surely.proofs.Deeds.{deed_well}
+use Rattle.flow_exact.specs.Deeds.{MayHear}
+use Rattle.flow_exact.specs.Events.{Upheld}
+use Rattle.flow_exact.proofs.Deeds.{deed_well}
 use Rattle.flow_base.specs.declared.ids.CellId.{CellId}
 use Rattle.flow_base.specs.declared.ids.ProcId.{ProcId}
 use Rattle.flow_base.specs.declared.fault.OutFault.{OutFault}
@@ -80,7 +80,7 @@ use Rattle.flow_world.specs.declared.place.Place as memory
 use Rattle.flow_world.specs.declared.outside.What.TheVariants as what
 use Rattle.flow_happens.proofs.Doing as doing
 use Rattle.flow_value.specs.declared.value.Outcome.TheVariants as outcome
-use Rattle.flow_surely.specs.Events as law
+use Rattle.flow_exact.specs.Events as law
 use Rattle.flow_value.specs.declared.value.Kind.TheVariants as kind
 use Rattle.flow_worldfile.specs.declared.world.Act.TheVariants as act
 

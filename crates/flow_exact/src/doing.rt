@@ -3,7 +3,7 @@
 ghost use Rattle.std.specs.Prelude.{ℕ};
 ghost use Rattle.flow_class.specs.Classes.{RawTree};
 ghost use Rattle.flow_code.specs.declared.program.Code.{Code};
-ghost use Rattle.flow_surely.specs.Deeds.{MainSure, BootSure, DeedSure};
+ghost use Rattle.flow_exact.specs.Deeds.{MainSure, BootSure, DeedSure};
 
 use flow_machine::host::Host;
 use flow_trace::out::LineOut;

@@ -50,9 +50,9 @@ use Rattle.flow_storing.specs.Storing.{AllStoreNone, NoPromiseStored}
 use Rattle.flow_storing.proofs.Tasks.{brought_stores}
 use Rattle.flow_sure.proofs.Bursts.{all_bursts_sure}
 use Rattle.flow_sure.proofs.Brought.{answer_well, element_well, brought_well, bringing_well}
-use Rattle.flow_surely.specs.Deeds as law
-use Rattle.flow_surely.specs.Deeds.{MayHear}
-use Rattle.flow_surely.proofs.Mains.{boot_well}
+use Rattle.flow_exact.specs.Deeds as law
+use Rattle.flow_exact.specs.Deeds.{MayHear}
+use Rattle.flow_exact.proofs.Mains.{boot_well}
 
 module _ {A : Type 0} (puts : A → Line → Result (Unit {0}) OutFault → A → Type 0) (r : RawTree) (code : Code) (program : IsProgram r code)
     (turns : ℕ) (p : ProcId) (x : meaning.Place Frame) (o : Outside) (at : Place) (m : Surroundings) (a : A) where

@@ -3,7 +3,7 @@
 ghost use Rattle.std.specs.Prelude.{ℕ};
 ghost use Rattle.flow_class.specs.Classes.{RawTree};
 ghost use Rattle.flow_code.specs.declared.program.Code.{Code};
-ghost use Rattle.flow_brought.specs.Brought.{EventFollows, EventRests};
+ghost use Rattle.flow_goes.specs.Brought.{EventFollows, EventRests};
 
 use flow_machine::host::Host;
 

@@ -46,7 +46,7 @@ use Rattle.flow_storing.specs.Storing.{NoPromiseStored}
 use Rattle.flow_storing.proofs.Tasks.{main_stores}
 use Rattle.flow_sure.proofs.Brought.{spent_well}
 use Rattle.flow_sure.proofs.Bursts.{all_bursts_sure}
-use Rattle.flow_surely.specs.Deeds as law
+use Rattle.flow_exact.specs.Deeds as law
 
 -- the results of actors are cells
 results_there : (r : RawTree) (p : Proc Frame) → Kept r p → ResultsThere p

@@ -2,7 +2,7 @@
 
 ghost use Rattle.flow_class.specs.Classes.{RawTree};
 ghost use Rattle.flow_runs.specs.Laws.{AreValid};
-ghost use Rattle.flow_surely.specs.Events.{UpheldStarts, UpheldStays, EventSure};
+ghost use Rattle.flow_exact.specs.Events.{UpheldStarts, UpheldStays, EventSure};
 
 use flow_trace::out::LineOut;
 

@@ -1,5 +1,5 @@
-use Rattle.flow_brought.proofs.Following.{event_follows, event_rests}
-use Rattle.flow_brought.proofs.brought.events_follow.Goals as goal
+use Rattle.flow_goes.proofs.Following.{event_follows, event_rests}
+use Rattle.flow_goes.proofs.brought.events_follow.Goals as goal
 
 pub returns-clause-follows : goal.returns-clause-follows
 returns-clause-follows g c = event_follows g.H.Host.serves g.H.Host.shows g.H.Host.wrote

@@ -22,7 +22,7 @@ use Rattle.flow_meaning.specs.Step.{Stepped, step}
 use Rattle.flow_meaning.specs.World.{Place, World, Begun, Next, Nothing, Script, Event, next_of, begun_by, ordered, arrived, listener, happened, ready, counted, with_left, process_of, process_in, at_start}
 use Rattle.flow_meaning.proofs.InOrder.{no_thing}
 use Rattle.flow_meaning.proofs.Shifts.{same_of}
-use Rattle.flow_surely.specs.Events.{HasDisks}
+use Rattle.flow_exact.specs.Events.{HasDisks}
 
 -- as many disks, and the same file
 record AsBefore (v o : Outside) : Type 0 where

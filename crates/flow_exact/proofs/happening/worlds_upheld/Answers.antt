@@ -1,5 +1,5 @@
-use Rattle.flow_surely.proofs.Upheld.{upheld_starts, upheld_stays}
-use Rattle.flow_surely.proofs.happening.worlds_upheld.Goals as goal
+use Rattle.flow_exact.proofs.Upheld.{upheld_starts, upheld_stays}
+use Rattle.flow_exact.proofs.happening.worlds_upheld.Goals as goal
 
 pub returns-clause-starts : goal.returns-clause-starts
 returns-clause-starts c = upheld_starts

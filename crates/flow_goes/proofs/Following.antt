@@ -23,7 +23,7 @@ use Rattle.flow_bursts.specs.Bursting.{Follows, no_line}
 use Rattle.flow_bursts.proofs.Reached.{stopped_rests}
 use Rattle.flow_boundaries.proofs.Bringing.{burst_begins}
 use Rattle.flow_goes.proofs.Goes.{program_follows}
-use Rattle.flow_brought.specs.Brought as law
+use Rattle.flow_goes.specs.Brought as law
 
 both_ways : {b : Bool} → b ≡ true → b ≡ false → ⊥
 both_ways e f = cc

@@ -3,8 +3,8 @@ use Rattle.flow_class.specs.Classes.{RawTree}
 use Rattle.flow_runs.specs.Laws.{AreValid}
 use Rattle.flow_lasting.proofs.Lasting.{lasting_starts, lasting_stays}
 use Rattle.flow_open.proofs.Worlds.{start_open, valid_open}
-use Rattle.flow_surely.specs.Events as law
-use Rattle.flow_surely.proofs.Disks.{disks_start, disks_stay}
+use Rattle.flow_exact.specs.Events as law
+use Rattle.flow_exact.proofs.Disks.{disks_start, disks_stay}
 
 pub upheld_starts : (r : RawTree) → law.UpheldStarts r
 upheld_starts r w range = record { lasting = lasting_starts r w range; heard = start_open w; disks = disks_start w }
