@@ -112,15 +112,31 @@ fn one(alloc: Global, arg: Expr) -> Result<Vec<Expr>, NoMemory> {
     Ok(args)
 }
 
+fn text_expr(alloc: Global, bytes: &[u8]) -> Result<Expr, NoMemory> {
+    Ok(Expr::Text(text(alloc, bytes)?))
+}
+
+fn call_expr(alloc: Global, word: &[u8], args: Vec<Expr>) -> Result<Expr, NoMemory> {
+    Ok(Expr::Call(ident(alloc, word)?, args))
+}
+
+fn error_expr(alloc: Global, n: i64) -> Result<Expr, NoMemory> {
+    call_expr(alloc, b"error", one(alloc, Expr::Int(n))?)
+}
+
+fn method_expr(alloc: Global, of: Expr, word: &[u8], args: Vec<Expr>) -> Result<Expr, NoMemory> {
+    Ok(Expr::Method(Box::new(alloc, of)?, ident(alloc, word)?, args))
+}
+
 fn arg_expr(alloc: Global, given: Arg) -> Result<Expr, NoMemory> {
     match given {
         Arg::Int(n) => Ok(Expr::Int(n)),
         Arg::Bool(b) => Ok(Expr::Bool(b)),
-        Arg::Text(bytes) => Ok(Expr::Text(text(alloc, bytes)?)),
+        Arg::Text(bytes) => text_expr(alloc, bytes),
         Arg::Void => Ok(Expr::VoidValue),
-        Arg::Error(n) => { Ok(Expr::Call(ident(alloc, b"error")?, one(alloc, Expr::Int(n))?)) }
+        Arg::Error(n) => error_expr(alloc, n),
         Arg::Var(word) => var(alloc, word),
-        Arg::Call(word) => Ok(Expr::Call(ident(alloc, word)?, Vec::new(alloc))),
+        Arg::Call(word) => call_expr(alloc, word, Vec::new(alloc)),
     }
 }
 
@@ -167,6 +183,17 @@ fn value(alloc: Global, expr: &Expr, vars: &[Var], view: &Every) -> Result<Value
         expr,
         &mut turns,
     )
+}
+
+// Whether that is what is wanted.
+fn is_value(alloc: Global, expr: &Expr, vars: &[Var], view: &Every, want: Want) -> bool {
+    comes_to(&value(alloc, expr, vars, view), want)
+}
+
+// Whether an expression over no variables and no set cell comes to what is wanted.
+fn comes_alone(alloc: Global, expr: &Expr, want: Want) -> bool {
+    let unset = Every { outcome: None };
+    is_value(alloc, expr, &[], &unset, want)
 }
 
 const OPERATORS: [(Op, Arg, Arg, Want); 61] = [
@@ -315,15 +342,20 @@ const OPERATORS: [(Op, Arg, Arg, Want); 61] = [
     ),
 ];
 
+fn operation(alloc: Global, op: Op, left: Arg, right: Arg) -> Result<Expr, NoMemory> {
+    let left_expr = arg_expr(alloc, left)?;
+    binary(alloc, op, left_expr, arg_expr(alloc, right)?)
+}
+
 #[test]
 fn operators_at_their_edges(rt: HostRuntime) -> Result<(), Fail> {
     let alloc = rt.alloc();
-    let unset = Every { outcome: None };
     for (op, left, right, want) in OPERATORS {
-        let left_expr = arg_expr(alloc, left)?;
-        let expr = binary(alloc, op, left_expr, arg_expr(alloc, right)?)?;
-        let result = value(alloc, &expr, &[], &unset);
-        assert!(rt; comes_to(&result, want), "{left:?} {op:?} {right:?}");
+        let expr = operation(alloc, op, left, right)?;
+        assert!(rt;
+            comes_alone(alloc, &expr, want),
+            "{left:?} {op:?} {right:?}"
+        );
     }
     Ok(())
 }
@@ -399,14 +431,16 @@ const CALLS: [(&[u8], &[Arg], Want); 35] = [
     (b"absent", &[], Want::NoMeaning),
 ];
 
+fn call_of(alloc: Global, word: &[u8], args: &[Arg]) -> Result<Expr, NoMemory> {
+    call_expr(alloc, word, arg_exprs(alloc, args)?)
+}
+
 #[test]
 fn predefined_calls(rt: HostRuntime) -> Result<(), Fail> {
     let alloc = rt.alloc();
-    let unset = Every { outcome: None };
     for (word, args, want) in CALLS {
-        let expr = Expr::Call(ident(alloc, word)?, arg_exprs(alloc, args)?);
-        let came = value(alloc, &expr, &[], &unset);
-        assert!(rt; comes_to(&came, want), "{word:?} {args:?}");
+        let expr = call_of(alloc, word, args)?;
+        assert!(rt; comes_alone(alloc, &expr, want), "{word:?} {args:?}");
     }
     Ok(())
 }
@@ -477,15 +511,20 @@ const METHODS: [(Arg, &[u8], &[Arg], Want); 18] = [
     (Arg::Call(b"absent"), b"size", &[], Want::NoMeaning),
 ];
 
+fn method_of(alloc: Global, base: Arg, word: &[u8], args: &[Arg]) -> Result<Expr, NoMemory> {
+    let of = arg_expr(alloc, base)?;
+    method_expr(alloc, of, word, arg_exprs(alloc, args)?)
+}
+
 #[test]
 fn methods_of_values(rt: HostRuntime) -> Result<(), Fail> {
     let alloc = rt.alloc();
-    let unset = Every { outcome: None };
     for (base, word, args, want) in METHODS {
-        let of = Box::new(alloc, arg_expr(alloc, base)?)?;
-        let expr = Expr::Method(of, ident(alloc, word)?, arg_exprs(alloc, args)?);
-        let came = value(alloc, &expr, &[], &unset);
-        assert!(rt; comes_to(&came, want), "{base:?} {word:?} {args:?}");
+        let expr = method_of(alloc, base, word, args)?;
+        assert!(rt;
+            comes_alone(alloc, &expr, want),
+            "{base:?} {word:?} {args:?}"
+        );
     }
     Ok(())
 }
@@ -561,90 +600,108 @@ fn one_var(alloc: Global, word: &[u8], value: Value) -> Result<Vec<Var>, NoMemor
     Ok(vars)
 }
 
+// What a method of a reference comes to where the cells hold this.
+fn comes_at(
+    alloc: Global,
+    (kind, word): (Kind, &[u8]),
+    outcome: Option<Outcome>,
+    want: Want,
+) -> Result<bool, NoMemory> {
+    let vars = one_var(alloc, b"r", Value::Ref(kind, CellId(3)))?;
+    let expr = method_expr(alloc, var(alloc, b"r")?, word, Vec::new(alloc))?;
+    Ok(is_value(alloc, &expr, &vars, &Every { outcome }, want))
+}
+
+fn good() -> Option<Outcome> {
+    Some(Outcome::Value(Value::Int(5)))
+}
+
+fn bad() -> Option<Outcome> {
+    Some(Outcome::Error(ErrorCode(1004)))
+}
+
 #[test]
 fn methods_of_references(rt: HostRuntime) -> Result<(), Fail> {
     let alloc = rt.alloc();
+    for (kind, word, [unset, set, broken]) in REFERENCES {
+        let of = (kind, word);
+        assert!(rt; comes_at(alloc, of, None, unset)?, "{kind:?} {word:?}");
+        assert!(rt; comes_at(alloc, of, good(), set)?, "{kind:?} {word:?}");
+        assert!(rt; comes_at(alloc, of, bad(), broken)?, "{kind:?} {word:?}");
+    }
+    Ok(())
+}
+
+// A variable with the longest text that there is.
+fn longest(alloc: Global) -> Result<Vec<Var>, NoMemory> {
+    let mut bytes = Vec::new(alloc);
+    for _ in 0..Text::LIMIT {
+        bytes.push(b'a')?;
+    }
+    one_var(alloc, b"t", Value::text(alloc, text(alloc, &bytes)?)?)
+}
+
+// That text with these bytes behind it.
+fn longer(alloc: Global, bytes: &[u8]) -> Result<Expr, NoMemory> {
+    let left = var(alloc, b"t")?;
+    binary(alloc, Op::Add, left, text_expr(alloc, bytes)?)
+}
+
+// Whether it is the text itself.
+fn unchanged(alloc: Global, expr: Expr) -> Result<Expr, NoMemory> {
+    binary(alloc, Op::Eq, expr, var(alloc, b"t")?)
+}
+
+fn is_over(alloc: Global, expr: &Expr, vars: &[Var], want: Want) -> bool {
     let unset = Every { outcome: None };
-    let good = Every {
-        outcome: Some(Outcome::Value(Value::Int(5))),
-    };
-    let bad = Every {
-        outcome: Some(Outcome::Error(ErrorCode(1004))),
-    };
-    for (kind, word, wants) in REFERENCES {
-        let vars = one_var(alloc, b"r", Value::Ref(kind, CellId(3)))?;
-        let of = Box::new(alloc, var(alloc, b"r")?)?;
-        let expr = Expr::Method(of, ident(alloc, word)?, Vec::new(alloc));
-        assert!(rt;
-            comes_to(&value(alloc, &expr, &vars, &unset), wants[0]),
-            "{kind:?} {word:?}"
-        );
-        assert!(rt;
-            comes_to(&value(alloc, &expr, &vars, &good), wants[1]),
-            "{kind:?} {word:?}"
-        );
-        assert!(rt;
-            comes_to(&value(alloc, &expr, &vars, &bad), wants[2]),
-            "{kind:?} {word:?}"
-        );
+    is_value(alloc, expr, vars, &unset, want)
+}
+
+#[test]
+fn texts_at_their_limit(rt: HostRuntime) -> Result<(), Fail> {
+    let alloc = rt.alloc();
+    let vars = longest(alloc)?;
+    let fits = unchanged(alloc, longer(alloc, b"")?)?;
+    assert!(rt; is_over(alloc, &fits, &vars, Want::Bool(true)));
+    let long = longer(alloc, b"b")?;
+    assert!(rt; is_over(alloc, &long, &vars, Want::Throws(9002)));
+    Ok(())
+}
+
+const PACKET: [Arg; 3] = [Arg::Int(1), Arg::Int(2), Arg::Text(b"x")];
+
+const FIELDS: [(&[u8], Want); 4] = [
+    (b"from", Want::Int(1)),
+    (b"port", Want::Int(2)),
+    (b"text", Want::Text(b"x")),
+    (b"absent", Want::NoMeaning),
+];
+
+fn packet_field(alloc: Global, word: &[u8]) -> Result<Expr, NoMemory> {
+    let packet = Box::new(alloc, call_of(alloc, b"Packet", &PACKET)?)?;
+    Ok(Expr::Field(packet, ident(alloc, word)?))
+}
+
+#[test]
+fn fields_of_a_packet(rt: HostRuntime) -> Result<(), Fail> {
+    let alloc = rt.alloc();
+    for (word, want) in FIELDS {
+        let expr = packet_field(alloc, word)?;
+        assert!(rt; comes_alone(alloc, &expr, want), "{word:?}");
     }
     Ok(())
 }
 
 #[test]
-fn texts_records_and_single_operands(rt: HostRuntime) -> Result<(), Fail> {
+fn single_operands(rt: HostRuntime) -> Result<(), Fail> {
     let alloc = rt.alloc();
-    let unset = Every { outcome: None };
-    let mut bytes = Vec::new(alloc);
-    for _ in 0..Text::LIMIT {
-        bytes.push(b'a')?;
-    }
-    let vars = one_var(alloc, b"t", Value::text(alloc, text(alloc, &bytes)?)?)?;
-    let fits = binary(
-        alloc,
-        Op::Add,
-        var(alloc, b"t")?,
-        arg_expr(alloc, Arg::Text(b""))?,
-    )?;
-    assert!(rt;
-        comes_to(
-            &value(
-                alloc,
-                &binary(alloc, Op::Eq, fits, var(alloc, b"t")?)?,
-                &vars,
-                &unset
-            ),
-            Want::Bool(true)
-        )
-    );
-    let long = binary(
-        alloc,
-        Op::Add,
-        var(alloc, b"t")?,
-        arg_expr(alloc, Arg::Text(b"b"))?,
-    )?;
-    assert!(rt; comes_to(&value(alloc, &long, &vars, &unset), Want::Throws(9002)));
-    for (word, want) in [
-        (b"from".as_slice(), Want::Int(1)),
-        (b"port".as_slice(), Want::Int(2)),
-        (b"text".as_slice(), Want::Text(b"x")),
-        (b"absent".as_slice(), Want::NoMeaning),
-    ] {
-        let fields = arg_exprs(alloc, &[Arg::Int(1), Arg::Int(2), Arg::Text(b"x")])?;
-        let packet = Box::new(alloc, Expr::Call(ident(alloc, b"Packet")?, fields))?;
-        let expr = Expr::Field(packet, ident(alloc, word)?);
-        assert!(rt;
-            comes_to(&value(alloc, &expr, &[], &unset), want),
-            "{word:?}"
-        );
-    }
     let least = Expr::Neg(Box::new(alloc, Expr::Int(LEAST))?);
-    assert!(rt; comes_to(&value(alloc, &least, &[], &unset), Want::Throws(9001)));
+    assert!(rt; comes_alone(alloc, &least, Want::Throws(9001)));
     let greatest = Expr::Neg(Box::new(alloc, Expr::Int(GREATEST))?);
-    assert!(rt; comes_to(&value(alloc, &greatest, &[], &unset), Want::Int(-GREATEST)));
+    assert!(rt; comes_alone(alloc, &greatest, Want::Int(-GREATEST)));
     let lie = Expr::Not(Box::new(alloc, Expr::Bool(true))?);
-    assert!(rt; comes_to(&value(alloc, &lie, &[], &unset), Want::Bool(false)));
+    assert!(rt; comes_alone(alloc, &lie, Want::Bool(false)));
     let void = Expr::Paren(Box::new(alloc, Expr::VoidValue)?);
-    assert!(rt; comes_to(&value(alloc, &void, &[], &unset), Want::Void));
+    assert!(rt; comes_alone(alloc, &void, Want::Void));
     Ok(())
 }

@@ -8,6 +8,7 @@ use flow_code::program::Code;
 use flow_compile::{compile, front};
 use flow_machine::host::Host;
 use flow_simdisk::DiskAsk;
+use flow_trace::buffer::{LineBuf, print_line};
 use flow_trace::line::Line;
 use flow_trace::out::{LineOut, LineVec};
 use std::alloc::Global;
@@ -95,4 +96,21 @@ pub(crate) fn code(alloc: Global, text: &[u8]) -> Result<Code, Fail> {
         return Err(Fail::from("no classes"));
     };
     Ok(Code::new(alloc, classes)?)
+}
+
+// Lines as text.
+fn text(alloc: Global, lines: &[Line]) -> Result<Vec<u8>, Fail> {
+    let mut line_text = LineBuf::new(alloc)?;
+    let mut text = Vec::new(alloc);
+    for line in lines {
+        print_line(line, &mut line_text);
+        text.extend_from_slice(line_text.bytes())?;
+    }
+    Ok(text)
+}
+
+// Whether lines are those of a text.
+pub(crate) fn are_lines(alloc: Global, lines: &[Line], wanted: &[u8]) -> Result<bool, Fail> {
+    let told = text(alloc, lines)?;
+    Ok(told.as_slice() == wanted)
 }
