@@ -161,25 +161,48 @@ fn waiting(heap: &mut Heap, cell: CellId) -> Result<Option<ActorId>, NoMemory> {
     Ok(None)
 }
 
+fn is_run(task: Option<&Task>) -> bool {
+    match task {
+        Some(Task::Run(_)) => true,
+        _ => false,
+    }
+}
+
+// The error that a task is to throw, if it is to throw one.
+fn thrown(task: Option<&Task>) -> Option<ErrorCode> {
+    match task {
+        Some(Task::Throw(_, error)) => Some(*error),
+        _ => None,
+    }
+}
+
+// The kind of the reference that a task is to drop, if it is to drop one.
+fn lost(task: Option<&Task>) -> Option<Kind> {
+    match task {
+        Some(Task::Drop(kind, _)) => Some(*kind),
+        _ => None,
+    }
+}
+
 // Whether the newest task, which is taken, is to run an actor.
 fn takes_run(heap: &mut Heap) -> bool {
-    matches!(&heap.next_task(), Some(Task::Run(_)))
+    let found = is_run(heap.first_task());
+    heap.next_task();
+    found
 }
 
 // Whether the newest task, which is taken, is to throw this error.
 fn takes_throw(heap: &mut Heap, error: ErrorCode) -> bool {
-    match &heap.next_task() {
-        Some(Task::Throw(_, thrown)) => *thrown == error,
-        _ => false,
-    }
+    let found = thrown(heap.first_task());
+    heap.next_task();
+    found == Some(error)
 }
 
 // Whether the newest task, which is taken, is to drop a reference of this kind.
 fn takes_drop(heap: &mut Heap, kind: Kind) -> bool {
-    match &heap.next_task() {
-        Some(Task::Drop(dropped, _)) => *dropped == kind,
-        _ => false,
-    }
+    let found = lost(heap.first_task());
+    heap.next_task();
+    found == Some(kind)
 }
 
 // Whether no task is left.
@@ -190,26 +213,31 @@ fn takes_nothing(heap: &mut Heap) -> bool {
 // Whether the loss of a reference does this.
 fn loses(
     heap: &mut Heap,
-    kind: Kind,
-    cell: CellId,
+    (kind, cell): (Kind, CellId),
     wanted: Option<Dropped>,
 ) -> Result<bool, NoMemory> {
     Ok(lose(heap, kind, cell)? == wanted)
 }
 
-// A task comes on top.
-fn add(heap: &mut Heap, task: Task) -> Result<(), NoMemory> {
-    heap.push(task)
+fn add_tasks(heap: &mut Heap) -> Result<(), NoMemory> {
+    heap.push(Task::Run(ActorId(1)))?;
+    heap.push(Task::Throw(ActorId(2), ErrorCode(9)))
+}
+
+fn takes_the_newest(heap: &mut Heap) -> Result<bool, NoMemory> {
+    add_tasks(heap)?;
+    Ok(takes_throw(heap, ErrorCode(9)) && takes_run(heap) && takes_nothing(heap))
+}
+
+// A function that makes a heap has one end, since the whole heap is dropped at each.
+fn newest_first(alloc: Global) -> Result<bool, NoMemory> {
+    let mut heap = Heap::new(alloc)?;
+    takes_the_newest(&mut heap)
 }
 
 #[test]
 fn the_newest_task_comes_first(rt: HostRuntime) -> Result<(), NoMemory> {
-    let mut heap = Heap::new(rt.alloc())?;
-    add(&mut heap, Task::Run(ActorId(1)))?;
-    add(&mut heap, Task::Throw(ActorId(2), ErrorCode(9)))?;
-    assert!(rt; takes_throw(&mut heap, ErrorCode(9)));
-    assert!(rt; takes_run(&mut heap));
-    assert!(rt; takes_nothing(&mut heap));
+    assert!(rt; newest_first(rt.alloc())?);
     Ok(())
 }
 
@@ -221,70 +249,117 @@ fn two_references(alloc: Global) -> Result<Value, NoMemory> {
     Value::record(alloc, RecordId::Declared(0), fields)
 }
 
-// The references of a value are to be dropped.
-fn give_up(heap: &mut Heap, value: &Value) -> Result<(), NoMemory> {
-    heap.push_drops(value)
+fn takes_both(heap: &mut Heap, value: &Value) -> Result<bool, NoMemory> {
+    heap.push_drops(value)?;
+    Ok(takes_drop(heap, Kind::Future) && takes_drop(heap, Kind::Promise))
+}
+
+fn references_in_order(alloc: Global) -> Result<bool, NoMemory> {
+    let value = two_references(alloc)?;
+    let mut heap = Heap::new(alloc)?;
+    takes_both(&mut heap, &value)
 }
 
 #[test]
 fn the_first_reference_is_dropped_first(rt: HostRuntime) -> Result<(), NoMemory> {
-    let mut heap = Heap::new(rt.alloc())?;
-    give_up(&mut heap, &two_references(rt.alloc())?)?;
-    assert!(rt; takes_drop(&mut heap, Kind::Future));
-    assert!(rt; takes_drop(&mut heap, Kind::Promise));
+    assert!(rt; references_in_order(rt.alloc())?);
     Ok(())
 }
 
-// A heap with a cell that is the result of its `main` is cleared.
-fn used_and_cleared(heap: &mut Heap) -> Result<CellId, NoMemory> {
+// A cell is made and held as the result of `main`, and the heap is cleared.
+fn make_and_clear(heap: &mut Heap) -> Result<CellId, NoMemory> {
     let cell = heap.new_result()?;
     heap.set_main(Some(cell));
     heap.clear();
     Ok(cell)
 }
 
+fn is_cleared(heap: &Heap, cell: CellId) -> bool {
+    heap.main().is_none() && heap.cells().references(cell).is_none()
+}
+
+fn clears(heap: &mut Heap) -> Result<bool, NoMemory> {
+    let cell = make_and_clear(heap)?;
+    Ok(is_cleared(heap, cell) && heap.new_stream()? == CellId(2))
+}
+
+fn clears_alone(alloc: Global) -> Result<bool, NoMemory> {
+    let mut heap = Heap::new(alloc)?;
+    clears(&mut heap)
+}
+
 #[test]
 fn a_cleared_heap_keeps_the_numbers(rt: HostRuntime) -> Result<(), NoMemory> {
-    let mut heap = Heap::new(rt.alloc())?;
-    let cell = used_and_cleared(&mut heap)?;
-    assert!(rt; heap.main().is_none());
-    assert!(rt; heap.cells().references(cell).is_none());
-    assert_eq!(rt; heap.new_stream()?, CellId(2));
+    assert!(rt; clears_alone(rt.alloc())?);
     Ok(())
+}
+
+// Two promises and a future of a cell count.
+fn refers(heap: &mut Heap, cell: CellId) -> bool {
+    refer(heap, cell, Side::Promise)
+        && refer(heap, cell, Side::Promise)
+        && refer(heap, cell, Side::Future)
+}
+
+fn loses_all(heap: &mut Heap, cell: CellId) -> Result<bool, NoMemory> {
+    let promise = (Kind::Promise, cell);
+    Ok(
+        loses(heap, promise, Some(Dropped::Nothing))?
+            && loses(heap, promise, Some(Dropped::Broken))?
+            && loses(heap, promise, None)?
+            && loses(heap, (Kind::Future, cell), Some(Dropped::Freed))?,
+    )
+}
+
+fn drops(heap: &mut Heap) -> Result<bool, NoMemory> {
+    let cell = make(heap)?;
+    Ok(refers(heap, cell) && loses_all(heap, cell)?)
+}
+
+fn drops_alone(alloc: Global) -> Result<bool, NoMemory> {
+    let mut heap = Heap::new(alloc)?;
+    drops(&mut heap)
 }
 
 #[test]
 fn drop_by_counts(rt: HostRuntime) -> Result<(), NoMemory> {
-    let mut heap = Heap::new(rt.alloc())?;
-    let cell = make(&mut heap)?;
-    assert!(rt; refer(&mut heap, cell, Side::Promise));
-    assert!(rt; refer(&mut heap, cell, Side::Promise));
-    assert!(rt; refer(&mut heap, cell, Side::Future));
-    assert!(rt; loses(&mut heap, Kind::Promise, cell, Some(Dropped::Nothing))?);
-    assert!(rt; loses(&mut heap, Kind::Promise, cell, Some(Dropped::Broken))?);
-    assert!(rt; loses(&mut heap, Kind::Promise, cell, None)?);
-    assert!(rt; loses(&mut heap, Kind::Future, cell, Some(Dropped::Freed))?);
+    assert!(rt; drops_alone(rt.alloc())?);
     Ok(())
+}
+
+// The first actor starts with a cell as its result, and no other may while it is unfinished.
+fn starts_once(heap: &mut Heap, cell: CellId) -> Result<bool, NoMemory> {
+    Ok(start(heap, cell)? == Some(ActorId(1)) && start(heap, cell)?.is_none())
+}
+
+fn finishes_once(heap: &mut Heap, actor: ActorId) -> bool {
+    finish(heap, actor) && !finish(heap, actor)
+}
+
+// The last future of the result of the first actor leads to its cancellation.
+fn cancels_at_last(heap: &mut Heap, cell: CellId) -> Result<bool, NoMemory> {
+    let wanted = Some(Dropped::Cancel(ActorId(1)));
+    Ok(refer(heap, cell, Side::Future) && loses(heap, (Kind::Future, cell), wanted)?)
+}
+
+fn cancels(heap: &mut Heap) -> Result<bool, NoMemory> {
+    let cell = make(heap)?;
+    Ok(
+        starts_once(heap, cell)?
+            && cancels_at_last(heap, cell)?
+            && finishes_once(heap, ActorId(1))
+            && start(heap, cell)? == Some(ActorId(2)),
+    )
+}
+
+fn cancels_alone(alloc: Global) -> Result<bool, NoMemory> {
+    let mut heap = Heap::new(alloc)?;
+    cancels(&mut heap)
 }
 
 #[test]
 fn the_last_future_cancels_an_actor(rt: HostRuntime) -> Result<(), NoMemory> {
-    let mut heap = Heap::new(rt.alloc())?;
-    let cell = make(&mut heap)?;
-    assert!(rt; start(&mut heap, cell)? == Some(ActorId(1)));
-    assert!(rt; start(&mut heap, cell)?.is_none());
-    assert!(rt; refer(&mut heap, cell, Side::Future));
-    assert!(rt;
-        loses(
-            &mut heap,
-            Kind::Future,
-            cell,
-            Some(Dropped::Cancel(ActorId(1)))
-        )?
-    );
-    assert!(rt; finish(&mut heap, ActorId(1)));
-    assert!(rt; !finish(&mut heap, ActorId(1)));
-    assert!(rt; start(&mut heap, cell)? == Some(ActorId(2)));
+    assert!(rt; cancels_alone(rt.alloc())?);
     Ok(())
 }
 
@@ -293,17 +368,31 @@ fn waits(heap: &Heap, actor: ActorId, cell: CellId) -> bool {
     heap.cells().waits(cell, Waiter { actor, callback: 0 })
 }
 
+// An actor that waits at a cell is cancelled, and waits there no more.
+fn leaves(heap: &mut Heap) -> Result<bool, NoMemory> {
+    let cell = make(heap)?;
+    let Some(actor) = waiting(heap, cell)? else {
+        return Ok(false);
+    };
+    Ok(cancel(heap, actor)? && !waits(heap, actor, cell))
+}
+
+// Tasks to drop a future, and to throw the error of a cancellation.
+fn takes_what_follows(heap: &mut Heap) -> bool {
+    takes_drop(heap, Kind::Future) && takes_throw(heap, OPERATION_CANCELLED) && takes_nothing(heap)
+}
+
+fn leaves_its_wait(heap: &mut Heap) -> Result<bool, NoMemory> {
+    Ok(leaves(heap)? && takes_what_follows(heap))
+}
+
+fn leaves_alone(alloc: Global) -> Result<bool, NoMemory> {
+    let mut heap = Heap::new(alloc)?;
+    leaves_its_wait(&mut heap)
+}
+
 #[test]
 fn a_cancelled_actor_leaves_its_wait(rt: HostRuntime) -> Result<(), NoMemory> {
-    let mut heap = Heap::new(rt.alloc())?;
-    let cell = make(&mut heap)?;
-    let Some(actor) = waiting(&mut heap, cell)? else {
-        return Err(NoMemory);
-    };
-    assert!(rt; cancel(&mut heap, actor)?);
-    assert!(rt; !waits(&heap, actor, cell));
-    assert!(rt; takes_drop(&mut heap, Kind::Future));
-    assert!(rt; takes_throw(&mut heap, OPERATION_CANCELLED));
-    assert!(rt; takes_nothing(&mut heap));
+    assert!(rt; leaves_alone(rt.alloc())?);
     Ok(())
 }

@@ -67,12 +67,24 @@ fn round(heap: &mut Heap) -> Result<bool, NoMemory> {
     Ok(lose(heap, Kind::Future, cell)? == Some(Dropped::Freed))
 }
 
+// So many rounds.
+fn rounds(heap: &mut Heap, most: u32) -> Result<bool, NoMemory> {
+    for _ in 0..most {
+        if !round(heap)? {
+            return Ok(false);
+        }
+    }
+    Ok(true)
+}
+
+fn rounds_alone(alloc: Global, most: u32) -> Result<bool, NoMemory> {
+    let mut heap = Heap::new(alloc)?;
+    rounds(&mut heap, most)
+}
+
 #[test]
 fn a_million_rounds(rt: HostRuntime) -> Result<(), NoMemory> {
-    let mut heap = Heap::new(rt.alloc())?;
-    for _ in 0..1_000_000u32 {
-        assert!(rt; round(&mut heap)?);
-    }
+    assert!(rt; rounds_alone(rt.alloc(), 1_000_000)?);
     Ok(())
 }
 
@@ -118,15 +130,14 @@ fn add_suspended(heap: &mut Heap) -> Result<bool, NoMemory> {
     settle_in(heap, actor, cell)
 }
 
-// A heap with so many suspended actors.
-fn suspended(alloc: Global, most: u32) -> Result<Heap, NoMemory> {
-    let mut heap = Heap::new(alloc)?;
+// Adds so many suspended actors.
+fn suspend_many(heap: &mut Heap, most: u32) -> Result<bool, NoMemory> {
     for _ in 0..most {
-        if !add_suspended(&mut heap)? {
-            return Err(NoMemory);
+        if !add_suspended(heap)? {
+            return Ok(false);
         }
     }
-    Ok(heap)
+    Ok(true)
 }
 
 // How many frames are listed, at most so many.
@@ -141,27 +152,40 @@ fn listed(frames: &Frames<Value>, most: u32) -> u32 {
     most
 }
 
+// Whether so many frames are listed, so many times.
+fn are_listed(frames: &Frames<Value>, wanted: u32, times: u32) -> bool {
+    for _ in 0..times {
+        if listed(frames, 200_000) != wanted {
+            return false;
+        }
+    }
+    true
+}
+
+fn lists(heap: &mut Heap, most: u32, times: u32) -> Result<bool, NoMemory> {
+    Ok(suspend_many(heap, most)? && are_listed(heap.frames(), most, times))
+}
+
+// Whether a heap with so many suspended actors lists them all, so many times.
+fn lists_alone(alloc: Global, most: u32, times: u32) -> Result<bool, NoMemory> {
+    let mut heap = Heap::new(alloc)?;
+    lists(&mut heap, most, times)
+}
+
 #[test]
 fn a_hundred_thousand_frames(rt: HostRuntime) -> Result<(), NoMemory> {
-    let heap = suspended(rt.alloc(), 100_000)?;
-    assert_eq!(rt; listed(heap.frames(), 200_000), 100_000);
+    assert!(rt; lists_alone(rt.alloc(), 100_000, 1)?);
     Ok(())
 }
 
 #[test]
 fn a_hundred_thousand_frames_listed_ten_times(rt: HostRuntime) -> Result<(), NoMemory> {
-    let heap = suspended(rt.alloc(), 100_000)?;
-    for _ in 0..10u32 {
-        assert_eq!(rt; listed(heap.frames(), 200_000), 100_000);
-    }
+    assert!(rt; lists_alone(rt.alloc(), 100_000, 10)?);
     Ok(())
 }
 
 #[test]
 fn ten_thousand_frames_listed_a_hundred_times(rt: HostRuntime) -> Result<(), NoMemory> {
-    let heap = suspended(rt.alloc(), 10_000)?;
-    for _ in 0..100u32 {
-        assert_eq!(rt; listed(heap.frames(), 20_000), 10_000);
-    }
+    assert!(rt; lists_alone(rt.alloc(), 10_000, 100)?);
     Ok(())
 }
