@@ -13,18 +13,33 @@ const STARTED: &[u8] = b"start 1 main\nstart 2 a\nwait 2 1\nwait 1 1\n";
 const DROPPED: &[u8] =
     b"take 2 1 0\ntake 1 1 0\ncancel 2\nprint 1 \"dropped\"\ndone 1\nprint 2 \"still running\"\nthrow 2 1101\nfail 2 1101\n";
 
+fn drops_an_actor(alloc: Global, running: &mut Running) -> Result<bool, Fail> {
+    if !running.told(alloc, STARTED)? {
+        return Ok(false);
+    }
+    running.again(alloc)?;
+    running.deliver(CellId(4), 1)?;
+    running.told(alloc, DROPPED)
+}
+
+fn leaves_no_actor(alloc: Global, running: &mut Running) -> Result<bool, Fail> {
+    running.again(alloc)?;
+    Ok(running.machine.live() == 0 && running.machine.holds_main())
+}
+
+fn drops_alone(alloc: Global, running: &mut Running) -> Result<bool, Fail> {
+    Ok(drops_an_actor(alloc, running)? && leaves_no_actor(alloc, running)?)
+}
+
+fn dropped_while_running(alloc: Global) -> Result<bool, Fail> {
+    let mut running = Running::start(alloc, DROPPED_WHILE_RUNNING)?;
+    drops_alone(alloc, &mut running)
+}
+
 // An actor that is cancelled while it runs: each event begins in a machine made from the state of the one before.
 #[test]
 fn heap_again_dropped_while_running(rt: HostRuntime) -> Result<(), Fail> {
-    let alloc = rt.alloc();
-    let mut running = Running::start(alloc, DROPPED_WHILE_RUNNING)?;
-    assert!(rt; running.told(alloc, STARTED)?);
-    running.again(alloc)?;
-    running.deliver(CellId(4), 1)?;
-    assert!(rt; running.told(alloc, DROPPED)?);
-    running.again(alloc)?;
-    assert_eq!(rt; running.machine.live(), 0);
-    assert!(rt; running.machine.holds_main());
+    assert!(rt; dropped_while_running(rt.alloc())?);
     Ok(())
 }
 
@@ -34,19 +49,38 @@ const THREE_LEAVES: &[u8] =
 const CANCELLED: &[u8] =
     b"cancel 1\nthrow 1 1101\ncancel 4\nthrow 4 1101\nfail 4 1101\ncancel 3\nthrow 3 1101\nfail 3 1101\ncancel 2\nthrow 2 1101\nfail 2 1101\nfail 1 1101\n";
 
+fn has_four_waits(alloc: Global, running: &mut Running) -> Result<bool, Fail> {
+    running.again(alloc)?;
+    Ok(running.frames()? == 4 && running.callbacks()? == 4)
+}
+
+fn cancels_all(alloc: Global, running: &mut Running) -> Result<bool, Fail> {
+    running.stop(5)?;
+    running.told(alloc, CANCELLED)
+}
+
+fn leaves_nothing(alloc: Global, running: &mut Running) -> Result<bool, Fail> {
+    running.again(alloc)?;
+    Ok(running.machine.live() == 0 && !running.machine.holds_main())
+}
+
+fn stops(alloc: Global, running: &mut Running) -> Result<bool, Fail> {
+    Ok(
+        has_four_waits(alloc, running)?
+            && cancels_all(alloc, running)?
+            && leaves_nothing(alloc, running)?,
+    )
+}
+
+fn stopped_in_order(alloc: Global) -> Result<bool, Fail> {
+    let mut running = Running::start(alloc, THREE_LEAVES)?;
+    stops(alloc, &mut running)
+}
+
 // A process that is stopped in a machine made from the state of the one that it ran in.
 #[test]
 fn heap_again_stop_cancels_in_order(rt: HostRuntime) -> Result<(), Fail> {
-    let alloc = rt.alloc();
-    let mut running = Running::start(alloc, THREE_LEAVES)?;
-    running.again(alloc)?;
-    assert_eq!(rt; running.machine.frames()?.len(), 4);
-    assert_eq!(rt; running.machine.callbacks()?.len(), 4);
-    running.stop(5)?;
-    assert!(rt; running.told(alloc, CANCELLED)?);
-    running.again(alloc)?;
-    assert_eq!(rt; running.machine.live(), 0);
-    assert!(rt; !running.machine.holds_main());
+    assert!(rt; stopped_in_order(rt.alloc())?);
     Ok(())
 }
 
@@ -56,15 +90,30 @@ const REQUESTS: &[u8] =
 const ANSWERED: &[u8] =
     b"start 1 main\nstart 2 server\nwait 2 1\nstart 3 client\ntake 2 1 0\nwait 2 1\ntake 3 1 0\ndone 3\ntake 1 1 0\nprint 1 42\nstart 4 client\ntake 2 1 0\nwait 2 1\nwait 4 1\nbroken 7\ntake 4 1 0\nthrow 4 1100\nfail 4 1100\ntake 1 2 0\nthrow 1 1100\ncatch 1 1100\nprint 1 1100\ncancel 2\nthrow 2 1101\nfail 2 1101\ndone 1\n";
 
+fn answers(alloc: Global, running: &mut Running) -> Result<bool, Fail> {
+    if !running.told(alloc, ANSWERED)? {
+        return Ok(false);
+    }
+    running.again(alloc)?;
+    Ok(running.machine.holds_main())
+}
+
+fn rests(running: &mut Running) -> Result<bool, Fail> {
+    Ok(running.stop(1)? == Burst::Rested && running.machine.live() == 0)
+}
+
+fn serves(alloc: Global, running: &mut Running) -> Result<bool, Fail> {
+    Ok(answers(alloc, running)? && rests(running)?)
+}
+
+fn served(alloc: Global) -> Result<bool, Fail> {
+    let mut running = Running::start(alloc, REQUESTS)?;
+    serves(alloc, &mut running)
+}
+
 // Requests that carry the promise of their reply: all in one event, which leaves the held result of `main` alone.
 #[test]
 fn heap_again_request_server(rt: HostRuntime) -> Result<(), Fail> {
-    let alloc = rt.alloc();
-    let mut running = Running::start(alloc, REQUESTS)?;
-    assert!(rt; running.told(alloc, ANSWERED)?);
-    running.again(alloc)?;
-    assert!(rt; running.machine.holds_main());
-    assert!(rt; running.stop(1)? == Burst::Rested);
-    assert_eq!(rt; running.machine.live(), 0);
+    assert!(rt; served(rt.alloc())?);
     Ok(())
 }

@@ -5,12 +5,13 @@ use flow_base::ids::{CellId, ProcId};
 use flow_base::memory::NoMemory;
 use flow_base::text::Text;
 use flow_code::program::Code;
-use flow_compile::{compile, front};
+use flow_compile::{CompileFault, compile, front};
 use flow_machine::host::Host;
 use flow_simdisk::DiskAsk;
 use flow_trace::buffer::{LineBuf, print_line};
 use flow_trace::line::Line;
 use flow_trace::out::{LineOut, LineVec};
+use flow_valid::program::ClassProgram;
 use std::alloc::Global;
 use std::test::Fail;
 
@@ -87,15 +88,21 @@ impl Host for Lines {
     }
 }
 
+// The code of classes.
+fn coded(alloc: Global, compiled: Result<ClassProgram, CompileFault>) -> Result<Code, Fail> {
+    let Ok(classes) = compiled else {
+        return Err(Fail::from("no classes"));
+    };
+    Ok(Code::new(alloc, classes)?)
+}
+
 // The code of a program that the front accepts.
 pub(crate) fn code(alloc: Global, text: &[u8]) -> Result<Code, Fail> {
     let Ok(sound) = front(alloc, text) else {
         return Err(Fail::from("no program"));
     };
-    let Ok(classes) = compile(alloc, &sound) else {
-        return Err(Fail::from("no classes"));
-    };
-    Ok(Code::new(alloc, classes)?)
+    let compiled = compile(alloc, &sound);
+    coded(alloc, compiled)
 }
 
 // Lines as text.
