@@ -20,7 +20,6 @@ use flow_eval::stop::Halt;
 use flow_eval::variables::{Var, VarList, Vars};
 use flow_value::value::{Kind, Outcome, Value};
 use std::alloc::Global;
-use std::test::Fail;
 
 const START: Place = Place {
     line: 1,
@@ -192,8 +191,7 @@ fn is_value(alloc: Global, expr: &Expr, vars: &[Var], view: &Every, want: Want) 
 
 // Whether an expression over no variables and no set cell comes to what is wanted.
 fn comes_alone(alloc: Global, expr: &Expr, want: Want) -> bool {
-    let unset = Every { outcome: None };
-    is_value(alloc, expr, &[], &unset, want)
+    is_value(alloc, expr, &[], &unset(), want)
 }
 
 const OPERATORS: [(Op, Arg, Arg, Want); 61] = [
@@ -347,16 +345,28 @@ fn operation(alloc: Global, op: Op, left: Arg, right: Arg) -> Result<Expr, NoMem
     binary(alloc, op, left_expr, arg_expr(alloc, right)?)
 }
 
-#[test]
-fn operators_at_their_edges(rt: HostRuntime) -> Result<(), Fail> {
-    let alloc = rt.alloc();
+fn operates(
+    alloc: Global,
+    (op, left, right): (Op, Arg, Arg),
+    want: Want,
+) -> Result<bool, NoMemory> {
+    let expr = operation(alloc, op, left, right)?;
+    Ok(comes_alone(alloc, &expr, want))
+}
+
+fn first_wrong_operation(alloc: Global) -> Result<Option<(Op, Arg, Arg)>, NoMemory> {
     for (op, left, right, want) in OPERATORS {
-        let expr = operation(alloc, op, left, right)?;
-        assert!(rt;
-            comes_alone(alloc, &expr, want),
-            "{left:?} {op:?} {right:?}"
-        );
+        if !operates(alloc, (op, left, right), want)? {
+            return Ok(Some((op, left, right)));
+        }
     }
+    Ok(None)
+}
+
+#[test]
+fn operators_at_their_edges(rt: HostRuntime) -> Result<(), NoMemory> {
+    let wrong = first_wrong_operation(rt.alloc())?;
+    assert!(rt; wrong.is_none(), "{wrong:?}");
     Ok(())
 }
 
@@ -435,13 +445,24 @@ fn call_of(alloc: Global, word: &[u8], args: &[Arg]) -> Result<Expr, NoMemory> {
     call_expr(alloc, word, arg_exprs(alloc, args)?)
 }
 
-#[test]
-fn predefined_calls(rt: HostRuntime) -> Result<(), Fail> {
-    let alloc = rt.alloc();
+fn calls(alloc: Global, word: &[u8], args: &[Arg], want: Want) -> Result<bool, NoMemory> {
+    let expr = call_of(alloc, word, args)?;
+    Ok(comes_alone(alloc, &expr, want))
+}
+
+fn first_wrong_call(alloc: Global) -> Result<Option<(&'static [u8], &'static [Arg])>, NoMemory> {
     for (word, args, want) in CALLS {
-        let expr = call_of(alloc, word, args)?;
-        assert!(rt; comes_alone(alloc, &expr, want), "{word:?} {args:?}");
+        if !calls(alloc, word, args, want)? {
+            return Ok(Some((word, args)));
+        }
     }
+    Ok(None)
+}
+
+#[test]
+fn predefined_calls(rt: HostRuntime) -> Result<(), NoMemory> {
+    let wrong = first_wrong_call(rt.alloc())?;
+    assert!(rt; wrong.is_none(), "{wrong:?}");
     Ok(())
 }
 
@@ -516,16 +537,31 @@ fn method_of(alloc: Global, base: Arg, word: &[u8], args: &[Arg]) -> Result<Expr
     method_expr(alloc, of, word, arg_exprs(alloc, args)?)
 }
 
-#[test]
-fn methods_of_values(rt: HostRuntime) -> Result<(), Fail> {
-    let alloc = rt.alloc();
+fn answers(
+    alloc: Global,
+    base: Arg,
+    (word, args): (&[u8], &[Arg]),
+    want: Want,
+) -> Result<bool, NoMemory> {
+    let expr = method_of(alloc, base, word, args)?;
+    Ok(comes_alone(alloc, &expr, want))
+}
+
+fn first_wrong_method(
+    alloc: Global,
+) -> Result<Option<(Arg, &'static [u8], &'static [Arg])>, NoMemory> {
     for (base, word, args, want) in METHODS {
-        let expr = method_of(alloc, base, word, args)?;
-        assert!(rt;
-            comes_alone(alloc, &expr, want),
-            "{base:?} {word:?} {args:?}"
-        );
+        if !answers(alloc, base, (word, args), want)? {
+            return Ok(Some((base, word, args)));
+        }
     }
+    Ok(None)
+}
+
+#[test]
+fn methods_of_values(rt: HostRuntime) -> Result<(), NoMemory> {
+    let wrong = first_wrong_method(rt.alloc())?;
+    assert!(rt; wrong.is_none(), "{wrong:?}");
     Ok(())
 }
 
@@ -600,45 +636,79 @@ fn one_var(alloc: Global, word: &[u8], value: Value) -> Result<Vec<Var>, NoMemor
     Ok(vars)
 }
 
+// A method without arguments of a variable that holds a reference.
+fn reference_method(alloc: Global, word: &[u8]) -> Result<Expr, NoMemory> {
+    method_expr(alloc, var(alloc, b"r")?, word, Vec::new(alloc))
+}
+
 // What a method of a reference comes to where the cells hold this.
 fn comes_at(
     alloc: Global,
     (kind, word): (Kind, &[u8]),
-    outcome: Option<Outcome>,
+    view: &Every,
     want: Want,
 ) -> Result<bool, NoMemory> {
     let vars = one_var(alloc, b"r", Value::Ref(kind, CellId(3)))?;
-    let expr = method_expr(alloc, var(alloc, b"r")?, word, Vec::new(alloc))?;
-    Ok(is_value(alloc, &expr, &vars, &Every { outcome }, want))
+    let expr = reference_method(alloc, word)?;
+    Ok(is_value(alloc, &expr, &vars, view, want))
 }
 
-fn good() -> Option<Outcome> {
-    Some(Outcome::Value(Value::Int(5)))
+fn unset() -> Every {
+    Every { outcome: None }
 }
 
-fn bad() -> Option<Outcome> {
-    Some(Outcome::Error(ErrorCode(1004)))
+fn good() -> Every {
+    Every {
+        outcome: Some(Outcome::Value(Value::Int(5))),
+    }
+}
+
+fn bad() -> Every {
+    Every {
+        outcome: Some(Outcome::Error(ErrorCode(1004))),
+    }
+}
+
+fn refers(alloc: Global, of: (Kind, &[u8]), wants: [Want; 3]) -> Result<bool, NoMemory> {
+    Ok(
+        comes_at(alloc, of, &unset(), wants[0])?
+            && comes_at(alloc, of, &good(), wants[1])?
+            && comes_at(alloc, of, &bad(), wants[2])?,
+    )
+}
+
+fn first_wrong_reference(alloc: Global) -> Result<Option<(Kind, &'static [u8])>, NoMemory> {
+    for (kind, word, wants) in REFERENCES {
+        if !refers(alloc, (kind, word), wants)? {
+            return Ok(Some((kind, word)));
+        }
+    }
+    Ok(None)
 }
 
 #[test]
-fn methods_of_references(rt: HostRuntime) -> Result<(), Fail> {
-    let alloc = rt.alloc();
-    for (kind, word, [unset, set, broken]) in REFERENCES {
-        let of = (kind, word);
-        assert!(rt; comes_at(alloc, of, None, unset)?, "{kind:?} {word:?}");
-        assert!(rt; comes_at(alloc, of, good(), set)?, "{kind:?} {word:?}");
-        assert!(rt; comes_at(alloc, of, bad(), broken)?, "{kind:?} {word:?}");
-    }
+fn methods_of_references(rt: HostRuntime) -> Result<(), NoMemory> {
+    let wrong = first_wrong_reference(rt.alloc())?;
+    assert!(rt; wrong.is_none(), "{wrong:?}");
     Ok(())
 }
 
-// A variable with the longest text that there is.
-fn longest(alloc: Global) -> Result<Vec<Var>, NoMemory> {
+fn longest_bytes(alloc: Global) -> Result<Vec<u8>, NoMemory> {
     let mut bytes = Vec::new(alloc);
     for _ in 0..Text::LIMIT {
         bytes.push(b'a')?;
     }
-    one_var(alloc, b"t", Value::text(alloc, text(alloc, &bytes)?)?)
+    Ok(bytes)
+}
+
+fn longest_text(alloc: Global) -> Result<Text, NoMemory> {
+    let bytes = longest_bytes(alloc)?;
+    text(alloc, &bytes)
+}
+
+// A variable with the longest text that there is.
+fn longest(alloc: Global) -> Result<Vec<Var>, NoMemory> {
+    one_var(alloc, b"t", Value::text(alloc, longest_text(alloc)?)?)
 }
 
 // That text with these bytes behind it.
@@ -647,24 +717,31 @@ fn longer(alloc: Global, bytes: &[u8]) -> Result<Expr, NoMemory> {
     binary(alloc, Op::Add, left, text_expr(alloc, bytes)?)
 }
 
-// Whether it is the text itself.
-fn unchanged(alloc: Global, expr: Expr) -> Result<Expr, NoMemory> {
-    binary(alloc, Op::Eq, expr, var(alloc, b"t")?)
+// Whether an expression over these variables comes to what is wanted.
+fn comes_over(alloc: Global, expr: &Expr, vars: &[Var], want: Want) -> bool {
+    is_value(alloc, expr, vars, &unset(), want)
 }
 
-fn is_over(alloc: Global, expr: &Expr, vars: &[Var], want: Want) -> bool {
-    let unset = Every { outcome: None };
-    is_value(alloc, expr, vars, &unset, want)
+// Whether that text with no bytes behind it is that text.
+fn fits(alloc: Global, vars: &[Var]) -> Result<bool, NoMemory> {
+    let same = longer(alloc, b"")?;
+    let expr = binary(alloc, Op::Eq, same, var(alloc, b"t")?)?;
+    Ok(comes_over(alloc, &expr, vars, Want::Bool(true)))
+}
+
+fn is_too_long(alloc: Global, vars: &[Var]) -> Result<bool, NoMemory> {
+    let expr = longer(alloc, b"b")?;
+    Ok(comes_over(alloc, &expr, vars, Want::Throws(9002)))
+}
+
+fn limits_texts(alloc: Global) -> Result<bool, NoMemory> {
+    let vars = longest(alloc)?;
+    Ok(fits(alloc, &vars)? && is_too_long(alloc, &vars)?)
 }
 
 #[test]
-fn texts_at_their_limit(rt: HostRuntime) -> Result<(), Fail> {
-    let alloc = rt.alloc();
-    let vars = longest(alloc)?;
-    let fits = unchanged(alloc, longer(alloc, b"")?)?;
-    assert!(rt; is_over(alloc, &fits, &vars, Want::Bool(true)));
-    let long = longer(alloc, b"b")?;
-    assert!(rt; is_over(alloc, &long, &vars, Want::Throws(9002)));
+fn texts_at_their_limit(rt: HostRuntime) -> Result<(), NoMemory> {
+    assert!(rt; limits_texts(rt.alloc())?);
     Ok(())
 }
 
@@ -682,26 +759,48 @@ fn packet_field(alloc: Global, word: &[u8]) -> Result<Expr, NoMemory> {
     Ok(Expr::Field(packet, ident(alloc, word)?))
 }
 
-#[test]
-fn fields_of_a_packet(rt: HostRuntime) -> Result<(), Fail> {
-    let alloc = rt.alloc();
+fn has_field(alloc: Global, word: &[u8], want: Want) -> Result<bool, NoMemory> {
+    let expr = packet_field(alloc, word)?;
+    Ok(comes_alone(alloc, &expr, want))
+}
+
+fn first_wrong_field(alloc: Global) -> Result<Option<&'static [u8]>, NoMemory> {
     for (word, want) in FIELDS {
-        let expr = packet_field(alloc, word)?;
-        assert!(rt; comes_alone(alloc, &expr, want), "{word:?}");
+        if !has_field(alloc, word, want)? {
+            return Ok(Some(word));
+        }
     }
-    Ok(())
+    Ok(None)
 }
 
 #[test]
-fn single_operands(rt: HostRuntime) -> Result<(), Fail> {
+fn fields_of_a_packet(rt: HostRuntime) -> Result<(), NoMemory> {
+    let wrong = first_wrong_field(rt.alloc())?;
+    assert!(rt; wrong.is_none(), "{wrong:?}");
+    Ok(())
+}
+
+fn negates(alloc: Global, n: i64, want: Want) -> Result<bool, NoMemory> {
+    let expr = Expr::Neg(Box::new(alloc, Expr::Int(n))?);
+    Ok(comes_alone(alloc, &expr, want))
+}
+
+fn inverts(alloc: Global) -> Result<bool, NoMemory> {
+    let expr = Expr::Not(Box::new(alloc, Expr::Bool(true))?);
+    Ok(comes_alone(alloc, &expr, Want::Bool(false)))
+}
+
+fn encloses(alloc: Global) -> Result<bool, NoMemory> {
+    let expr = Expr::Paren(Box::new(alloc, Expr::VoidValue)?);
+    Ok(comes_alone(alloc, &expr, Want::Void))
+}
+
+#[test]
+fn single_operands(rt: HostRuntime) -> Result<(), NoMemory> {
     let alloc = rt.alloc();
-    let least = Expr::Neg(Box::new(alloc, Expr::Int(LEAST))?);
-    assert!(rt; comes_alone(alloc, &least, Want::Throws(9001)));
-    let greatest = Expr::Neg(Box::new(alloc, Expr::Int(GREATEST))?);
-    assert!(rt; comes_alone(alloc, &greatest, Want::Int(-GREATEST)));
-    let lie = Expr::Not(Box::new(alloc, Expr::Bool(true))?);
-    assert!(rt; comes_alone(alloc, &lie, Want::Bool(false)));
-    let void = Expr::Paren(Box::new(alloc, Expr::VoidValue)?);
-    assert!(rt; comes_alone(alloc, &void, Want::Void));
+    assert!(rt; negates(alloc, LEAST, Want::Throws(9001))?);
+    assert!(rt; negates(alloc, GREATEST, Want::Int(-GREATEST))?);
+    assert!(rt; inverts(alloc)?);
+    assert!(rt; encloses(alloc)?);
     Ok(())
 }

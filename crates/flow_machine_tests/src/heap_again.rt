@@ -3,6 +3,7 @@
 use crate::running::Running;
 use flow_base::ids::CellId;
 use flow_machine::host::Burst;
+use std::alloc::Global;
 use std::test::Fail;
 
 const DROPPED_WHILE_RUNNING: &[u8] =
