@@ -1,34 +1,40 @@
 // What bench/heap.sh times and measures.
 
-use crate::heaps::{add_wait, hold, lose, suspend};
+use crate::heaps::{add_wait, begin, hold, is_there, lose, make, suspend, wait_at};
 use flow_base::ids::{ActorId, CellId};
 use flow_base::memory::NoMemory;
 use flow_cancel::heap::Heap;
 use flow_cancel::task::Dropped;
 use flow_cell::cells::Cells;
 use flow_cell::counts::Side;
+use flow_cell::waiter::Waiter;
 use flow_frame::frames::Frames;
 use flow_value::value::{Kind, Outcome, Value};
 use std::alloc::Global;
 
 // An unset cell that is there is set.
 fn set(cells: &mut Cells<Outcome>, cell: CellId) -> bool {
-    if cells.references(cell).is_none() || cells.content(cell).is_some() {
+    if !is_there(cells, cell) || cells.content(cell).is_some() {
         return false;
     }
     cells.set(cell, Outcome::Value(Value::Int(7)));
     true
 }
 
+// The oldest waiter of a cell that is there.
+fn oldest(cells: &Cells<Outcome>, cell: CellId) -> Option<Waiter> {
+    if !is_there(cells, cell) {
+        return None;
+    }
+    cells.first_waiter(cell)
+}
+
 // The oldest waiter of a cell is taken.
 fn take(cells: &mut Cells<Outcome>, cell: CellId) -> bool {
-    if cells.references(cell).is_none() {
-        return false;
-    }
-    let Some(waiter) = cells.first_waiter(cell) else {
+    let Some(waiter) = oldest(cells, cell) else {
         return false;
     };
-    if !cells.waits(cell, waiter) {
+    if !is_there(cells, cell) || !cells.waits(cell, waiter) {
         return false;
     }
     cells.remove_waiter(cell, waiter);
@@ -46,32 +52,57 @@ fn pass(cells: &mut Cells<Outcome>, cell: CellId) -> Result<bool, NoMemory> {
     Ok(take(cells, cell))
 }
 
+// The same with a cell of a heap.
+fn pass_in(heap: &mut Heap, cell: CellId) -> Result<bool, NoMemory> {
+    pass(heap.cells_mut(), cell)
+}
+
 // A cell is made and used, and its references are given up.
 fn round(heap: &mut Heap) -> Result<bool, NoMemory> {
-    let cell = heap.new_result()?;
-    if !pass(heap.cells_mut(), cell)? {
+    let cell = make(heap)?;
+    if !pass_in(heap, cell)? {
         return Ok(false);
     }
     lose(heap, Kind::Promise, cell)?;
     Ok(lose(heap, Kind::Future, cell)? == Some(Dropped::Freed))
 }
 
+// So many rounds.
+fn rounds(heap: &mut Heap, most: u32) -> Result<bool, NoMemory> {
+    for _ in 0..most {
+        if !round(heap)? {
+            return Ok(false);
+        }
+    }
+    Ok(true)
+}
+
+fn rounds_alone(alloc: Global, most: u32) -> Result<bool, NoMemory> {
+    let mut heap = Heap::new(alloc)?;
+    rounds(&mut heap, most)
+}
+
 #[test]
 fn a_million_rounds(rt: HostRuntime) -> Result<(), NoMemory> {
-    let mut heap = Heap::new(rt.alloc())?;
-    for _ in 0..1_000_000u32 {
-        assert!(rt; round(&mut heap)?);
-    }
+    assert!(rt; rounds_alone(rt.alloc(), 1_000_000)?);
     Ok(())
+}
+
+// Fills a place of a frame that is there.
+fn fill_place(frames: &mut Frames<Value>, actor: ActorId, place: u32) -> Result<bool, NoMemory> {
+    if !frames.contains(actor) || frames.places(actor) <= place {
+        return Ok(false);
+    }
+    frames.set_slot(actor, place, Some(Value::Bool(true)))?;
+    Ok(true)
 }
 
 // Fills the first four places of a frame.
 fn fill(frames: &mut Frames<Value>, actor: ActorId) -> Result<bool, NoMemory> {
     for place in 0..4u32 {
-        if !frames.contains(actor) || frames.places(actor) <= place {
+        if !fill_place(frames, actor, place)? {
             return Ok(false);
         }
-        frames.set_slot(actor, place, Some(Value::Bool(true)))?;
     }
     Ok(true)
 }
@@ -84,25 +115,29 @@ fn settle(frames: &mut Frames<Value>, actor: ActorId, cell: CellId) -> Result<bo
     suspend(frames, actor, cell)
 }
 
-// Adds a suspended actor whose frame has four filled slots, and a callback at a cell of its own.
-fn add_suspended(heap: &mut Heap) -> Result<bool, NoMemory> {
-    let cell = heap.new_result()?;
-    let actor = heap.start(4, 4, None)?;
-    if !add_wait(heap.cells_mut(), actor, cell)? {
-        return Ok(false);
-    }
+// The same in a heap.
+fn settle_in(heap: &mut Heap, actor: ActorId, cell: CellId) -> Result<bool, NoMemory> {
     settle(heap.frames_mut(), actor, cell)
 }
 
-// A heap with so many suspended actors.
-fn suspended(alloc: Global, most: u32) -> Result<Heap, NoMemory> {
-    let mut heap = Heap::new(alloc)?;
+// Adds a suspended actor whose frame has four filled slots, and a callback at a cell of its own.
+fn add_suspended(heap: &mut Heap) -> Result<bool, NoMemory> {
+    let cell = make(heap)?;
+    let actor = begin(heap, 4)?;
+    if !wait_at(heap, actor, cell)? {
+        return Ok(false);
+    }
+    settle_in(heap, actor, cell)
+}
+
+// Adds so many suspended actors.
+fn suspend_many(heap: &mut Heap, most: u32) -> Result<bool, NoMemory> {
     for _ in 0..most {
-        if !add_suspended(&mut heap)? {
-            return Err(NoMemory);
+        if !add_suspended(heap)? {
+            return Ok(false);
         }
     }
-    Ok(heap)
+    Ok(true)
 }
 
 // How many frames are listed, at most so many.
@@ -117,27 +152,40 @@ fn listed(frames: &Frames<Value>, most: u32) -> u32 {
     most
 }
 
+// Whether so many frames are listed, so many times.
+fn are_listed(frames: &Frames<Value>, wanted: u32, times: u32) -> bool {
+    for _ in 0..times {
+        if listed(frames, 200_000) != wanted {
+            return false;
+        }
+    }
+    true
+}
+
+fn lists(heap: &mut Heap, most: u32, times: u32) -> Result<bool, NoMemory> {
+    Ok(suspend_many(heap, most)? && are_listed(heap.frames(), most, times))
+}
+
+// Whether a heap with so many suspended actors lists them all, so many times.
+fn lists_alone(alloc: Global, most: u32, times: u32) -> Result<bool, NoMemory> {
+    let mut heap = Heap::new(alloc)?;
+    lists(&mut heap, most, times)
+}
+
 #[test]
 fn a_hundred_thousand_frames(rt: HostRuntime) -> Result<(), NoMemory> {
-    let heap = suspended(rt.alloc(), 100_000)?;
-    assert_eq!(rt; listed(heap.frames(), 200_000), 100_000);
+    assert!(rt; lists_alone(rt.alloc(), 100_000, 1)?);
     Ok(())
 }
 
 #[test]
 fn a_hundred_thousand_frames_listed_ten_times(rt: HostRuntime) -> Result<(), NoMemory> {
-    let heap = suspended(rt.alloc(), 100_000)?;
-    for _ in 0..10u32 {
-        assert_eq!(rt; listed(heap.frames(), 200_000), 100_000);
-    }
+    assert!(rt; lists_alone(rt.alloc(), 100_000, 10)?);
     Ok(())
 }
 
 #[test]
 fn ten_thousand_frames_listed_a_hundred_times(rt: HostRuntime) -> Result<(), NoMemory> {
-    let heap = suspended(rt.alloc(), 10_000)?;
-    for _ in 0..100u32 {
-        assert_eq!(rt; listed(heap.frames(), 20_000), 10_000);
-    }
+    assert!(rt; lists_alone(rt.alloc(), 10_000, 100)?);
     Ok(())
 }

@@ -20,7 +20,6 @@ use flow_eval::stop::Halt;
 use flow_eval::variables::{Var, VarList, Vars};
 use flow_value::value::{Kind, Outcome, Value};
 use std::alloc::Global;
-use std::test::Fail;
 
 const START: Place = Place {
     line: 1,
@@ -112,15 +111,31 @@ fn one(alloc: Global, arg: Expr) -> Result<Vec<Expr>, NoMemory> {
     Ok(args)
 }
 
+fn text_expr(alloc: Global, bytes: &[u8]) -> Result<Expr, NoMemory> {
+    Ok(Expr::Text(text(alloc, bytes)?))
+}
+
+fn call_expr(alloc: Global, word: &[u8], args: Vec<Expr>) -> Result<Expr, NoMemory> {
+    Ok(Expr::Call(ident(alloc, word)?, args))
+}
+
+fn error_expr(alloc: Global, n: i64) -> Result<Expr, NoMemory> {
+    call_expr(alloc, b"error", one(alloc, Expr::Int(n))?)
+}
+
+fn method_expr(alloc: Global, of: Expr, word: &[u8], args: Vec<Expr>) -> Result<Expr, NoMemory> {
+    Ok(Expr::Method(Box::new(alloc, of)?, ident(alloc, word)?, args))
+}
+
 fn arg_expr(alloc: Global, given: Arg) -> Result<Expr, NoMemory> {
     match given {
         Arg::Int(n) => Ok(Expr::Int(n)),
         Arg::Bool(b) => Ok(Expr::Bool(b)),
-        Arg::Text(bytes) => Ok(Expr::Text(text(alloc, bytes)?)),
+        Arg::Text(bytes) => text_expr(alloc, bytes),
         Arg::Void => Ok(Expr::VoidValue),
-        Arg::Error(n) => { Ok(Expr::Call(ident(alloc, b"error")?, one(alloc, Expr::Int(n))?)) }
+        Arg::Error(n) => error_expr(alloc, n),
         Arg::Var(word) => var(alloc, word),
-        Arg::Call(word) => Ok(Expr::Call(ident(alloc, word)?, Vec::new(alloc))),
+        Arg::Call(word) => call_expr(alloc, word, Vec::new(alloc)),
     }
 }
 
@@ -167,6 +182,16 @@ fn value(alloc: Global, expr: &Expr, vars: &[Var], view: &Every) -> Result<Value
         expr,
         &mut turns,
     )
+}
+
+// Whether that is what is wanted.
+fn is_value(alloc: Global, expr: &Expr, vars: &[Var], view: &Every, want: Want) -> bool {
+    comes_to(&value(alloc, expr, vars, view), want)
+}
+
+// Whether an expression over no variables and no set cell comes to what is wanted.
+fn comes_alone(alloc: Global, expr: &Expr, want: Want) -> bool {
+    is_value(alloc, expr, &[], &unset(), want)
 }
 
 const OPERATORS: [(Op, Arg, Arg, Want); 61] = [
@@ -315,16 +340,33 @@ const OPERATORS: [(Op, Arg, Arg, Want); 61] = [
     ),
 ];
 
-#[test]
-fn operators_at_their_edges(rt: HostRuntime) -> Result<(), Fail> {
-    let alloc = rt.alloc();
-    let unset = Every { outcome: None };
+fn operation(alloc: Global, op: Op, left: Arg, right: Arg) -> Result<Expr, NoMemory> {
+    let left_expr = arg_expr(alloc, left)?;
+    binary(alloc, op, left_expr, arg_expr(alloc, right)?)
+}
+
+fn operates(
+    alloc: Global,
+    (op, left, right): (Op, Arg, Arg),
+    want: Want,
+) -> Result<bool, NoMemory> {
+    let expr = operation(alloc, op, left, right)?;
+    Ok(comes_alone(alloc, &expr, want))
+}
+
+fn first_wrong_operation(alloc: Global) -> Result<Option<(Op, Arg, Arg)>, NoMemory> {
     for (op, left, right, want) in OPERATORS {
-        let left_expr = arg_expr(alloc, left)?;
-        let expr = binary(alloc, op, left_expr, arg_expr(alloc, right)?)?;
-        let result = value(alloc, &expr, &[], &unset);
-        assert!(rt; comes_to(&result, want), "{left:?} {op:?} {right:?}");
+        if !operates(alloc, (op, left, right), want)? {
+            return Ok(Some((op, left, right)));
+        }
     }
+    Ok(None)
+}
+
+#[test]
+fn operators_at_their_edges(rt: HostRuntime) -> Result<(), NoMemory> {
+    let wrong = first_wrong_operation(rt.alloc())?;
+    assert!(rt; wrong.is_none(), "{wrong:?}");
     Ok(())
 }
 
@@ -399,15 +441,28 @@ const CALLS: [(&[u8], &[Arg], Want); 35] = [
     (b"absent", &[], Want::NoMeaning),
 ];
 
-#[test]
-fn predefined_calls(rt: HostRuntime) -> Result<(), Fail> {
-    let alloc = rt.alloc();
-    let unset = Every { outcome: None };
+fn call_of(alloc: Global, word: &[u8], args: &[Arg]) -> Result<Expr, NoMemory> {
+    call_expr(alloc, word, arg_exprs(alloc, args)?)
+}
+
+fn calls(alloc: Global, word: &[u8], args: &[Arg], want: Want) -> Result<bool, NoMemory> {
+    let expr = call_of(alloc, word, args)?;
+    Ok(comes_alone(alloc, &expr, want))
+}
+
+fn first_wrong_call(alloc: Global) -> Result<Option<(&'static [u8], &'static [Arg])>, NoMemory> {
     for (word, args, want) in CALLS {
-        let expr = Expr::Call(ident(alloc, word)?, arg_exprs(alloc, args)?);
-        let came = value(alloc, &expr, &[], &unset);
-        assert!(rt; comes_to(&came, want), "{word:?} {args:?}");
+        if !calls(alloc, word, args, want)? {
+            return Ok(Some((word, args)));
+        }
     }
+    Ok(None)
+}
+
+#[test]
+fn predefined_calls(rt: HostRuntime) -> Result<(), NoMemory> {
+    let wrong = first_wrong_call(rt.alloc())?;
+    assert!(rt; wrong.is_none(), "{wrong:?}");
     Ok(())
 }
 
@@ -477,16 +532,36 @@ const METHODS: [(Arg, &[u8], &[Arg], Want); 18] = [
     (Arg::Call(b"absent"), b"size", &[], Want::NoMeaning),
 ];
 
-#[test]
-fn methods_of_values(rt: HostRuntime) -> Result<(), Fail> {
-    let alloc = rt.alloc();
-    let unset = Every { outcome: None };
+fn method_of(alloc: Global, base: Arg, word: &[u8], args: &[Arg]) -> Result<Expr, NoMemory> {
+    let of = arg_expr(alloc, base)?;
+    method_expr(alloc, of, word, arg_exprs(alloc, args)?)
+}
+
+fn answers(
+    alloc: Global,
+    base: Arg,
+    (word, args): (&[u8], &[Arg]),
+    want: Want,
+) -> Result<bool, NoMemory> {
+    let expr = method_of(alloc, base, word, args)?;
+    Ok(comes_alone(alloc, &expr, want))
+}
+
+fn first_wrong_method(
+    alloc: Global,
+) -> Result<Option<(Arg, &'static [u8], &'static [Arg])>, NoMemory> {
     for (base, word, args, want) in METHODS {
-        let of = Box::new(alloc, arg_expr(alloc, base)?)?;
-        let expr = Expr::Method(of, ident(alloc, word)?, arg_exprs(alloc, args)?);
-        let came = value(alloc, &expr, &[], &unset);
-        assert!(rt; comes_to(&came, want), "{base:?} {word:?} {args:?}");
+        if !answers(alloc, base, (word, args), want)? {
+            return Ok(Some((base, word, args)));
+        }
     }
+    Ok(None)
+}
+
+#[test]
+fn methods_of_values(rt: HostRuntime) -> Result<(), NoMemory> {
+    let wrong = first_wrong_method(rt.alloc())?;
+    assert!(rt; wrong.is_none(), "{wrong:?}");
     Ok(())
 }
 
@@ -561,90 +636,171 @@ fn one_var(alloc: Global, word: &[u8], value: Value) -> Result<Vec<Var>, NoMemor
     Ok(vars)
 }
 
-#[test]
-fn methods_of_references(rt: HostRuntime) -> Result<(), Fail> {
-    let alloc = rt.alloc();
-    let unset = Every { outcome: None };
-    let good = Every {
+// A method without arguments of a variable that holds a reference.
+fn reference_method(alloc: Global, word: &[u8]) -> Result<Expr, NoMemory> {
+    method_expr(alloc, var(alloc, b"r")?, word, Vec::new(alloc))
+}
+
+// What a method of a reference comes to where the cells hold this.
+fn comes_at(
+    alloc: Global,
+    (kind, word): (Kind, &[u8]),
+    view: &Every,
+    want: Want,
+) -> Result<bool, NoMemory> {
+    let vars = one_var(alloc, b"r", Value::Ref(kind, CellId(3)))?;
+    let expr = reference_method(alloc, word)?;
+    Ok(is_value(alloc, &expr, &vars, view, want))
+}
+
+fn unset() -> Every {
+    Every { outcome: None }
+}
+
+fn good() -> Every {
+    Every {
         outcome: Some(Outcome::Value(Value::Int(5))),
-    };
-    let bad = Every {
-        outcome: Some(Outcome::Error(ErrorCode(1004))),
-    };
-    for (kind, word, wants) in REFERENCES {
-        let vars = one_var(alloc, b"r", Value::Ref(kind, CellId(3)))?;
-        let of = Box::new(alloc, var(alloc, b"r")?)?;
-        let expr = Expr::Method(of, ident(alloc, word)?, Vec::new(alloc));
-        assert!(rt;
-            comes_to(&value(alloc, &expr, &vars, &unset), wants[0]),
-            "{kind:?} {word:?}"
-        );
-        assert!(rt;
-            comes_to(&value(alloc, &expr, &vars, &good), wants[1]),
-            "{kind:?} {word:?}"
-        );
-        assert!(rt;
-            comes_to(&value(alloc, &expr, &vars, &bad), wants[2]),
-            "{kind:?} {word:?}"
-        );
     }
-    Ok(())
+}
+
+fn bad() -> Every {
+    Every {
+        outcome: Some(Outcome::Error(ErrorCode(1004))),
+    }
+}
+
+fn refers(alloc: Global, of: (Kind, &[u8]), wants: [Want; 3]) -> Result<bool, NoMemory> {
+    Ok(
+        comes_at(alloc, of, &unset(), wants[0])?
+            && comes_at(alloc, of, &good(), wants[1])?
+            && comes_at(alloc, of, &bad(), wants[2])?,
+    )
+}
+
+fn first_wrong_reference(alloc: Global) -> Result<Option<(Kind, &'static [u8])>, NoMemory> {
+    for (kind, word, wants) in REFERENCES {
+        if !refers(alloc, (kind, word), wants)? {
+            return Ok(Some((kind, word)));
+        }
+    }
+    Ok(None)
 }
 
 #[test]
-fn texts_records_and_single_operands(rt: HostRuntime) -> Result<(), Fail> {
-    let alloc = rt.alloc();
-    let unset = Every { outcome: None };
+fn methods_of_references(rt: HostRuntime) -> Result<(), NoMemory> {
+    let wrong = first_wrong_reference(rt.alloc())?;
+    assert!(rt; wrong.is_none(), "{wrong:?}");
+    Ok(())
+}
+
+fn longest_bytes(alloc: Global) -> Result<Vec<u8>, NoMemory> {
     let mut bytes = Vec::new(alloc);
     for _ in 0..Text::LIMIT {
         bytes.push(b'a')?;
     }
-    let vars = one_var(alloc, b"t", Value::text(alloc, text(alloc, &bytes)?)?)?;
-    let fits = binary(
-        alloc,
-        Op::Add,
-        var(alloc, b"t")?,
-        arg_expr(alloc, Arg::Text(b""))?,
-    )?;
-    assert!(rt;
-        comes_to(
-            &value(
-                alloc,
-                &binary(alloc, Op::Eq, fits, var(alloc, b"t")?)?,
-                &vars,
-                &unset
-            ),
-            Want::Bool(true)
-        )
-    );
-    let long = binary(
-        alloc,
-        Op::Add,
-        var(alloc, b"t")?,
-        arg_expr(alloc, Arg::Text(b"b"))?,
-    )?;
-    assert!(rt; comes_to(&value(alloc, &long, &vars, &unset), Want::Throws(9002)));
-    for (word, want) in [
-        (b"from".as_slice(), Want::Int(1)),
-        (b"port".as_slice(), Want::Int(2)),
-        (b"text".as_slice(), Want::Text(b"x")),
-        (b"absent".as_slice(), Want::NoMeaning),
-    ] {
-        let fields = arg_exprs(alloc, &[Arg::Int(1), Arg::Int(2), Arg::Text(b"x")])?;
-        let packet = Box::new(alloc, Expr::Call(ident(alloc, b"Packet")?, fields))?;
-        let expr = Expr::Field(packet, ident(alloc, word)?);
-        assert!(rt;
-            comes_to(&value(alloc, &expr, &[], &unset), want),
-            "{word:?}"
-        );
+    Ok(bytes)
+}
+
+fn longest_text(alloc: Global) -> Result<Text, NoMemory> {
+    let bytes = longest_bytes(alloc)?;
+    text(alloc, &bytes)
+}
+
+// A variable with the longest text that there is.
+fn longest(alloc: Global) -> Result<Vec<Var>, NoMemory> {
+    one_var(alloc, b"t", Value::text(alloc, longest_text(alloc)?)?)
+}
+
+// That text with these bytes behind it.
+fn longer(alloc: Global, bytes: &[u8]) -> Result<Expr, NoMemory> {
+    let left = var(alloc, b"t")?;
+    binary(alloc, Op::Add, left, text_expr(alloc, bytes)?)
+}
+
+// Whether an expression over these variables comes to what is wanted.
+fn comes_over(alloc: Global, expr: &Expr, vars: &[Var], want: Want) -> bool {
+    is_value(alloc, expr, vars, &unset(), want)
+}
+
+// Whether that text with no bytes behind it is that text.
+fn fits(alloc: Global, vars: &[Var]) -> Result<bool, NoMemory> {
+    let same = longer(alloc, b"")?;
+    let expr = binary(alloc, Op::Eq, same, var(alloc, b"t")?)?;
+    Ok(comes_over(alloc, &expr, vars, Want::Bool(true)))
+}
+
+fn is_too_long(alloc: Global, vars: &[Var]) -> Result<bool, NoMemory> {
+    let expr = longer(alloc, b"b")?;
+    Ok(comes_over(alloc, &expr, vars, Want::Throws(9002)))
+}
+
+fn limits_texts(alloc: Global) -> Result<bool, NoMemory> {
+    let vars = longest(alloc)?;
+    Ok(fits(alloc, &vars)? && is_too_long(alloc, &vars)?)
+}
+
+#[test]
+fn texts_at_their_limit(rt: HostRuntime) -> Result<(), NoMemory> {
+    assert!(rt; limits_texts(rt.alloc())?);
+    Ok(())
+}
+
+const PACKET: [Arg; 3] = [Arg::Int(1), Arg::Int(2), Arg::Text(b"x")];
+
+const FIELDS: [(&[u8], Want); 4] = [
+    (b"from", Want::Int(1)),
+    (b"port", Want::Int(2)),
+    (b"text", Want::Text(b"x")),
+    (b"absent", Want::NoMeaning),
+];
+
+fn packet_field(alloc: Global, word: &[u8]) -> Result<Expr, NoMemory> {
+    let packet = Box::new(alloc, call_of(alloc, b"Packet", &PACKET)?)?;
+    Ok(Expr::Field(packet, ident(alloc, word)?))
+}
+
+fn has_field(alloc: Global, word: &[u8], want: Want) -> Result<bool, NoMemory> {
+    let expr = packet_field(alloc, word)?;
+    Ok(comes_alone(alloc, &expr, want))
+}
+
+fn first_wrong_field(alloc: Global) -> Result<Option<&'static [u8]>, NoMemory> {
+    for (word, want) in FIELDS {
+        if !has_field(alloc, word, want)? {
+            return Ok(Some(word));
+        }
     }
-    let least = Expr::Neg(Box::new(alloc, Expr::Int(LEAST))?);
-    assert!(rt; comes_to(&value(alloc, &least, &[], &unset), Want::Throws(9001)));
-    let greatest = Expr::Neg(Box::new(alloc, Expr::Int(GREATEST))?);
-    assert!(rt; comes_to(&value(alloc, &greatest, &[], &unset), Want::Int(-GREATEST)));
-    let lie = Expr::Not(Box::new(alloc, Expr::Bool(true))?);
-    assert!(rt; comes_to(&value(alloc, &lie, &[], &unset), Want::Bool(false)));
-    let void = Expr::Paren(Box::new(alloc, Expr::VoidValue)?);
-    assert!(rt; comes_to(&value(alloc, &void, &[], &unset), Want::Void));
+    Ok(None)
+}
+
+#[test]
+fn fields_of_a_packet(rt: HostRuntime) -> Result<(), NoMemory> {
+    let wrong = first_wrong_field(rt.alloc())?;
+    assert!(rt; wrong.is_none(), "{wrong:?}");
+    Ok(())
+}
+
+fn negates(alloc: Global, n: i64, want: Want) -> Result<bool, NoMemory> {
+    let expr = Expr::Neg(Box::new(alloc, Expr::Int(n))?);
+    Ok(comes_alone(alloc, &expr, want))
+}
+
+fn inverts(alloc: Global) -> Result<bool, NoMemory> {
+    let expr = Expr::Not(Box::new(alloc, Expr::Bool(true))?);
+    Ok(comes_alone(alloc, &expr, Want::Bool(false)))
+}
+
+fn encloses(alloc: Global) -> Result<bool, NoMemory> {
+    let expr = Expr::Paren(Box::new(alloc, Expr::VoidValue)?);
+    Ok(comes_alone(alloc, &expr, Want::Void))
+}
+
+#[test]
+fn single_operands(rt: HostRuntime) -> Result<(), NoMemory> {
+    let alloc = rt.alloc();
+    assert!(rt; negates(alloc, LEAST, Want::Throws(9001))?);
+    assert!(rt; negates(alloc, GREATEST, Want::Int(-GREATEST))?);
+    assert!(rt; inverts(alloc)?);
+    assert!(rt; encloses(alloc)?);
     Ok(())
 }

@@ -7,3 +7,5 @@ mod bursts;
 mod heap_again;
 #[cfg(test)]
 mod lines;
+#[cfg(test)]
+mod running;

@@ -5,11 +5,13 @@ use flow_base::ids::{CellId, ProcId};
 use flow_base::memory::NoMemory;
 use flow_base::text::Text;
 use flow_code::program::Code;
-use flow_compile::{compile, front};
+use flow_compile::{CompileFault, compile, front};
 use flow_machine::host::Host;
 use flow_simdisk::DiskAsk;
+use flow_trace::buffer::{LineBuf, print_line};
 use flow_trace::line::Line;
 use flow_trace::out::{LineOut, LineVec};
+use flow_valid::program::ClassProgram;
 use std::alloc::Global;
 use std::test::Fail;
 
@@ -86,13 +88,36 @@ impl Host for Lines {
     }
 }
 
+// The code of classes.
+fn coded(alloc: Global, compiled: Result<ClassProgram, CompileFault>) -> Result<Code, Fail> {
+    let Ok(classes) = compiled else {
+        return Err(Fail::from("no classes"));
+    };
+    Ok(Code::new(alloc, classes)?)
+}
+
 // The code of a program that the front accepts.
 pub(crate) fn code(alloc: Global, text: &[u8]) -> Result<Code, Fail> {
     let Ok(sound) = front(alloc, text) else {
         return Err(Fail::from("no program"));
     };
-    let Ok(classes) = compile(alloc, &sound) else {
-        return Err(Fail::from("no classes"));
-    };
-    Ok(Code::new(alloc, classes)?)
+    let compiled = compile(alloc, &sound);
+    coded(alloc, compiled)
+}
+
+// Lines as text.
+fn text(alloc: Global, lines: &[Line]) -> Result<Vec<u8>, Fail> {
+    let mut line_text = LineBuf::new(alloc)?;
+    let mut text = Vec::new(alloc);
+    for line in lines {
+        print_line(line, &mut line_text);
+        text.extend_from_slice(line_text.bytes())?;
+    }
+    Ok(text)
+}
+
+// Whether lines are those of a text.
+pub(crate) fn are_lines(alloc: Global, lines: &[Line], wanted: &[u8]) -> Result<bool, Fail> {
+    let told = text(alloc, lines)?;
+    Ok(told.as_slice() == wanted)
 }

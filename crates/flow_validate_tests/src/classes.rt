@@ -1,39 +1,54 @@
 // Classes from their text.
 
 use crate::reader::Reader;
-use flow_class::class::{Block, Callback, Catcher, Class, Group, Instr, Last, RawClasses};
+use flow_base::name::Name;
+use flow_class::class::{Block, Callback, Catcher, Class, Group, Instr, Last, RawClasses, Slotted};
 use flow_lex::lex::lex;
 use flow_parse::parse::parse;
 use flow_tree::decl::{Decl, FunctionDecl, RecordDecl, Slot};
+use flow_tree::expr::Expr;
 use flow_tree::fault::SourceFault;
+use flow_tree::stmt::Target;
 use flow_tree::token::{Sign, Tokens, Word};
 use flow_tree::ty::Ty;
 use std::alloc::Global;
 
+// What an assignment fills, and with what.
+fn assigned(alloc: Global, text: &mut Reader) -> Result<(Target, Expr), SourceFault> {
+    let target = text.target(alloc)?;
+    text.sign(Sign::Assign)?;
+    Ok((target, text.expr(alloc)?))
+}
+
+fn set(alloc: Global, text: &mut Reader) -> Result<Instr, SourceFault> {
+    let (target, value) = assigned(alloc, text)?;
+    Ok(Instr::Set(target, value))
+}
+
+fn effect(alloc: Global, text: &mut Reader) -> Result<Instr, SourceFault> {
+    let (target, call) = assigned(alloc, text)?;
+    Ok(Instr::Effect(target, call))
+}
+
+fn act(alloc: Global, text: &mut Reader) -> Result<Instr, SourceFault> {
+    let target = text.target(alloc)?;
+    Ok(Instr::Act(target, text.args(alloc)?))
+}
+
 fn instr(alloc: Global, text: &mut Reader) -> Result<Option<Instr>, SourceFault> {
-    if text.is_name("set") {
-        text.name("set")?;
-        let target = text.target(alloc)?;
-        text.sign(Sign::Assign)?;
-        return Ok(Some(Instr::Set(target, text.expr(alloc)?)));
+    if text.takes_name("set") {
+        return Ok(Some(set(alloc, text)?));
     }
-    if text.is_name("do") {
-        text.name("do")?;
-        let target = text.target(alloc)?;
-        text.sign(Sign::Assign)?;
-        return Ok(Some(Instr::Effect(target, text.expr(alloc)?)));
+    if text.takes_name("do") {
+        return Ok(Some(effect(alloc, text)?));
     }
-    if text.is_name("new") {
-        text.name("new")?;
+    if text.takes_name("new") {
         return Ok(Some(Instr::New(text.place()?)));
     }
-    if text.is_name("act") {
-        text.name("act")?;
-        let target = text.target(alloc)?;
-        return Ok(Some(Instr::Act(target, text.args(alloc)?)));
+    if text.takes_name("act") {
+        return Ok(Some(act(alloc, text)?));
     }
-    if text.is_name("drop") {
-        text.name("drop")?;
+    if text.takes_name("drop") {
         return Ok(Some(Instr::Drop(text.locals(alloc)?)));
     }
     Ok(None)
@@ -51,35 +66,42 @@ fn body(alloc: Global, text: &mut Reader) -> Result<Vec<Instr>, SourceFault> {
     Ok(instrs)
 }
 
-fn test(alloc: Global, text: &mut Reader) -> Result<Last, SourceFault> {
-    text.name("test")?;
+// An expression in brackets.
+fn bracketed(alloc: Global, text: &mut Reader) -> Result<Expr, SourceFault> {
     text.sign(Sign::OpenRound)?;
-    let test = text.expr(alloc)?;
+    let expr = text.expr(alloc)?;
     text.sign(Sign::CloseRound)?;
+    Ok(expr)
+}
+
+// The blocks to which a test leads.
+fn ways(text: &mut Reader) -> Result<(u32, u32), SourceFault> {
     text.name("goto")?;
     let holds = text.number()?;
     text.word(Word::Else)?;
-    Ok(Last::Test(test, holds, text.number()?))
+    Ok((holds, text.number()?))
+}
+
+fn test(alloc: Global, text: &mut Reader) -> Result<Last, SourceFault> {
+    let test = bracketed(alloc, text)?;
+    let (holds, fails) = ways(text)?;
+    Ok(Last::Test(test, holds, fails))
 }
 
 fn last(alloc: Global, text: &mut Reader) -> Result<Last, SourceFault> {
-    if text.is_name("goto") {
-        text.name("goto")?;
+    if text.takes_name("goto") {
         return Ok(Last::Goto(text.number()?));
     }
-    if text.is_name("pass") {
-        text.name("pass")?;
+    if text.takes_name("pass") {
         return Ok(Last::Pass(text.number()?));
     }
-    if text.is_name("test") {
+    if text.takes_name("test") {
         return test(alloc, text);
     }
-    if text.is_word(Word::Choose) {
-        text.word(Word::Choose)?;
+    if text.takes_word(Word::Choose) {
         return Ok(Last::Choose(text.number()?));
     }
-    if text.is_word(Word::Return) {
-        text.word(Word::Return)?;
+    if text.takes_word(Word::Return) {
         return Ok(Last::Return(text.expr(alloc)?));
     }
     text.word(Word::Throw)?;
@@ -87,30 +109,27 @@ fn last(alloc: Global, text: &mut Reader) -> Result<Last, SourceFault> {
 }
 
 fn error(text: &mut Reader) -> Result<Option<u32>, SourceFault> {
-    if !text.is_name("error") {
+    if !text.takes_name("error") {
         return Ok(None);
     }
-    text.name("error")?;
     Ok(Some(text.local()?))
 }
 
 fn drops(alloc: Global, text: &mut Reader) -> Result<Vec<u32>, SourceFault> {
     text.name("drop")?;
     text.sign(Sign::OpenRound)?;
-    let numbers = if text.is_sign(Sign::CloseRound) {
-        Vec::new(alloc)
-    } else {
-        text.locals(alloc)?
-    };
+    if text.takes_sign(Sign::CloseRound) {
+        return Ok(Vec::new(alloc));
+    }
+    let numbers = text.locals(alloc)?;
     text.sign(Sign::CloseRound)?;
     Ok(numbers)
 }
 
 fn catcher(alloc: Global, text: &mut Reader) -> Result<Option<Catcher>, SourceFault> {
-    if !text.is_word(Word::Catch) {
+    if !text.takes_word(Word::Catch) {
         return Ok(None);
     }
-    text.word(Word::Catch)?;
     let block = text.number()?;
     let error = error(text)?;
     let drops = drops(alloc, text)?;
@@ -121,14 +140,25 @@ fn catcher(alloc: Global, text: &mut Reader) -> Result<Option<Catcher>, SourceFa
     }))
 }
 
-fn block(alloc: Global, text: &mut Reader) -> Result<Block, SourceFault> {
-    text.name("block")?;
-    text.number()?;
-    let catcher = catcher(alloc, text)?;
-    text.sign(Sign::OpenCurly)?;
+// What stands in a block's braces.
+fn inside(alloc: Global, text: &mut Reader) -> Result<(Vec<Instr>, Last), SourceFault> {
     let body = body(alloc, text)?;
     let last = last(alloc, text)?;
     text.sign(Sign::Semicolon)?;
+    Ok((body, last))
+}
+
+// What stands in front of a block's braces.
+fn before(alloc: Global, text: &mut Reader) -> Result<Option<Catcher>, SourceFault> {
+    text.number()?;
+    let catcher = catcher(alloc, text)?;
+    text.sign(Sign::OpenCurly)?;
+    Ok(catcher)
+}
+
+fn block(alloc: Global, text: &mut Reader) -> Result<Block, SourceFault> {
+    let catcher = before(alloc, text)?;
+    let (body, last) = inside(alloc, text)?;
     text.sign(Sign::CloseCurly)?;
     Ok(Block {
         catcher,
@@ -140,7 +170,7 @@ fn block(alloc: Global, text: &mut Reader) -> Result<Block, SourceFault> {
 fn blocks(alloc: Global, text: &mut Reader) -> Result<Vec<Block>, SourceFault> {
     let mut blocks = Vec::new(alloc);
     for _ in 0..text.most() {
-        if !text.is_name("block") {
+        if !text.takes_name("block") {
             break;
         }
         blocks.push(block(alloc, text)?)?;
@@ -149,30 +179,35 @@ fn blocks(alloc: Global, text: &mut Reader) -> Result<Vec<Block>, SourceFault> {
 }
 
 fn is_next(text: &mut Reader) -> Result<bool, SourceFault> {
-    if text.is_word(Word::WaitNext) {
-        text.word(Word::WaitNext)?;
+    if text.takes_word(Word::WaitNext) {
         return Ok(true);
     }
     text.word(Word::Wait)?;
     Ok(false)
 }
 
-fn callback(alloc: Global, text: &mut Reader) -> Result<Callback, SourceFault> {
-    text.name("callback")?;
-    text.number()?;
-    let next = is_next(text)?;
-    text.sign(Sign::OpenRound)?;
-    let operand = text.expr(alloc)?;
-    text.sign(Sign::CloseRound)?;
-    let into = if text.is_name("into") {
-        text.name("into")?;
-        Some(text.place()?)
-    } else {
-        None
-    };
+// Where what a callback takes goes, if it goes anywhere.
+fn into(text: &mut Reader) -> Result<Option<Slotted>, SourceFault> {
+    if !text.takes_name("into") {
+        return Ok(None);
+    }
+    Ok(Some(text.place()?))
+}
+
+// The block to which a callback leads.
+fn way(text: &mut Reader) -> Result<u32, SourceFault> {
     text.name("goto")?;
     let block = text.number()?;
     text.sign(Sign::Semicolon)?;
+    Ok(block)
+}
+
+fn callback(alloc: Global, text: &mut Reader) -> Result<Callback, SourceFault> {
+    text.number()?;
+    let next = is_next(text)?;
+    let operand = bracketed(alloc, text)?;
+    let into = into(text)?;
+    let block = way(text)?;
     Ok(Callback {
         next,
         operand,
@@ -182,12 +217,11 @@ fn callback(alloc: Global, text: &mut Reader) -> Result<Callback, SourceFault> {
 }
 
 fn group(alloc: Global, text: &mut Reader) -> Result<Group, SourceFault> {
-    text.name("group")?;
     text.number()?;
     text.sign(Sign::OpenCurly)?;
     let mut callbacks = Vec::new(alloc);
     for _ in 0..text.most() {
-        if !text.is_name("callback") {
+        if !text.takes_name("callback") {
             break;
         }
         callbacks.push(callback(alloc, text)?)?;
@@ -199,7 +233,7 @@ fn group(alloc: Global, text: &mut Reader) -> Result<Group, SourceFault> {
 fn groups(alloc: Global, text: &mut Reader) -> Result<Vec<Group>, SourceFault> {
     let mut groups = Vec::new(alloc);
     for _ in 0..text.most() {
-        if !text.is_name("group") {
+        if !text.takes_name("group") {
             break;
         }
         groups.push(group(alloc, text)?)?;
@@ -207,49 +241,70 @@ fn groups(alloc: Global, text: &mut Reader) -> Result<Vec<Group>, SourceFault> {
     Ok(groups)
 }
 
+fn slot(alloc: Global, text: &mut Reader) -> Result<Slot, SourceFault> {
+    text.number()?;
+    let ty = text.ty(alloc)?;
+    let name = text.any_name(alloc)?;
+    text.sign(Sign::Semicolon)?;
+    Ok(Slot { ty, name })
+}
+
 fn slots(alloc: Global, text: &mut Reader) -> Result<Vec<Slot>, SourceFault> {
     let mut slots = Vec::new(alloc);
     for _ in 0..text.most() {
-        if !text.is_name("slot") {
+        if !text.takes_name("slot") {
             break;
         }
-        text.name("slot")?;
-        text.number()?;
-        let ty = text.ty(alloc)?;
-        let name = text.any_name(alloc)?;
-        text.sign(Sign::Semicolon)?;
-        slots.push(Slot { ty, name })?;
+        slots.push(slot(alloc, text)?)?;
     }
     Ok(slots)
+}
+
+fn local(alloc: Global, text: &mut Reader) -> Result<Ty, SourceFault> {
+    text.number()?;
+    let ty = text.ty(alloc)?;
+    text.sign(Sign::Semicolon)?;
+    Ok(ty)
 }
 
 fn locals(alloc: Global, text: &mut Reader) -> Result<Vec<Ty>, SourceFault> {
     let mut locals = Vec::new(alloc);
     for _ in 0..text.most() {
-        if !text.is_name("local") {
+        if !text.takes_name("local") {
             break;
         }
-        text.name("local")?;
-        text.number()?;
-        locals.push(text.ty(alloc)?)?;
-        text.sign(Sign::Semicolon)?;
+        locals.push(local(alloc, text)?)?;
     }
     Ok(locals)
 }
 
-fn class(alloc: Global, text: &mut Reader) -> Result<Class, SourceFault> {
+// The name of a class, what it returns, and how many parameters it has.
+fn head(alloc: Global, text: &mut Reader) -> Result<(Name, Ty, u32), SourceFault> {
     text.name("class")?;
     let name = text.any_name(alloc)?;
     text.name("returns")?;
     let returns = text.ty(alloc)?;
     text.name("params")?;
-    let params = text.number()?;
-    text.sign(Sign::OpenCurly)?;
+    Ok((name, returns, text.number()?))
+}
+
+fn places(alloc: Global, text: &mut Reader) -> Result<(Vec<Slot>, Vec<Ty>), SourceFault> {
     let slots = slots(alloc, text)?;
-    let locals = locals(alloc, text)?;
+    Ok((slots, locals(alloc, text)?))
+}
+
+fn code(alloc: Global, text: &mut Reader) -> Result<(Vec<Block>, Vec<Group>), SourceFault> {
     let blocks = blocks(alloc, text)?;
     let groups = groups(alloc, text)?;
     text.sign(Sign::CloseCurly)?;
+    Ok((blocks, groups))
+}
+
+fn class(alloc: Global, text: &mut Reader) -> Result<Class, SourceFault> {
+    let (name, returns, params) = head(alloc, text)?;
+    text.sign(Sign::OpenCurly)?;
+    let (slots, locals) = places(alloc, text)?;
+    let (blocks, groups) = code(alloc, text)?;
     Ok(Class {
         name,
         returns,

@@ -33,17 +33,26 @@ fn local(alloc: Global, number: u32) -> Result<Ident, SourceFault> {
     })
 }
 
-// A local is filled with what another has, and the next block follows.
-fn step(alloc: Global, number: u32) -> Result<Block, SourceFault> {
-    let value = if number == 0 {
-        Expr::Int(1)
-    } else {
-        Expr::Var(local(alloc, number.saturating_sub(1))?)
-    };
+// What a local is filled with: what the one before has.
+fn filler(alloc: Global, number: u32) -> Result<Expr, SourceFault> {
+    if number == 0 {
+        return Ok(Expr::Int(1));
+    }
+    Ok(Expr::Var(local(alloc, number.saturating_sub(1))?))
+}
+
+fn target(alloc: Global, number: u32) -> Result<Target, SourceFault> {
     let mut path = Vec::with_capacity(alloc, 1)?;
     path.push(local(alloc, number)?)?;
+    Ok(Target { path })
+}
+
+// A local is filled with what another has, and the next block follows.
+fn step(alloc: Global, number: u32) -> Result<Block, SourceFault> {
+    let value = filler(alloc, number)?;
+    let filled = target(alloc, number)?;
     let mut body = Vec::with_capacity(alloc, 1)?;
-    body.push(Instr::Set(Target { path }, value))?;
+    body.push(Instr::Set(filled, value))?;
     Ok(Block {
         catcher: None,
         body,
@@ -51,13 +60,10 @@ fn step(alloc: Global, number: u32) -> Result<Block, SourceFault> {
     })
 }
 
-/// A class program of which `main` has so many locals, and a block that fills each from the one before. Its vectors have room for no
-/// more than they hold, so that what it takes in memory is the program's own.
-pub fn many_blocks(alloc: Global, count: u32) -> Result<RawClasses, SourceFault> {
-    let mut locals = Vec::with_capacity(alloc, count as usize)?;
+// So many blocks that fill a local each, and one that returns.
+fn steps(alloc: Global, count: u32) -> Result<Vec<Block>, SourceFault> {
     let mut blocks = Vec::with_capacity(alloc, count as usize + 1)?;
     for number in 0..count {
-        locals.push(Ty::Int)?;
         blocks.push(step(alloc, number)?)?;
     }
     blocks.push(Block {
@@ -65,13 +71,32 @@ pub fn many_blocks(alloc: Global, count: u32) -> Result<RawClasses, SourceFault>
         body: Vec::new(alloc),
         last: Last::Return(Expr::VoidValue),
     })?;
+    Ok(blocks)
+}
+
+// So many locals.
+fn numbers(alloc: Global, count: u32) -> Result<Vec<Ty>, SourceFault> {
+    let mut locals = Vec::with_capacity(alloc, count as usize)?;
+    for _ in 0..count {
+        locals.push(Ty::Int)?;
+    }
+    Ok(locals)
+}
+
+fn parameter(alloc: Global) -> Result<Vec<Slot>, SourceFault> {
     let mut slots = Vec::new(alloc);
     slots.push(Slot {
         ty: Ty::Int,
         name: Name::new(alloc, b"p")?,
     })?;
-    let mut classes = Vec::new(alloc);
-    classes.push(Class {
+    Ok(slots)
+}
+
+fn main_class(alloc: Global, count: u32) -> Result<Class, SourceFault> {
+    let locals = numbers(alloc, count)?;
+    let blocks = steps(alloc, count)?;
+    let slots = parameter(alloc)?;
+    Ok(Class {
         name: Name::new(alloc, b"main")?,
         returns: Ty::Void,
         params: 1,
@@ -79,7 +104,14 @@ pub fn many_blocks(alloc: Global, count: u32) -> Result<RawClasses, SourceFault>
         locals,
         blocks,
         groups: Vec::new(alloc),
-    })?;
+    })
+}
+
+/// A class program of which `main` has so many locals, and a block that fills each from the one before. Its vectors have room for no
+/// more than they hold, so that what it takes in memory is the program's own.
+pub fn many_blocks(alloc: Global, count: u32) -> Result<RawClasses, SourceFault> {
+    let mut classes = Vec::new(alloc);
+    classes.push(main_class(alloc, count)?)?;
     Ok(RawClasses {
         records: Vec::new(alloc),
         functions: Vec::new(alloc),
@@ -122,6 +154,19 @@ fn ordinary_class(alloc: Global, number: u32) -> Result<String, SourceFault> {
     Ok(text)
 }
 
+// Adds an ordinary class: how many bytes of text it has.
+fn add_ordinary(
+    alloc: Global,
+    number: u32,
+    classes: &mut Vec<Class>,
+) -> Result<usize, SourceFault> {
+    let text = ordinary_class(alloc, number)?;
+    for class in raw_classes(alloc, "", &text)?.classes {
+        classes.push(class)?;
+    }
+    Ok(text.len())
+}
+
 /// A class program of as many ordinary classes as have so many bytes of text.
 pub fn ordinary(alloc: Global, bytes: usize) -> Result<RawClasses, SourceFault> {
     let mut raw = raw_classes(alloc, PLAIN, MAIN)?;
@@ -130,11 +175,7 @@ pub fn ordinary(alloc: Global, bytes: usize) -> Result<RawClasses, SourceFault> 
         if size >= bytes {
             break;
         }
-        let text = ordinary_class(alloc, number)?;
-        size = size.saturating_add(text.len());
-        for class in raw_classes(alloc, "", &text)?.classes {
-            raw.classes.push(class)?;
-        }
+        size = size.saturating_add(add_ordinary(alloc, number, &mut raw.classes)?);
     }
     Ok(raw)
 }

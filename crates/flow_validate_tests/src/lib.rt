@@ -3,11 +3,15 @@
 
 #[cfg(test)]
 mod broken;
-pub mod classes;
-pub mod judged;
+#[cfg(test)]
+mod classes;
+#[cfg(test)]
+mod judged;
 #[cfg(test)]
 mod kept;
-pub mod large;
-pub mod reader;
+#[cfg(test)]
+mod large;
+#[cfg(test)]
+mod reader;
 #[cfg(test)]
 mod tests;

@@ -85,29 +85,53 @@ impl Reader {
 
     /// This name.
     pub fn name(&mut self, name: &str) -> Result<(), SourceFault> {
-        if !self.is_name(name) {
-            return Err(self.refusal());
+        if self.takes_name(name) {
+            return Ok(());
         }
-        self.skip();
-        Ok(())
+        Err(self.refusal())
     }
 
     /// This reserved word.
     pub fn word(&mut self, word: Word) -> Result<(), SourceFault> {
-        if !self.is_word(word) {
-            return Err(self.refusal());
+        if self.takes_word(word) {
+            return Ok(());
         }
-        self.skip();
-        Ok(())
+        Err(self.refusal())
     }
 
     /// This sign.
     pub fn sign(&mut self, sign: Sign) -> Result<(), SourceFault> {
-        if !self.is_sign(sign) {
-            return Err(self.refusal());
+        if self.takes_sign(sign) {
+            return Ok(());
         }
-        self.skip();
-        Ok(())
+        Err(self.refusal())
+    }
+
+    /// Reads this name, if it is next.
+    pub fn takes_name(&mut self, name: &str) -> bool {
+        let found = self.is_name(name);
+        if found {
+            self.skip();
+        }
+        found
+    }
+
+    /// Reads this reserved word, if it is next.
+    pub fn takes_word(&mut self, word: Word) -> bool {
+        let found = self.is_word(word);
+        if found {
+            self.skip();
+        }
+        found
+    }
+
+    /// Reads this sign, if it is next.
+    pub fn takes_sign(&mut self, sign: Sign) -> bool {
+        let found = self.is_sign(sign);
+        if found {
+            self.skip();
+        }
+        found
     }
 
     /// Some name, which is next.
@@ -165,10 +189,9 @@ impl Reader {
         let mut numbers = Vec::new(alloc);
         numbers.push(self.local()?)?;
         for _ in 0..self.most() {
-            if !self.is_sign(Sign::Comma) {
+            if !self.takes_sign(Sign::Comma) {
                 break;
             }
-            self.skip();
             numbers.push(self.local()?)?;
         }
         Ok(numbers)
@@ -179,10 +202,9 @@ impl Reader {
         let mut path = Vec::new(alloc);
         path.push(self.ident(alloc)?)?;
         for _ in 0..self.most() {
-            if !self.is_sign(Sign::Dot) {
+            if !self.takes_sign(Sign::Dot) {
                 break;
             }
-            self.skip();
             path.push(self.ident(alloc)?)?;
         }
         Ok(Target { path })
@@ -222,16 +244,14 @@ impl Reader {
     pub fn args(&mut self, alloc: Global) -> Result<Vec<Expr>, SourceFault> {
         self.sign(Sign::OpenRound)?;
         let mut args = Vec::new(alloc);
-        if self.is_sign(Sign::CloseRound) {
-            self.skip();
+        if self.takes_sign(Sign::CloseRound) {
             return Ok(args);
         }
         args.push(self.expr(alloc)?)?;
         for _ in 0..self.most() {
-            if !self.is_sign(Sign::Comma) {
+            if !self.takes_sign(Sign::Comma) {
                 break;
             }
-            self.skip();
             args.push(self.expr(alloc)?)?;
         }
         self.sign(Sign::CloseRound)?;

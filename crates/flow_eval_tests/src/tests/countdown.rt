@@ -28,7 +28,6 @@ use flow_eval::stop::Stop;
 use flow_eval::variables::Var;
 use flow_value::value::Value;
 use std::alloc::Global;
-use std::test::Fail;
 
 const START: Place = Place {
     line: 1,
@@ -193,34 +192,87 @@ fn called(
     Ok(call(alloc, plain, 0, args, turns))
 }
 
-#[test]
-fn calls_a_function(rt: HostRuntime) -> Result<(), Fail> {
-    let alloc = rt.alloc();
-    let plain = program(alloc)?;
+fn is_int(came: &Result<Value, Stop>, n: i64) -> bool {
+    match came {
+        Ok(Value::Int(m)) => *m == n,
+        _ => false,
+    }
+}
+
+fn is_stop(came: &Result<Value, Stop>, wanted: Stop) -> bool {
+    match came {
+        Ok(_) => false,
+        Err(stop) => *stop == wanted,
+    }
+}
+
+// With as many turns as it needs.
+fn needs_its_turns(alloc: Global, plain: &Plain) -> Result<bool, NoMemory>
+    requires records { plain.now.records.items ≡ [] }
+    requires functions { map function_of plain.now.functions.items ≡ countdown ∷ [] }
+{
     let mut turns = Turns { left: 64 };
-    let came = called(alloc, &plain, 63, &mut turns)?;
-    assert!(rt; matches!(came, Ok(Value::Int(63))));
-    assert_eq!(rt; turns.left, 0);
+    let came = called(alloc, plain, 63, &mut turns)?;
+    Ok(is_int(&came, 63) && turns.left == 0)
+}
+
+// With one turn less.
+fn is_spent(alloc: Global, plain: &Plain) -> Result<bool, NoMemory>
+    requires records { plain.now.records.items ≡ [] }
+    requires functions { map function_of plain.now.functions.items ≡ countdown ∷ [] }
+{
     let mut turns = Turns { left: 63 };
-    let came = called(alloc, &plain, 63, &mut turns)?;
-    assert!(rt; matches!(came, Err(Stop::Spent)));
+    let came = called(alloc, plain, 63, &mut turns)?;
+    Ok(is_stop(&came, Stop::Spent))
+}
+
+// A call too deep.
+fn is_out_of_range(alloc: Global, plain: &Plain) -> Result<bool, NoMemory>
+    requires records { plain.now.records.items ≡ [] }
+    requires functions { map function_of plain.now.functions.items ≡ countdown ∷ [] }
+{
     let mut turns = Turns { left: 100 };
-    let came = called(alloc, &plain, 64, &mut turns)?;
-    assert!(rt; matches!(came, Err(Stop::Thrown(code)) if code == OUT_OF_RANGE));
-    assert_eq!(rt; turns.left, 35);
-    Ok(())
+    let came = called(alloc, plain, 64, &mut turns)?;
+    Ok(is_stop(&came, Stop::Thrown(OUT_OF_RANGE)) && turns.left == 35)
+}
+
+fn counts_down(alloc: Global, plain: &Plain) -> Result<bool, NoMemory>
+    requires records { plain.now.records.items ≡ [] }
+    requires functions { map function_of plain.now.functions.items ≡ countdown ∷ [] }
+{
+    Ok(needs_its_turns(alloc, plain)? && is_spent(alloc, plain)? && is_out_of_range(alloc, plain)?)
+}
+
+fn counts_down_alone(alloc: Global) -> Result<bool, NoMemory> {
+    let plain = program(alloc)?;
+    counts_down(alloc, &plain)
 }
 
 #[test]
+fn calls_a_function(rt: HostRuntime) -> Result<(), NoMemory> {
+    assert!(rt; counts_down_alone(rt.alloc())?);
+    Ok(())
+}
+
 #[tactic(auto, using(flow_eval::proofs::Examples::countdown_typed))]
-fn evaluates_over_variables(rt: HostRuntime) -> Result<(), Fail> {
-    let alloc = rt.alloc();
-    let plain = program(alloc)?;
+fn evaluates(alloc: Global, plain: &Plain) -> Result<bool, NoMemory>
+    requires records { plain.now.records.items ≡ [] }
+    requires functions { map function_of plain.now.functions.items ≡ countdown ∷ [] }
+{
     let expr = call_f(alloc, variable(alloc)?)?;
     let vars = int_var(alloc, 5)?;
     let mut turns = Turns { left: 10 };
-    let came = eval(alloc, &plain, &expr, &vars, &NoCells, 3, &mut turns);
-    assert!(rt; matches!(came, Ok(Value::Int(5))));
-    assert_eq!(rt; turns.left, 4);
+    let came = eval(alloc, plain, &expr, &vars, &NoCells, 3, &mut turns);
+    Ok(is_int(&came, 5) && turns.left == 4)
+}
+
+fn evaluates_alone(alloc: Global) -> Result<bool, NoMemory> {
+    let plain = program(alloc)?;
+    evaluates(alloc, &plain)
+}
+
+#[test]
+fn evaluates_over_variables(rt: HostRuntime) -> Result<(), NoMemory> {
+    assert!(rt; evaluates_alone(rt.alloc())?);
     Ok(())
 }
