@@ -22,7 +22,7 @@ pub enum Kind {
 
 /// Which record a value is of: the predefined `Packet`, or the one at a place in the list of a
 /// program's records, from 0.
-#[derive(Clone, Copy, PartialEq, Eq, Debug)]
+#[derive(Clone, Copy, PartialEq, Eq)]
 pub enum RecordId {
     Packet,
     Declared(usize),
