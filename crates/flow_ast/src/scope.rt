@@ -4,7 +4,7 @@ use flow_tree::decl::{ActorDecl, FunctionDecl, Param, RecordDecl};
 use flow_tree::ty::Ty;
 
 /// The records, functions and actors of a program, and the variables in force.
-#[derive(Drop, Debug)]
+#[derive(Drop)]
 pub struct Scope {
     pub records: Vec<RecordDecl>,
     pub functions: Vec<FunctionDecl>,
@@ -13,7 +13,7 @@ pub struct Scope {
 }
 
 /// The type of an expression, or that it has none.
-#[derive(Drop, Debug)]
+#[derive(Drop)]
 pub enum ExprType {
     Is(Ty),
     None,

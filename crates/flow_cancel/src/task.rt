@@ -5,7 +5,7 @@ use flow_value::value::{Kind, Outcome, Value};
 
 /// Work that a process still has to do. What a task holds counts as stored. Values stand in boxes, so that a task is
 /// small.
-#[derive(Drop, Debug)]
+#[derive(Drop)]
 pub enum Task {
     /// The actor takes its next step.
     Run(ActorId),

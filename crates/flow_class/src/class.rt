@@ -16,7 +16,7 @@ pub enum Slotted {
 
 /// Where an error of a block goes on: the handler's block, the local that takes the error, and the
 /// locals that are dropped before, in order.
-#[derive(Drop, Debug)]
+#[derive(Drop)]
 pub struct Catcher {
     pub block: u32,
     pub error: Option<u32>,
@@ -24,7 +24,7 @@ pub struct Catcher {
 }
 
 /// An instruction. A path begins with a slot or a local, but for the path of a call without a base.
-#[derive(Drop, Debug)]
+#[derive(Drop)]
 pub enum Instr {
     /// An assignment.
     Set(Target, Expr),
@@ -39,7 +39,7 @@ pub enum Instr {
 }
 
 /// The last instruction of a block.
-#[derive(Drop, Debug)]
+#[derive(Drop)]
 pub enum Last {
     /// Goes on at a block.
     Goto(u32),
@@ -56,7 +56,7 @@ pub enum Last {
 }
 
 /// Instructions in order, the last one apart, and where their errors go on.
-#[derive(Drop, Debug)]
+#[derive(Drop)]
 pub struct Block {
     pub catcher: Option<Catcher>,
     pub body: Vec<Instr>,
@@ -65,7 +65,7 @@ pub struct Block {
 
 /// A branch of a wait: whether it takes the next element of a stream, its operand, the place that
 /// takes the value, and the block where the branch goes on.
-#[derive(Drop, Debug)]
+#[derive(Drop)]
 pub struct Callback {
     pub next: bool,
     pub operand: Expr,
@@ -74,14 +74,14 @@ pub struct Callback {
 }
 
 /// The branches of one wait in order.
-#[derive(Drop, Debug)]
+#[derive(Drop)]
 pub struct Group {
     pub callbacks: Vec<Callback>,
 }
 
 /// A class: its name, what its actor gives, how many of its slots are parameters, its slots, the
 /// types of its locals, its blocks numbered from 0, and its groups numbered from 1.
-#[derive(Drop, Debug)]
+#[derive(Drop)]
 pub struct Class {
     pub name: Name,
     pub returns: Ty,
@@ -93,7 +93,7 @@ pub struct Class {
 }
 
 /// The records, functions and classes of a program, before they are judged.
-#[derive(Drop, Debug)]
+#[derive(Drop)]
 pub struct RawClasses {
     pub records: Vec<RecordDecl>,
     pub functions: Vec<FunctionDecl>,

@@ -6,28 +6,28 @@ use flow_resolved::expr::Resolved;
 use flow_value::value::Kind;
 
 /// Where a value goes: a place of a frame, or the part of it to which the fields with names of these numbers lead.
-#[derive(Drop, Debug)]
+#[derive(Drop)]
 pub struct Aim {
     pub place: u32,
     pub path: Vec<usize>,
 }
 
 /// What has an effect: a predefined call, or a call of the class at a place in the list of classes.
-#[derive(Clone, Copy, PartialEq, Eq, Debug)]
+#[derive(Clone, Copy, PartialEq, Eq)]
 pub enum Effect {
     World(Predefined),
     Actor(u32),
 }
 
 /// What a call statement without a base calls: a predefined one, or the plain function at a place.
-#[derive(Clone, Copy, PartialEq, Eq, Debug)]
+#[derive(Clone, Copy, PartialEq, Eq)]
 pub enum Act {
     World(Predefined),
     Function(usize),
 }
 
 /// An instruction.
-#[derive(Drop, Debug)]
+#[derive(Drop)]
 pub enum Instruction {
     /// An assignment.
     Set(Aim, Resolved),
@@ -46,14 +46,14 @@ pub enum Instruction {
 }
 
 /// What the branch of a wait waits for.
-#[derive(Drop, Debug)]
+#[derive(Drop)]
 pub enum Operand {
     Value(Resolved),
     Effect(Effect, Vec<Resolved>),
 }
 
 /// The last instruction of a block.
-#[derive(Drop, Debug)]
+#[derive(Drop)]
 pub enum Last {
     Goto(u32),
     Pass(u32),
@@ -66,7 +66,7 @@ pub enum Last {
 
 /// Where an error of a block goes on: the handler's block, the place that takes the error, and the places that are dropped
 /// before, in order.
-#[derive(Drop, Debug)]
+#[derive(Drop)]
 pub struct Catcher {
     pub block: u32,
     pub error: Option<u32>,
@@ -74,7 +74,7 @@ pub struct Catcher {
 }
 
 /// Instructions in order, the last one apart, and where their errors go on.
-#[derive(Drop, Debug)]
+#[derive(Drop)]
 pub struct Block {
     pub catcher: Option<Catcher>,
     pub body: Vec<Instruction>,
@@ -82,7 +82,7 @@ pub struct Block {
 }
 
 /// A branch of a wait: what it waits for, the place that takes the value, and the block where it goes on.
-#[derive(Drop, Debug)]
+#[derive(Drop)]
 pub struct Branch {
     pub operand: Operand,
     pub into: Option<u32>,
@@ -91,7 +91,7 @@ pub struct Branch {
 
 /// The branches of a wait in order, the block that ends in it, and the number of its first branch through all waits of the
 /// class.
-#[derive(Drop, Debug)]
+#[derive(Drop)]
 pub struct Group {
     pub block: u32,
     pub first: u32,
@@ -100,7 +100,7 @@ pub struct Group {
 
 /// A class: its name, how many of its places are parameters, how many are slots, and how many there are; its blocks, and its
 /// groups.
-#[derive(Drop, Debug)]
+#[derive(Drop)]
 pub struct Class {
     pub name: Name,
     pub params: u32,

@@ -23,7 +23,7 @@ use flow_value::value::Value;
 use std::alloc::Global;
 
 /// The records and the plain functions of a program.
-#[derive(Drop, Debug)]
+#[derive(Drop)]
 pub struct Plain {
     pub records: Vec<RecordDecl>,
     pub functions: Vec<FunctionDecl>,

@@ -29,7 +29,7 @@ use flow_value::value::Value;
 use std::alloc::Global;
 
 /// How statements end: they go on, leave or go round a loop, or return a value.
-#[derive(Drop, Debug)]
+#[derive(Drop)]
 pub enum Flow {
     Next,
     Break,

@@ -11,7 +11,7 @@ use flow_base::name::Name;
 use flow_value::value::Value;
 
 /// A variable and its value.
-#[derive(Drop, Debug)]
+#[derive(Drop)]
 pub struct Var {
     pub name: Name,
     pub value: Value,

@@ -23,7 +23,7 @@ use std::alloc::Global;
 
 /// An expression that was read: its tree, how many of its nodes lie below one another, and the
 /// number of the token after it.
-#[derive(Drop, Debug)]
+#[derive(Drop)]
 pub struct Read {
     pub expr: Expr,
     pub high: u32,
@@ -32,7 +32,7 @@ pub struct Read {
 
 /// The arguments of a call that were read, with the closing bracket: how many of their nodes lie
 /// below one another, and the number of the token after them.
-#[derive(Drop, Debug)]
+#[derive(Drop)]
 pub struct ReadArgs {
     pub args: Vec<Expr>,
     pub high: u32,

@@ -32,7 +32,7 @@ pub enum TypeKind {
 }
 
 /// A type that was read, and the number of the token after it.
-#[derive(Drop, Debug)]
+#[derive(Drop)]
 pub struct ReadType {
     pub ty: Ty,
     pub to: usize,

@@ -6,7 +6,7 @@ use flow_tree::ty::Ty;
 /// The places of an actor's frame: its slots, which are its parameters and then its state variables,
 /// the types of its locals, and how many branches each of its groups has, all in the order of the
 /// text. Group k, from 1, has the number of branches at index k - 1.
-#[derive(Drop, Debug)]
+#[derive(Drop)]
 pub struct Layout {
     pub slots: Vec<Slot>,
     pub locals: Vec<Ty>,

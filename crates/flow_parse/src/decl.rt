@@ -112,7 +112,7 @@ fn record(alloc: Global, tokens: &Tokens, at: usize) -> Result<(RecordDecl, usiz
 }
 
 /// A name, parameters and a body that were read.
-#[derive(Drop, Debug)]
+#[derive(Drop)]
 pub struct ReadRoutine {
     pub name: Ident,
     pub params: Vec<Param>,

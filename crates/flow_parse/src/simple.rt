@@ -42,7 +42,7 @@ pub struct Around {
 }
 
 /// A declared variable that was read.
-#[derive(Drop, Debug)]
+#[derive(Drop)]
 pub struct ReadInto {
     pub into: Into,
     pub to: usize,
@@ -51,7 +51,7 @@ pub struct ReadInto {
 
 /// A statement that was read: the number of the token after it, the counts there, and whether it ends
 /// in an `if` that has no `else`.
-#[derive(Drop, Debug)]
+#[derive(Drop)]
 pub struct ReadStmt {
     pub stmt: Stmt,
     pub to: usize,
@@ -60,7 +60,7 @@ pub struct ReadStmt {
 }
 
 /// A wait, and the variable that it declares, if it declares one.
-#[derive(Drop, Debug)]
+#[derive(Drop)]
 pub struct ReadWaiting {
     pub waiting: Waiting,
     pub to: usize,

@@ -36,7 +36,7 @@ use flow_tree::ty::Ident;
 use std::alloc::Global;
 
 /// A body that was read.
-#[derive(Drop, Debug)]
+#[derive(Drop)]
 pub struct ReadBody {
     pub body: Vec<Stmt>,
     pub to: usize,
@@ -45,7 +45,7 @@ pub struct ReadBody {
 }
 
 /// Statements that were read, and the place of the brace that closes them.
-#[derive(Drop, Debug)]
+#[derive(Drop)]
 pub struct ReadBlock {
     pub body: Vec<Stmt>,
     pub to: usize,
@@ -54,7 +54,7 @@ pub struct ReadBlock {
 }
 
 /// A branch that was read.
-#[derive(Drop, Debug)]
+#[derive(Drop)]
 pub struct ReadWhen {
     pub at: Place,
     pub waiting: Waiting,
@@ -64,7 +64,7 @@ pub struct ReadWhen {
 }
 
 /// Branches that were read.
-#[derive(Drop, Debug)]
+#[derive(Drop)]
 pub struct ReadWhens {
     pub branches: Vec<When>,
     pub to: usize,
@@ -72,7 +72,7 @@ pub struct ReadWhens {
 }
 
 /// An optional part of a `for` that was read.
-#[derive(Drop, Debug)]
+#[derive(Drop)]
 pub struct ReadPart {
     pub part: Option<Box<Stmt>>,
     pub to: usize,

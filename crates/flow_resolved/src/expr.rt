@@ -7,7 +7,7 @@ use flow_value::value::RecordId;
 
 /// An expression whose names are resolved. A predefined constant is the whole number that it stands for, and parentheses are
 /// left out.
-#[derive(Drop, Debug)]
+#[derive(Drop)]
 pub enum Resolved {
     Int(i64),
     Text(Text),

@@ -27,7 +27,7 @@ pub struct Names<'a> {
 
 /// The fields of a program's records, by the numbers of their names. Those of `Packet` are `from`, `port` and `text`, with the
 /// numbers 0, 1 and 2.
-#[derive(Drop, Debug)]
+#[derive(Drop)]
 pub struct FieldNames {
     records: Vec<Vec<usize>>,
 }

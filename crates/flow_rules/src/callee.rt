@@ -18,7 +18,7 @@ use flow_tree::ty::Ty;
 
 /// What a name at the top of a program declares: a record by its fields, a function or an actor by its
 /// parameters and its result.
-#[derive(Clone, Copy, Debug)]
+#[derive(Clone, Copy)]
 pub enum Meaning<'a> {
     Record(&'a [Param]),
     Function(&'a [Param], &'a Ty),
@@ -35,14 +35,14 @@ pub enum Basic {
 }
 
 /// What an argument has to be.
-#[derive(Clone, Copy, Debug)]
+#[derive(Clone, Copy)]
 pub enum Need<'a> {
     Exactly(Found<'a>),
     Traced,
 }
 
 /// The arguments that a call needs, in order.
-#[derive(Clone, Copy, Debug)]
+#[derive(Clone, Copy)]
 pub enum Needs<'a> {
     Params(&'a [Param]),
     Fixed(&'a [Basic]),
@@ -61,7 +61,7 @@ pub enum Kind {
 }
 
 /// What can be called. A statement call gives nothing.
-#[derive(Clone, Copy, Debug)]
+#[derive(Clone, Copy)]
 pub struct Callee<'a> {
     pub needs: Needs<'a>,
     pub gives: Option<Found<'a>>,

@@ -12,7 +12,7 @@ use flow_tree::expr::Op;
 use flow_tree::ty::Ty;
 
 /// What a future or a stream gives: a written type, or one of those that predefined calls give.
-#[derive(Clone, Copy, Debug)]
+#[derive(Clone, Copy)]
 pub enum Inner<'a> {
     Written(&'a Ty),
     Void,
@@ -22,7 +22,7 @@ pub enum Inner<'a> {
 }
 
 /// A type that lends its parts: from a written type, or made of one.
-#[derive(Clone, Copy, Debug)]
+#[derive(Clone, Copy)]
 pub enum Found<'a> {
     Int,
     Bool,

@@ -43,7 +43,7 @@ pub struct Setting<'n, 'a> {
 }
 
 /// The type of an expression by its form, where it has one, and the least rule that fails in it.
-#[derive(Clone, Copy, Debug)]
+#[derive(Clone, Copy)]
 pub struct Judged<'a> {
     pub form: Option<Found<'a>>,
     pub fault: Option<u8>,

@@ -145,7 +145,7 @@ fn params_fault<'a>(walk: &mut Walk<'_, 'a>, params: &'a [Param]) -> Result<Opti
 }
 
 /// A function or an actor.
-#[derive(Clone, Copy, Debug)]
+#[derive(Clone, Copy)]
 pub struct Routine<'a> {
     pub at: Place,
     pub plain: bool,

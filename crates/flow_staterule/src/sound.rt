@@ -10,7 +10,7 @@ use flow_types::check::Typed;
 use std::alloc::Global;
 
 /// A program that keeps the rules K1 to K12, L8 and U1.
-#[derive(Drop, Debug)]
+#[derive(Drop)]
 pub struct Sound {
     typed: Typed,
 }

@@ -10,7 +10,7 @@ use std::alloc::Global;
 
 /// A line of a trace. Events begin with their number from 1 and their time; groups are numbered from 1,
 /// branches and callbacks from 0. The lines between two events belong to the process of the first.
-#[derive(Drop, Debug)]
+#[derive(Drop)]
 pub enum Line {
     /// The first line of each trace.
     Head,

@@ -38,7 +38,7 @@ pub trait LineOut {
 
 /// Lines in memory, in the order in which they were put. Putting one fails for want of memory alone.
 /// Contracts see it as the list of its lines.
-#[derive(Drop, Debug)]
+#[derive(Drop)]
 pub struct LineVec {
     alloc: Global,
     lines: Vec<Line>,

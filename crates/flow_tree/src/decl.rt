@@ -11,21 +11,21 @@ use flow_base::place::Place;
 use std::alloc::Global;
 
 /// A parameter of a function or an actor, or a field of a record.
-#[derive(Drop, Debug)]
+#[derive(Drop)]
 pub struct Param {
     pub ty: Ty,
     pub name: Ident,
 }
 
 /// A place in an actor's frame that outlives a wait: a parameter or a state variable.
-#[derive(Drop, Debug)]
+#[derive(Drop)]
 pub struct Slot {
     pub ty: Ty,
     pub name: Name,
 }
 
 /// A record and its fields in order.
-#[derive(Drop, Debug)]
+#[derive(Drop)]
 pub struct RecordDecl {
     pub at: Place,
     pub name: Ident,
@@ -33,7 +33,7 @@ pub struct RecordDecl {
 }
 
 /// A plain function. `close` is the place of its closing brace.
-#[derive(Drop, Debug)]
+#[derive(Drop)]
 pub struct FunctionDecl {
     pub at: Place,
     pub returns: Ty,
@@ -45,7 +45,7 @@ pub struct FunctionDecl {
 
 /// An actor. `returns` is the type between the angle brackets of its result, and `close` is the
 /// place of its closing brace.
-#[derive(Drop, Debug)]
+#[derive(Drop)]
 pub struct ActorDecl {
     pub at: Place,
     pub returns: Ty,
@@ -56,7 +56,7 @@ pub struct ActorDecl {
 }
 
 /// A declaration.
-#[derive(Drop, Debug)]
+#[derive(Drop)]
 pub enum Decl {
     Struct(RecordDecl),
     Function(FunctionDecl),
@@ -64,7 +64,7 @@ pub enum Decl {
 }
 
 /// A program: its declarations in text order, and the place of the end of the text.
-#[derive(Drop, Debug)]
+#[derive(Drop)]
 pub struct Program {
     pub decls: Vec<Decl>,
     pub end: Place,

@@ -28,7 +28,7 @@ pub enum Op {
 }
 
 /// An expression. Parentheses are kept.
-#[derive(Drop, Debug)]
+#[derive(Drop)]
 pub enum Expr {
     Int(i64),
     Text(Text),

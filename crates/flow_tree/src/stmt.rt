@@ -12,13 +12,13 @@ use flow_base::place::Place;
 use std::alloc::Global;
 
 /// A variable, or a field of one, and so on: at least one name.
-#[derive(Drop, Debug)]
+#[derive(Drop)]
 pub struct Target {
     pub path: Vec<Ident>,
 }
 
 /// A declared variable: a state variable or a local, its type and its name.
-#[derive(Drop, Debug)]
+#[derive(Drop)]
 pub struct Into {
     pub state: bool,
     pub ty: Ty,
@@ -26,7 +26,7 @@ pub struct Into {
 }
 
 /// A `wait`, or with `next` a `waitNext`, and the variable that it declares, if it declares one.
-#[derive(Drop, Debug)]
+#[derive(Drop)]
 pub struct Waiting {
     pub into: Option<Into>,
     pub next: bool,
@@ -34,7 +34,7 @@ pub struct Waiting {
 }
 
 /// A change of a variable in place: `+=`, `-=`, `++`, `--`.
-#[derive(Drop, Debug)]
+#[derive(Drop)]
 pub enum Change {
     Plus(Expr),
     Minus(Expr),
@@ -44,7 +44,7 @@ pub enum Change {
 
 /// A branch of a `choose`: the place of its `when`, its wait, and its body.
 #[cycle(stmt)]
-#[derive(Drop, Debug)]
+#[derive(Drop)]
 pub struct When {
     pub at: Place,
     pub waiting: Waiting,
@@ -53,7 +53,7 @@ pub struct When {
 
 /// A statement and the place of its first token.
 #[cycle(stmt)]
-#[derive(Drop, Debug)]
+#[derive(Drop)]
 pub struct Stmt {
     pub at: Place,
     pub kind: StmtKind,
@@ -63,7 +63,7 @@ pub struct Stmt {
 /// statements; any other body is a list of one. A `try` has
 /// its body, the place of its `catch`, the name of the error and what handles it.
 #[cycle(stmt)]
-#[derive(Drop, Debug)]
+#[derive(Drop)]
 pub enum StmtKind {
     Block(Vec<Stmt>),
     If(Expr, Vec<Stmt>, Option<Vec<Stmt>>),

@@ -9,7 +9,7 @@ use flow_base::text::Text;
 use std::alloc::Global;
 
 /// The reserved words, in the order of the language page.
-#[derive(Clone, Copy, PartialEq, Eq, Debug)]
+#[derive(Clone, Copy, PartialEq, Eq)]
 pub enum Word {
     Actor,
     Struct,
@@ -43,7 +43,7 @@ pub enum Word {
 }
 
 /// The signs, in the order of the language page.
-#[derive(Clone, Copy, PartialEq, Eq, Debug)]
+#[derive(Clone, Copy, PartialEq, Eq)]
 pub enum Sign {
     OpenRound,
     CloseRound,
@@ -78,7 +78,7 @@ pub enum Sign {
 
 /// A token: a name that is no reserved word, a number from 0 to the greatest 64-bit int, a quoted
 /// text by the bytes that it holds, a reserved word, or a sign.
-#[derive(Drop, Debug)]
+#[derive(Drop)]
 pub enum Token {
     Name(Name),
     Number(i64),
@@ -88,14 +88,14 @@ pub enum Token {
 }
 
 /// A token and the place of its first byte.
-#[derive(Drop, Debug)]
+#[derive(Drop)]
 pub struct Spot {
     pub token: Token,
     pub at: Place,
 }
 
 /// The tokens of a text in order, and the place after its last byte.
-#[derive(Drop, Debug)]
+#[derive(Drop)]
 pub struct Tokens {
     pub spots: Vec<Spot>,
     pub end: Place,

@@ -9,14 +9,14 @@ use flow_base::place::Place;
 use std::alloc::Global;
 
 /// A name and the place of its first byte.
-#[derive(Drop, Debug)]
+#[derive(Drop)]
 pub struct Ident {
     pub name: Name,
     pub at: Place,
 }
 
 /// A type as it is written. `Named` is a record's name.
-#[derive(Drop, Debug)]
+#[derive(Drop)]
 pub enum Ty {
     Int,
     Bool,

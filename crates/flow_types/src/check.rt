@@ -14,7 +14,7 @@ use flow_tree::fault::SourceFault;
 use std::alloc::Global;
 
 /// A program that keeps the rules K1 to K12 and L8.
-#[derive(Drop, Debug)]
+#[derive(Drop)]
 pub struct Typed {
     program: Program,
     variables: Vec<Vec<Variable>>,

@@ -3,7 +3,7 @@
 use flow_tree::ty::{Ident, Ty};
 
 /// What a variable is.
-#[derive(Clone, Copy, PartialEq, Eq, Debug)]
+#[derive(Clone, Copy, PartialEq, Eq)]
 pub enum VarKind {
     Param,
     State,
@@ -11,7 +11,7 @@ pub enum VarKind {
 }
 
 /// A variable of a function or an actor.
-#[derive(Drop, Debug)]
+#[derive(Drop)]
 pub struct Variable {
     pub name: Ident,
     pub kind: VarKind,

@@ -11,7 +11,7 @@ use std::alloc::Global;
 use std::marker::Model;
 
 /// Records, functions and classes that keep the rules V1 to V8. Contracts see what they are made of.
-#[derive(Drop, Debug)]
+#[derive(Drop)]
 pub struct ClassProgram {
     raw: RawClasses,
 }

@@ -22,21 +22,21 @@ pub enum Kind {
 
 /// Which record a value is of: the predefined `Packet`, or the one at a place in the list of a
 /// program's records, from 0.
-#[derive(Clone, Copy, PartialEq, Eq, Debug)]
+#[derive(Clone, Copy, PartialEq, Eq)]
 pub enum RecordId {
     Packet,
     Declared(usize),
 }
 
 /// A record: which one it is, and its fields in order.
-#[derive(Drop, Debug)]
+#[derive(Drop)]
 pub struct Record<V> {
     pub id: RecordId,
     pub fields: Vec<V>,
 }
 
 /// A value. A text is shared by its copies, and a record stands in a box, so that a value is small; a reference names a cell.
-#[derive(Drop, Debug)]
+#[derive(Drop)]
 pub enum Value {
     Int(i64),
     Bool(bool),
@@ -48,7 +48,7 @@ pub enum Value {
 }
 
 /// What a cell of a single result holds once it is set: a value, or an error.
-#[derive(Drop, Debug)]
+#[derive(Drop)]
 pub enum Outcome {
     Value(Value),
     Error(ErrorCode),
