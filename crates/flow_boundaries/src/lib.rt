@@ -2,4 +2,4 @@
 //! a process; and what is brought leaves a process in memory as bursts need it. The definitions stand in `specs/`; the functions of this crate have empty bodies: each contract is a law.
 #![tactic(auto)]
 
-pub mod boundaries;
+pub mod laws;

@@ -2,4 +2,4 @@
 //! `specs/`; the functions of this crate have empty bodies: each contract is a law.
 #![tactic(auto)]
 
-pub mod bursting;
+pub mod laws;

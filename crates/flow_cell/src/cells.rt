@@ -39,7 +39,8 @@ impl<T> Model for Cells<T> {
       greatest = s.cells.greatest;
     } };
 
-    ghost invariant = { λ s. AreQueues (ends_in s.cells.things) (links_of s.lists) (newest_of s.lists) };
+    ghost invariant = { λ s. AreQueues (ends_in s.cells.things) (links_of s.lists)
+        (newest_of s.lists) };
 }
 
 impl<T> Cells<T> {

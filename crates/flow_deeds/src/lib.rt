@@ -2,4 +2,4 @@
 //! each with its burst. The definitions stand in `specs/`; the functions of this crate have empty bodies: each contract is a law.
 #![tactic(auto)]
 
-pub mod deeds;
+pub mod laws;

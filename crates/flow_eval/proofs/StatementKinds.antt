@@ -1,4 +1,4 @@
--- Each kind of statement, put before a body at a place, and what it then comes to.
+-- What each kind of statement, put before a body at a place, comes to.
 use Rattle.std.proofs.Common.{◌≡◌, ap, sym, refl, ◌∙◌, ℕ, List}
 use Rattle.std.specs.Option.{option_map}
 use Rattle.std.specs.declared.option.Option.{Option}
@@ -16,50 +16,19 @@ use Rattle.std.proofs.Common.{subst}
 use Rattle.std.specs.declared.result.Result.{Result}
 use Rattle.flow_eval.specs.declared.stop.Halt.{Halt}
 use Rattle.flow_eval.specs.declared.statements.Flow.{Flow}
-use Rattle.flow_tree.specs.declared.stmt.Stmt.{Stmt, out-Stmt, fold_out-Stmt}
-use Rattle.flow_tree.specs.declared.stmt.StmtKind.{StmtKind, fold-roll-StmtKind}
-use Rattle.flow_tree.specs.declared.stmt.StmtKind.TheOpen as layer
+use Rattle.flow_tree.specs.declared.stmt.Stmt.{Stmt, out-Stmt}
+use Rattle.flow_tree.specs.declared.stmt.StmtKind.{StmtKind}
 use Rattle.flow_tree.specs.declared.stmt.StmtKind.TheVariants as kind
 use Rattle.flow_tree.specs.View.{expr_of, exprs_of}
-use Rattle.flow_tree.specs.StmtView.{into_of, change_of, kind_of, kind_step, stmt_step, branch_step, simple_of, else_of, body_of, stmt_of}
-use Rattle.flow_tree.specs.Body.{Body, Branches, BlockStmt, IfStmt, IfElseStmt, LoopStmt, ReturnStmt, ThrowStmt, TryStmt, DeclareStmt, AssignStmt, CallStmt}
-use Rattle.flow_tree.proofs.Views.{kind_while, kind_for, kind_modify}
+use Rattle.flow_tree.specs.StmtView.{into_of, change_of, kind_of, simple_of, else_of, body_of, stmt_of}
+use Rattle.flow_tree.specs.Body.{Body}
+use Rattle.flow_tree.proofs.Views.{stmt_is, kind_block, kind_if, kind_if_else, kind_while, kind_for, kind_loop, kind_return, kind_throw, kind_try, kind_declare, kind_assign, kind_modify, kind_call}
 use Rattle.flow_eval.specs.Eval.{Setting, Runner}
 use Rattle.flow_eval.specs.Functions.{Locals, Run, after, exec, scope, skip, if_run, loop_run, for_run, try_run, return_run, throw_run, declare_run, assign_run, modify_run, call_run}
 use Rattle.flow_eval.specs.View.{else_run, StmtRan}
 
 abbrev Puts : Type 0
 Puts = Place → Body → Body
-
-kind_block : (b : Vec Stmt Global) → kind_of (kind.Block b) ≡ (λ at k. BlockStmt at (body_of b.items) k)
-kind_block b = ap kind_of (sym (kind.rolls-Block b)) ∙ fold-roll-StmtKind Puts (Body → Body) (Branches → Branches) kind_step stmt_step branch_step (layer.Block b)
-
-kind_loop : (b : Vec Stmt Global) → kind_of (kind.Loop b) ≡ (λ at k. LoopStmt at (body_of b.items) k)
-kind_loop b = ap kind_of (sym (kind.rolls-Loop b)) ∙ fold-roll-StmtKind Puts (Body → Body) (Branches → Branches) kind_step stmt_step branch_step (layer.Loop b)
-
-kind_try : (b : Vec Stmt Global) (p : Place) (x : Ident) (h : Vec Stmt Global) → kind_of (kind.Try b p x h) ≡ (λ at k. TryStmt at (body_of b.items) p x (body_of h.items) k)
-kind_try b p x h = ap kind_of (sym (kind.rolls-Try b p x h)) ∙ fold-roll-StmtKind Puts (Body → Body) (Branches → Branches) kind_step stmt_step branch_step (layer.Try b p x h)
-
-kind_if : (e : Expr) (b : Vec Stmt Global) → kind_of (kind.If e b None) ≡ (λ at k. IfStmt at (expr_of e) (body_of b.items) k)
-kind_if e b = ap kind_of (sym (kind.rolls-If e b None)) ∙ fold-roll-StmtKind Puts (Body → Body) (Branches → Branches) kind_step stmt_step branch_step (layer.If e b None)
-
-kind_if_else : (e : Expr) (b o : Vec Stmt Global) → kind_of (kind.If e b (Some o)) ≡ (λ at k. IfElseStmt at (expr_of e) (body_of b.items) (body_of o.items) k)
-kind_if_else e b o = ap kind_of (sym (kind.rolls-If e b (Some o))) ∙ fold-roll-StmtKind Puts (Body → Body) (Branches → Branches) kind_step stmt_step branch_step (layer.If e b (Some o))
-
-kind_return : (e : Expr) → kind_of (kind.Return e) ≡ (λ at k. ReturnStmt at (expr_of e) k)
-kind_return e = ap kind_of (sym (kind.rolls-Return e)) ∙ fold-roll-StmtKind Puts (Body → Body) (Branches → Branches) kind_step stmt_step branch_step (layer.Return e)
-
-kind_throw : (e : Option Expr) → kind_of (kind.Throw e) ≡ (λ at k. ThrowStmt at (option_map expr_of e) k)
-kind_throw e = ap kind_of (sym (kind.rolls-Throw e)) ∙ fold-roll-StmtKind Puts (Body → Body) (Branches → Branches) kind_step stmt_step branch_step (layer.Throw e)
-
-kind_declare : (i : code.Into) (e : Option Expr) → kind_of (kind.Declare i e) ≡ (λ at k. DeclareStmt at (into_of i) (option_map expr_of e) k)
-kind_declare i e = ap kind_of (sym (kind.rolls-Declare i e)) ∙ fold-roll-StmtKind Puts (Body → Body) (Branches → Branches) kind_step stmt_step branch_step (layer.Declare i e)
-
-kind_assign : (t : Target) (e : Expr) → kind_of (kind.Assign t e) ≡ (λ at k. AssignStmt at t.path.items (expr_of e) k)
-kind_assign t e = ap kind_of (sym (kind.rolls-Assign t e)) ∙ fold-roll-StmtKind Puts (Body → Body) (Branches → Branches) kind_step stmt_step branch_step (layer.Assign t e)
-
-kind_call : (t : Target) (es : Vec Expr Global) → kind_of (kind.Call t es) ≡ (λ at k. CallStmt at t.path.items (exprs_of es.items) k)
-kind_call t es = ap kind_of (sym (kind.rolls-Call t es)) ∙ fold-roll-StmtKind Puts (Body → Body) (Branches → Branches) kind_step stmt_step branch_step (layer.Call t es)
 
 module _ (s : Setting) (run : Runner) (caught : Option (List ℕ)) (vars : Locals) (left : ℕ) (at : Place) where
   -- a kind that is put so comes to what the definition says of it
@@ -108,10 +77,6 @@ module _ (s : Setting) (run : Runner) (caught : Option (List ℕ)) (vars : Local
 
   pub comes_call : (q : StmtKind) (t : Target) (vs : Vec Expr Global) → q ≡ kind.Call t vs → Comes q (call_run s run t.path.items (exprs_of vs.items) vars left)
   comes_call q t vs e = put_as q _ _ (ap kind_of e ∙ kind_call t vs) (λ k. refl)
-
--- a statement is its kind, at its place
-stmt_is : (s : Stmt) → stmt_of s ≡ kind_of (out-Stmt s).kind (out-Stmt s).at
-stmt_is s = fold_out-Stmt Puts (Body → Body) (Branches → Branches) kind_step stmt_step branch_step s
 
 pub stmt_ran : (s : Setting) (run : Runner) (caught : Option (List ℕ)) (vars : Locals) (left : ℕ) (stmt : Stmt) (q : Result Flow Halt) (ws : Locals) (rest : ℕ)
     → StmtRan (λ k. exec s run (kind_of (out-Stmt stmt).kind (out-Stmt stmt).at k) caught vars left) (λ k. exec s run k caught) q ws rest

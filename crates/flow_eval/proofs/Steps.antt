@@ -2,6 +2,7 @@
 use Rattle.std.proofs.Common.{◌≡◌, ℕ, zero, suc, ◌+◌, ◌<◌, ◌≤◌, List, [], ◌∷◌, ◌++◌, length, map, take, drop, get_or, slice_get, Bool, true, false, cond, ◌-◌, refl, ap, sym, subst, ◌∙◌, arith, add-one, append_assoc}
 use Rattle.std.specs.declared.result.Result.{Result}
 use Rattle.std.specs.declared.result.Result.TheVariants.{Ok, Err}
+use Rattle.flow_base.specs.ErrorNumbers.{out_of_range}
 use Rattle.flow_tree.specs.declared.expr.Expr.{Expr}
 use Rattle.flow_tree.specs.declared.stmt.Stmt.{Stmt}
 use Rattle.std.specs.Str.{bytes_eq}
@@ -207,10 +208,10 @@ pub run_spent : (s : Setting) (n : ℕ) (f : RoutineTree) (vs : List ValueTree) 
 run_spent s zero f vs left e = ap (run_function s zero f vs) e
 run_spent s (suc n) f vs left e = ap (run_function s (suc n) f vs) e
 
-pub run_too_deep : (s : Setting) (n : ℕ) (f : RoutineTree) (vs : List ValueTree) (left : ℕ) → n ≡ 0 → 0 < left → run_function s n f vs left ≡ Fails 9001 (left - 1)
+pub run_too_deep : (s : Setting) (n : ℕ) (f : RoutineTree) (vs : List ValueTree) (left : ℕ) → n ≡ 0 → 0 < left → run_function s n f vs left ≡ Fails out_of_range (left - 1)
 run_too_deep s (suc n) f vs left e l = absurd (omega arith)
 run_too_deep s zero f vs zero e l = absurd (omega arith)
-run_too_deep s zero f vs (suc left) e l = let d : left ≡ suc left - 1 = omega arith in ap (Fails 9001) d
+run_too_deep s zero f vs (suc left) e l = let d : left ≡ suc left - 1 = omega arith in ap (Fails out_of_range) d
 
 pub function_got : (fs : List FunctionDecl) (k : ℕ) (d : FunctionDecl) → k < length fs → slice_get (map function_of fs) k ≡ Some (function_of (get_or fs k d))
 function_got [] k d lt = absurd (omega arith)
@@ -248,7 +249,7 @@ spent_at s n (f ∷ fs) zero vs left lt e = run_spent s n (function_of f) vs lef
 spent_at s n (f ∷ fs) (suc k) vs left lt e = let lt' : k < length fs = omega arith in spent_at s n fs k vs left lt' e
 
 pub too_deep_at : (s : Setting) (n : ℕ) (fs : List FunctionDecl) (k : ℕ) (vs : List ValueTree) (left : ℕ) → k < length fs → n ≡ 0 → 0 < left
-    → function_called s (run_function s n) (slice_get (map function_of fs) k) vs left ≡ Fails 9001 (left - 1)
+    → function_called s (run_function s n) (slice_get (map function_of fs) k) vs left ≡ Fails out_of_range (left - 1)
 too_deep_at s n [] k vs left lt e p = absurd (omega arith)
 too_deep_at s n (f ∷ fs) zero vs left lt e p = run_too_deep s n (function_of f) vs left e p
 too_deep_at s n (f ∷ fs) (suc k) vs left lt e p = let lt' : k < length fs = omega arith in too_deep_at s n fs k vs left lt' e p

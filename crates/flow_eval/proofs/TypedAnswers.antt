@@ -3,6 +3,7 @@ use Rattle.std.proofs.Common.{◌≡◌, ℕ, zero, suc, ℤ, pos, Bool, true, f
 use Rattle.std.specs.Prelude.{nat_le, int_le, take, drop}
 use Rattle.std.specs.declared.option.Option.{Option}
 use Rattle.std.specs.declared.option.Option.TheVariants.{None, Some}
+use Rattle.flow_base.specs.ErrorNumbers.{bad_argument, too_long}
 use Rattle.flow_base.proofs.Bools.{and_left, and_right}
 use Rattle.flow_tree.specs.declared.expr.Op.{Op}
 use Rattle.flow_tree.specs.declared.expr.Op.TheVariants.{Or, And, Eq, Ne, Lt, Le, Gt, Ge, Add, Sub, Mul, Div, Rem}
@@ -90,7 +91,7 @@ module _ (rs : List RecordTree) (typed : ℕ → TypeTree → Type 0) where
   truth_typed None b e = none_some b e
   truth_typed (Some c) b e = refl
 
-  joined_by : (b : Bool) (u : List ℕ) → Typed StringType (if b then Given (TextValue u) else Throws 9002)
+  joined_by : (b : Bool) (u : List ℕ) → Typed StringType (if b then Given (TextValue u) else Throws too_long)
   joined_by true u = refl
   joined_by false u = tt {0}
 
@@ -208,11 +209,11 @@ module _ (rs : List RecordTree) (typed : ℕ → TypeTree → Type 0) where
   read_typed None = tt {0}
   read_typed (Some z) = refl
 
-  error_by : (b : Bool) (n : ℕ) → Typed ErrorType (if b then Given (ErrorValue n) else Throws 9007)
+  error_by : (b : Bool) (n : ℕ) → Typed ErrorType (if b then Given (ErrorValue n) else Throws bad_argument)
   error_by true n = refl
   error_by false n = tt {0}
 
-  clipped_by : (b : Bool) (s : List ℕ) → Typed StringType (if b then Given (TextValue s) else Throws 9007)
+  clipped_by : (b : Bool) (s : List ℕ) → Typed StringType (if b then Given (TextValue s) else Throws bad_argument)
   clipped_by true s = refl
   clipped_by false s = tt {0}
 

@@ -12,7 +12,9 @@ ghost use Rattle.flow_eval.specs.View.{GivesAnswer};
 use crate::cells::CellView;
 use crate::stop::Halt;
 use flow_ast::predefined::{Method, Predefined};
-use flow_base::errors::{BAD_ARGUMENT, NOT_READY};
+use flow_base::errors::{
+    BAD_ARGUMENT, BROKEN_PROMISE, END_OF_STREAM, NOT_READY, OPERATION_CANCELLED, TIMED_OUT,
+};
 use flow_base::ids::{CellId, ErrorCode};
 use flow_base::name::is_digit;
 use flow_base::text::Text;
@@ -164,11 +166,12 @@ pub fn call_answer(alloc: Global, call: Predefined, now: i64, args: &[Value]) ->
         Predefined::ToString => to_string(alloc, int_arg(args, 0)),
         Predefined::ToInt => to_int(text_arg(args, 0)),
         Predefined::Now => Ok(Value::Int(now)),
-        Predefined::EndOfStream => Ok(Value::Error(ErrorCode(1))),
-        Predefined::TimedOut => Ok(Value::Error(ErrorCode(1004))),
-        Predefined::BrokenPromise => Ok(Value::Error(ErrorCode(1100))),
-        Predefined::OperationCancelled => Ok(Value::Error(ErrorCode(1101))),
-        Predefined::ActorCancelled => Ok(Value::Error(ErrorCode(1101))),
+        Predefined::EndOfStream => Ok(Value::Error(END_OF_STREAM)),
+        Predefined::TimedOut => Ok(Value::Error(TIMED_OUT)),
+        Predefined::BrokenPromise => Ok(Value::Error(BROKEN_PROMISE)),
+        Predefined::OperationCancelled | Predefined::ActorCancelled => {
+            Ok(Value::Error(OPERATION_CANCELLED))
+        }
         Predefined::Error => error_number(int_arg(args, 0)),
         Predefined::RandomInt
         | Predefined::Delay

@@ -65,7 +65,7 @@ keep_begin zero p xs k = tt
 keep_begin (suc j) p [] k = tt
 keep_begin (suc j) p (x ∷ xs) k = (k.0.1, k.1)
 
-length_begin : (p : Part) (xs : List Marked) → length (begin p xs) ≡ length xs
+pub length_begin : (p : Part) (xs : List Marked) → length (begin p xs) ≡ length xs
 length_begin p [] = refl
 length_begin p (x ∷ xs) = refl
 

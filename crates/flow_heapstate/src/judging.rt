@@ -22,7 +22,8 @@ use std::alloc::Global;
 
 // The single result, the stream and the actor of a state with this number.
 fn cell_at(state: &HeapState, cell: CellId) -> Option<&CellState>
-    ensures { option_map (λ part. cell_kept part.now) result ≡ cell_at (parts_kept state.now) cell.0 }
+    ensures { option_map (λ part. cell_kept part.now) result
+        ≡ cell_at (parts_kept state.now) cell.0 }
 {
     for part in &state.cells {
         if part.cell == cell {
@@ -33,7 +34,8 @@ fn cell_at(state: &HeapState, cell: CellId) -> Option<&CellState>
 }
 
 fn stream_at(state: &HeapState, cell: CellId) -> Option<&StreamState>
-    ensures { option_map (λ part. stream_kept part.now) result ≡ stream_at (parts_kept state.now) cell.0 }
+    ensures { option_map (λ part. stream_kept part.now) result
+        ≡ stream_at (parts_kept state.now) cell.0 }
 {
     for part in &state.streams {
         if part.cell == cell {
@@ -44,7 +46,8 @@ fn stream_at(state: &HeapState, cell: CellId) -> Option<&StreamState>
 }
 
 fn actor_at(state: &HeapState, actor: ActorId) -> Option<&ActorState>
-    ensures { option_map (λ part. actor_kept part.now) result ≡ actor_at (parts_kept state.now) actor.0 }
+    ensures { option_map (λ part. actor_kept part.now) result
+        ≡ actor_at (parts_kept state.now) actor.0 }
 {
     for part in &state.actors {
         if part.actor == actor {

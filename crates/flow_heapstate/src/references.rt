@@ -212,7 +212,8 @@ fn add_queues(
 
 // Adds the promise of an actor for its result.
 fn add_result(part: &ActorState, found: &mut Vec<(Kind, CellId)>) -> Result<(), NoMemory>
-    ensures { OnOk result (Adds found.old.items (result_refs (actor_kept part.now)) found.new.items) }
+    ensures { OnOk result (Adds found.old.items (result_refs
+        (actor_kept part.now)) found.new.items) }
 {
     if let Some(cell) = part.result {
         found.push((Kind::Promise, cell))?;

@@ -13,7 +13,9 @@ ghost use Rattle.flow_kept.specs.Allowed.{IsRun, BetweenTasks, TaskAllowed, Plai
 /// fire, a thrown error, the begin of a handler, the end of an actor. So it is a step of the class machine.
 pub fn tasks_allowed()
     ensures allowed { (r : RawTree) (code : Code) (run : IsRun r code) (ls : List Line)
-        (m : Process) (p : Proc Frame) (now : BetweenTasks r ls m p) → TaskAllowed r code run ls m p now }
+        (m : Process) (p : Proc Frame) (now : BetweenTasks r ls m p)
+            → TaskAllowed r code run ls m p now }
     ensures steps { (r : RawTree) (code : Code) (run : IsRun r code) (ls : List Line)
-        (m : Process) (p : Proc Frame) (now : BetweenTasks r ls m p) → PlainSteps r code run ls m p now }
+        (m : Process) (p : Proc Frame) (now : BetweenTasks r ls m p)
+            → PlainSteps r code run ls m p now }
 {}

@@ -75,7 +75,8 @@ pub fn first_heavy(sound: &Sound) -> Option<Place>
 // Adds a declaration to the records, if it is one.
 fn push_record(alloc: Global, records: &mut Vec<RecordDecl>, decl: &Decl) -> Result<(), NoMemory>
     ensures { let olds = map record_of records.old.items in
-        IfOk result (λ _. map record_of records.new.items ≡ olds ++ records_in (decl_of decl.now ∷ [])) }
+        IfOk result (λ _. map record_of records.new.items
+            ≡ olds ++ records_in (decl_of decl.now ∷ [])) }
 {
     match decl {
         Decl::Struct(record) => {
@@ -148,7 +149,8 @@ fn push_class(
     decl: &Decl,
 ) -> Result<(), NoMemory>
     ensures { let olds = map class_of classes.old.items in
-        let added = map (class_in (names_of (program_of program.now))) (actors_in (decl_of decl.now ∷ [])) in
+        let added = map (class_in (names_of (program_of program.now))) (actors_in
+            (decl_of decl.now ∷ [])) in
         IfOk result (λ _. map class_of classes.new.items ≡ olds ++ added) }
 {
     match decl {
@@ -165,7 +167,8 @@ fn push_class(
 #[tactic(auto, using(crate::proofs::Collecting::classes_more, crate::proofs::Collecting::classes_all))]
 fn classes_of(alloc: Global, program: &Program, decls: &[Decl]) -> Result<Vec<Class>, NoMemory>
     ensures { let ns = names_of (program_of program.now) in
-        IfOk result (λ v. map class_of v.items ≡ map (class_in ns) (actors_in (map decl_of decls.now))) }
+        IfOk result (λ v. map class_of v.items ≡ map (class_in ns) (actors_in
+            (map decl_of decls.now))) }
 {
     let mut classes = Vec::new(alloc);
     for decl in decls {

@@ -144,7 +144,8 @@ fn send_to<H: Host>(
     ensures cause { RunCause (H.faults host.old) (H.faults host.new) result }
     ensures kept { H.kept host.new ≡ H.kept host.old }
     ensures broke { OnErr result
-        (SendBroke H.serves H.shows H.wrote H.broke (natural to.0) (natural to.1) text host.old host.new) }
+        (SendBroke H.serves H.shows H.wrote H.broke (natural to.0)
+            (natural to.1) text host.old host.new) }
     ensures astray { IsErrOf result Astray → ⊥ }
 {
     let (number, port) = to;

@@ -10,14 +10,14 @@ ghost use Rattle.flow_machine.specs.Requests.{IsAllowed, IsRange, call_of, asked
 
 use flow_base::ids::ProcId;
 use flow_base::text::Text;
-use flow_simdisk::DiskAsk;
+use flow_simdisk::{DiskAsk, FILE_BYTES};
 use flow_steps::call::DiskCall;
 
 /// The latest time of a timer, in ticks.
 const LATEST: u64 = 1 << 62;
 
 /// Where a file ends at the latest, in bytes.
-const FURTHEST: u32 = 1048576;
+const FURTHEST: u32 = FILE_BYTES as u32;
 
 /// The greatest number of bytes of a file's name.
 const NAME_LIMIT: usize = 255;

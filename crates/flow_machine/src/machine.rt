@@ -100,7 +100,8 @@ impl Machine {
         ensures cause { RunCause (H.faults host.old) (H.faults host.new) result }
         ensures host { H.kept host.new ≡ H.kept host.old }
         ensures breaks { let start = begun now turns self.old.process in
-            IfErr result (λ f. BringingBreaksOff H.serves H.shows H.wrote H.broke code.now self.old.processes
+            IfErr result (λ f. BringingBreaksOff H.serves H.shows H.wrote H.broke code.now
+                self.old.processes
             (AnswerAmiss cell.0 outcome start.heap)
             (brought kind.Promise cell.0 outcome (on_heap (answered cell.0) start)) host.old
             f host.new) }
@@ -131,7 +132,8 @@ impl Machine {
         ensures cause { RunCause (H.faults host.old) (H.faults host.new) result }
         ensures host { H.kept host.new ≡ H.kept host.old }
         ensures breaks { let start = begun now turns self.old.process in
-            IfErr result (λ f. BringingBreaksOff H.serves H.shows H.wrote H.broke code.now self.old.processes
+            IfErr result (λ f. BringingBreaksOff H.serves H.shows H.wrote H.broke code.now
+                self.old.processes
             (BringAmiss kind.PromiseStream cell.0 (outcome.Value item) start.heap)
             (brought kind.PromiseStream cell.0 (outcome.Value item) start) host.old f host.new) }
         ensures processes { self.new.processes ≡ self.old.processes }
@@ -159,7 +161,8 @@ impl Machine {
         ensures cause { RunCause (H.faults host.old) (H.faults host.new) result }
         ensures host { H.kept host.new ≡ H.kept host.old }
         ensures breaks { let start = begun now turns self.old.process in
-            IfErr result (λ f. BringingBreaksOff H.serves H.shows H.wrote H.broke code.now self.old.processes ⊥
+            IfErr result (λ f. BringingBreaksOff H.serves H.shows H.wrote H.broke code.now
+                self.old.processes ⊥
             (on_heap (main_dropped start.heap.main) start) host.old f host.new) }
         ensures processes { self.new.processes ≡ self.old.processes }
         ensures me { self.new.me ≡ self.old.me }

@@ -8,6 +8,7 @@ use Rattle.flow_value.specs.declared.value.Kind.{Kind}
 use Rattle.flow_value.specs.declared.value.Kind.TheVariants as kind
 use Rattle.flow_value.specs.Values.{ValueTree, IntValue, RefValue}
 pub use Rattle.flow_draw.specs.Words.{scaled}
+use Rattle.flow_simdisk.specs.declared.TheConstants.{FILE_BYTES}
 use Rattle.flow_eval.specs.Predefined.{natural}
 use Rattle.flow_meaning.specs.Numbered.{added, thing}
 use Rattle.flow_meaning.specs.Cells.{Cell, Single, Stream}
@@ -77,12 +78,9 @@ open_port i goal port None c = quiet (gives_new i goal kind.FutureStream (Stream
 abbrev pub listen : (actor : ℕ) → Goal → ℤ → Core → Reaction
 listen i goal port c = if is_port port then open_port i goal (natural port) (thing c.ports (natural port)) c else throws i bad_argument c
 
--- a file's name has 1 to 255 bytes, and a file ends at 1,048,576
+-- a file's name has 1 to 255 bytes
 abbrev pub is_file : List ℕ → Bool
 is_file name = nat_le 1 (length name) && nat_le (length name) 255
-
-abbrev pub furthest : ℕ
-furthest = 1048576
 
 abbrev pub if_ok : {A : Type 0} → Bool → A → Option A
 if_ok true a = Some a
@@ -91,9 +89,9 @@ if_ok false a = None
 -- a disk request whose arguments are in their ranges
 abbrev pub judged : DiskCall ℤ → Option (DiskCall ℕ)
 judged (ReadCall file offset count) =
-    if_ok (is_file file && between offset 0 furthest && between count 0 65535) (ReadCall file (natural offset) (natural count))
+    if_ok (is_file file && between offset 0 FILE_BYTES && between count 0 65535) (ReadCall file (natural offset) (natural count))
 judged (WriteCall file offset text) =
-    if_ok (is_file file && between offset 0 furthest && nat_le (natural offset + length text) furthest) (WriteCall file (natural offset) text)
+    if_ok (is_file file && between offset 0 FILE_BYTES && nat_le (natural offset + length text) FILE_BYTES) (WriteCall file (natural offset) text)
 judged (SyncCall file) = if_ok (is_file file) (SyncCall file)
 judged (SizeCall file) = if_ok (is_file file) (SizeCall file)
 

@@ -4,6 +4,7 @@ use Rattle.std.specs.Prelude.{ℕ, suc, pos, Bool, true, false, not, List, [], �
 use Rattle.std.specs.List.{range_with_len}
 use Rattle.std.specs.declared.option.Option.{Option}
 use Rattle.std.specs.declared.option.Option.TheVariants.{None, Some}
+use Rattle.flow_base.specs.ErrorNumbers.{disk_failed}
 use Rattle.flow_trace.specs.declared.line.Line.{Line}
 use Rattle.flow_trace.specs.declared.line.Line.TheVariants as line
 use Rattle.flow_worldfile.specs.Worlds as file
@@ -171,7 +172,7 @@ abbrev pub disk_outcome : DiskReply → OutcomeTree
 disk_outcome (Text bs) = GoodOutcome (TextValue bs)
 disk_outcome Done = GoodOutcome VoidValue
 disk_outcome (Size n) = GoodOutcome (IntValue (pos n))
-disk_outcome Failed = BadOutcome 9008
+disk_outcome Failed = BadOutcome disk_failed
 
 -- a request takes effect when its event comes
 abbrev pub answered : {A : Type 0} → (cell : ℕ) → DiskCall ℕ → Place A → Outside → Disk × DiskReply → Begun A

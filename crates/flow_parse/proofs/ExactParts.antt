@@ -10,7 +10,7 @@ use Rattle.flow_parse.specs.Failing.{Sees, Never, Only}
 use Rattle.flow_parse.proofs.Looking.{Looks, first_of}
 use Rattle.flow_parse.proofs.Exact.{sees_looks}
 use Rattle.flow_parse.proofs.Begins.{Starts}
-use Rattle.flow_parse.proofs.Spots.{length_begin}
+use Rattle.flow_exprs.proofs.Fits.{length_begin}
 
 -- a part that is empty where the next token says so
 pub nil_only : {A : Type 0} (R : List Marked → A → Type 0) (F : A → List Marked → Type 0) (a : A) (o : Option Token) (ts : List Spot) → first_of ts ≡ o → ((w z : List Marked) (b : A) → R w b → F b z → Looks o (w ++ z) → (b ≡ a) × (w ≡ [])) → Only R F a 0 ts

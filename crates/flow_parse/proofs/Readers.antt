@@ -73,6 +73,19 @@ sees_length n (suc j) [] (x ∷ m) a s = absurd s
 sees_length n (suc j) (t ∷ ts) [] a s = absurd s
 sees_length n (suc j) (t ∷ ts) (x ∷ m) a s = ap suc (sees_length n j ts m (omega arith) s.2)
 
+-- one is below the other, or they are the same
+pub three : (a b : ℕ) → (a < b) ⊎ ((b < a) ⊎ (a ≡ b))
+three zero zero = inr (inr refl)
+three zero (suc b) = inl (omega arith)
+three (suc a) zero = inr (inl (omega arith))
+three (suc a) (suc b) = elim (three a b) [
+  | inl l ↦ inl (omega arith)
+  | inr r ↦ elim r [
+    | inl l ↦ inr (inl (omega arith))
+    | inr e ↦ inr (inr (ap suc e))
+  ]
+]
+
 module _ {A : Type 0} (R : List Marked → A → Type 0) (F : A → List Marked → Type 0)
     (ends : (w : List Marked) (b : A) (y : Marked) (z : List Marked) → R w b → F b (y ∷ z) → Good R 2 (spots_of w ++ y.spot ∷ []) → ⊥) where
   -- what has begun
@@ -120,18 +133,6 @@ module _ {A : Type 0} (R : List Marked → A → Type 0) (F : A → List Marked 
       longer n (suc j) i [] (x ∷ w) z a b s = absurd s
       longer n (suc j) zero (t ∷ ts) (x ∷ w) z a b s = omega arith
       longer n (suc j) (suc i) (t ∷ ts) (x ∷ w) z a b s = omega (arith, longer n j i ts w z (omega arith) (omega arith) s.2)
-
-  three : (a b : ℕ) → (a < b) ⊎ ((b < a) ⊎ (a ≡ b))
-  three zero zero = inr (inr refl)
-  three zero (suc b) = inl (omega arith)
-  three (suc a) zero = inr (inl (omega arith))
-  three (suc a) (suc b) = elim (three a b) [
-    | inl l ↦ inl (omega arith)
-    | inr r ↦ elim r [
-      | inl l ↦ inr (inl (omega arith))
-      | inr e ↦ inr (inr (ap suc e))
-    ]
-  ]
 
   pub reader_only : (one : (n m : ℕ) (toks : List Spot) (a b : A) → Derives R n toks a → Derives R m toks b → a ≡ b) (a : A) (i : ℕ) (ts : List Spot) → ReadsAll R ts i → Derives R 5 (take i ts) a → Only R F a i ts
   reader_only one a i ts all d n j w z b r f lt s =

@@ -17,7 +17,7 @@ use Rattle.flow_parse.specs.Reading.{Opening, Named, Then, Any}
 use Rattle.flow_parse.specs.Parts.{Placed, Marks, Begun}
 use Rattle.flow_parse.proofs.Looking.{Looks, first_of, Back}
 use Rattle.flow_parse.proofs.Begins.{Starts}
-use Rattle.flow_parse.proofs.Spots.{length_begin}
+use Rattle.flow_exprs.proofs.Fits.{length_begin}
 
 -- of fewer than k tokens, what is read is one part, however it is read
 abbrev pub Uniq : {A : Type 0} → ℕ → (List Marked → A → Type 0) → (A → List Marked → Type 0) → Type 0

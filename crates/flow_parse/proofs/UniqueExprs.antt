@@ -8,7 +8,7 @@ use Rattle.flow_tree.specs.Grammar.{ExprRule}
 use Rattle.flow_exprs.proofs.Outcomes.{one_tree}
 use Rattle.flow_parse.specs.Follow.{ExprEnds}
 use Rattle.flow_parse.proofs.Unique.{Uniq}
-use Rattle.flow_parse.proofs.Readers.{keeps_two, expr_ends}
+use Rattle.flow_parse.proofs.Readers.{three, keeps_two, expr_ends}
 
 spots_within : (n : ℕ) (v u : List Marked) → n ≤ length v → spots_of (take n v) ≡ take n (spots_of (v ++ u))
 spots_within zero v u h = refl
@@ -36,18 +36,6 @@ no_longer d w (y ∷ z) v u a b r f s e lt =
       is = spots_within n v u (omega arith) ∙ ap (take n) (sym e) ∙ next_take w y z;
       keeps = keeps_two (take n v);
     })
-
-three : (a b : ℕ) → (a < b) ⊎ ((b < a) ⊎ (a ≡ b))
-three zero zero = inr (inr refl)
-three zero (suc b) = inl (omega arith)
-three (suc a) zero = inr (inl (omega arith))
-three (suc a) (suc b) = elim (three a b) [
-  | inl l ↦ inl (omega arith)
-  | inr r ↦ elim r [
-    | inl l ↦ inr (inl (omega arith))
-    | inr e ↦ inr (inr (ap suc e))
-  ]
-]
 
 pub uniq_expr : (d k : ℕ) → Uniq k (ExprRule 0 d) ExprEnds
 uniq_expr d k w z v u a b lt r f s g e = elim (three (length w) (length v)) [

@@ -3,4 +3,4 @@
 //! functions of this crate have empty bodies: each contract is a law.
 #![tactic(auto)]
 
-pub mod poising;
+pub mod laws;

@@ -94,7 +94,8 @@ fn put_process<L: LineOut>(
     p: ProcId,
     out: &mut L,
 ) -> Result<(), RunFault>
-    ensures puts { OnOk result (Puts L.puts out.old (process_lines (world_seen world.now) p) out.new) }
+    ensures puts { OnOk result (Puts L.puts out.old (process_lines
+        (world_seen world.now) p) out.new) }
     ensures astray { IsErrOf result Astray → ProcessFramesAmiss (world_seen world.now) p }
     ensures cause { RunCause (L.faults out.old) (L.faults out.new) result }
     ensures kept { L.kept out.new ≡ L.kept out.old }

@@ -150,7 +150,8 @@ impl Process {
         effect: Effect,
         args: &[Resolved],
     ) -> Result<Pace<'a>, Fault>
-        ensures done { IfOk result (λ pace. IsEffect code.now stand.now goal effect args.now self.old
+        ensures done { IfOk result (λ pace. IsEffect code.now stand.now goal effect args.now
+            self.old
             pace self.new) }
         ensures astray { OnAstray result (EffectAmiss code.now stand.now effect args.now self.old) }
     {
@@ -170,7 +171,8 @@ impl Process {
         effect: Effect,
         args: Vec<Value>,
     ) -> Result<Pace<'a>, Fault>
-        ensures done { IfOk result (λ pace. EffectDone code.now stand.now goal effect args self.old pace
+        ensures done { IfOk result (λ pace. EffectDone code.now stand.now goal effect args
+            self.old pace
             self.new) }
         ensures astray { OnAstray result (EffectDoneAmiss code.now stand.now effect args self.old) }
     {
@@ -261,7 +263,8 @@ impl Process {
         number: u32,
         args: Vec<Value>,
     ) -> Result<(ActorId, CellId), Fault>
-        ensures done { IfOk result (λ r. Enrols code.now number args.items r.0 r.1 self.old self.new) }
+        ensures done { IfOk result (λ r. Enrols code.now number args.items r.0 r.1 self.old
+            self.new) }
         ensures astray { OnAstray result (EnrolsAmiss code.now number args.items self.old.heap) }
     {
         let Some(class) = code.class(number) else {

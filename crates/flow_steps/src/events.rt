@@ -66,7 +66,8 @@ impl Process {
 
     /// An element comes to a port's stream, which fires.
     pub fn bring(&mut self, cell: CellId, item: Value) -> Result<(), Fault>
-        ensures done { OnOk result (self.new ≡ brought kind.PromiseStream cell.0 (outcome.Value item)
+        ensures done { OnOk result (self.new ≡ brought kind.PromiseStream cell.0
+            (outcome.Value item)
             self.old) }
         ensures astray { OnAstray result (BringAmiss kind.PromiseStream cell.0 (outcome.Value item)
             self.old.heap) }

@@ -187,7 +187,8 @@ impl Process {
     /// Where an actor that has a frame stands.
     pub(crate) fn stand_of<'a>(&self, code: &'a Code, actor: ActorId) -> Result<Stand<'a>, Fault>
         ensures done { IfOk result (λ s. StandsNow code.now.classes.items actor self.now s) }
-        ensures astray { OnAstray result (StandsNowhere code.now.classes.items actor.0 self.now.heap) }
+        ensures astray { OnAstray result (StandsNowhere code.now.classes.items actor.0
+            self.now.heap) }
     {
         let Some(at) = self.heap.frames().standing(actor) else {
             return Err(Fault::Astray);

@@ -299,7 +299,8 @@ impl Process {
         stand: Stand<'a>,
         old: Option<Value>,
     ) -> Result<Pace<'a>, Fault>
-        ensures done { IfOk result (λ pace. OnAfter stand.entry (referring old) self.old pace self.new) }
+        ensures done { IfOk result (λ pace. OnAfter stand.entry
+            (referring old) self.old pace self.new) }
         ensures astray { OnAstray result (FrameMissing stand.entry.actor.0 self.old.heap) }
     {
         match old {
@@ -493,7 +494,8 @@ impl Process {
     ) -> Result<Pace<'a>, Fault>
         ensures done { IfOk result (λ pace. IsMethod code.now stand.now aim.now method sent self.old
             pace self.new) }
-        ensures astray { OnAstray result (CallsAmiss code.now stand.now aim.now method sent self.old) }
+        ensures astray { OnAstray result (CallsAmiss code.now stand.now aim.now method sent
+            self.old) }
     {
         let Some((kind, cell)) = self.reference_at(code, stand.actor, aim) else {
             return Err(Fault::Astray);
@@ -560,7 +562,8 @@ impl Process {
 
     #[tactic(auto, using(crate::proofs::Stepped::goes_at))]
     fn last<'a>(&mut self, code: &Code, stand: &Stand<'a>, last: &Last) -> Result<Pace<'a>, Fault>
-        ensures done { IfOk result (λ pace. Ends code.now stand.now last.now self.old pace self.new) }
+        ensures done { IfOk result (λ pace. Ends code.now stand.now last.now self.old pace
+            self.new) }
         ensures astray { OnAstray result (LastAmiss code.now stand.now last.now self.old) }
     {
         match last {
@@ -674,9 +677,11 @@ impl Process {
         callback: u32,
         operand: &Operand,
     ) -> Result<Pace<'a>, Fault>
-        ensures done { IfOk result (λ pace. OperandStep code.now stand.now callback operand.now self.old
+        ensures done { IfOk result (λ pace. OperandStep code.now stand.now callback operand.now
+            self.old
             pace self.new) }
-        ensures astray { OnAstray result (AsksAmiss code.now stand.now callback operand.now self.old) }
+        ensures astray { OnAstray result (AsksAmiss code.now stand.now callback operand.now
+            self.old) }
     {
         match operand {
             Operand::Value(expr) => self.value_operand(code, stand, callback, expr),

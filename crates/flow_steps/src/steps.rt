@@ -323,7 +323,8 @@ impl Process {
     // A waiter of a cell takes its branch, and the fire goes on after it.
     fn fire_to(&mut self, code: &Code, cell: CellId, waiter: Waiter) -> Result<(), Fault>
         ensures done { OnOk result (WaiterTakes code.now cell waiter self.old self.new) }
-        ensures astray { OnAstray result (WaiterAmiss code.now cell waiter (doing (Fire cell) self.old)) }
+        ensures astray { OnAstray result (WaiterAmiss code.now cell waiter (doing
+            (Fire cell) self.old)) }
     {
         self.heap.push(Task::Fire(cell))?;
         let stand = self.stand_of(code, waiter.actor)?;

@@ -124,7 +124,8 @@ impl Process {
     #[tactic(auto, using(crate::proofs::Holding::value_alone))]
     /// An outcome is stored: what it refers to counts.
     pub(crate) fn hold_outcome(&mut self, outcome: &Outcome) -> Result<(), Fault>
-        ensures done { OnOk result (self.new ≡ on_heap (hold_all (outcome_refs outcome.now)) self.old) }
+        ensures done { OnOk result (self.new ≡ on_heap (hold_all
+            (outcome_refs outcome.now)) self.old) }
         ensures astray { OnAstray result (SomeMissing (outcome_refs outcome.now) self.old.heap) }
     {
         match outcome {

@@ -2,4 +2,4 @@
 //! same step. The definitions stand in `specs/`; the functions of this crate have empty bodies: each contract is a law.
 #![tactic(auto)]
 
-pub mod storing;
+pub mod laws;

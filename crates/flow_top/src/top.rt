@@ -20,7 +20,8 @@ pub fn flow_main<F: Files, S: Sink>(
     out: &mut S,
 ) -> u8
     ensures { let given = map string_bytes words.now in
-        Answers given (F.seen files.old) (F.seen files.new) (S.seen out.old) (S.seen out.new) result }
+        Answers given (F.seen files.old) (F.seen files.new) (S.seen out.old)
+            (S.seen out.new) result }
 {
     let outcome = decide(alloc, words, files);
     report(alloc, outcome, out)

@@ -19,7 +19,8 @@ pub struct SinkOut<'a, S: Sink> {
     pub out: &'a mut S,
     pub buffer: LineBuf,
     pub before: Snapshot<S>,
-    ghost grown: { Grows (S.seen before.value).written (S.seen out.now).written } by { Prim.hlevel props },
+    ghost grown: { Grows (S.seen before.value).written
+        (S.seen out.now).written } by { Prim.hlevel props },
 }
 
 impl<'a, S: Sink> LineOut for SinkOut<'a, S> {

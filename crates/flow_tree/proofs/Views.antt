@@ -17,16 +17,19 @@ use Rattle.flow_tree.specs.declared.expr.Expr.{Expr}
 use Rattle.flow_tree.specs.declared.expr.Expr.TheOpen as expr_layer
 use Rattle.flow_tree.specs.declared.expr.Expr.TheVariants as expr
 use Rattle.flow_tree.specs.declared.expr.Expr.TheFolds.{fold-roll-Expr}
+use Rattle.flow_tree.specs.declared.stmt.Into.{Into}
 use Rattle.flow_tree.specs.declared.stmt.Target.{Target}
+use Rattle.flow_tree.specs.declared.stmt.Waiting.{Waiting}
+use Rattle.flow_tree.specs.declared.stmt.When.{When}
 use Rattle.flow_tree.specs.declared.stmt.Change.{Change}
-use Rattle.flow_tree.specs.declared.stmt.Stmt.{Stmt}
+use Rattle.flow_tree.specs.declared.stmt.Stmt.{Stmt, out-Stmt, fold_out-Stmt}
 use Rattle.flow_tree.specs.declared.stmt.StmtKind.{fold-roll-StmtKind}
 use Rattle.flow_tree.specs.declared.stmt.StmtKind.TheOpen as layer
 use Rattle.flow_tree.specs.declared.stmt.StmtKind.TheVariants as kind
 use Rattle.flow_tree.specs.View.{type_of, type_step, expr_of, expr_step, exprs_of}
-use Rattle.flow_tree.specs.StmtView.{change_of, kind_of, kind_step, stmt_step, branch_step, simple_of, body_of}
+use Rattle.flow_tree.specs.StmtView.{into_of, waiting_of, change_of, kind_of, kind_step, stmt_of, stmt_step, branch_step, simple_of, body_of, branches_of}
 use Rattle.flow_tree.specs.Tree.{TypeTree, ExprTree, FutureType, FutureStreamType, PromiseType, PromiseStreamType, CallExpr, FieldExpr, MethodExpr, NotExpr, NegExpr, BinaryExpr, ParenExpr}
-use Rattle.flow_tree.specs.Body.{Body, Branches, WhileStmt, ForStmt, ModifyStmt}
+use Rattle.flow_tree.specs.Body.{Body, Branches, BlockStmt, IfStmt, IfElseStmt, WhileStmt, ForStmt, LoopStmt, BreakStmt, ContinueStmt, ReturnStmt, ThrowStmt, TryStmt, ChooseStmt, DeclareStmt, AssignStmt, ModifyStmt, CallStmt, WaitStmt}
 
 pub type_future : (t : Box Ty Global) → type_of (type.Future t) ≡ FutureType (type_of t.value)
 type_future t = ap type_of (sym (type.rolls-Future t)) ∙ fold-roll-Ty TypeTree type_step (type_layer.Future t)
@@ -65,11 +68,57 @@ expr_paren e = ap expr_of (sym (expr.rolls-Paren e)) ∙ fold-roll-Expr ExprTree
 abbrev Puts : Type 0
 Puts = Place → Body → Body
 
+-- a statement is its kind, at its place
+pub stmt_is : (s : Stmt) → stmt_of s ≡ kind_of (out-Stmt s).kind (out-Stmt s).at
+stmt_is s = fold_out-Stmt Puts (Body → Body) (Branches → Branches) kind_step stmt_step branch_step s
+
 pub kind_modify : (t : Target) (c : Change) → kind_of (kind.Modify t c) ≡ (λ at rest. ModifyStmt at t.path.items (change_of c) rest)
 kind_modify t c = ap kind_of (sym (kind.rolls-Modify t c)) ∙ fold-roll-StmtKind Puts (Body → Body) (Branches → Branches) kind_step stmt_step branch_step (layer.Modify t c)
 
 pub kind_while : (e : Expr) (b : Vec Stmt Global) → kind_of (kind.While e b) ≡ (λ at rest. WhileStmt at (expr_of e) (body_of b.items) rest)
 kind_while e b = ap kind_of (sym (kind.rolls-While e b)) ∙ fold-roll-StmtKind Puts (Body → Body) (Branches → Branches) kind_step stmt_step branch_step (layer.While e b)
+
+pub kind_block : (b : Vec Stmt Global) → kind_of (kind.Block b) ≡ (λ at rest. BlockStmt at (body_of b.items) rest)
+kind_block b = ap kind_of (sym (kind.rolls-Block b)) ∙ fold-roll-StmtKind Puts (Body → Body) (Branches → Branches) kind_step stmt_step branch_step (layer.Block b)
+
+pub kind_loop : (b : Vec Stmt Global) → kind_of (kind.Loop b) ≡ (λ at rest. LoopStmt at (body_of b.items) rest)
+kind_loop b = ap kind_of (sym (kind.rolls-Loop b)) ∙ fold-roll-StmtKind Puts (Body → Body) (Branches → Branches) kind_step stmt_step branch_step (layer.Loop b)
+
+pub kind_try : (b : Vec Stmt Global) (p : Place) (x : Ident) (h : Vec Stmt Global) → kind_of (kind.Try b p x h) ≡ (λ at rest. TryStmt at (body_of b.items) p x (body_of h.items) rest)
+kind_try b p x h = ap kind_of (sym (kind.rolls-Try b p x h)) ∙ fold-roll-StmtKind Puts (Body → Body) (Branches → Branches) kind_step stmt_step branch_step (layer.Try b p x h)
+
+pub kind_if : (e : Expr) (b : Vec Stmt Global) → kind_of (kind.If e b None) ≡ (λ at rest. IfStmt at (expr_of e) (body_of b.items) rest)
+kind_if e b = ap kind_of (sym (kind.rolls-If e b None)) ∙ fold-roll-StmtKind Puts (Body → Body) (Branches → Branches) kind_step stmt_step branch_step (layer.If e b None)
+
+pub kind_if_else : (e : Expr) (b o : Vec Stmt Global) → kind_of (kind.If e b (Some o)) ≡ (λ at rest. IfElseStmt at (expr_of e) (body_of b.items) (body_of o.items) rest)
+kind_if_else e b o = ap kind_of (sym (kind.rolls-If e b (Some o))) ∙ fold-roll-StmtKind Puts (Body → Body) (Branches → Branches) kind_step stmt_step branch_step (layer.If e b (Some o))
+
+pub kind_return : (e : Expr) → kind_of (kind.Return e) ≡ (λ at rest. ReturnStmt at (expr_of e) rest)
+kind_return e = ap kind_of (sym (kind.rolls-Return e)) ∙ fold-roll-StmtKind Puts (Body → Body) (Branches → Branches) kind_step stmt_step branch_step (layer.Return e)
+
+pub kind_throw : (e : Option Expr) → kind_of (kind.Throw e) ≡ (λ at rest. ThrowStmt at (option_map expr_of e) rest)
+kind_throw e = ap kind_of (sym (kind.rolls-Throw e)) ∙ fold-roll-StmtKind Puts (Body → Body) (Branches → Branches) kind_step stmt_step branch_step (layer.Throw e)
+
+pub kind_declare : (i : Into) (e : Option Expr) → kind_of (kind.Declare i e) ≡ (λ at rest. DeclareStmt at (into_of i) (option_map expr_of e) rest)
+kind_declare i e = ap kind_of (sym (kind.rolls-Declare i e)) ∙ fold-roll-StmtKind Puts (Body → Body) (Branches → Branches) kind_step stmt_step branch_step (layer.Declare i e)
+
+pub kind_assign : (t : Target) (e : Expr) → kind_of (kind.Assign t e) ≡ (λ at rest. AssignStmt at t.path.items (expr_of e) rest)
+kind_assign t e = ap kind_of (sym (kind.rolls-Assign t e)) ∙ fold-roll-StmtKind Puts (Body → Body) (Branches → Branches) kind_step stmt_step branch_step (layer.Assign t e)
+
+pub kind_call : (t : Target) (es : Vec Expr Global) → kind_of (kind.Call t es) ≡ (λ at rest. CallStmt at t.path.items (exprs_of es.items) rest)
+kind_call t es = ap kind_of (sym (kind.rolls-Call t es)) ∙ fold-roll-StmtKind Puts (Body → Body) (Branches → Branches) kind_step stmt_step branch_step (layer.Call t es)
+
+pub kind_choose : (bs : Vec When Global) → kind_of (kind.Choose bs) ≡ (λ at rest. ChooseStmt at (branches_of bs.items) rest)
+kind_choose bs = ap kind_of (sym (kind.rolls-Choose bs)) ∙ fold-roll-StmtKind Puts (Body → Body) (Branches → Branches) kind_step stmt_step branch_step (layer.Choose bs)
+
+pub kind_wait : (w : Waiting) → kind_of (kind.Wait w) ≡ (λ at rest. WaitStmt at (waiting_of w) rest)
+kind_wait w = ap kind_of (sym (kind.rolls-Wait w)) ∙ fold-roll-StmtKind Puts (Body → Body) (Branches → Branches) kind_step stmt_step branch_step (layer.Wait w)
+
+pub kind_break : kind_of kind.Break ≡ BreakStmt
+kind_break = ap kind_of (sym kind.rolls-Break) ∙ fold-roll-StmtKind Puts (Body → Body) (Branches → Branches) kind_step stmt_step branch_step layer.Break
+
+pub kind_continue : kind_of kind.Continue ≡ ContinueStmt
+kind_continue = ap kind_of (sym kind.rolls-Continue) ∙ fold-roll-StmtKind Puts (Body → Body) (Branches → Branches) kind_step stmt_step branch_step layer.Continue
 
 -- a `for` is unrolled with its init and step known to be there or not
 abbrev ForIs : Option (Box Stmt Global) → Option Expr → Option (Box Stmt Global) → Vec Stmt Global → Type 0

@@ -19,7 +19,8 @@ use Rattle.flow_meaning.specs.Asks.{DiskCall, ReadCall, WriteCall, SyncCall, Siz
 use Rattle.flow_meaning.specs.Process.{Run, Throw, Entry, Core}
 use Rattle.flow_meaning.specs.Lines.{cancel_line}
 use Rattle.flow_meaning.specs.Work.{writes, pushed, new_cell, fill, cancel_by, cancel, cancel_owner}
-use Rattle.flow_meaning.specs.Effects.{Reaction, throws, gives, gives_new, gives_open, empty_cell, between, is_port, is_file, furthest, if_ok, open_port, judged, ask_disk, effect}
+use Rattle.flow_simdisk.specs.declared.TheConstants.{FILE_BYTES}
+use Rattle.flow_meaning.specs.Effects.{Reaction, throws, gives, gives_new, gives_open, empty_cell, between, is_port, is_file, if_ok, open_port, judged, ask_disk, effect}
 use Rattle.flow_meaning.specs.React.{send_by, send_in, print}
 use Rattle.flow_meaning.specs.Frame.{Frame}
 use Rattle.flow_meaning.proofs.Shifts.{run_of, throw_of, Owned}
@@ -53,8 +54,8 @@ if_some true x y e = cc
 if_some false x y e = absurd cc
 
 judged_reply : (call : DiskCall ℤ) (d : DiskCall ℕ) → judged call ≡ Some d → reply_type d ≡ reply_type call
-judged_reply (ReadCall file offset count) d e = ap reply_type (sym (if_some (is_file file && between offset 0 furthest && between count 0 65535) (ReadCall file (natural offset) (natural count)) d e))
-judged_reply (WriteCall file offset text) d e = ap reply_type (sym (if_some (is_file file && between offset 0 furthest && nat_le (natural offset + length text) furthest) (WriteCall file (natural offset) text) d e))
+judged_reply (ReadCall file offset count) d e = ap reply_type (sym (if_some (is_file file && between offset 0 FILE_BYTES && between count 0 65535) (ReadCall file (natural offset) (natural count)) d e))
+judged_reply (WriteCall file offset text) d e = ap reply_type (sym (if_some (is_file file && between offset 0 FILE_BYTES && nat_le (natural offset + length text) FILE_BYTES) (WriteCall file (natural offset) text) d e))
 judged_reply (SyncCall file) d e = ap reply_type (sym (if_some (is_file file) (SyncCall file) d e))
 judged_reply (SizeCall file) d e = ap reply_type (sym (if_some (is_file file) (SizeCall file) d e))
 

@@ -134,7 +134,8 @@ impl Outside {
     pub fn lose_disk(&mut self, p: ProcId) -> Result<Vec<Kept>, RunFault>
         ensures cause { ¬ IsErrOf result Failed }
         ensures astray { IsErrOf result Astray → slice_get (seen self.old).disks p.0 ≡ None }
-        ensures lost { IfOk result (λ fates. DiskLoses p (seen self.old) (seen self.new) fates.items) }
+        ensures lost { IfOk result (λ fates. DiskLoses p (seen self.old)
+            (seen self.new) fates.items) }
     {
         let Some(disk) = self.disks.get_mut(usize::from(p.0)) else {
             return Err(RunFault::Astray);

@@ -20,7 +20,8 @@ pub struct Teller<'l, L: LineOut> {
     pub fault: Option<OutFault>,
     pub before: Snapshot<L>,
     ghost risen: { L.faults before.value ≤ L.faults out.now },
-    ghost cause: { fault ≡ Some Failed → Rose (L.faults before.value) (L.faults out.now) } by { Prim.hlevel props },
+    ghost cause: { fault ≡ Some Failed → Rose (L.faults before.value)
+        (L.faults out.now) } by { Prim.hlevel props },
 }
 
 impl<'l, L: LineOut> LineOut for Teller<'l, L> {

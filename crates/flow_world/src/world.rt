@@ -150,7 +150,8 @@ impl World {
         requires { self.old.ran < self.old.events }
         ensures comes { IfOk result (λ e. Comes (tells L.puts) scripted (begins time
             (world_seen self.old)) (whole out.old) e (world_seen self.new) (whole out.new)) }
-        ensures breaks { IsErrOf result Failed → (e : Ended) × Comes (tells L.puts) scripted (begins time
+        ensures breaks { IsErrOf result Failed → (e : Ended)
+            × Comes (tells L.puts) scripted (begins time
             (world_seen self.old)) (whole out.old) e (world_seen self.new) (failed out.new) }
         ensures ended { self.new.ended ≡ true }
         ensures bound { self.new.events ≡ self.old.events }

@@ -5,7 +5,8 @@ use Rattle.flow_worldfile.specs.declared.world.World0.{World0}
 use Rattle.flow_worldfile.specs.declared.world.WorldFault.{WorldFault}
 use Rattle.flow_worldfile.specs.declared.world.WorldFault.TheVariants.{Form, Range, Twice, NoProcess, TooLarge, OutOfMemory}
 use Rattle.flow_worldfile.specs.Worlds.{World, seen, said, world_of, IsInRange}
-use Rattle.flow_worldfile.specs.Reading.{Rule, W1, W2, W3, W4, accepted, refused, IsFileOf, IsRefused, ReadsWorld, most_bytes}
+use Rattle.flow_worldfile.specs.declared.TheConstants.{WORLD_BYTES}
+use Rattle.flow_worldfile.specs.Reading.{Rule, W1, W2, W3, W4, accepted, refused, IsFileOf, IsRefused, ReadsWorld}
 use Rattle.flow_worldfile.proofs.OneVerdict.{one_verdict}
 use Rattle.flow_worldfile.proofs.KeptLemmas.{file_in_range}
 
@@ -26,7 +27,7 @@ not_refused bytes w line rule (ds, judged, is) h =
     let same : accepted ds ≡ refused line rule = one_verdict bytes (accepted ds) (refused line rule) judged h.1 in
     absurd (cc)
 
-pub is_read : (bytes : List ℕ) (r : Result World0 WorldFault) → ReadsWorld bytes r → (w : World) → IsFileOf bytes w → length bytes ≤ most_bytes
+pub is_read : (bytes : List ℕ) (r : Result World0 WorldFault) → ReadsWorld bytes r → (w : World) → IsFileOf bytes w → length bytes ≤ WORLD_BYTES
     → MatchResult r (λ world. seen world ≡ w) (λ fault. fault ≡ OutOfMemory)
 is_read bytes (Ok world) h w file small = one_world bytes (seen world) w h.1 file
 is_read bytes (Err (Form n)) h w file small = absurd (not_refused bytes w n W1 file h)

@@ -1,6 +1,7 @@
 -- Which texts are world files, and which line of another text fails first.
 use Rattle.std.specs.Prelude.{◌≡◌, ℕ, ◌+◌, ◌≤◌, ◌<◌, ◌⊎◌, Bool, false, List, [], ◌∷◌, ◌++◌, length, Option, is_some, IsTrue, Result, Ok, Err}
 use Rattle.std.specs.List.{filter_map, AllByRecursion}
+use Rattle.flow_worldfile.specs.declared.TheConstants.{WORLD_BYTES}
 use Rattle.flow_worldfile.specs.declared.directive.Directive.{Directive}
 use Rattle.flow_worldfile.specs.declared.directive.Directive.TheVariants.{Seed, Processes, Events, Turns, Latency, DiskDelay, Loss, Word, At}
 use Rattle.flow_worldfile.specs.declared.world.World0.{World0}
@@ -119,20 +120,16 @@ IsJudged bytes v = (count : ℕ) × IsCount (lines bytes) count × Judges count 
 abbrev pub IsFileOf : List ℕ → World → Type 0
 IsFileOf bytes w = (ds : List Directive) × IsJudged bytes (accepted ds) × (w ≡ world_of (said ds))
 
--- the greatest number of bytes of a world file
-abbrev pub most_bytes : ℕ
-most_bytes = 1048576
-
 -- a line of the text is the first that breaks a rule
 abbrev pub IsRefused : List ℕ → ℕ → Rule → Type 0
-IsRefused bytes line rule = (length bytes ≤ most_bytes) × IsJudged bytes (refused line rule)
+IsRefused bytes line rule = (length bytes ≤ WORLD_BYTES) × IsJudged bytes (refused line rule)
 
 -- what is answered for a text
 abbrev pub ReadsWorld : List ℕ → Result World0 WorldFault → Type 0
-ReadsWorld bytes (Ok world) = (length bytes ≤ most_bytes) × IsFileOf bytes (seen world)
+ReadsWorld bytes (Ok world) = (length bytes ≤ WORLD_BYTES) × IsFileOf bytes (seen world)
 ReadsWorld bytes (Err (Form line)) = IsRefused bytes line W1
 ReadsWorld bytes (Err (Range line)) = IsRefused bytes line W2
 ReadsWorld bytes (Err (Twice line)) = IsRefused bytes line W3
 ReadsWorld bytes (Err (NoProcess line)) = IsRefused bytes line W4
-ReadsWorld bytes (Err TooLarge) = most_bytes < length bytes
+ReadsWorld bytes (Err TooLarge) = WORLD_BYTES < length bytes
 ReadsWorld bytes (Err OutOfMemory) = Unit {0}

@@ -2,18 +2,17 @@
 
 ghost use Rattle.std.specs.Prelude.{ℕ, ◌≤◌, ◌≡◌, length, MatchOption, MatchResult, IfOk};
 ghost use Rattle.flow_worldfile.specs.Lines.{lines};
-ghost use Rattle.flow_worldfile.specs.Reading.{Counts, IsCount, IsFileOf, most_bytes, ReadsWorld};
+ghost use Rattle.flow_worldfile.specs.Reading.{Counts, IsCount, IsFileOf, ReadsWorld};
+ghost use Rattle.flow_worldfile.specs.declared.TheConstants.{WORLD_BYTES};
 ghost use Rattle.flow_worldfile.specs.Worlds.{World, seen, IsInRange};
 ghost use Rattle.flow_worldfile.specs.Drafts.{LinesRead};
 
 use crate::draft::Draft;
 use crate::forms::directive;
 use crate::lines::first_line;
+use crate::WORLD_BYTES;
 use crate::world::{World0, WorldFault};
 use std::alloc::Global;
-
-/// The greatest number of bytes of a world file.
-const MOST_BYTES: usize = 1_048_576;
 
 /// The count of processes that a line gives.
 #[tactic(auto, using(crate::proofs::FormLemmas::formless, crate::proofs::FormLemmas::no_count, crate::proofs::FormLemmas::count_out_of_range, crate::proofs::FormLemmas::count_given))]
@@ -49,7 +48,7 @@ fn count_of(text: &[u8]) -> u8
 
 /// What the lines of a text say, where there are `count` processes.
 fn read_lines(alloc: Global, text: &[u8], count: u8) -> Result<Draft, WorldFault>
-    requires { length text.now ≤ most_bytes }
+    requires { length text.now ≤ WORLD_BYTES }
     ensures { LinesRead count text.now result }
 {
     let mut draft = Draft::new(alloc);
@@ -70,7 +69,7 @@ fn read_lines(alloc: Global, text: &[u8], count: u8) -> Result<Draft, WorldFault
 fn world_in(alloc: Global, bytes: &[u8]) -> Result<World0, WorldFault>
     ensures { ReadsWorld bytes.now result }
 {
-    if bytes.len() > MOST_BYTES {
+    if bytes.len() > WORLD_BYTES {
         return Err(WorldFault::TooLarge);
     }
     match read_lines(alloc, bytes, count_of(bytes)) {
@@ -87,7 +86,7 @@ pub fn read_world(alloc: Global, bytes: &[u8]) -> Result<World0, WorldFault>
     ensures in_range { IfOk result (λ world. IsInRange (seen world)) }
 
     // A world file is read, unless it is too large or memory is wanting.
-    ensures read { (w : World) → IsFileOf bytes.now w → length bytes.now ≤ most_bytes
+    ensures read { (w : World) → IsFileOf bytes.now w → length bytes.now ≤ WORLD_BYTES
         → MatchResult result (λ world. seen world ≡ w) (λ fault. fault ≡ WorldFault.OutOfMemory) }
 {
     world_in(alloc, bytes)

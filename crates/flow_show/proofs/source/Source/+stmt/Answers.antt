@@ -3,8 +3,8 @@ use Rattle.std.specs.Prelude.{codes}
 use Rattle.flow_tree.specs.View.{exprs_of}
 use Rattle.flow_tree.specs.StmtView.{body_of, branches_of}
 use Rattle.flow_tree.specs.Canon.{line, call_text, body_text, branches_text}
-use Rattle.flow_tree.proofs.Views.{kind_modify}
-use Rattle.flow_show.proofs.StatementKinds.{puts_kind, kind_declare, kind_assign, kind_call, kind_wait, kind_try, kind_choose}
+use Rattle.flow_tree.proofs.Views.{kind_declare, kind_assign, kind_modify, kind_call, kind_wait, kind_try, kind_choose}
+use Rattle.flow_show.proofs.StatementKinds.{puts_kind}
 use Rattle.flow_show.proofs.Texts.{three, five}
 use Rattle.flow_show.proofs.source.Source.+stmt.Goals as goal
 

@@ -1,5 +1,5 @@
 use Rattle.flow_storing.proofs.Tasks.{task_stores, brought_stores, main_stores}
-use Rattle.flow_storing.proofs.storing.no_promise_is_stored.Goals as goal
+use Rattle.flow_storing.proofs.laws.no_promise_is_stored.Goals as goal
 
 pub returns-clause-tasks : goal.returns-clause-tasks
 returns-clause-tasks c = task_stores

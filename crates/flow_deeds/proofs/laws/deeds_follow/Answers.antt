@@ -1,5 +1,5 @@
 use Rattle.flow_deeds.proofs.Doing.{deeds_follow}
-use Rattle.flow_deeds.proofs.deeds.deeds_follow.Goals as goal
+use Rattle.flow_deeds.proofs.laws.deeds_follow.Goals as goal
 
 pub returns : goal.returns
 returns g c = deeds_follow g.L.LineOut.puts

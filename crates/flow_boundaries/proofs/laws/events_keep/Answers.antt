@@ -1,5 +1,5 @@
 use Rattle.flow_boundaries.proofs.Keeping.{start_keeps, event_keeps, ready_kept, begun_kept, answer_due}
-use Rattle.flow_boundaries.proofs.boundaries.events_keep.Goals as goal
+use Rattle.flow_boundaries.proofs.laws.events_keep.Goals as goal
 
 pub returns-clause-start : goal.returns-clause-start
 returns-clause-start c = start_keeps

@@ -1,7 +1,7 @@
 use Rattle.flow_poised.proofs.Tasks.{task_keeps, aside_keeps, gives_keeps, main_keeps}
 use Rattle.flow_poised.proofs.Next.{at_next_step}
 use Rattle.flow_poised.proofs.Branches.{branched}
-use Rattle.flow_poised.proofs.poising.actors_are_poised.Goals as goal
+use Rattle.flow_poised.proofs.laws.actors_are_poised.Goals as goal
 
 pub returns-clause-tasks : goal.returns-clause-tasks
 returns-clause-tasks c = task_keeps

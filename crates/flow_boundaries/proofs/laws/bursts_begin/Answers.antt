@@ -1,5 +1,5 @@
 use Rattle.flow_boundaries.proofs.Bringing.{begin_brings, answer_brings, element_brings, stop_brings, burst_begins}
-use Rattle.flow_boundaries.proofs.boundaries.bursts_begin.Goals as goal
+use Rattle.flow_boundaries.proofs.laws.bursts_begin.Goals as goal
 
 pub returns-clause-begin : goal.returns-clause-begin
 returns-clause-begin c = begin_brings

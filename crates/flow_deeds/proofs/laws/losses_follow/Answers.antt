@@ -1,5 +1,5 @@
 use Rattle.flow_deeds.proofs.Vanishing.{loss_follows}
-use Rattle.flow_deeds.proofs.deeds.losses_follow.Goals as goal
+use Rattle.flow_deeds.proofs.laws.losses_follow.Goals as goal
 
 pub returns : goal.returns
 returns c = loss_follows

@@ -1,5 +1,5 @@
 use Rattle.flow_references.proofs.Names.{eval_names, all_names, call_names_kept}
-use Rattle.flow_references.proofs.references_were_there.Goals as goal
+use Rattle.flow_references.proofs.laws.references_were_there.Goals as goal
 
 pub returns-clause-value : goal.returns-clause-value
 returns-clause-value c = eval_names
