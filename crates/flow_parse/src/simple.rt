@@ -27,14 +27,14 @@ use flow_tree::ty::{Ident, Ty};
 use std::alloc::Global;
 
 /// How many statements, and how many parameters and state variables, have begun in a routine.
-#[derive(Clone, Copy, Debug)]
+#[derive(Clone, Copy)]
 pub struct Counts {
     pub statements: u32,
     pub variables: u32,
 }
 
 /// Where a statement stands: whether in an actor, how deep, and how many have begun in the routine before it.
-#[derive(Clone, Copy, Debug)]
+#[derive(Clone, Copy)]
 pub struct Around {
     pub actor: bool,
     pub depth: u32,

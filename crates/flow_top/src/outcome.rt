@@ -26,7 +26,7 @@ pub struct ProgramRun {
 }
 
 /// What a command line comes to where nothing is run.
-#[derive(Drop, Debug)]
+#[derive(Drop)]
 pub enum Told {
     /// The words are no command.
     Usage,
