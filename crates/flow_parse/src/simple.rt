@@ -443,8 +443,14 @@ pub fn simple(
     ensures moves { IfOk result (λ r. (at < r.to) × (r.to ≤ length tokens.now.spots.items)) }
 {
     let read = unended(alloc, tokens, at, around)?;
-    let to = sign(tokens, read.to, Sign::Semicolon)?;
-    Ok(ended(read.stmt, to, read.counts))
+    match sign(tokens, read.to, Sign::Semicolon) {
+        Ok(to) => Ok(ended(read.stmt, to, read.counts)),
+        Err(fault) => {
+            // By a call: else the drop is written out here, form by form.
+            drop(read.stmt);
+            Err(fault)
+        }
+    }
 }
 
 /// `[ [ "state" ] type name "=" ] ( "wait" | "waitNext" ) "(" expr ")"`.
