@@ -43,9 +43,9 @@ fn the_first_callback_comes_first(rt: HostRuntime) -> Result<(), NoMemory> {
     frame.add_callback(one)?;
     frame.add_callback(two)?;
     assert_eq!(rt; frame.callbacks().len(), 2);
-    assert_eq!(rt; frame.take_callback(), Some(one));
-    assert_eq!(rt; frame.take_callback(), Some(two));
-    assert_eq!(rt; frame.take_callback(), None);
+    assert!(rt; frame.take_callback() == Some(one));
+    assert!(rt; frame.take_callback() == Some(two));
+    assert!(rt; frame.take_callback() == None);
     Ok(())
 }
 

@@ -33,12 +33,12 @@ fn one_waiter_at_a_time(rt: HostRuntime) {
         callback: 1,
     };
     let mut stream: Stream<u64> = Stream::new(rt.alloc());
-    assert_eq!(rt; stream.add_waiter(one), Wait::Added);
-    assert_eq!(rt; stream.add_waiter(two), Wait::Busy);
-    assert_eq!(rt; stream.waiter(), Some(one));
+    assert!(rt; stream.add_waiter(one) == Wait::Added);
+    assert!(rt; stream.add_waiter(two) == Wait::Busy);
+    assert!(rt; stream.waiter() == Some(one));
     stream.remove_waiter();
-    assert_eq!(rt; stream.waiter(), None);
-    assert_eq!(rt; stream.add_waiter(two), Wait::Added);
+    assert!(rt; stream.waiter() == None);
+    assert!(rt; stream.add_waiter(two) == Wait::Added);
 }
 
 #[test]
