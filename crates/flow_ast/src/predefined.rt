@@ -6,7 +6,7 @@ ghost use Rattle.flow_ast.specs.TypingNames.{named, call_names, method_names, co
 use flow_base::errors::{BROKEN_PROMISE, END_OF_STREAM, OPERATION_CANCELLED, TIMED_OUT};
 
 /// What is called by a predefined name without a base: a call, an effect, or a statement call.
-#[derive(Clone, Copy, PartialEq, Eq, Debug)]
+#[derive(Clone, Copy, PartialEq, Eq)]
 pub enum Predefined {
     ToString,
     ToInt,
@@ -30,7 +30,7 @@ pub enum Predefined {
 }
 
 /// What is called by a name behind a dot.
-#[derive(Clone, Copy, PartialEq, Eq, Debug)]
+#[derive(Clone, Copy, PartialEq, Eq)]
 pub enum Method {
     Code,
     Size,

@@ -5,7 +5,7 @@ use std::fmt;
 
 /// Why a call to files or to a sink did nothing: it failed, which its count of faults then shows, or
 /// there was no memory.
-#[derive(Clone, Copy, PartialEq, Eq, Debug)]
+#[derive(Clone, Copy, PartialEq, Eq)]
 pub enum OutFault {
     Failed,
     OutOfMemory,
@@ -17,6 +17,13 @@ impl fmt::Display for OutFault {
             OutFault::Failed => write!(f, "failed"),
             OutFault::OutOfMemory => write!(f, "out of memory"),
         }
+    }
+}
+
+// As it is displayed.
+impl fmt::Debug for OutFault {
+    fn fmt<W: fmt::Write>(&self, f: &mut fmt::Formatter<W>) -> fmt::Result {
+        fmt::Display::fmt(self, f)
     }
 }
 

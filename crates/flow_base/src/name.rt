@@ -10,7 +10,7 @@ use std::marker::Model;
 
 /// A name of 1 to 255 bytes: an ASCII letter or `_`, then letters, digits and `_`. Contracts see it
 /// as the list of its bytes.
-#[derive(Drop, Debug)]
+#[derive(Drop)]
 pub struct Name {
     bytes: Vec<u8>,
 }

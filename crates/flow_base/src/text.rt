@@ -7,7 +7,7 @@ use std::alloc::Global;
 use std::marker::Model;
 
 /// A text of at most 65,535 bytes, of any values. Contracts see it as the list of its bytes.
-#[derive(Drop, Debug)]
+#[derive(Drop)]
 pub struct Text {
     bytes: Vec<u8>,
 }

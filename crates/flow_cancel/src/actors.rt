@@ -16,7 +16,7 @@ use std::collections::HashMap;
 use std::marker::Model;
 
 /// An unfinished actor: its result, if it has one, and whether it is marked as cancelled.
-#[derive(Clone, Copy, PartialEq, Eq, Drop, Debug)]
+#[derive(Clone, Copy, PartialEq, Eq, Drop)]
 pub struct Note {
     pub result: Option<CellId>,
     pub marked: bool,

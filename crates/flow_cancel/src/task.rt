@@ -29,7 +29,7 @@ pub enum Task {
 
 /// What the loss of a reference led to: nothing more; the cell is gone; the cell is to be broken; the actor of this
 /// result is to be cancelled; or the stream is gone, and with it its port.
-#[derive(Clone, Copy, PartialEq, Eq, Debug)]
+#[derive(Clone, Copy, PartialEq, Eq)]
 pub enum Dropped {
     Nothing,
     Freed,

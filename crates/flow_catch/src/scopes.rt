@@ -12,7 +12,7 @@ use std::marker::Model;
 
 /// The locals in force with their numbers, in scopes. Contracts see them newest first, with a mark at
 /// the begin of each scope.
-#[derive(Drop, Debug)]
+#[derive(Drop)]
 pub struct Scopes {
     entries: Vec<Entry>,
 }

@@ -6,7 +6,7 @@ ghost use Rattle.flow_cell.specs.Cells.{no_counts, count_of, held, released, los
 use std::marker::Model;
 
 /// A side of a cell: where it is set, or where it is waited for.
-#[derive(Clone, Copy, PartialEq, Eq, Debug)]
+#[derive(Clone, Copy, PartialEq, Eq)]
 pub enum Side {
     Promise,
     Future,
@@ -14,7 +14,7 @@ pub enum Side {
 
 /// What the loss of a reference leaves: other references of its side; none of its side, which was the promise side, or
 /// the future side; or none of either side.
-#[derive(Clone, Copy, PartialEq, Eq, Debug)]
+#[derive(Clone, Copy, PartialEq, Eq)]
 pub enum Loss {
     Kept,
     LastPromise,

@@ -40,7 +40,7 @@ pub struct Setting<'a, C> {
 }
 
 /// The turns that are left.
-#[derive(Clone, Copy, PartialEq, Eq, Debug)]
+#[derive(Clone, Copy, PartialEq, Eq)]
 pub struct Turns {
     pub left: u32,
 }

@@ -6,7 +6,7 @@ use std::alloc::{AllocError, AllocFailed};
 
 /// Why an expression or a function has no value: an error was thrown, a turn was needed and none was
 /// left, or there was no memory.
-#[derive(Clone, Copy, PartialEq, Eq, Debug)]
+#[derive(Clone, Copy, PartialEq, Eq)]
 pub enum Stop {
     Thrown(ErrorCode),
     Spent,
@@ -14,7 +14,7 @@ pub enum Stop {
 }
 
 /// The same, and that what has no type was met: then an expression means nothing.
-#[derive(Clone, Copy, PartialEq, Eq, Debug)]
+#[derive(Clone, Copy, PartialEq, Eq)]
 pub enum Halt {
     Thrown(ErrorCode),
     Spent,

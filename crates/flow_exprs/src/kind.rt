@@ -9,7 +9,7 @@ use flow_tree::token::{Sign, Spot, Token, Word};
 
 /// What a token is to an expression: one that is an expression by itself, a name, the word `Void`,
 /// a bracket, a comma, a dot, `!`, a sign between two operands, or none of these.
-#[derive(Clone, Copy, PartialEq, Eq, Debug)]
+#[derive(Clone, Copy, PartialEq, Eq)]
 pub enum Kind {
     Leaf,
     Name,

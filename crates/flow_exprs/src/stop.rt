@@ -5,7 +5,7 @@ use std::alloc::{AllocError, AllocFailed};
 
 /// Why no tree was read: nothing is derived that goes on with the token of this number, or with the
 /// end; a part would begin too deep with the token of this number; or there was no memory.
-#[derive(Clone, Copy, PartialEq, Eq, Debug)]
+#[derive(Clone, Copy, PartialEq, Eq)]
 pub enum Stop {
     Short(usize),
     Deep(usize),

@@ -19,7 +19,7 @@ use std::alloc::Global;
 
 /// What a token is to a type: a type by itself, a word that takes an argument, an angle bracket, or
 /// none of these.
-#[derive(Clone, Copy, PartialEq, Eq, Debug)]
+#[derive(Clone, Copy, PartialEq, Eq)]
 pub enum TypeKind {
     Plain,
     Future,

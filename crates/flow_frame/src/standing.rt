@@ -1,7 +1,7 @@
 // Where a frame stands.
 
 /// Where a frame stands: its class and its state, and the block and the instruction.
-#[derive(Clone, Copy, PartialEq, Eq, Debug)]
+#[derive(Clone, Copy, PartialEq, Eq)]
 pub struct Standing {
     pub class: u32,
     pub state: u32,

@@ -5,7 +5,7 @@ ghost use Rattle.std.specs.Option.{ForSome};
 ghost use Rattle.flow_value.specs.View.{ref_of};
 ghost use Rattle.flow_numbered.specs.Numbered.{thing, IsRising};
 ghost use Rattle.flow_cell.specs.Cells.{no_counts};
-ghost use Rattle.flow_cancel.specs.Heap.{last_actor, may_start, with_new, side_of};
+ghost use Rattle.flow_cancel.specs.Heap.{no_heap, last_actor, may_start, with_new, side_of};
 ghost use Rattle.flow_heapstate.specs.State.{parts_kept, parts_of};
 ghost use Rattle.flow_heapstate.specs.Sound.{SoundHeap, RestsWith};
 ghost use Rattle.flow_heapstate.specs.Restoring.{Turns, waiters_more, queue_more, callbacks_more, with_content, with_end, with_wait, with_cell, with_cells, with_stream, with_streams, stood, begun, with_actor, with_actors, held_in_cells, held_in_streams, held_one, held_all, restored, RisesFrom, InOrder};
@@ -307,11 +307,12 @@ fn hold_all(heap: &mut Heap, found: &[(Kind, CellId)]) -> Result<(), NoMemory>
     Ok(())
 }
 
-// The heap of a state whose parts are in the order of their numbers: what the state tells, and each
-// reference counted.
-fn filled(alloc: Global, state: HeapState) -> Result<Heap, NoMemory>
-    requires { InOrder state }
-    ensures { IfOk result (λ h. h ≡ restored state) }
+// A heap in which nothing has happened gets what a state tells whose parts are in the order of their numbers, and each
+// reference in it is counted.
+fn fill(alloc: Global, heap: &mut Heap, state: HeapState) -> Result<(), NoMemory>
+    requires order { InOrder state }
+    requires none { heap.old ≡ no_heap }
+    ensures { OnOk result (heap.new ≡ restored state) }
 {
     let found = references(alloc, &state)?;
     let HeapState {
@@ -322,14 +323,24 @@ fn filled(alloc: Global, state: HeapState) -> Result<Heap, NoMemory>
         streams,
         actors,
     } = state;
-    let mut heap = Heap::new(alloc)?;
-    put_cells(&mut heap, cells)?;
-    put_streams(&mut heap, streams)?;
-    put_actors(&mut heap, actors)?;
+    put_cells(heap, cells)?;
+    put_streams(heap, streams)?;
+    put_actors(heap, actors)?;
     heap.skip_cells(CellId(cells_made));
     heap.skip_actors(ActorId(actors_made));
     heap.set_main(main);
-    hold_all(&mut heap, &found)?;
+    hold_all(heap, &found)?;
+    Ok(())
+}
+
+// The heap of a state whose parts are in the order of their numbers. What owns a heap has few ways out, since all of the
+// heap is dropped at each.
+fn filled(alloc: Global, state: HeapState) -> Result<Heap, NoMemory>
+    requires { InOrder state }
+    ensures { IfOk result (λ h. h ≡ restored state) }
+{
+    let mut heap = Heap::new(alloc)?;
+    fill(alloc, &mut heap, state)?;
     Ok(heap)
 }
 

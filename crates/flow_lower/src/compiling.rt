@@ -19,7 +19,7 @@ use flow_tree::limits::WEIGHT;
 use std::alloc::Global;
 
 /// Why a program has no classes: the weight of the actor at this place is above 60,000, or there was no memory.
-#[derive(Clone, Copy, PartialEq, Eq, Debug)]
+#[derive(Clone, Copy, PartialEq, Eq)]
 pub enum CompileFault {
     TooManyBlocks(Place),
     OutOfMemory,

@@ -20,6 +20,13 @@ impl fmt::Display for RunFault {
     }
 }
 
+// As it is displayed.
+impl fmt::Debug for RunFault {
+    fn fmt<W: fmt::Write>(&self, f: &mut fmt::Formatter<W>) -> fmt::Result {
+        fmt::Display::fmt(self, f)
+    }
+}
+
 impl Error for RunFault {}
 
 impl From<Fault> for RunFault {

@@ -118,7 +118,7 @@ pub trait Host {
 }
 
 /// How a burst ended: nothing is left to do, or a turn was needed and none was left.
-#[derive(Clone, Copy, PartialEq, Eq, Debug)]
+#[derive(Clone, Copy, PartialEq, Eq)]
 pub enum Burst {
     Rested,
     Spent,
@@ -126,7 +126,7 @@ pub enum Burst {
 
 /// Why a burst broke off: the host failed, which its count of faults then shows; there was no memory; or the classes,
 /// which were not judged, led where no valid class comes.
-#[derive(Clone, Copy, PartialEq, Eq, Debug)]
+#[derive(Clone, Copy, PartialEq, Eq)]
 pub enum RunFault {
     Failed,
     OutOfMemory,

@@ -27,14 +27,14 @@ use flow_tree::ty::{Ident, Ty};
 use std::alloc::Global;
 
 /// How many statements, and how many parameters and state variables, have begun in a routine.
-#[derive(Clone, Copy, Debug)]
+#[derive(Clone, Copy)]
 pub struct Counts {
     pub statements: u32,
     pub variables: u32,
 }
 
 /// Where a statement stands: whether in an actor, how deep, and how many have begun in the routine before it.
-#[derive(Clone, Copy, Debug)]
+#[derive(Clone, Copy)]
 pub struct Around {
     pub actor: bool,
     pub depth: u32,
@@ -443,8 +443,14 @@ pub fn simple(
     ensures moves { IfOk result (λ r. (at < r.to) × (r.to ≤ length tokens.now.spots.items)) }
 {
     let read = unended(alloc, tokens, at, around)?;
-    let to = sign(tokens, read.to, Sign::Semicolon)?;
-    Ok(ended(read.stmt, to, read.counts))
+    match sign(tokens, read.to, Sign::Semicolon) {
+        Ok(to) => Ok(ended(read.stmt, to, read.counts)),
+        Err(fault) => {
+            // By a call: else the drop is written out here, form by form.
+            drop(read.stmt);
+            Err(fault)
+        }
+    }
 }
 
 /// `[ [ "state" ] type name "=" ] ( "wait" | "waitNext" ) "(" expr ")"`.

@@ -417,6 +417,8 @@ fn loop_stmt(
     })
 }
 
+// A statement is put into a box before anything else may fail: at each way out of a function that has one by value its drop
+// is written out, form by form.
 fn boxed(alloc: Global, stmt: Stmt) -> Result<Box<Stmt>, SourceFault>
     ensures is { IfOk result (λ b. b.value ≡ stmt) }
     ensures memory { IfErr result (λ e. e ≡ SourceFault.OutOfMemory) }
@@ -449,8 +451,8 @@ fn start_part(
     let counts = begin(tokens, at, around.depth, around.counts)?;
     let around = Around { counts, ..around };
     let read = init(alloc, tokens, at, around)?;
-    let to = sign(tokens, read.to, Sign::Semicolon)?;
     let part = boxed(alloc, read.stmt)?;
+    let to = sign(tokens, read.to, Sign::Semicolon)?;
     Ok(ReadPart {
         part: Some(part),
         to,
@@ -484,8 +486,8 @@ fn next_part(
     }
     let counts = begin(tokens, at, depth, counts)?;
     let (stmt, at) = assignment(alloc, tokens, at, depth)?;
-    let to = sign(tokens, at, Sign::CloseRound)?;
     let part = boxed(alloc, stmt)?;
+    let to = sign(tokens, at, Sign::CloseRound)?;
     Ok(ReadPart {
         part: Some(part),
         to,

@@ -26,7 +26,7 @@ pub enum Meaning<'a> {
 }
 
 /// What an argument of a predefined call is. `Traced` is what `trace` takes.
-#[derive(Clone, Copy, Debug)]
+#[derive(Clone, Copy)]
 pub enum Basic {
     Int,
     Text,
@@ -51,7 +51,7 @@ pub enum Needs<'a> {
 
 /// What is called, by where it may stand: a value anywhere, a function of the program also as a
 /// statement, `now` in actors, an effect in actors as a whole, and a statement call as a statement.
-#[derive(Clone, Copy, Debug)]
+#[derive(Clone, Copy)]
 pub enum Kind {
     Value,
     Function,

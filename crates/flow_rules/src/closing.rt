@@ -11,7 +11,7 @@ use flow_tree::stmt::{Stmt, StmtKind, When};
 
 /// How a body is left: whether the control graph leads past its end, and to a `break` of the loop
 /// around it.
-#[derive(Clone, Copy, PartialEq, Eq, Debug)]
+#[derive(Clone, Copy, PartialEq, Eq)]
 pub struct Ways {
     pub end: bool,
     pub breaks: bool,

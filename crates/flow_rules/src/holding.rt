@@ -8,7 +8,7 @@ use flow_base::memory::NoMemory;
 use std::alloc::Global;
 
 /// What a record holds: a reference of its own, and other records, by their numbers.
-#[derive(Drop, Debug)]
+#[derive(Drop)]
 pub struct Uses {
     pub direct: bool,
     pub records: Vec<usize>,

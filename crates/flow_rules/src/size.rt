@@ -20,7 +20,7 @@ use indexmap::IndexMap;
 use std::alloc::Global;
 
 /// How deep records lie inside one another in a type, and how many fields that are no records it has.
-#[derive(Clone, Copy, PartialEq, Eq, Debug)]
+#[derive(Clone, Copy, PartialEq, Eq)]
 pub struct Size {
     pub nesting: u32,
     pub leaves: u32,

@@ -28,7 +28,7 @@ use flow_tree::ty::{Ident, Ty};
 use indexmap::IndexSet;
 
 /// Whether a statement stands in a loop, and in the body of a catch.
-#[derive(Clone, Copy, Debug)]
+#[derive(Clone, Copy)]
 pub struct Around {
     pub looped: bool,
     pub caught: bool,

@@ -7,7 +7,7 @@ use flow_trace::line::Line;
 
 /// How a run ends: nothing is left that could come, as many events as the bound have run, or an event needed more turns
 /// than one may take.
-#[derive(Clone, Copy, PartialEq, Eq, Debug)]
+#[derive(Clone, Copy, PartialEq, Eq)]
 pub enum Ending {
     Idle,
     Bound,

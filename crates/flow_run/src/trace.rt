@@ -5,6 +5,9 @@ ghost use Rattle.flow_machine.specs.Cause.{RunCause};
 ghost use Rattle.flow_machine.specs.declared.host.RunFault.TheVariants.{Failed, Astray};
 ghost use Rattle.flow_worldfile.specs.Worlds.{IsInRange, seen};
 ghost use Rattle.flow_world.specs.Telling.{tells, whole, failed};
+ghost use Rattle.flow_class.specs.declared.class.RawClasses.{RawClasses};
+ghost use Rattle.flow_worldfile.specs.declared.world.World0.{World0 as File};
+ghost use Rattle.flow_world.specs.Starting.{Starts};
 ghost use Rattle.flow_world.specs.Worlds.{world_seen};
 ghost use Rattle.flow_run.specs.Ends.{PutLast, end_line};
 ghost use Rattle.flow_run.specs.Tracing.{GoesTo, GoesPart, Traces, TracesPart};
@@ -42,9 +45,36 @@ pub fn put_trace<L: LineOut>(
         (whole out.old) }
     ensures last { IfOk result (λ ending. PutLast L.puts (end_line ending) out.new) }
 {
+    // What owns a world has few ways out, since all of the world is dropped at each.
     let mut world = World::start(alloc, classes, world)?;
+    put_lines(alloc, &mut world, with_frames, out)
+}
+
+#[tactic(auto, using(flow_machine::proofs::Causes::cause_before))]
+/// Puts the lines of the trace of a world before its first event, from the first to the last; or those up to the line that
+/// failed.
+fn put_lines<L: LineOut>(
+    alloc: Global,
+    world: &mut World,
+    with_frames: bool,
+    out: &mut L,
+) -> Result<Ending, RunFault>
+    requires { world.old.ended ≡ false }
+    ensures cause { RunCause (L.faults out.old) (L.faults out.new) result }
+    ensures kept { L.kept out.new ≡ L.kept out.old }
+    ensures traces { IfOk result (λ ending. (classes : RawClasses) (file : File)
+        → Starts classes file (world_seen world.old) → Traces (tells L.puts) with_frames classes file
+        (whole out.old) ending (whole out.new)) }
+    ensures part { IsErrOf result Failed → (classes : RawClasses) (file : File)
+        → Starts classes file (world_seen world.old) → TracesPart (tells L.puts) with_frames classes
+        file (whole out.old) (failed out.new) }
+    ensures astray { IsErrOf result Astray → (classes : RawClasses) (file : File)
+        → Starts classes file (world_seen world.old) → TraceAmiss (tells L.puts) with_frames classes
+        file (whole out.old) }
+    ensures last { IfOk result (λ ending. PutLast L.puts (end_line ending) out.new) }
+{
     put(out, &Line::Head)?;
-    let ending = put_events(alloc, &mut world, with_frames, out)?;
+    let ending = put_events(alloc, world, with_frames, out)?;
     put(out, &ending.line())?;
     Ok(ending)
 }

@@ -10,14 +10,14 @@ use flow_draw::Draws;
 use std::alloc::Global;
 
 /// A write: where it begins in its file, in bytes, and its bytes.
-#[derive(Drop, Debug)]
+#[derive(Drop)]
 pub struct Write {
     pub offset: u32,
     pub text: Text,
 }
 
 /// What a loss of power did to a write: its file, where it began, its length, and how many of its first bytes stay.
-#[derive(Drop, Debug)]
+#[derive(Drop)]
 pub struct Kept {
     pub name: Text,
     pub offset: u32,

@@ -5,7 +5,7 @@ use flow_base::text::Text;
 
 /// A packet: its number, from 1 over the whole world, the processes that it is from and for, the port that it is
 /// for, and its text.
-#[derive(Drop, Debug)]
+#[derive(Drop)]
 pub struct Packet {
     pub number: u64,
     pub from: ProcId,
@@ -24,7 +24,7 @@ pub struct Letter {
 }
 
 /// What becomes of a packet: it is lost over a cut link, or by a drawn word, or it arrives at a time in ticks.
-#[derive(Clone, Copy, PartialEq, Eq, Debug)]
+#[derive(Clone, Copy, PartialEq, Eq)]
 pub enum Fate {
     Cut,
     Drawn,
@@ -32,7 +32,7 @@ pub enum Fate {
 }
 
 /// A packet was sent: its number, and what becomes of it.
-#[derive(Clone, Copy, PartialEq, Eq, Debug)]
+#[derive(Clone, Copy, PartialEq, Eq)]
 pub struct Sent {
     pub number: u64,
     pub fate: Fate,

@@ -9,7 +9,7 @@ use flow_base::name::Name;
 use flow_base::place::Place;
 
 /// A jump to a block, or the pass of a loop that begins there.
-#[derive(Clone, Copy, PartialEq, Eq, Debug)]
+#[derive(Clone, Copy, PartialEq, Eq)]
 pub enum Jump {
     Goto(u32),
     Pass(u32),
@@ -17,7 +17,7 @@ pub enum Jump {
 
 /// How a body goes on at its end: it is the whole text, which ends at a brace; or its locals are
 /// dropped and a jump follows; or it is a part of a `for`, whose locals stay.
-#[derive(Clone, Copy, Debug)]
+#[derive(Clone, Copy)]
 pub enum Exit {
     Text(Place),
     Scope(Jump),
@@ -25,7 +25,7 @@ pub enum Exit {
 }
 
 /// The handler of a try body: its block, and the local that takes the error.
-#[derive(Clone, Copy, Debug)]
+#[derive(Clone, Copy)]
 pub struct Handler {
     pub block: u32,
     pub error: u32,
@@ -33,7 +33,7 @@ pub struct Handler {
 
 /// The loop around a body: how many scopes a `break` or a `continue` leaves, whether it leaves a try
 /// body, and where each of the two goes on.
-#[derive(Clone, Copy, Debug)]
+#[derive(Clone, Copy)]
 pub struct Looped {
     pub depth: usize,
     pub tried: bool,
@@ -43,7 +43,7 @@ pub struct Looped {
 
 /// What is around a body: its exit; the handler of its errors and the number of scopes within that
 /// try body; its loop; and the variable of the catch around.
-#[derive(Drop, Debug)]
+#[derive(Drop)]
 pub struct Around<'a> {
     pub exit: Exit,
     pub handler: Option<Handler>,

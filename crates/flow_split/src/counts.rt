@@ -12,7 +12,7 @@ use flow_tree::expr::Expr;
 use flow_tree::stmt::{Into, Stmt, StmtKind, When};
 
 /// A number of blocks and a number of locals.
-#[derive(Clone, Copy, PartialEq, Eq, Debug)]
+#[derive(Clone, Copy, PartialEq, Eq)]
 pub struct Size {
     pub blocks: u32,
     pub locals: u32,

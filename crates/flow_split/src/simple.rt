@@ -92,9 +92,10 @@ impl<'a> Context<'a> {
             ≡ BinaryExpr op (expr_of old) (ParenExpr
             (over (slots_in self.now) scopes.now (expr_of amount.now)))) }
     {
-        let amount = self.over(scopes, amount)?;
-        let by = Expr::Paren(Box::new(self.alloc, amount)?);
-        Ok(Expr::Binary(op, Box::new(self.alloc, old)?, Box::new(self.alloc, by)?))
+        let old = Box::new(self.alloc, old)?;
+        let amount = Box::new(self.alloc, self.over(scopes, amount)?)?;
+        let by = Box::new(self.alloc, Expr::Paren(amount))?;
+        Ok(Expr::Binary(op, old, by))
     }
 
     // One more than an old value, or one less.
@@ -222,9 +223,9 @@ impl Emitter {
             target.now.path.items (change target.now.path.items (change_of by.now)))
             (emitted self.old)) }
     {
+        let path = context.path_over(&self.scopes, &target.path)?;
         let old = context.read_over(&self.scopes, first, rest)?;
         let value = context.changed(&self.scopes, old, by)?;
-        let path = context.path_over(&self.scopes, &target.path)?;
         self.act(Instr::Set(path, value))
     }
 

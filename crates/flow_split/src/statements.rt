@@ -562,8 +562,8 @@ impl Emitter {
         let first = self.block()?;
         let size = branches_size(around.looped.tried, branches)?;
         let join = sum(first, size.blocks)?;
-        let callbacks = self.callbacks(context, around.looped.tried, branches, first)?;
         let inner = around.scope(Exit::Scope(Jump::Goto(join)))?;
+        let callbacks = self.callbacks(context, around.looped.tried, branches, first)?;
         self.wait_for(context, around, callbacks)?;
         self.put_branches(context, &inner, branches)?;
         self.begin();

@@ -189,7 +189,7 @@ fn dead_code_is_lowered_too(rt: HostRuntime) -> Result<(), SourceFault> {
 fn a_name_that_is_not_in_force_is_no_place(rt: HostRuntime) -> Result<(), SourceFault> {
     let alloc = rt.alloc();
     let scopes = Scopes::new(alloc);
-    assert_eq!(rt; place_of(&[], &scopes, b"x"), None);
+    assert!(rt; place_of(&[], &scopes, b"x").is_none());
     assert_eq!(rt; var_over(alloc, None)?.bytes(), b"_".as_slice());
     assert_eq!(rt;
         var_over(alloc, Some(Slotted::Local(12)))?.bytes(),

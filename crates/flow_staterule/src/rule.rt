@@ -17,7 +17,7 @@ use flow_base::place::Place;
 use std::alloc::Global;
 
 /// A use of a local after a wait: where it is used and declared, and the wait.
-#[derive(Clone, Copy, PartialEq, Eq, Debug)]
+#[derive(Clone, Copy, PartialEq, Eq)]
 pub struct Lost {
     pub at: Place,
     pub declared: Place,

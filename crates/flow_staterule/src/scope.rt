@@ -14,7 +14,7 @@ use flow_base::place::Place;
 use std::alloc::Global;
 
 /// A variable in force, and where it is declared if it is a local.
-#[derive(Clone, Copy, Debug)]
+#[derive(Clone, Copy)]
 pub struct Variable<'a> {
     pub name: &'a Name,
     pub local: Option<Place>,
@@ -22,14 +22,14 @@ pub struct Variable<'a> {
 
 /// What is known at a point, of the variables in force numbered from the oldest: no walk leads here from the
 /// declarations of those below `from`, and of the others those below `stale` have been led past a wait.
-#[derive(Clone, Copy, PartialEq, Eq, Debug)]
+#[derive(Clone, Copy, PartialEq, Eq)]
 pub struct Point {
     pub from: usize,
     pub stale: usize,
 }
 
 /// A use of a local: where it is used and declared, and whether it may come after a wait.
-#[derive(Clone, Copy, Debug)]
+#[derive(Clone, Copy)]
 pub struct Use {
     pub at: Place,
     pub declared: Place,
@@ -82,7 +82,7 @@ pub fn use_of(at: Place, point: Point, local: Option<Place>, number: usize) -> O
 }
 
 /// The variables in force, the newest last.
-#[derive(Drop, Debug)]
+#[derive(Drop)]
 pub struct Variables<'a> {
     list: Vec<Variable<'a>>,
 }

@@ -23,7 +23,7 @@ use flow_base::place::Place;
 use std::alloc::Global;
 
 /// The variable of a catch: its number, and where it is declared.
-#[derive(Clone, Copy, Debug)]
+#[derive(Clone, Copy)]
 pub struct Caught {
     pub number: usize,
     pub declared: Place,
@@ -31,7 +31,7 @@ pub struct Caught {
 
 /// What is known on the way through a body: how many of the waits to come are looked for, what is known of the variables
 /// in force, and the variable of the innermost catch around.
-#[derive(Clone, Copy, Debug)]
+#[derive(Clone, Copy)]
 pub struct Here {
     pub looked: Looked,
     pub point: Point,
@@ -39,14 +39,14 @@ pub struct Here {
 }
 
 /// What is known in a round of a `for`: at its step, and at its condition and its body.
-#[derive(Clone, Copy, Debug)]
+#[derive(Clone, Copy)]
 struct Round {
     step: Here,
     body: Here,
 }
 
 /// Collects the uses of locals, in the order of the text.
-#[derive(Drop, Debug)]
+#[derive(Drop)]
 pub struct Finder<'a> {
     variables: Variables<'a>,
     uses: Vec<Use>,

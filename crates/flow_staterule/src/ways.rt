@@ -13,14 +13,14 @@ use flow_ast::expr::Expr;
 use flow_ast::stmt::{Stmt, StmtKind, When};
 
 /// By which walks a point is reached: by one that passes no wait, and by one that passes some.
-#[derive(Clone, Copy, PartialEq, Eq, Debug)]
+#[derive(Clone, Copy, PartialEq, Eq)]
 pub struct Reached {
     pub fresh: bool,
     pub waited: bool,
 }
 
 /// How a body is left: at its end, by a `break` or a `continue` of the loop around it, and to the catch around it.
-#[derive(Clone, Copy, PartialEq, Eq, Debug)]
+#[derive(Clone, Copy, PartialEq, Eq)]
 pub struct Ways {
     pub ends: Reached,
     pub breaks: Reached,
@@ -29,11 +29,11 @@ pub struct Ways {
 }
 
 /// The waits that are looked for: the first so many from a point on.
-#[derive(Clone, Copy, Debug)]
+#[derive(Clone, Copy)]
 pub struct Looked(pub usize);
 
 /// The ways out of a part of a body, and how many of the waits behind it are looked for.
-#[derive(Clone, Copy, Debug)]
+#[derive(Clone, Copy)]
 pub struct Passed {
     pub ways: Ways,
     pub looked: Looked,

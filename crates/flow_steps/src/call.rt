@@ -6,7 +6,7 @@ use flow_trace::line::Line;
 
 /// Where the result of an effect goes: into the place of the actor's instruction, or among the operands of its wait, as
 /// the one of the branch with this number through the whole class.
-#[derive(Clone, Copy, PartialEq, Eq, Debug)]
+#[derive(Clone, Copy, PartialEq, Eq)]
 pub enum Goal {
     Stored,
     Kept(u32),

@@ -7,7 +7,7 @@ use flow_base::memory::NoMemory;
 use std::alloc::{AllocError, AllocFailed};
 
 /// Why a process broke off a step.
-#[derive(Clone, Copy, PartialEq, Eq, Debug)]
+#[derive(Clone, Copy, PartialEq, Eq)]
 pub enum Fault {
     /// There was no memory, or what counts, numbers or keeps something came to the end of its numbers.
     OutOfMemory,

@@ -125,7 +125,7 @@ impl Process {
 }
 
 /// How a burst goes on: no task is left; a turn was needed and none was left; or a step asks something of the world.
-#[derive(Clone, Copy, PartialEq, Eq, Debug)]
+#[derive(Clone, Copy, PartialEq, Eq)]
 pub enum Next {
     Rested,
     Spent,

@@ -11,7 +11,7 @@ use flow_base::memory::NoMemory;
 use flow_frame::held::Held;
 
 /// The frame of an unfinished actor: its number, its class, and its state.
-#[derive(Clone, Copy, PartialEq, Eq, Debug)]
+#[derive(Clone, Copy, PartialEq, Eq)]
 pub struct FrameView {
     pub actor: ActorId,
     pub class: u32,
@@ -19,7 +19,7 @@ pub struct FrameView {
 }
 
 /// A callback of an actor: its number through the whole class, and the cell that it waits for.
-#[derive(Clone, Copy, PartialEq, Eq, Debug)]
+#[derive(Clone, Copy, PartialEq, Eq)]
 pub struct CallbackView {
     pub actor: ActorId,
     pub callback: u32,

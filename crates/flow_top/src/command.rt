@@ -4,7 +4,7 @@ ghost use Rattle.std.specs.Prelude.{◌≡◌, ℕ, true, false, List, map, stri
 ghost use Rattle.flow_top.specs.Words.{AreOn, AreRun, AreCommand, NameProgram, is_option};
 
 /// A command and the names of its files.
-#[derive(Clone, Copy, Debug)]
+#[derive(Clone, Copy)]
 pub enum Command<'a> {
     /// The program that is formatted.
     Format(&'a str),

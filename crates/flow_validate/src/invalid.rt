@@ -5,7 +5,7 @@ use std::alloc::{AllocError, AllocFailed};
 
 /// Why a class program is refused: the first rule that it breaks, 1 to 8 for V1 to V8, and the place of the class that breaks it,
 /// from 0, where it is one; or there was no memory to tell.
-#[derive(Clone, Copy, PartialEq, Eq, Debug)]
+#[derive(Clone, Copy, PartialEq, Eq)]
 pub enum Invalid {
     Rule { rule: u8, class: Option<u32> },
     OutOfMemory,

@@ -24,7 +24,7 @@ use flow_tree::ty::Ident;
 use std::alloc::Global;
 
 /// What happens to a place: an error may be thrown here; a place is read, or filled; a local is emptied; and at a wait all locals are.
-#[derive(Clone, Copy, PartialEq, Eq, Debug)]
+#[derive(Clone, Copy, PartialEq, Eq)]
 pub enum Touch {
     Throws,
     Reads(Slotted),

@@ -10,7 +10,7 @@ use crate::touch::Touch;
 use flow_class::class::Slotted;
 
 /// 64 locals or slots, from the first on.
-#[derive(Clone, Copy, Debug)]
+#[derive(Clone, Copy)]
 pub struct Window {
     pub locals: bool,
     pub first: u64,
@@ -18,7 +18,7 @@ pub struct Window {
 
 /// Places on the way through a block, one bit each: those that are empty, those that were empty where an error may have been
 /// thrown, and those that were read while they were empty.
-#[derive(Clone, Copy, PartialEq, Eq, Debug)]
+#[derive(Clone, Copy, PartialEq, Eq)]
 pub struct Passage {
     pub empty: u64,
     pub thrown: u64,

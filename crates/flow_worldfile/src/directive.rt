@@ -8,7 +8,7 @@ use crate::world::Act;
 use flow_base::ids::ProcId;
 
 /// What an `at` line orders, with numbers of processes as they stand in the file.
-#[derive(Clone, Copy, PartialEq, Eq, Debug)]
+#[derive(Clone, Copy)]
 pub enum Order {
     Kill(u128),
     Stop(u128),
@@ -19,7 +19,7 @@ pub enum Order {
 }
 
 /// What a line of a world file says, with its numbers as they stand there, in their range or not.
-#[derive(Clone, Copy, PartialEq, Eq, Debug)]
+#[derive(Clone, Copy)]
 pub enum Directive {
     Seed(u128),
     Processes(u128),

@@ -10,7 +10,7 @@ use std::error::Error;
 use std::fmt;
 
 /// What a script does to a process, to the link between two, or to a disk.
-#[derive(Clone, Copy, PartialEq, Eq, Debug)]
+#[derive(Clone, Copy, PartialEq, Eq)]
 pub enum Act {
     Kill(ProcId),
     Stop(ProcId),
@@ -22,7 +22,7 @@ pub enum Act {
 }
 
 /// One act of a script, and the time at which it comes.
-#[derive(Clone, Copy, PartialEq, Eq, Debug)]
+#[derive(Clone, Copy, PartialEq, Eq)]
 pub struct At {
     pub time: u64,
     pub act: Act,
@@ -31,7 +31,7 @@ pub struct At {
 /// A world before its first event: what is drawn, how many processes there are, how long the run and
 /// one event may last, how long packets and disk requests take, and what a script does. Times are the
 /// world's own; a delay is drawn from the first number of its pair up to below the second.
-#[derive(PartialEq, Debug, Drop)]
+#[derive(PartialEq, Drop)]
 pub struct World0 {
     /// The seed of the words that are drawn when those of the list are used up.
     pub seed: u64,
@@ -50,7 +50,7 @@ pub struct World0 {
 
 /// Why a text is no world file: the number of its first line that breaks a rule, from 1, with the
 /// rule. Or it has more than 1,048,576 bytes, or there was no memory.
-#[derive(Clone, Copy, PartialEq, Eq, Debug)]
+#[derive(Clone, Copy, PartialEq, Eq)]
 pub enum WorldFault {
     /// The line has none of the forms of a line.
     Form(u32),
@@ -76,6 +76,13 @@ impl fmt::Display for WorldFault {
             WorldFault::TooLarge => write!(f, "L10"),
             WorldFault::OutOfMemory => write!(f, "out of memory"),
         }
+    }
+}
+
+// As it is displayed.
+impl fmt::Debug for WorldFault {
+    fn fmt<W: fmt::Write>(&self, f: &mut fmt::Formatter<W>) -> fmt::Result {
+        fmt::Display::fmt(self, f)
     }
 }
 

@@ -226,7 +226,7 @@ fn first_wrong_alone(alloc: Global) -> Result<Option<(i64, u32)>, NoMemory> {
 #[test]
 fn statements_take_turns_by_pass(rt: HostRuntime) -> Result<(), NoMemory> {
     let wrong = first_wrong_alone(rt.alloc())?;
-    assert!(rt; wrong.is_none(), "{wrong:?}");
+    assert!(rt; wrong.is_none());
     Ok(())
 }
 

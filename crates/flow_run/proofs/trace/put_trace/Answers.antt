@@ -1,57 +1,12 @@
-use Rattle.std.proofs.Common.{rules, subst}
-use Rattle.std.specs.Prelude.{Ok, Err}
-use Rattle.flow_base.specs.declared.fault.OutFault.TheVariants.{Failed}
-use Rattle.flow_world.specs.Telling.{whole, failed}
-use Rattle.flow_world.specs.Worlds.{world_seen}
-use Rattle.flow_world.proofs.Telling.{whole_line, failed_line}
-use Rattle.flow_run.specs.Tracing.{no_event, begun, all}
-use Rattle.flow_run.proofs.Parts.{part_of_run}
+use Rattle.std.proofs.lemmas.Result.{IfOk-weaker}
 use Rattle.flow_run.proofs.trace.put_trace.Goals as goal
 
 pub returns-clause-traces : goal.returns-clause-traces
-returns-clause-traces g c = record {
-  first = world_seen c.in_ok-world.world;
-  left = world_seen c.put_events.new.world;
-  headed = whole c.put.new.out;
-  before = whole c.put_events.new.out;
-  starts = c.in_ok-world.ensures.starts;
-  head = whole_line g.L.LineOut.puts _ _ _ c.in_ok-put.ensures.puts;
-  goes = c.in_ok-ending.ensures.goes;
-  ended = whole_line g.L.LineOut.puts _ _ _ (subst (λ l. g.L.LineOut.puts c.put_events.new.out l (Ok tt) c.put-2.new.out) c.line.ensures c.in_ok-put-2.ensures.puts);
-}
+returns-clause-traces g c =
+    IfOk-weaker c.put_lines.result _ _ (λ ending traces. traces c.args.classes c.args.world c.in_ok-world.ensures.starts) c.put_lines.ensures.traces
 
-pub returns-in_err-put-clause-part : goal.returns-in_err-put-clause-part
-returns-in_err-put-clause-part g c = λ fails. begun (record {
-  first = world_seen c.in_ok-world.world;
-  last = world_seen c.in_ok-world.world;
-  headed = failed c.put.new.out;
-  starts = c.in_ok-world.ensures.starts;
-  head = failed_line g.L.LineOut.puts _ _ _ (c.put.ensures.fails (search rules));
-  goes = no_event;
-})
+pub returns-clause-part : goal.returns-clause-part
+returns-clause-part g c = λ fails. c.put_lines.ensures.part fails c.args.classes c.args.world c.in_ok-world.ensures.starts
 
-pub returns-in_err-ending-clause-part : goal.returns-in_err-ending-clause-part
-returns-in_err-ending-clause-part g c = λ fails.
-    part_of_run g.L.LineOut.puts c.args.with_frames _ _ _ (whole c.put.new.out) _ (world_seen c.in_ok-world.world) c.in_ok-world.ensures.starts
-    (whole_line g.L.LineOut.puts _ _ _ c.in_ok-put.ensures.puts) (c.put_events.ensures.part (search rules))
-
-pub returns-in_err-put-2-clause-part : goal.returns-in_err-put-2-clause-part
-returns-in_err-put-2-clause-part g c = λ fails. all {e = c.in_ok-ending.ending} (record {
-  first = world_seen c.in_ok-world.world;
-  left = world_seen c.put_events.new.world;
-  headed = whole c.put.new.out;
-  before = whole c.put_events.new.out;
-  starts = c.in_ok-world.ensures.starts;
-  head = whole_line g.L.LineOut.puts _ _ _ c.in_ok-put.ensures.puts;
-  goes = c.in_ok-ending.ensures.goes;
-  ended = failed_line g.L.LineOut.puts _ _ _ (subst (λ l. g.L.LineOut.puts c.put_events.new.out l (Err Failed) c.put-2.new.out) c.line.ensures (c.put-2.ensures.fails (search rules)));
-})
-
-pub returns-in_err-ending-clause-astray : goal.returns-in_err-ending-clause-astray
-returns-in_err-ending-clause-astray g c = λ astray. record {
-  first = world_seen c.in_ok-world.world;
-  headed = whole c.put.new.out;
-  starts = c.in_ok-world.ensures.starts;
-  head = whole_line g.L.LineOut.puts _ _ _ c.in_ok-put.ensures.puts;
-  events = c.put_events.ensures.astray (search rules);
-}
+pub returns-clause-astray : goal.returns-clause-astray
+returns-clause-astray g c = λ astray. c.put_lines.ensures.astray astray c.args.classes c.args.world c.in_ok-world.ensures.starts
