@@ -15,6 +15,3 @@ pub use directive::{Directive, Order};
 pub use printing::print_world;
 pub use reading::read_world;
 pub use world::{Act, At, World0, WorldFault};
-
-#[cfg(test)]
-mod tests;
