@@ -151,7 +151,8 @@ fn locals_at_waits(rt: HostRuntime) -> Result<(), AllocError> {
 
 fn add_record(text: &mut String, mark: &str, level: u32) -> Result<(), AllocError> {
     let inner = level.saturating_sub(1);
-    write!(text, "{mark}struct Deep{level} {{ Deep{inner} r; }}; ")
+    write!(text, "{mark}struct Deep{level} {{ Deep{inner} r; }}; ")?;
+    Ok(())
 }
 
 // Records inside one another, the last so many deep with a mark where it is too deep, and `main`.
@@ -161,7 +162,8 @@ fn add_nested(text: &mut String, depth: u32, mark: &str) -> Result<(), AllocErro
         add_record(text, "", level)?;
     }
     add_record(text, mark, depth)?;
-    text.push_str(MAIN)
+    text.push_str(MAIN)?;
+    Ok(())
 }
 
 // Whether a text of nested records has this verdict.
@@ -176,11 +178,7 @@ fn nested_is_judged(
     is_judged(alloc, &[text.as_str()], wanted)
 }
 
-fn add_fields(
-    text: &mut String,
-    letter: &str,
-    (first, end): (u32, u32),
-) -> Result<(), AllocError> {
+fn add_fields(text: &mut String, letter: &str, (first, end): (u32, u32)) -> Result<(), AllocError> {
     for number in first..end {
         write!(text, "int {letter}{number}; ")?;
     }
@@ -194,7 +192,8 @@ fn add_wide(text: &mut String, count: u32, mark: &str) -> Result<(), AllocError>
     write!(text, "}}; {mark}struct B {{ A one; ")?;
     add_fields(text, "b", (512, count))?;
     text.push_str("};")?;
-    text.push_str(MAIN)
+    text.push_str(MAIN)?;
+    Ok(())
 }
 
 // Whether a text of a wide record has this verdict.

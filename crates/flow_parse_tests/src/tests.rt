@@ -32,7 +32,8 @@ fn tokens(alloc: Global, text: &str, count: usize) -> Result<Tokens, SourceFault
 
 // Why the program of the first tokens of a text is refused: `None` where it is accepted.
 fn fault(alloc: Global, text: &str, count: usize) -> Option<SourceFault> {
-    match &tokens(alloc, text, count) {
+    let read = tokens(alloc, text, count);
+    match &read {
         Ok(tokens) => parse(alloc, tokens).err(),
         Err(_) => Some(SourceFault::OutOfMemory),
     }
@@ -101,8 +102,14 @@ const WHOLE: [(&str, &[u32]); 9] = [
         "ACTOR Future < Void > m ( ) { try { { } } catch ( Error & e ) { } choose { when ( wait ( a ) ) { } when ( int b = waitNext ( c ) ) d ( ) ; } }",
         &[0, 49],
     ),
-    ("int f ( ) { if ( a ) if ( b ) x ( ) ; else y ( ) ; }", &[0, 23]),
-    ("int f ( ) { if ( a ) while ( b ) if ( c ) { } else { } else { } }", &[0, 26]),
+    (
+        "int f ( ) { if ( a ) if ( b ) x ( ) ; else y ( ) ; }",
+        &[0, 23],
+    ),
+    (
+        "int f ( ) { if ( a ) while ( b ) if ( c ) { } else { } else { } }",
+        &[0, 26],
+    ),
     (
         "Void f ( ) { return Void ( ) ; } a g ( a b ) { a b ; a = b ; a ( ) ; a . b ( - 1 , ! a ) ; }",
         &[0, 11, 41],
@@ -283,10 +290,7 @@ fn refuses_wrong_tokens(rt: HostRuntime) {
 }
 
 /// A text, as its parts with how often each stands there, and why it is refused.
-type Row = (
-    &'static [(&'static str, usize)],
-    Option<(Rule, u32)>,
-);
+type Row = (&'static [(&'static str, usize)], Option<(Rule, u32)>);
 
 fn add_times(text: &mut String, part: &str, count: usize) -> Result<(), NoMemory> {
     for _ in 0..count {
@@ -327,34 +331,98 @@ fn first_wrong(alloc: Global, rows: &[Row]) -> Result<Option<usize>, NoMemory> {
 
 const DECLARATIONS_AND_STATEMENTS: [Row; 8] = [
     (&[("int f ( ) { } ", 4096)], None),
-    (&[("int f ( ) { } ", 4096), ("int", 1)], Some((Rule::L(3), 24576))),
-    (&[("int f ( ) { } ", 4096), ("1", 1)], Some((Rule::S(5), 24576))),
-    (&[("int f ( ) { ", 1), ("x ( ) ; ", 10000), ("}", 1)], None),
-    (&[("int f ( ) { ", 1), ("x ( ) ; ", 10000), ("x", 1)], Some((Rule::L(4), 40005))),
-    (&[("int f ( ) { ", 1), ("x ( ) ; ", 10000), ("else", 1)], Some((Rule::S(5), 40005))),
-    (&[("int f ( ) { ", 1), ("x ( ) ; ", 9999), ("for ( i = 1", 1)], Some((Rule::L(4), 40003))),
     (
-        &[("int f ( ) { ", 1), ("x ( ) ; ", 9998), ("for ( i = 1 ; ; j = 1", 1)],
+        &[("int f ( ) { } ", 4096), ("int", 1)],
+        Some((Rule::L(3), 24576)),
+    ),
+    (
+        &[("int f ( ) { } ", 4096), ("1", 1)],
+        Some((Rule::S(5), 24576)),
+    ),
+    (&[("int f ( ) { ", 1), ("x ( ) ; ", 10000), ("}", 1)], None),
+    (
+        &[("int f ( ) { ", 1), ("x ( ) ; ", 10000), ("x", 1)],
+        Some((Rule::L(4), 40005)),
+    ),
+    (
+        &[("int f ( ) { ", 1), ("x ( ) ; ", 10000), ("else", 1)],
+        Some((Rule::S(5), 40005)),
+    ),
+    (
+        &[("int f ( ) { ", 1), ("x ( ) ; ", 9999), ("for ( i = 1", 1)],
+        Some((Rule::L(4), 40003)),
+    ),
+    (
+        &[
+            ("int f ( ) { ", 1),
+            ("x ( ) ; ", 9998),
+            ("for ( i = 1 ; ; j = 1", 1),
+        ],
         Some((Rule::L(4), 40004)),
     ),
 ];
 
 #[test]
 fn limits_declarations_and_statements(rt: HostRuntime) -> Result<(), NoMemory> {
-    assert_eq!(rt; first_wrong(rt.alloc(), &DECLARATIONS_AND_STATEMENTS)?, None);
+    assert_eq!(rt;
+        first_wrong(rt.alloc(), &DECLARATIONS_AND_STATEMENTS)?,
+        None
+    );
     Ok(())
 }
 
 const DEPTH: [Row; 9] = [
-    (&[("int f ( ) { ", 1), ("{ ", 62), ("x ( ) ;", 1)], Some((Rule::S(5), 71))),
-    (&[("int f ( ) { ", 1), ("{ ", 62), ("x ( ) ; ", 1), ("} ", 63)], None),
-    (&[("int f ( ) { ", 1), ("{ ", 63), ("x", 1)], Some((Rule::L(5), 68))),
-    (&[("int f ( ) { ", 1), ("{ ", 63), (")", 1)], Some((Rule::S(5), 68))),
-    (&[("int f ( ) { ", 1), ("{ ", 62), ("return a", 1)], Some((Rule::L(5), 68))),
-    (&[("int f ( ) { ", 1), ("{ ", 62), ("x ( ) ; ", 9937), ("{ x", 1)], Some((Rule::L(4), 39816))),
-    (&[("int f ( ) { ", 1), ("{ ", 62), ("x ( ) ; ", 9937), ("{ }", 1)], Some((Rule::S(5), 39817))),
-    (&[("int f ( ) { ", 1), ("{ ", 62), ("x ( ) ; ", 9937), ("{ 1", 1)], Some((Rule::S(5), 39816))),
-    (&[("int f ( ) { ", 1), ("{ ", 62), ("Future < int", 1)], Some((Rule::L(5), 69))),
+    (
+        &[("int f ( ) { ", 1), ("{ ", 62), ("x ( ) ;", 1)],
+        Some((Rule::S(5), 71)),
+    ),
+    (
+        &[("int f ( ) { ", 1), ("{ ", 62), ("x ( ) ; ", 1), ("} ", 63)],
+        None,
+    ),
+    (
+        &[("int f ( ) { ", 1), ("{ ", 63), ("x", 1)],
+        Some((Rule::L(5), 68)),
+    ),
+    (
+        &[("int f ( ) { ", 1), ("{ ", 63), (")", 1)],
+        Some((Rule::S(5), 68)),
+    ),
+    (
+        &[("int f ( ) { ", 1), ("{ ", 62), ("return a", 1)],
+        Some((Rule::L(5), 68)),
+    ),
+    (
+        &[
+            ("int f ( ) { ", 1),
+            ("{ ", 62),
+            ("x ( ) ; ", 9937),
+            ("{ x", 1),
+        ],
+        Some((Rule::L(4), 39816)),
+    ),
+    (
+        &[
+            ("int f ( ) { ", 1),
+            ("{ ", 62),
+            ("x ( ) ; ", 9937),
+            ("{ }", 1),
+        ],
+        Some((Rule::S(5), 39817)),
+    ),
+    (
+        &[
+            ("int f ( ) { ", 1),
+            ("{ ", 62),
+            ("x ( ) ; ", 9937),
+            ("{ 1", 1),
+        ],
+        Some((Rule::S(5), 39816)),
+    ),
+    (
+        &[("int f ( ) { ", 1), ("{ ", 62), ("Future < int", 1)],
+        Some((Rule::L(5), 69)),
+    ),
 ];
 
 #[test]
@@ -391,17 +459,46 @@ const STATE_VARIABLES: [Row; 8] = [
         ],
         Some((Rule::L(6), 40005)),
     ),
-    (&[("ACTOR Future < Void > m ( ) { ", 1), ("state int x ; ", 1000), ("}", 1)], None),
     (
-        &[("ACTOR Future < Void > m ( ) { ", 1), ("state int x ; ", 1000), ("state", 1)],
+        &[
+            ("ACTOR Future < Void > m ( ) { ", 1),
+            ("state int x ; ", 1000),
+            ("}", 1),
+        ],
+        None,
+    ),
+    (
+        &[
+            ("ACTOR Future < Void > m ( ) { ", 1),
+            ("state int x ; ", 1000),
+            ("state", 1),
+        ],
         Some((Rule::L(6), 4009)),
     ),
-    (&[("ACTOR Future < Void > m ( int a ) { ", 1), ("state int x ; ", 999), ("}", 1)], None),
     (
-        &[("ACTOR Future < Void > m ( int a ) { ", 1), ("state int x ; ", 999), ("state", 1)],
+        &[
+            ("ACTOR Future < Void > m ( int a ) { ", 1),
+            ("state int x ; ", 999),
+            ("}", 1),
+        ],
+        None,
+    ),
+    (
+        &[
+            ("ACTOR Future < Void > m ( int a ) { ", 1),
+            ("state int x ; ", 999),
+            ("state", 1),
+        ],
         Some((Rule::L(6), 4007)),
     ),
-    (&[("int f ( int a ) { ", 1), ("state int x ; ", 1001), ("}", 1)], None),
+    (
+        &[
+            ("int f ( int a ) { ", 1),
+            ("state int x ; ", 1001),
+            ("}", 1),
+        ],
+        None,
+    ),
 ];
 
 #[test]
@@ -411,12 +508,27 @@ fn limits_state_variables(rt: HostRuntime) -> Result<(), NoMemory> {
 }
 
 const PARAMETERS_AND_FIELDS: [Row; 6] = [
-    (&[("int f ( ", 1), ("int a , ", 999), ("int b ) { }", 1)], None),
-    (&[("int f ( ", 1), ("int a , ", 1000), ("int", 1)], Some((Rule::L(6), 3003))),
-    (&[("int f ( ", 1), ("int a , ", 1000), ("1", 1)], Some((Rule::S(5), 3003))),
+    (
+        &[("int f ( ", 1), ("int a , ", 999), ("int b ) { }", 1)],
+        None,
+    ),
+    (
+        &[("int f ( ", 1), ("int a , ", 1000), ("int", 1)],
+        Some((Rule::L(6), 3003)),
+    ),
+    (
+        &[("int f ( ", 1), ("int a , ", 1000), ("1", 1)],
+        Some((Rule::S(5), 3003)),
+    ),
     (&[("struct R { ", 1), ("int a ; ", 1000), ("} ;", 1)], None),
-    (&[("struct R { ", 1), ("int a ; ", 1000), ("int", 1)], Some((Rule::L(6), 3003))),
-    (&[("struct R { ", 1), ("int a ; ", 1000), (";", 1)], Some((Rule::S(5), 3003))),
+    (
+        &[("struct R { ", 1), ("int a ; ", 1000), ("int", 1)],
+        Some((Rule::L(6), 3003)),
+    ),
+    (
+        &[("struct R { ", 1), ("int a ; ", 1000), (";", 1)],
+        Some((Rule::S(5), 3003)),
+    ),
 ];
 
 #[test]
@@ -460,7 +572,12 @@ const BRANCHES: [Row; 5] = [
         Some((Rule::L(5), 76)),
     ),
     (
-        &[("ACTOR Future < Void > m ( ) { ", 1), ("{ ", 62), ("choose { ", 1), ("when", 1)],
+        &[
+            ("ACTOR Future < Void > m ( ) { ", 1),
+            ("{ ", 62),
+            ("choose { ", 1),
+            ("when", 1),
+        ],
         Some((Rule::L(5), 73)),
     ),
 ];
@@ -525,14 +642,16 @@ fn has_else(program: &Program) -> Option<bool> {
 }
 
 fn else_of_tokens(alloc: Global, tokens: &Tokens) -> Option<bool> {
-    match &parse(alloc, tokens) {
+    let parsed = parse(alloc, tokens);
+    match &parsed {
         Ok(program) => has_else(program),
         Err(_) => None,
     }
 }
 
 fn else_of(alloc: Global, text: &str) -> Option<bool> {
-    match &tokens(alloc, text, usize::MAX) {
+    let read = tokens(alloc, text, usize::MAX);
+    match &read {
         Ok(tokens) => else_of_tokens(alloc, tokens),
         Err(_) => None,
     }

@@ -9,12 +9,7 @@ use flow_cell::counts::{Loss, References, Side};
 use flow_cell::waiter::Waiter;
 use std::alloc::Global;
 
-const LOSSES: [Loss; 4] = [
-    Loss::Kept,
-    Loss::LastPromise,
-    Loss::LastFuture,
-    Loss::Gone,
-];
+const LOSSES: [Loss; 4] = [Loss::Kept, Loss::LastPromise, Loss::LastFuture, Loss::Gone];
 
 // What is lost of two promises and a future, where a promise comes again.
 fn losses() -> [Loss; 4] {
@@ -176,11 +171,13 @@ fn skips_none(cells: &mut Cells<u64>) -> Result<bool, NoMemory>
     let above_three = cells.next_cell(CellId(3));
     let removed = cells.remove(CellId(5));
     let five = Some(CellId(5));
-    Ok(above_two == five
-        && above_three == five
-        && removed.is_none()
-        && cells.next_cell(CellId(2)) == Some(CellId(9))
-        && cells.next_cell(CellId(9)).is_none())
+    Ok(
+        above_two == five
+            && above_three == five
+            && removed.is_none()
+            && cells.next_cell(CellId(2)) == Some(CellId(9))
+            && cells.next_cell(CellId(9)).is_none(),
+    )
 }
 
 fn clears(cells: &mut Cells<u64>) -> Result<bool, NoMemory> {

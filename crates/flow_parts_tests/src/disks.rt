@@ -85,15 +85,13 @@ fn reads(disk: &mut Disk, name: &Text, offset: u32, wanted: &[u8]) -> Result<boo
     Ok(is_text(&reply, wanted))
 }
 
-fn writes_past_the_end(
-    alloc: Global,
-    disk: &mut Disk,
-    name: &Text,
-) -> Result<bool, NoMemory> {
-    Ok(has_size(disk, name, 0)
-        && writes(alloc, disk, name, 2, b"ab")?
-        && has_size(disk, name, 4)
-        && reads(disk, name, 1, b"\0ab")?)
+fn writes_past_the_end(alloc: Global, disk: &mut Disk, name: &Text) -> Result<bool, NoMemory> {
+    Ok(
+        has_size(disk, name, 0)
+            && writes(alloc, disk, name, 2, b"ab")?
+            && has_size(disk, name, 4)
+            && reads(disk, name, 1, b"\0ab")?,
+    )
 }
 
 fn writes_no_byte(alloc: Global, disk: &mut Disk, name: &Text) -> Result<bool, NoMemory> {
@@ -146,7 +144,8 @@ fn kill(disk: &mut Disk, draws: &mut Draws) -> Result<Option<Vec<Kept>>, NoMemor
 
 // Whether a loss of power finds no unsynced write.
 fn loses_nothing(disk: &mut Disk, draws: &mut Draws) -> Result<bool, NoMemory> {
-    match &kill(disk, draws)? {
+    let told = kill(disk, draws)?;
+    match &told {
         Some(fates) => Ok(fates.is_empty()),
         None => Ok(false),
     }
@@ -154,17 +153,11 @@ fn loses_nothing(disk: &mut Disk, draws: &mut Draws) -> Result<bool, NoMemory> {
 
 fn fails_twice(alloc: Global, disk: &mut Disk, name: &Text) -> Result<bool, NoMemory> {
     disk.fail_next(2);
-    Ok(fails_to_sync(disk, name)?
-        && fails_to_write(alloc, disk, name)?
-        && has_size(disk, name, 0))
+    Ok(fails_to_sync(disk, name)? && fails_to_write(alloc, disk, name)? && has_size(disk, name, 0))
 }
 
 // A loss of power leaves it at what fails.
-fn fails_after_a_loss(
-    disk: &mut Disk,
-    name: &Text,
-    draws: &mut Draws,
-) -> Result<bool, NoMemory> {
+fn fails_after_a_loss(disk: &mut Disk, name: &Text, draws: &mut Draws) -> Result<bool, NoMemory> {
     disk.fail_next(1);
     Ok(loses_nothing(disk, draws)? && fails_to_read(disk, name)? && has_size(disk, name, 0))
 }
@@ -221,16 +214,19 @@ fn are_fates(fates: &[Kept]) -> bool {
 
 // Of two writes a loss of power keeps one byte.
 fn loses_by_words(disk: &mut Disk, draws: &mut Draws) -> Result<bool, NoMemory> {
-    match &kill(disk, draws)? {
+    let told = kill(disk, draws)?;
+    match &told {
         Some(fates) => Ok(draws.used() == 3 && are_fates(fates)),
         None => Ok(false),
     }
 }
 
 fn writes_three(alloc: Global, disk: &mut Disk, name: &Text) -> Result<bool, NoMemory> {
-    Ok(settles(alloc, disk, name)?
-        && writes(alloc, disk, name, 1, b"xy")?
-        && writes(alloc, disk, name, 5, b"z")?)
+    Ok(
+        settles(alloc, disk, name)?
+            && writes(alloc, disk, name, 1, b"xy")?
+            && writes(alloc, disk, name, 5, b"z")?,
+    )
 }
 
 fn loses_power(
@@ -239,9 +235,11 @@ fn loses_power(
     name: &Text,
     draws: &mut Draws,
 ) -> Result<bool, NoMemory> {
-    Ok(writes_three(alloc, disk, name)?
-        && loses_by_words(disk, draws)?
-        && reads(disk, name, 0, b"axc")?)
+    Ok(
+        writes_three(alloc, disk, name)?
+            && loses_by_words(disk, draws)?
+            && reads(disk, name, 0, b"axc")?,
+    )
 }
 
 fn loses_power_with(alloc: Global, draws: &mut Draws) -> Result<bool, NoMemory> {
@@ -263,8 +261,7 @@ fn a_loss_of_power_by_drawn_words(rt: HostRuntime) -> Result<(), NoMemory> {
 
 // A durable write, one that isn't, and a failure to come.
 fn writes_and_fails(alloc: Global, disk: &mut Disk, name: &Text) -> Result<bool, NoMemory> {
-    let is_written =
-        settles(alloc, disk, name)? && writes(alloc, disk, name, 4, b"z")?;
+    let is_written = settles(alloc, disk, name)? && writes(alloc, disk, name, 4, b"z")?;
     disk.fail_next(1);
     Ok(is_written)
 }
@@ -275,7 +272,7 @@ fn restored(alloc: Global, disk: &Disk) -> Result<Disk, NoMemory> {
 
 fn is_unsynced(writes: &[(u32, Text)]) -> bool {
     match writes {
-        [(offset, _)] => *offset == 4,
+        [write] => write.0 == 4,
         _ => false,
     }
 }

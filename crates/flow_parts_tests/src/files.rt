@@ -39,7 +39,8 @@ fn two_files(alloc: Global, failing: Vec<u64>) -> Result<MemFiles, NoMemory> {
 
 // Whether these bytes are read of the file of that name, to one past the limit.
 fn reads(alloc: Global, files: &mut MemFiles, (name, limit): (&str, usize), wanted: &[u8]) -> bool {
-    match &read_file(alloc, files, name, limit) {
+    let read = read_file(alloc, files, name, limit);
+    match &read {
         Ok(bytes) => bytes.as_slice() == wanted,
         Err(_) => false,
     }

@@ -109,7 +109,8 @@ fn is_put(alloc: Global, line: &Line, printed: &mut LineBuf, wanted: &[u8]) -> b
 
 // The line that these bytes spell is printed as these bytes, and a copy of it too.
 fn is_read_back(alloc: Global, printed: &mut LineBuf, bytes: &[u8]) -> bool {
-    match &read_line(alloc, bytes) {
+    let read = read_line(alloc, bytes);
+    match &read {
         Ok(line) => is_put(alloc, line, printed, bytes),
         Err(_) => false,
     }
@@ -183,7 +184,8 @@ fn is_quoted(alloc: Global) -> Result<bool, NoMemory> {
 }
 
 fn is_unquoted(alloc: Global) -> bool {
-    match &unquote(alloc, QUOTED) {
+    let unquoted = unquote(alloc, QUOTED);
+    match &unquoted {
         Ok(text) => text.bytes() == TEXT,
         Err(_) => false,
     }

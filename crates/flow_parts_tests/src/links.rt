@@ -70,7 +70,8 @@ fn is_second(packet: &Packet) -> bool {
 
 // Whether the second packet arrives.
 fn arrives_whole(net: &mut Net) -> bool {
-    match &net.arrive(2) {
+    let arrived = net.arrive(2);
+    match &arrived {
         Some(packet) => is_second(packet),
         None => false,
     }
@@ -82,11 +83,13 @@ fn arrives(net: &mut Net, number: u64) -> bool {
 }
 
 fn overtakes(alloc: Global, net: &mut Net, draws: &mut Draws) -> Result<bool, NoMemory> {
-    Ok(sends_two(alloc, net, draws)?
-        && draws.used() == 4
-        && arrives_whole(net)
-        && !arrives(net, 2)
-        && !arrives(net, 4))
+    Ok(
+        sends_two(alloc, net, draws)?
+            && draws.used() == 4
+            && arrives_whole(net)
+            && !arrives(net, 2)
+            && !arrives(net, 4),
+    )
 }
 
 fn overtakes_over(alloc: Global, draws: &mut Draws) -> Result<bool, NoMemory> {
@@ -143,11 +146,13 @@ fn fate(
 
 // Over a cut link no word is drawn, and to itself a process has one that isn't cut.
 fn cuts(alloc: Global, net: &mut Net, draws: &mut Draws) -> Result<bool, NoMemory> {
-    Ok(cut(net)
-        && fate(alloc, net, draws, 1, 2)? == Some(Fate::Cut)
-        && draws.used() == 0
-        && fate(alloc, net, draws, 2, 2)? == Some(Fate::Drawn)
-        && draws.used() == 1)
+    Ok(
+        cut(net)
+            && fate(alloc, net, draws, 1, 2)? == Some(Fate::Cut)
+            && draws.used() == 0
+            && fate(alloc, net, draws, 2, 2)? == Some(Fate::Drawn)
+            && draws.used() == 1,
+    )
 }
 
 fn cuts_over(alloc: Global, draws: &mut Draws) -> Result<bool, NoMemory> {
@@ -240,7 +245,8 @@ fn keeps_parts(net: &Net) -> Result<bool, NoMemory> {
 }
 
 fn gives_letter(net: &mut Net) -> bool {
-    match &net.arrive(2) {
+    let arrived = net.arrive(2);
+    match &arrived {
         Some(packet) => packet.text.bytes() == b"c".as_slice(),
         None => false,
     }
@@ -305,6 +311,9 @@ fn arrivals_alone(alloc: Global) -> Result<Option<u64>, NoMemory> {
 #[test]
 fn a_million_packets(rt: HostRuntime) -> Result<(), NoMemory> {
     let arrived = arrivals_alone(rt.alloc())?;
-    assert!(rt; matches!(arrived, Some(count) if count > 450_000), "{arrived:?}");
+    assert!(rt;
+        matches!(arrived, Some(count) if count > 450_000),
+        "{arrived:?}"
+    );
     Ok(())
 }

@@ -7,21 +7,18 @@ use flow_timers::Timers;
 use std::alloc::Global;
 
 // Whether an event that is made after few others gets this number.
-fn adds(
-    timers: &mut Timers<char>,
-    time: u64,
-    what: char,
-    number: u64,
-) -> Result<bool, NoMemory> {
+fn adds(timers: &mut Timers<char>, time: u64, what: char, number: u64) -> Result<bool, NoMemory> {
     Ok(timers.made() < 1000 && timers.add(time, what)? == number)
 }
 
 fn gets_numbers(timers: &mut Timers<char>) -> Result<bool, NoMemory> {
-    Ok(timers.first().is_none()
-        && adds(timers, 5, 'a', 1)?
-        && adds(timers, 3, 'b', 2)?
-        && adds(timers, 5, 'c', 3)?
-        && adds(timers, 3, 'd', 4)?)
+    Ok(
+        timers.first().is_none()
+            && adds(timers, 5, 'a', 1)?
+            && adds(timers, 3, 'b', 2)?
+            && adds(timers, 5, 'c', 3)?
+            && adds(timers, 3, 'd', 4)?,
+    )
 }
 
 // The first event is taken out, and what isn't pending isn't.
@@ -42,10 +39,12 @@ fn takes_the_others(timers: &mut Timers<char>) -> bool {
 }
 
 fn keeps_order(timers: &mut Timers<char>) -> Result<bool, NoMemory> {
-    Ok(gets_numbers(timers)?
-        && takes_the_first(timers)
-        && takes_the_others(timers)
-        && adds(timers, 0, 'e', 5)?)
+    Ok(
+        gets_numbers(timers)?
+            && takes_the_first(timers)
+            && takes_the_others(timers)
+            && adds(timers, 0, 'e', 5)?,
+    )
 }
 
 fn keeps_order_alone(alloc: Global) -> Result<bool, NoMemory> {
@@ -66,10 +65,7 @@ fn owned(alloc: Global, timers: &Timers<char>) -> Result<Vec<(u64, u64, char)>, 
     Ok(entries)
 }
 
-fn copy_all(
-    timers: &Timers<char>,
-    entries: &mut Vec<(u64, u64, char)>,
-) -> Result<(), NoMemory> {
+fn copy_all(timers: &Timers<char>, entries: &mut Vec<(u64, u64, char)>) -> Result<(), NoMemory> {
     for (time, number, what) in timers.entries()? {
         entries.push((time, number, *what))?;
     }
@@ -116,10 +112,12 @@ fn go_on_alike(
     timers: &mut Timers<char>,
     again: &mut Timers<char>,
 ) -> Result<bool, NoMemory> {
-    Ok(list_alike(alloc, timers, again)?
-        && adds(again, 9, 'j', 10)?
-        && give_in_order(timers, again)
-        && again.first() == Some((9, 10)))
+    Ok(
+        list_alike(alloc, timers, again)?
+            && adds(again, 9, 'j', 10)?
+            && give_in_order(timers, again)
+            && again.first() == Some((9, 10)),
+    )
 }
 
 fn restored(alloc: Global) -> Result<Timers<char>, NoMemory> {

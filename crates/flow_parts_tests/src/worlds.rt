@@ -196,7 +196,8 @@ fn prints(alloc: Global, world: &World0, wanted: &[u8]) -> Result<bool, NoMemory
 
 // Whether the text of a world is printed so.
 fn is_printed(alloc: Global, text: &[u8], wanted: &[u8]) -> Result<bool, NoMemory> {
-    match &read_world(alloc, text) {
+    let read = read_world(alloc, text);
+    match &read {
         Ok(world) => prints(alloc, world, wanted),
         Err(_) => Ok(false),
     }
@@ -207,7 +208,8 @@ fn has_script(world: &World0) -> bool {
 }
 
 fn is_read_as(alloc: Global, text: &[u8], wanted: &World0) -> bool {
-    match &read_world(alloc, text) {
+    let read = read_world(alloc, text);
+    match &read {
         Ok(world) => world == wanted,
         Err(_) => false,
     }
@@ -215,7 +217,8 @@ fn is_read_as(alloc: Global, text: &[u8], wanted: &World0) -> bool {
 
 // A world of two processes is as it is told, and is read again of its printed text.
 fn is_told(alloc: Global) -> bool {
-    match &read_world(alloc, WORLD) {
+    let read = read_world(alloc, WORLD);
+    match &read {
         Ok(world) => has_script(world) && is_read_as(alloc, PRINTED, world),
         Err(_) => false,
     }

@@ -87,14 +87,22 @@ fn text(alloc: Global, bytes: &[u8]) -> Result<Expr, NoMemory> {
 }
 
 fn writes_numbers(alloc: Global) -> Result<bool, NoMemory> {
-    Ok(is_written(alloc, Expr::Int(0), b"0")?
-        && is_written(alloc, Expr::Int(9223372036854775807), b"9223372036854775807")?)
+    Ok(
+        is_written(alloc, Expr::Int(0), b"0")?
+            && is_written(
+                alloc,
+                Expr::Int(9223372036854775807),
+                b"9223372036854775807",
+            )?,
+    )
 }
 
 fn writes_words(alloc: Global) -> Result<bool, NoMemory> {
-    Ok(is_written(alloc, Expr::Bool(true), b"true")?
-        && is_written(alloc, Expr::Bool(false), b"false")?
-        && is_written(alloc, Expr::VoidValue, b"Void()")?)
+    Ok(
+        is_written(alloc, Expr::Bool(true), b"true")?
+            && is_written(alloc, Expr::Bool(false), b"false")?
+            && is_written(alloc, Expr::VoidValue, b"Void()")?,
+    )
 }
 
 fn writes_text(alloc: Global) -> Result<bool, NoMemory> {
@@ -232,9 +240,11 @@ fn writes_calls(rt: HostRuntime) -> Result<(), NoMemory> {
 }
 
 fn writes_jumps(alloc: Global) -> Result<bool, NoMemory> {
-    Ok(is_shown(alloc, StmtKind::Break, b"    break;\n")?
-        && is_shown(alloc, StmtKind::Continue, b"    continue;\n")?
-        && is_shown(alloc, StmtKind::Throw(None), b"    throw;\n")?)
+    Ok(
+        is_shown(alloc, StmtKind::Break, b"    break;\n")?
+            && is_shown(alloc, StmtKind::Continue, b"    continue;\n")?
+            && is_shown(alloc, StmtKind::Throw(None), b"    throw;\n")?,
+    )
 }
 
 fn writes_throw(alloc: Global) -> Result<bool, NoMemory> {
@@ -250,7 +260,11 @@ fn path(alloc: Global) -> Result<Target, NoMemory> {
 
 fn writes_assignment(alloc: Global) -> Result<bool, NoMemory> {
     let path = path(alloc)?;
-    is_shown(alloc, StmtKind::Assign(path, Expr::Int(1)), b"    a.b.c = 1;\n")
+    is_shown(
+        alloc,
+        StmtKind::Assign(path, Expr::Int(1)),
+        b"    a.b.c = 1;\n",
+    )
 }
 
 // Whether the change of a path is written so.
@@ -260,10 +274,12 @@ fn writes_change(alloc: Global, change: Change, wanted: &[u8]) -> Result<bool, N
 }
 
 fn writes_changes(alloc: Global) -> Result<bool, NoMemory> {
-    Ok(writes_change(alloc, Change::Plus(Expr::Int(1)), b"    a.b.c += 1;\n")?
-        && writes_change(alloc, Change::Minus(Expr::Int(1)), b"    a.b.c -= 1;\n")?
-        && writes_change(alloc, Change::Up, b"    a.b.c++;\n")?
-        && writes_change(alloc, Change::Down, b"    a.b.c--;\n")?)
+    Ok(
+        writes_change(alloc, Change::Plus(Expr::Int(1)), b"    a.b.c += 1;\n")?
+            && writes_change(alloc, Change::Minus(Expr::Int(1)), b"    a.b.c -= 1;\n")?
+            && writes_change(alloc, Change::Up, b"    a.b.c++;\n")?
+            && writes_change(alloc, Change::Down, b"    a.b.c--;\n")?,
+    )
 }
 
 fn writes_call_statement(alloc: Global) -> Result<bool, NoMemory> {
@@ -309,7 +325,11 @@ fn writes_wait(alloc: Global) -> Result<bool, NoMemory> {
         into: Some(declared(true, Ty::Str, name)),
         next: false,
     };
-    is_shown(alloc, StmtKind::Wait(waiting), b"    state string x = wait(g);\n")
+    is_shown(
+        alloc,
+        StmtKind::Wait(waiting),
+        b"    state string x = wait(g);\n",
+    )
 }
 
 fn writes_wait_for_next(alloc: Global) -> Result<bool, NoMemory> {
@@ -425,7 +445,11 @@ fn whole_for(alloc: Global) -> Result<StmtKind, NoMemory> {
 
 fn writes_whole_for(alloc: Global) -> Result<bool, NoMemory> {
     let kind = whole_for(alloc)?;
-    is_shown(alloc, kind, b"    for (int x = 0; x < 3; x++) {\n        break;\n    }\n")
+    is_shown(
+        alloc,
+        kind,
+        b"    for (int x = 0; x < 3; x++) {\n        break;\n    }\n",
+    )
 }
 
 #[test]

@@ -215,7 +215,8 @@ fn lexed(alloc: Global, text: &[u8]) -> Result<Tokens, SourceFault> {
 
 // Whether a text has these tokens, and a copy of them too.
 fn reads(alloc: Global, text: &[u8], wanted: &str) -> Result<bool, NoMemory> {
-    match &lexed(alloc, text) {
+    let read = lexed(alloc, text);
+    match &read {
         Ok(tokens) => both_have(alloc, tokens, wanted),
         Err(_) => Ok(false),
     }
@@ -280,7 +281,8 @@ fn is_word(token: Option<&Token>, wanted: Word) -> bool {
 }
 
 fn reads_word(alloc: Global, word: Word) -> bool {
-    match &lexed(alloc, word.spelling()) {
+    let read = lexed(alloc, word.spelling());
+    match &read {
         Ok(tokens) => is_word(only(tokens), word),
         Err(_) => false,
     }
@@ -303,7 +305,8 @@ fn is_sign(token: Option<&Token>, wanted: Sign) -> bool {
 }
 
 fn reads_sign(alloc: Global, sign: Sign) -> bool {
-    match &lexed(alloc, sign.spelling()) {
+    let read = lexed(alloc, sign.spelling());
+    match &read {
         Ok(tokens) => is_sign(only(tokens), sign),
         Err(_) => false,
     }
@@ -365,7 +368,8 @@ fn is_name(token: Option<&Token>, count: usize) -> bool {
 
 // Whether a text is one name of this many bytes.
 fn is_one_name(alloc: Global, text: &[u8], count: usize) -> bool {
-    match &lexed(alloc, text) {
+    let read = lexed(alloc, text);
+    match &read {
         Ok(tokens) => is_name(only(tokens), count),
         Err(_) => false,
     }
@@ -398,7 +402,8 @@ fn is_text(token: Option<&Token>, count: usize) -> bool {
 
 // Whether a text is one quoted text that holds this many bytes.
 fn holds(alloc: Global, text: &[u8], count: usize) -> bool {
-    match &lexed(alloc, text) {
+    let read = lexed(alloc, text);
+    match &read {
         Ok(tokens) => is_text(only(tokens), count),
         Err(_) => false,
     }
@@ -432,7 +437,8 @@ fn is_mebibyte(tokens: &Tokens) -> bool {
 }
 
 fn reads_mebibyte(alloc: Global, text: &[u8]) -> bool {
-    match &lexed(alloc, text) {
+    let read = lexed(alloc, text);
+    match &read {
         Ok(tokens) => is_mebibyte(tokens),
         Err(_) => false,
     }

@@ -50,12 +50,7 @@ pub(crate) fn not(alloc: Global, of: Expr) -> Result<Expr, NoMemory> {
 }
 
 // A sign between a variable and an expression.
-pub(crate) fn binary(
-    alloc: Global,
-    op: Op,
-    name: &[u8],
-    right: Expr,
-) -> Result<Expr, NoMemory> {
+pub(crate) fn binary(alloc: Global, op: Op, name: &[u8], right: Expr) -> Result<Expr, NoMemory> {
     let right = boxed(alloc, right)?;
     let left = boxed_var(alloc, name)?;
     Ok(Expr::Binary(op, left, right))
@@ -111,11 +106,7 @@ pub(crate) fn one(alloc: Global, kind: StmtKind) -> Result<Vec<Stmt>, NoMemory> 
     Ok(vec![in alloc; stmt(kind)]?)
 }
 
-pub(crate) fn two(
-    alloc: Global,
-    first: StmtKind,
-    second: StmtKind,
-) -> Result<Vec<Stmt>, NoMemory> {
+pub(crate) fn two(alloc: Global, first: StmtKind, second: StmtKind) -> Result<Vec<Stmt>, NoMemory> {
     Ok(vec![in alloc; stmt(first), stmt(second)]?)
 }
 
