@@ -15,6 +15,4 @@ pub mod name;
 pub mod output;
 pub mod place;
 pub mod sink;
-#[cfg(test)]
-mod tests;
 pub mod text;

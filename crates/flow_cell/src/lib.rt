@@ -6,7 +6,5 @@ mod cell;
 pub mod cells;
 pub mod counts;
 mod queue;
-#[cfg(test)]
-mod tests;
 pub mod waiter;
 mod waiters;

@@ -99,6 +99,3 @@ impl Draws {
         self.used
     }
 }
-
-#[cfg(test)]
-mod tests;

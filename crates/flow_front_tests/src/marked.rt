@@ -42,18 +42,23 @@ impl Marked {
     /// Whether the text, which stands in one line, has this verdict: it is refused by the rule at the mark, or, where
     /// no rule is given, it loses the local at the marks, or, where there is no mark, it is accepted.
     pub fn is_judged(&self, alloc: Global, wanted: Option<Rule>) -> bool {
-        match front(alloc, &self.text) {
-            Ok(_) => wanted.is_none() && self.refused.is_none(),
-            Err(SourceFault::Refused { rule, at }) => {
+        self.has(front(alloc, &self.text).err(), wanted)
+    }
+
+    // Whether the verdict, which is a fault or none, is as wanted.
+    fn has(&self, fault: Option<SourceFault>, wanted: Option<Rule>) -> bool {
+        match fault {
+            None => wanted.is_none() && self.refused.is_none(),
+            Some(SourceFault::Refused { rule, at }) => {
                 wanted == Some(rule) && stands(at, self.refused)
             }
-            Err(SourceFault::AcrossWait { at, declared, wait }) => {
+            Some(SourceFault::AcrossWait { at, declared, wait }) => {
                 wanted.is_none()
                     && stands(at, self.refused)
                     && stands(declared, self.declared)
                     && stands(wait, self.wait)
             }
-            Err(SourceFault::OutOfMemory) => false,
+            Some(SourceFault::OutOfMemory) => false,
         }
     }
 }

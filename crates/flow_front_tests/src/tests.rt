@@ -7,7 +7,6 @@ use crate::state::{LOOPS, STATE};
 use crate::statements::{REFUSED_IN_ACTORS, REFUSED_IN_FUNCTIONS};
 use flow_tree::fault::Rule;
 use std::alloc::{AllocError, Global};
-use std::test::Fail;
 
 // A record, a function and an actor, in front of what is tried.
 const NAMES: &str =
@@ -29,13 +28,27 @@ const FUNCTION_ENDS: &str = " return i; } ACTOR Future<Void> main(int p) { retur
 const IN_MAIN: &str =
     "int f(int n) { return n; } ACTOR Future<int> a(int n) { return n; } ACTOR Future<Void> main(int n) { ";
 
-// Whether the text of these parts has this verdict.
-fn is_judged(alloc: Global, parts: &[&str], wanted: Option<Rule>) -> Result<bool, AllocError> {
-    let mut text = Marked::new(alloc);
+fn add_all(text: &mut Marked, parts: &[&str]) -> Result<(), AllocError> {
     for part in parts {
         text.add(part)?;
     }
+    Ok(())
+}
+
+fn judges(
+    alloc: Global,
+    text: &mut Marked,
+    parts: &[&str],
+    wanted: Option<Rule>,
+) -> Result<bool, AllocError> {
+    add_all(text, parts)?;
     Ok(text.is_judged(alloc, wanted))
+}
+
+// Whether the text of these parts has this verdict.
+fn is_judged(alloc: Global, parts: &[&str], wanted: Option<Rule>) -> Result<bool, AllocError> {
+    let mut text = Marked::new(alloc);
+    judges(alloc, &mut text, parts, wanted)
 }
 
 // The rule S or K with which a line of a table begins, and what stands behind it.
@@ -136,47 +149,72 @@ fn locals_at_waits(rt: HostRuntime) -> Result<(), AllocError> {
     Ok(())
 }
 
+fn add_record(text: &mut String, mark: &str, level: u32) -> Result<(), AllocError> {
+    let inner = level.saturating_sub(1);
+    write!(text, "{mark}struct Deep{level} {{ Deep{inner} r; }}; ")?;
+    Ok(())
+}
+
 // Records inside one another, the last so many deep with a mark where it is too deep, and `main`.
-fn nested(alloc: Global, depth: u32, mark: &str) -> Result<String, Fail> {
-    let mut text = String::new(alloc);
+fn add_nested(text: &mut String, depth: u32, mark: &str) -> Result<(), AllocError> {
     text.push_str("struct Deep1 { int x; }; ")?;
     for level in 2..depth {
-        let inner = level.saturating_sub(1);
-        text.push_str(format!(in alloc; "struct Deep{level} {{ Deep{inner} r; }}; ")?.as_str())?;
+        add_record(text, "", level)?;
     }
-    let inner = depth.saturating_sub(1);
-    text.push_str(format!(in alloc; "{mark}struct Deep{depth} {{ Deep{inner} r; }}; ")?.as_str())?;
+    add_record(text, mark, depth)?;
     text.push_str(MAIN)?;
-    Ok(text)
+    Ok(())
+}
+
+// Whether a text of nested records has this verdict.
+fn nested_is_judged(
+    alloc: Global,
+    depth: u32,
+    mark: &str,
+    wanted: Option<Rule>,
+) -> Result<bool, AllocError> {
+    let mut text = String::new(alloc);
+    add_nested(&mut text, depth, mark)?;
+    is_judged(alloc, &[text.as_str()], wanted)
+}
+
+fn add_fields(text: &mut String, letter: &str, (first, end): (u32, u32)) -> Result<(), AllocError> {
+    for number in first..end {
+        write!(text, "int {letter}{number}; ")?;
+    }
+    Ok(())
 }
 
 // A record with so many leaves, 512 of them in a record of its own, with a mark where these are too many, and `main`.
-fn wide(alloc: Global, count: u32, mark: &str) -> Result<String, Fail> {
-    let mut text = String::new(alloc);
+fn add_wide(text: &mut String, count: u32, mark: &str) -> Result<(), AllocError> {
     text.push_str("struct A { ")?;
-    for number in 0..512u32 {
-        text.push_str(format!(in alloc; "int a{number}; ")?.as_str())?;
-    }
-    text.push_str(format!(in alloc; "}}; {mark}struct B {{ A one; ")?.as_str())?;
-    for number in 512..count {
-        text.push_str(format!(in alloc; "int b{number}; ")?.as_str())?;
-    }
+    add_fields(text, "a", (0, 512))?;
+    write!(text, "}}; {mark}struct B {{ A one; ")?;
+    add_fields(text, "b", (512, count))?;
     text.push_str("};")?;
     text.push_str(MAIN)?;
-    Ok(text)
+    Ok(())
+}
+
+// Whether a text of a wide record has this verdict.
+fn wide_is_judged(
+    alloc: Global,
+    count: u32,
+    mark: &str,
+    wanted: Option<Rule>,
+) -> Result<bool, AllocError> {
+    let mut text = String::new(alloc);
+    add_wide(&mut text, count, mark)?;
+    is_judged(alloc, &[text.as_str()], wanted)
 }
 
 #[test]
-fn large_records(rt: HostRuntime) -> Result<(), Fail> {
+fn large_records(rt: HostRuntime) -> Result<(), AllocError> {
     let alloc = rt.alloc();
     let limit = Some(Rule::L(8));
-    let sixteen = nested(alloc, 16, "")?;
-    assert!(rt; is_judged(alloc, &[sixteen.as_str()], None)?);
-    let seventeen = nested(alloc, 17, "@")?;
-    assert!(rt; is_judged(alloc, &[seventeen.as_str()], limit)?);
-    let fits = wide(alloc, 1024, "")?;
-    assert!(rt; is_judged(alloc, &[fits.as_str()], None)?);
-    let beyond = wide(alloc, 1025, "@")?;
-    assert!(rt; is_judged(alloc, &[beyond.as_str()], limit)?);
+    assert!(rt; nested_is_judged(alloc, 16, "", None)?);
+    assert!(rt; nested_is_judged(alloc, 17, "@", limit)?);
+    assert!(rt; wide_is_judged(alloc, 1024, "", None)?);
+    assert!(rt; wide_is_judged(alloc, 1025, "@", limit)?);
     Ok(())
 }

@@ -7,6 +7,4 @@ mod number;
 mod quoted;
 mod scan;
 mod sign;
-#[cfg(test)]
-mod tests;
 mod word;

@@ -5,5 +5,3 @@
 pub mod links;
 pub mod numbered;
 mod rows;
-#[cfg(test)]
-mod tests;

@@ -5,8 +5,6 @@ mod excerpt;
 mod line;
 mod reading;
 mod telling;
-#[cfg(test)]
-mod tests;
 mod words;
 
 pub use line::{refusal_line, refusal_status, world_line};

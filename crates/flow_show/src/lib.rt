@@ -9,5 +9,3 @@ pub mod laws;
 pub mod show;
 pub mod source;
 mod stmt;
-#[cfg(test)]
-mod tests;

@@ -8,8 +8,6 @@ mod file;
 pub mod laws;
 mod overlay;
 mod state;
-#[cfg(test)]
-mod tests;
 mod write;
 
 pub use ask::{DiskAsk, DiskReply};

@@ -5,8 +5,6 @@
 pub mod laws;
 mod net;
 mod packet;
-#[cfg(test)]
-mod tests;
 
 pub use net::Net;
 pub use packet::{Fate, NetState, Packet, Sent};

@@ -4,8 +4,6 @@
 
 pub mod laws;
 mod moment;
-#[cfg(test)]
-mod tests;
 mod timers;
 
 pub use timers::Timers;

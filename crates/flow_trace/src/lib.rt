@@ -11,6 +11,4 @@ pub mod read;
 mod reading;
 mod scan;
 pub mod sink_out;
-#[cfg(test)]
-mod tests;
 pub mod unquote;

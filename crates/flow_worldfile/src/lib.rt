@@ -16,8 +16,5 @@ pub use printing::print_world;
 pub use reading::read_world;
 pub use world::{Act, At, World0, WorldFault};
 
-#[cfg(test)]
-mod tests;
-
 /// L10: the most bytes of a world file.
 pub const WORLD_BYTES: usize = 1_048_576;
