@@ -11,23 +11,39 @@ use Rattle.flow_meaning.specs.Runs.{Runs, ends, spent, event, before, after}
 use Rattle.flow_meaning.specs.World.{World, Begun, next_of, begun_by, ending}
 use Rattle.flow_meaning.proofs.BurstOnce.{two, same, burst_once}
 
--- what is left of a list begins with what stands at that number, and goes on with what is left one later
+-- parts of equal lists and options
+same_first : {X : Type 0} {x y : X} {xs ys : List X} → x ∷ xs ≡ y ∷ ys → x ≡ y
+same_first e = cc
+
+same_rest : {X : Type 0} {x y : X} {xs ys : List X} → x ∷ xs ≡ y ∷ ys → xs ≡ ys
+same_rest e = cc
+
+not_empty : {X : Type 0} {x : X} {xs : List X} → [] ≡ x ∷ xs → ⊥
+not_empty e = cc
+
+same_some : {X : Type 0} {x y : X} → Some x ≡ Some y → x ≡ y
+same_some e = cc
+
+no_some : {X : Type 0} {x : X} → None ≡ Some x → ⊥
+no_some e = cc
+
+-- what is left of a list begins with what stands at that number, and one later the rest is left
 pub first_left : {X : Type 0} (xs : List X) (n : ℕ) (x : X) (rest : List X) → drop n xs ≡ x ∷ rest → slice_get xs n ≡ Some x
-first_left [] zero x rest e = absurd (cc (e))
-first_left [] (suc n) x rest e = absurd (cc (e))
-first_left (y ∷ ys) zero x rest e = cc (e)
+first_left [] zero x rest e = absurd (not_empty e)
+first_left [] (suc n) x rest e = absurd (not_empty e)
+first_left (y ∷ ys) zero x rest e = ap (λ z. Some z) (same_first e)
 first_left (y ∷ ys) (suc n) x rest e = first_left ys n x rest e
 
 later_left : {X : Type 0} (xs : List X) (n : ℕ) (x : X) (rest : List X) → drop n xs ≡ x ∷ rest → drop (suc n) xs ≡ rest
-later_left [] zero x rest e = absurd (cc (e))
-later_left [] (suc n) x rest e = absurd (cc (e))
-later_left (y ∷ ys) zero x rest e = cc (e)
+later_left [] zero x rest e = absurd (not_empty e)
+later_left [] (suc n) x rest e = absurd (not_empty e)
+later_left (y ∷ ys) zero x rest e = same_rest e
 later_left (y ∷ ys) (suc n) x rest e = later_left ys n x rest e
 
 -- what holds of each holds of one
 pub holds_at : {X : Type 0} (P : X → Type 0) (xs : List X) (n : ℕ) (x : X) → AllByRecursion P xs → slice_get xs n ≡ Some x → P x
-holds_at P [] n x h e = absurd (cc (e))
-holds_at P (y ∷ ys) zero x h e = subst P (cc (e)) h.0
+holds_at P [] n x h e = absurd (no_some e)
+holds_at P (y ∷ ys) zero x h e = subst P (same_some e) h.0
 holds_at P (y ∷ ys) (suc n) x h e = holds_at P ys n x h.1 e
 
 module _ {A : Type 0} (e : Engine A) where

@@ -5,12 +5,14 @@ use Rattle.std.specs.declared.option.Option.TheVariants.{Some}
 use Rattle.flow_base.specs.declared.fault.OutFault.{OutFault}
 use Rattle.flow_tree.specs.DeclView.{program_of}
 use Rattle.flow_trace.specs.declared.line.Line.{Line}
-use Rattle.flow_worldfile.specs.Worlds.{seen}
+use Rattle.flow_worldfile.specs.Worlds.{IsInRange, seen}
+use Rattle.flow_worldfile.specs.declared.world.World0.{World0}
 use Rattle.flow_class.specs.Classes.{RawTree}
 use Rattle.flow_class.specs.View.{raw_of}
+use Rattle.flow_class.specs.declared.class.RawClasses.{RawClasses}
 use Rattle.flow_meaning.specs.Class.{classes}
 use Rattle.flow_meaning.specs.Frame.{Frame}
-use Rattle.flow_meaning.specs.Runs.{before, after, ClassTrace, ClassStates}
+use Rattle.flow_meaning.specs.Runs.{IsRun, before, after}
 use Rattle.flow_meaning.specs.World.{World, at_start}
 use Rattle.flow_awake.specs.Awake.{AreWhole, WorldRests}
 use Rattle.flow_awake.proofs.Worlds.{whole_rest}
@@ -20,6 +22,7 @@ use Rattle.flow_allowed.specs.Tasking.{IsProgram}
 use Rattle.flow_machine.specs.declared.host.Burst.TheVariants.{Rested}
 use Rattle.flow_world.specs.Ending.{Seen}
 use Rattle.flow_world.specs.Happening.{Happens}
+use Rattle.flow_world.specs.Starting.{Starts}
 use Rattle.flow_events.specs.Showing.{WorldShows}
 use Rattle.flow_events.proofs.Next.{same_end}
 use Rattle.flow_events.proofs.Started.{start_shown}
@@ -69,41 +72,27 @@ module _ {A : Type 0} (puts : A → Line → Result (Unit {0}) OutFault → A �
   events_came with_frames w v a d k (one_more {u = u} {b = b} {c = c} goes does told) = event_came u v b c (events_came with_frames w u a b k goes) does
 
 module _ {A : Type 0} (puts : A → Line → Result (Unit {0}) OutFault → A → Type 0) where
-  pub classes_rest : law.ClassesRest puts
-  classes_rest c file with_frames first v a b whole few range starts goes = record {
-    states = states;
-    run = run;
-    state = came.state;
-    after_as_many = there;
-    shows = world_rests r v came.state came.shows came.keeps.keeps.fits (holds_at (WorldRests r) states v.ran came.state (whole_rest r whole (seen file) states range run) there);
-  }
-    where
-      r : RawTree
-      r = raw_of c
-
-      trace : (lines : List Line) × ClassTrace r (seen file) lines
-      trace = let x = runs_exist r whole.valid (seen file) range in (x.lines, x.is)
-
-      states : List (World Frame)
-      states = trace.1.0
-
-      run : ClassStates r (seen file) states
-      run = (trace.0, trace.1.1)
-
-      start : Came puts r whole.valid states first
-      start = record {
+  in_run : (c : RawClasses) (file : World0) (with_frames : Bool) (first v : Seen) (a b : A) (whole : AreWhole (raw_of c)) → HaveFewPlaces (raw_of c) → IsInRange (seen file)
+      → Starts c file first → Goes puts with_frames first a v b → (states : List (World Frame)) (lines : List Line) → IsRun (classes (raw_of c)) (seen file) states lines
+      → law.RestsInRun (raw_of c) (seen file) v
+  in_run c file with_frames first v a b whole few range starts goes states lines run =
+      let r = raw_of c in
+      let start : Came puts r whole.valid states first = record {
         code = code_first c file whole few first starts;
         state = at_start (seen file);
         shows = start_shown (Settled r) c file first (settled_first r) starts;
         keeps = lasting_starts r (seen file) range;
-        on = record { rest = trace.1.1.later; lines = trace.1.1.rest; runs = trace.1.1.runs; left = trace.1.1.from_start };
-      }
+        on = record { rest = run.later; lines = run.rest; runs = run.runs; left = run.from_start };
+      } in
+      let x = events_came puts r whole.valid states with_frames first v a b start goes in
+      let there : slice_get states v.ran ≡ Some x.state = ap (slice_get states) x.shows.ran ∙ first_left states x.state.out.ran x.state x.on.rest x.on.left in
+      let kept = holds_at (WorldRests r) states v.ran x.state (whole_rest r whole (seen file) states range (lines, run)) there in
+      record { states = states; run = (lines, run); state = x.state; after_as_many = there; shows = world_rests r v x.state x.shows x.keeps.keeps.fits kept }
 
-      came : Came puts r whole.valid states v
-      came = events_came puts r whole.valid states with_frames first v a b start goes
-
-      there : slice_get states v.ran ≡ Some came.state
-      there = ap (slice_get states) came.shows.ran ∙ first_left states came.state.out.ran came.state came.on.rest came.on.left
+  pub classes_rest : law.ClassesRest puts
+  classes_rest c file with_frames first v a b whole few range starts goes =
+      let x = runs_exist (raw_of c) whole.valid (seen file) range in
+      in_run c file with_frames first v a b whole few range starts goes x.is.0 x.lines x.is.1
 
   pub programs_rest : law.ProgramsRest puts
   programs_rest text program c file with_frames first v a b sound light has range starts goes =

@@ -6,7 +6,7 @@ use Rattle.flow_tree.specs.declared.decl.Program.{Program}
 use Rattle.flow_tree.specs.DeclView.{program_of}
 use Rattle.flow_trace.specs.declared.line.Line.{Line}
 use Rattle.flow_worldfile.specs.declared.world.World0.{World0}
-use Rattle.flow_worldfile.specs.Worlds as file
+use Rattle.flow_worldfile.specs.Worlds as worlds
 use Rattle.flow_worldfile.specs.Worlds.{IsInRange, seen}
 use Rattle.flow_class.specs.Classes.{RawTree}
 use Rattle.flow_class.specs.declared.class.RawClasses.{RawClasses}
@@ -34,7 +34,7 @@ pub record IsAtRest (r : RawTree) (m : Process) (p : Proc Frame) : Type 0 where
   pub rested : Rested r m.heap p
 
 -- A world in memory shows the state at which the run of these classes is after as many events, process by process at rest.
-pub record RestsInRun (r : RawTree) (w : file.World) (v : Seen) : Type 0 where
+pub record RestsInRun (r : RawTree) (w : worlds.World) (v : Seen) : Type 0 where
   pub states : List (World Frame)
   pub run : ClassStates r w states
   pub state : World Frame
