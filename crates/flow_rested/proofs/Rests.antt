@@ -5,7 +5,6 @@ use Rattle.flow_timers.specs.Pending.{Pending}
 use Rattle.flow_class.specs.Classes.{RawTree}
 use Rattle.flow_meaning.specs.Frame.{Frame}
 use Rattle.flow_meaning.specs.Outside.{What}
-use Rattle.flow_meaning.specs.Process.{Proc}
 use Rattle.flow_meaning.specs.World.{World}
 use Rattle.flow_meaning.specs.World as meaning
 use Rattle.flow_awake.specs.Awake.{RestsKept, WorldRests}
@@ -13,7 +12,7 @@ use Rattle.flow_runs.specs.Among.{RestsAmong, AllRest, WorldFits}
 use Rattle.flow_steps.specs.declared.process.Process.{Process}
 use Rattle.flow_world.specs.declared.place.Place.{Place}
 use Rattle.flow_world.specs.Ending.{Seen}
-use Rattle.flow_events.specs.Showing.{PlaceShows, PlacesShow, WorldShows}
+use Rattle.flow_events.specs.Showing.{PlacesShow, WorldShows}
 use Rattle.flow_deeds.specs.Settling.{Settled}
 use Rattle.flow_rested.specs.Boundary.{IsAtRest}
 

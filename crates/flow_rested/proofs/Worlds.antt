@@ -3,7 +3,6 @@ use Rattle.std.proofs.Common.{◌≡◌, Bool, List, refl, sym, ap, ◌∙◌, s
 use Rattle.std.specs.Prelude.{Result, slice_get}
 use Rattle.std.specs.declared.option.Option.TheVariants.{Some}
 use Rattle.flow_base.specs.declared.fault.OutFault.{OutFault}
-use Rattle.flow_tree.specs.DeclView.{program_of}
 use Rattle.flow_trace.specs.declared.line.Line.{Line}
 use Rattle.flow_worldfile.specs.Worlds.{IsInRange, seen}
 use Rattle.flow_worldfile.specs.declared.world.World0.{World0}
