@@ -195,10 +195,7 @@ fn put_callbacks<L: LineOut>(
     ensures kept { L.kept out.new ≡ L.kept out.old }
 {
     for view in callbacks {
-        put(
-            out,
-            Line::Callback(p, view.actor, view.callback, view.cell),
-        )?;
+        put(out, Line::Callback(p, view.actor, view.callback, view.cell))?;
     }
     Ok(())
 }
