@@ -354,13 +354,21 @@ fn operates(
     Ok(comes_alone(alloc, &expr, want))
 }
 
-fn first_wrong_operation(alloc: Global) -> Result<Option<(Op, Arg, Arg)>, NoMemory> {
-    for (op, left, right, want) in OPERATORS {
-        if !operates(alloc, (op, left, right), want)? {
-            return Ok(Some((op, left, right)));
+fn wrong_operation(
+    alloc: Global,
+    rows: &[(Op, Arg, Arg, Want)],
+) -> Result<Option<(Op, Arg, Arg)>, NoMemory> {
+    for (op, left, right, want) in rows {
+        if !operates(alloc, (*op, *left, *right), *want)? {
+            return Ok(Some((*op, *left, *right)));
         }
     }
     Ok(None)
+}
+
+// A table is named where nothing else is done, since each step over it has all of its rows before it.
+fn first_wrong_operation(alloc: Global) -> Result<Option<(Op, Arg, Arg)>, NoMemory> {
+    wrong_operation(alloc, &OPERATORS)
 }
 
 #[test]
@@ -450,13 +458,20 @@ fn calls(alloc: Global, word: &[u8], args: &[Arg], want: Want) -> Result<bool, N
     Ok(comes_alone(alloc, &expr, want))
 }
 
-fn first_wrong_call(alloc: Global) -> Result<Option<(&'static [u8], &'static [Arg])>, NoMemory> {
-    for (word, args, want) in CALLS {
-        if !calls(alloc, word, args, want)? {
-            return Ok(Some((word, args)));
+fn wrong_call(
+    alloc: Global,
+    rows: &[(&'static [u8], &'static [Arg], Want)],
+) -> Result<Option<(&'static [u8], &'static [Arg])>, NoMemory> {
+    for (word, args, want) in rows {
+        if !calls(alloc, *word, *args, *want)? {
+            return Ok(Some((*word, *args)));
         }
     }
     Ok(None)
+}
+
+fn first_wrong_call(alloc: Global) -> Result<Option<(&'static [u8], &'static [Arg])>, NoMemory> {
+    wrong_call(alloc, &CALLS)
 }
 
 #[test]
@@ -547,15 +562,22 @@ fn answers(
     Ok(comes_alone(alloc, &expr, want))
 }
 
-fn first_wrong_method(
+fn wrong_method(
     alloc: Global,
+    rows: &[(Arg, &'static [u8], &'static [Arg], Want)],
 ) -> Result<Option<(Arg, &'static [u8], &'static [Arg])>, NoMemory> {
-    for (base, word, args, want) in METHODS {
-        if !answers(alloc, base, (word, args), want)? {
-            return Ok(Some((base, word, args)));
+    for (base, word, args, want) in rows {
+        if !answers(alloc, *base, (*word, *args), *want)? {
+            return Ok(Some((*base, *word, *args)));
         }
     }
     Ok(None)
+}
+
+fn first_wrong_method(
+    alloc: Global,
+) -> Result<Option<(Arg, &'static [u8], &'static [Arg])>, NoMemory> {
+    wrong_method(alloc, &METHODS)
 }
 
 #[test]

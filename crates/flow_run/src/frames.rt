@@ -149,7 +149,7 @@ fn put_frame<'c, L: LineOut>(
     ensures kept { L.kept out.new ≡ L.kept out.old }
 {
     let name = class_name(alloc, world, frame)?;
-    put(out, &Line::Frame(p, frame.actor, name, frame.state))?;
+    put(out, Line::Frame(p, frame.actor, name, frame.state))?;
     let own = own_part(callbacks, frame.actor);
     put_callbacks(p, &callbacks[..own], out)?;
     Ok(&callbacks[own..])
@@ -196,10 +196,7 @@ fn put_callbacks<L: LineOut>(
     ensures kept { L.kept out.new ≡ L.kept out.old }
 {
     for view in callbacks {
-        put(
-            out,
-            &Line::Callback(p, view.actor, view.callback, view.cell),
-        )?;
+        put(out, Line::Callback(p, view.actor, view.callback, view.cell))?;
     }
     Ok(())
 }

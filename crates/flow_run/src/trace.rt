@@ -73,9 +73,9 @@ fn put_lines<L: LineOut>(
         file (whole out.old) }
     ensures last { IfOk result (λ ending. PutLast L.puts (end_line ending) out.new) }
 {
-    put(out, &Line::Head)?;
+    put(out, Line::Head)?;
     let ending = put_events(alloc, world, with_frames, out)?;
-    put(out, &ending.line())?;
+    put(out, ending.line())?;
     Ok(ending)
 }
 

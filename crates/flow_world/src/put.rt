@@ -13,15 +13,16 @@ use flow_trace::line::Line;
 use flow_trace::out::LineOut;
 use std::alloc::Global;
 
-/// Puts a line. `Failed` comes only where the count of faults rose.
-pub fn put<L: LineOut>(out: &mut L, line: &Line) -> Result<(), RunFault>
-    ensures puts { OnOk result (L.puts out.old line.now (Ok tt) out.new) }
+/// Puts a line. `Failed` comes only where the count of faults rose. It takes the line, so that the drop of one isn't written
+/// out, kind by kind, at each way out of who makes it.
+pub fn put<L: LineOut>(out: &mut L, line: Line) -> Result<(), RunFault>
+    ensures puts { OnOk result (L.puts out.old line (Ok tt) out.new) }
     ensures never { ¬ IsErrOf result run.Astray }
-    ensures fails { IsErrOf result run.Failed → L.puts out.old line.now (Err Failed) out.new }
+    ensures fails { IsErrOf result run.Failed → L.puts out.old line (Err Failed) out.new }
     ensures cause { RunCause (L.faults out.old) (L.faults out.new) result }
     ensures kept { L.kept out.new ≡ L.kept out.old }
 {
-    match out.put(line) {
+    match out.put(&line) {
         Ok(()) => Ok(()),
         Err(fault) => Err(RunFault::from(fault)),
     }
@@ -49,5 +50,5 @@ fn put_one<L: LineOut>(alloc: Global, kept: &Kept, out: &mut L) -> Result<(), Ru
     ensures kept { L.kept out.new ≡ L.kept out.old }
 {
     let name = kept.name.copy(alloc)?;
-    put(out, &Line::Kept(name, kept.offset, kept.length, kept.kept))
+    put(out, Line::Kept(name, kept.offset, kept.length, kept.kept))
 }

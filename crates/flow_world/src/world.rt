@@ -281,20 +281,20 @@ impl World {
         match act {
             Act::Boot(p) => self.boots(p, out),
             Act::Stop(p) => {
-                put(out, &Line::Stop(n, t, p))?;
+                put(out, Line::Stop(n, t, p))?;
                 self.runs(p, Deed::Stops, out)
             }
             Act::Kill(p) => self.kills(p, out),
             Act::Cut(p, q) => {
-                put(out, &Line::Cut(n, t, p, q))?;
+                put(out, Line::Cut(n, t, p, q))?;
                 self.cuts(p, q)
             }
             Act::Heal(p, q) => {
-                put(out, &Line::Heal(n, t, p, q))?;
+                put(out, Line::Heal(n, t, p, q))?;
                 self.heals(p, q)
             }
             Act::DiskFail(p, count) => {
-                put(out, &Line::DiskFail(n, t, p, count))?;
+                put(out, Line::DiskFail(n, t, p, count))?;
                 self.fails(p, count)
             }
         }
@@ -315,7 +315,7 @@ impl World {
             What::Boots(p) => self.boots(p, out),
             What::Rings(p, cell) => {
                 let n = self.number();
-                put(out, &Line::Timer(n, self.outside.time, p, cell))?;
+                put(out, Line::Timer(n, self.outside.time, p, cell))?;
                 self.runs(p, Deed::Delivers(cell, Outcome::Value(Value::Void)), out)
             }
             What::Arrives(p, packet) => self.arrives(p, packet, out),
@@ -334,7 +334,7 @@ impl World {
         ensures cause { RunCause (L.faults out.old) (L.faults out.new) result }
         ensures kept { L.kept out.new ≡ L.kept out.old }
     {
-        put(out, &Line::Boot(self.number(), self.outside.time, p))?;
+        put(out, Line::Boot(self.number(), self.outside.time, p))?;
         self.runs(p, Deed::Boots, out)
     }
 
@@ -400,7 +400,7 @@ impl World {
         ensures cause { RunCause (L.faults out.old) (L.faults out.new) result }
         ensures kept { L.kept out.new ≡ L.kept out.old }
     {
-        put(out, &Line::Kill(self.number(), self.outside.time, p))?;
+        put(out, Line::Kill(self.number(), self.outside.time, p))?;
         let fates = self.outside.lose_disk(p)?;
         put_kept(self.alloc, &fates, out)?;
         self.outside.forget(p)?;
@@ -442,7 +442,7 @@ impl World {
         ensures kept { L.kept out.new ≡ L.kept out.old }
     {
         let n = self.number();
-        put(out, &Line::Arrival(n, self.outside.time, p, packet))?;
+        put(out, Line::Arrival(n, self.outside.time, p, packet))?;
         let Some(packet) = self.outside.net.arrive(packet) else {
             return Err(RunFault::Astray);
         };
@@ -468,7 +468,7 @@ impl World {
         ensures kept { L.kept out.new ≡ L.kept out.old }
     {
         let Some(cell) = heard else {
-            put(out, &Line::Discard(packet.number))?;
+            put(out, Line::Discard(packet.number))?;
             return Ok(Burst::Rested);
         };
         let item = packet_value(self.alloc, packet)?;
@@ -507,7 +507,7 @@ impl World {
         let reply = self.outside.serve(p, asked)?;
         let (n, t) = (self.number(), self.outside.time);
         let line = disk_line(self.alloc, asked.ask(), &reply, n, t, p, cell)?;
-        put(out, &line)?;
+        put(out, line)?;
         let outcome = disk_outcome(self.alloc, reply)?;
         self.runs(p, Deed::Delivers(cell, outcome), out)
     }
