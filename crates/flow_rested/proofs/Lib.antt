@@ -1,0 +1,4 @@
+pub mod Boots
+pub mod Onwards
+pub mod Rests
+pub mod Worlds
