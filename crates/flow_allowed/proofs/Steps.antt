@@ -14,7 +14,7 @@ use Rattle.flow_class.specs.Classes.{SetInstr, EffectInstr, NewInstr, ActInstr, 
 use Rattle.flow_class.specs.Code.{type_at, Fetched, Body, Last, Nothing, fetch_in, fetch_at, fetch, callback_at}
 use Rattle.flow_valid.specs.Named.{has_place, has_catcher, has_last, listed, path_place, expr_places, instr_places}
 use Rattle.flow_valid.specs.Validity.{IsValid}
-use Rattle.flow_meaning.specs.Numbered.{thing}
+use Rattle.flow_numbered.specs.Numbered.{thing}
 use Rattle.flow_meaning.specs.Cells.{Ref, Cell, Single, Stream, taken, outcome}
 use Rattle.flow_meaning.specs.Asks.{Supply}
 use Rattle.flow_meaning.specs.Process.{Run, Entry, Proc}

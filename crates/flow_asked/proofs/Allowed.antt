@@ -16,7 +16,7 @@ use Rattle.flow_class.specs.Code.{Fetched, Body, Last, Nothing, fetch, callback_
 use Rattle.flow_class.specs.Places.{place_named}
 use Rattle.flow_code.specs.declared.program.Code.{Code}
 use Rattle.flow_valid.specs.Named.{has_place, base_place, exprs_places}
-use Rattle.flow_meaning.specs.Numbered.{thing}
+use Rattle.flow_numbered.specs.Numbered.{thing}
 use Rattle.flow_meaning.specs.Cells.{Ref}
 use Rattle.flow_meaning.specs.Asks.{Supply, Goal, Stored, Kept, Effects}
 use Rattle.flow_meaning.specs.Process.{Entry, Proc}

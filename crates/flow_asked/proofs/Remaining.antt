@@ -9,7 +9,7 @@ use Rattle.std.specs.declared.option.Option.TheVariants.{None, Some}
 use Rattle.flow_class.specs.Classes.{RawTree}
 use Rattle.flow_cancel.specs.Heap.{has_number, without_number}
 use Rattle.flow_cancel.proofs.Noted.{at_number}
-use Rattle.flow_meaning.specs.Numbered.{Numbered, added, removed}
+use Rattle.flow_numbered.specs.Numbered.{Numbered, added, removed}
 use Rattle.flow_meaning.specs.Asks.{Supply}
 use Rattle.flow_meaning.specs.Process.{Core, Proc}
 use Rattle.flow_meaning.specs.Dropping.{port_of}

@@ -12,7 +12,7 @@ use Rattle.flow_class.specs.Classes.{EffectInstr, ActInstr, ChooseLast, Callback
 use Rattle.flow_class.specs.Code.{Fetched, Body, Last, fetch, callback_at}
 use Rattle.flow_code.specs.declared.program.Code.{Code}
 use Rattle.flow_trace.specs.declared.line.Line.{Line}
-use Rattle.flow_meaning.specs.Numbered.{Numbered}
+use Rattle.flow_numbered.specs.Numbered.{Numbered}
 use Rattle.flow_meaning.specs.Asks.{Supply}
 use Rattle.flow_meaning.specs.Evaluating.{Effectful, effect_in, value, values, before_last}
 use Rattle.flow_meaning.specs.Process.{Run, Entry, Proc}

@@ -5,7 +5,7 @@ use Rattle.std.specs.declared.option.Option.{Option}
 use Rattle.std.specs.declared.option.Option.TheVariants.{Some}
 use Rattle.flow_class.specs.Classes.{RawTree}
 use Rattle.flow_cancel.specs.Heap.{HeapTree, has_number, without_number}
-use Rattle.flow_meaning.specs.Numbered.{added, removed}
+use Rattle.flow_numbered.specs.Numbered.{added, removed}
 use Rattle.flow_meaning.specs.Asks.{Supply}
 use Rattle.flow_meaning.specs.Process.{Core, Proc}
 use Rattle.flow_meaning.specs.Step.{Stepped, step}

@@ -10,7 +10,7 @@ use Rattle.flow_value.specs.Values.{ValueTree, IntValue, BoolValue, TextValue, V
 use Rattle.flow_draw.specs.Words.{scaled}
 use Rattle.flow_eval.specs.Predefined.{natural}
 use Rattle.flow_trace.specs.declared.line.Line.{Line}
-use Rattle.flow_meaning.specs.Numbered.{thing, added, put}
+use Rattle.flow_numbered.specs.Numbered.{thing, added, put}
 use Rattle.flow_meaning.specs.Cells.{Cell, Single, Stream, is_complete}
 use Rattle.flow_meaning.specs.Asks.{DiskCall, Spot, Effect, Make, Start, Draw, Delay, Never, Listen, Disk, Goal, Stored, Kept, Act, Goes, Pass, Drops, Effects, Operand, Waits, Sends, Cancels, Prints, SendsTo, Returns, Throws, RunsOut, Stuck, Supply}
 use Rattle.flow_meaning.specs.Process.{Task, Run, Throw, Store, Keep, Close, Entry, Core}

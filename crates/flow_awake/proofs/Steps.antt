@@ -8,7 +8,7 @@ use Rattle.flow_tree.specs.Decls.{RoutineTree}
 use Rattle.flow_value.specs.Values.{OutcomeTree, ValueTree, GoodOutcome, BadOutcome}
 use Rattle.flow_class.specs.Classes.{ClassTree, RawTree}
 use Rattle.flow_class.specs.Code.{callback_at}
-use Rattle.flow_meaning.specs.Numbered.{Numbered, thing, put, removed}
+use Rattle.flow_numbered.specs.Numbered.{Numbered, thing, put, removed}
 use Rattle.flow_meaning.specs.Cells.{Ref}
 use Rattle.flow_meaning.specs.Asks.{Spot, Act, Goes, Pass, Drops, Effects, Operand, Waits, Sends, Cancels, Prints, SendsTo, Returns, Throws, RunsOut, Stuck, Effect, Make, Start, Draw, Delay, Never, Listen, Disk, Goal, Ask, Supply}
 use Rattle.flow_meaning.specs.Process.{Task, Run, Give, Throw, Catch, Store, Keep, Close, Fire, Drop, Entry, Halt, Core, Proc, Raised}

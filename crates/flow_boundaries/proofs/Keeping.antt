@@ -5,7 +5,7 @@ use Rattle.std.specs.declared.option.Option.TheVariants.{None, Some}
 use Rattle.flow_timers.specs.Pending.{Pending}
 use Rattle.flow_value.specs.declared.value.Kind.TheVariants as kind
 use Rattle.flow_class.specs.Classes.{RawTree}
-use Rattle.flow_meaning.specs.Numbered.{thing}
+use Rattle.flow_numbered.specs.Numbered.{thing}
 use Rattle.flow_meaning.specs.Cells.{Cell, Single, Stream}
 use Rattle.flow_meaning.specs.Process.{Halt, Proc}
 use Rattle.flow_meaning.specs.Orderly.{UnlessStopped}

@@ -6,7 +6,7 @@ use Rattle.std.specs.declared.option.Option.TheVariants.{None, Some}
 use Rattle.flow_class.specs.Classes.{RawTree}
 use Rattle.flow_cancel.specs.Heap.{HeapTree, has_number, with_number, next_cell}
 use Rattle.flow_cancel.proofs.Noted.{has_with}
-use Rattle.flow_meaning.specs.Numbered.{Numbered}
+use Rattle.flow_numbered.specs.Numbered.{Numbered}
 use Rattle.flow_meaning.specs.Process.{Proc}
 use Rattle.flow_meaning.specs.Dropping.{port_of}
 use Rattle.flow_meaning.specs.Frame.{Frame}

@@ -8,7 +8,7 @@ use Rattle.flow_base.specs.declared.ids.CellId.{CellId}
 use Rattle.flow_value.specs.declared.value.Kind.TheVariants as kind
 use Rattle.flow_trace.specs.declared.line.Line.{Line}
 use Rattle.flow_cancel.specs.Heap.{HeapTree, has_number, next_cell}
-use Rattle.flow_meaning.specs.Numbered.{Numbered}
+use Rattle.flow_numbered.specs.Numbered.{Numbered}
 use Rattle.flow_meaning.specs.Asks.{DiskCall}
 use Rattle.flow_meaning.specs.Burst.{Host}
 use Rattle.flow_picture.specs.Rested.{Sorted}

@@ -10,14 +10,13 @@ use Rattle.flow_value.specs.declared.value.Value.{Value}
 use Rattle.flow_value.specs.declared.value.Kind.{Kind}
 use Rattle.flow_value.specs.declared.value.Kind.TheVariants as kind
 use Rattle.flow_trace.specs.declared.line.Line.{Line}
-use Rattle.flow_numbered.specs.Numbered.{thing}
+use Rattle.flow_numbered.specs.Numbered.{thing, Numbered}
 use Rattle.flow_cell.specs.declared.counts.Side.{Side}
 use Rattle.flow_cell.specs.declared.counts.Side.TheVariants.{Promise, Future}
 use Rattle.flow_cell.specs.Cells.{CellTree}
 use Rattle.flow_stream.specs.Streams.{StreamTree}
 use Rattle.flow_cancel.specs.declared.task.Task.{Task}
 use Rattle.flow_cancel.specs.Heap.{HeapTree, pushed}
-use Rattle.flow_meaning.specs.Numbered.{Numbered}
 use Rattle.flow_meaning.specs.Asks.{DiskCall}
 use Rattle.flow_meaning.specs.Burst.{Host}
 use Rattle.flow_picture.specs.Holds.{held_cell, held_stream, hold}

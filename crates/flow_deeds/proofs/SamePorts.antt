@@ -10,7 +10,7 @@ use Rattle.flow_meaning.specs.Cells.{Cell}
 use Rattle.flow_meaning.specs.Class.{classes}
 use Rattle.flow_meaning.specs.Deliver.{begin, boot_with, stop_main, closed_request}
 use Rattle.flow_meaning.specs.Frame.{Frame}
-use Rattle.flow_meaning.specs.Numbered.{thing}
+use Rattle.flow_numbered.specs.Numbered.{thing}
 use Rattle.flow_meaning.specs.Process.{Core, Drop, Proc}
 use Rattle.flow_meaning.specs.Step.{enrol}
 use Rattle.flow_meaning.specs.Work.{turn_of, fill, fill_cell, pushed}

@@ -16,7 +16,7 @@ use Rattle.flow_cell.specs.declared.counts.Side as memory
 use Rattle.flow_stream.specs.Streams.{StreamTree, with_item}
 use Rattle.flow_cancel.specs.declared.task.Task as stack
 use Rattle.flow_cancel.specs.Heap.{HeapTree, pushed}
-use Rattle.flow_meaning.specs.Numbered.{thing}
+use Rattle.flow_numbered.specs.Numbered.{thing}
 use Rattle.flow_meaning.specs.Cells.{Side, FutureSide, Ref, Waiter, Cell, Single, Stream}
 use Rattle.flow_meaning.specs.Process.{Proc}
 use Rattle.flow_meaning.specs.Occ.{Scan, one, count, refs_in, value_in}

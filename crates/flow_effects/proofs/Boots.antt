@@ -18,7 +18,7 @@ use Rattle.flow_trace.specs.declared.line.Line.{Line}
 use Rattle.flow_trace.specs.declared.line.Line.TheVariants as line
 use Rattle.flow_cancel.specs.Heap.{actor_id}
 use Rattle.flow_cancel.specs.declared.task.Task.TheVariants as task
-use Rattle.flow_meaning.specs.Numbered.{thing, added}
+use Rattle.flow_numbered.specs.Numbered.{thing, added}
 use Rattle.flow_meaning.specs.Cells.{FutureSide, Single}
 use Rattle.flow_meaning.specs.Process.{Run, Proc}
 use Rattle.flow_meaning.specs.Occ.{Scan, count_maybe, refs_in}

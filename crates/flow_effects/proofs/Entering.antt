@@ -15,7 +15,7 @@ use Rattle.flow_numbered.specs.Numbered as stored
 use Rattle.flow_cell.specs.Cells.{CellTree}
 use Rattle.flow_frame.specs.Frames.{padded, holding}
 use Rattle.flow_cancel.specs.Heap.{HeapTree, cell_id, next_actor, with_new, new_note, started_holding}
-use Rattle.flow_meaning.specs.Numbered.{thing, added}
+use Rattle.flow_numbered.specs.Numbered.{thing, added}
 use Rattle.flow_meaning.specs.Cells.{Side}
 use Rattle.flow_meaning.specs.Asks.{Spot}
 use Rattle.flow_meaning.specs.Process.{Entry, Proc}

@@ -21,7 +21,7 @@ use Rattle.flow_code.specs.View.{code_of}
 use Rattle.flow_code.specs.Coded.{coded}
 use Rattle.flow_cancel.specs.Heap.{actor_id, next_cell, with_result}
 use Rattle.flow_cancel.specs.declared.task.Task.TheVariants as task
-use Rattle.flow_meaning.specs.Numbered.{thing, added}
+use Rattle.flow_numbered.specs.Numbered.{thing, added}
 use Rattle.flow_meaning.specs.Asks as asks
 use Rattle.flow_meaning.specs.Cells.{Ref as Reference, Single}
 use Rattle.flow_meaning.specs.Process.{Run, Proc}

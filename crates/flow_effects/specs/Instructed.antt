@@ -26,7 +26,7 @@ use Rattle.flow_code.specs.Coded.{coding}
 use Rattle.flow_trace.specs.declared.line.Line.{Line}
 use Rattle.flow_meaning.specs.Asks.{Supply}
 use Rattle.flow_meaning.specs.Evaluating.{Effectful, effect_in, value, values, before_last}
-use Rattle.flow_meaning.specs.Numbered.{thing}
+use Rattle.flow_numbered.specs.Numbered.{thing}
 use Rattle.flow_meaning.specs.Process.{Entry, Proc}
 use Rattle.flow_meaning.specs.Occ.{Scan}
 use Rattle.flow_meaning.specs.Step.{kept_by, view}

@@ -17,7 +17,7 @@ use Rattle.flow_meaning.specs.Burst.{Host}
 use Rattle.flow_meaning.specs.Class.{classes}
 use Rattle.flow_meaning.specs.Deliver.{begin, boot}
 use Rattle.flow_meaning.specs.Frame.{Frame}
-use Rattle.flow_meaning.specs.Numbered.{Numbered, thing}
+use Rattle.flow_numbered.specs.Numbered.{Numbered, thing}
 use Rattle.flow_meaning.specs.Process.{Proc}
 use Rattle.flow_meaning.specs.Step.{on_core}
 use Rattle.flow_picture.specs.Counted.{nothing_in_hand}

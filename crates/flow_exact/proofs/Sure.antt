@@ -13,7 +13,7 @@ use Rattle.flow_class.specs.View.{raw_of, class_of}
 use Rattle.flow_class.specs.declared.class.Class.{Class}
 use Rattle.flow_code.specs.declared.program.Code.{Code}
 use Rattle.flow_meaning.specs.Frame.{Frame}
-use Rattle.flow_meaning.specs.Numbered.{Numbered, thing}
+use Rattle.flow_numbered.specs.Numbered.{Numbered, thing}
 use Rattle.flow_meaning.specs.Orderly.{Rising}
 use Rattle.flow_meaning.specs.Process.{Entry, Proc}
 use Rattle.flow_meaning.specs.Runs.{after}

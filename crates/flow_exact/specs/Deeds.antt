@@ -11,7 +11,7 @@ use Rattle.flow_meaning.specs.Burst.{Host}
 use Rattle.flow_meaning.specs.Class.{classes}
 use Rattle.flow_meaning.specs.Deliver.{begin, boot}
 use Rattle.flow_meaning.specs.Frame.{Frame}
-use Rattle.flow_meaning.specs.Numbered.{Numbered}
+use Rattle.flow_numbered.specs.Numbered.{Numbered}
 use Rattle.flow_meaning.specs.Orderly.{UnlessStopped}
 use Rattle.flow_meaning.specs.Outside.{Outside}
 use Rattle.flow_meaning.specs.Process.{Proc}

@@ -18,7 +18,7 @@ use Rattle.flow_code.specs.declared.class.Aim.{Aim}
 use Rattle.flow_code.specs.declared.program.Code.{Code}
 use Rattle.flow_trace.specs.declared.line.Line.{Line}
 use Rattle.flow_cancel.specs.Heap.{HeapTree, next_cell}
-use Rattle.flow_meaning.specs.Numbered.{thing, added, put}
+use Rattle.flow_numbered.specs.Numbered.{thing, added, put}
 use Rattle.flow_meaning.specs.Asks.{Stored, Make, Effects, Drops, Supply}
 use Rattle.flow_meaning.specs.Evaluating.{StepOf, bind, evaluated, given, asks}
 use Rattle.flow_meaning.specs.Process.{Run, Store, Entry, Core, Proc}

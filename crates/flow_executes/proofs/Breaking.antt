@@ -8,7 +8,7 @@ use Rattle.flow_class.specs.Classes.{RawTree}
 use Rattle.flow_trace.specs.declared.line.Line.{Line}
 use Rattle.flow_cancel.specs.declared.task.Task.TheVariants as task
 use Rattle.flow_cancel.specs.Heap.{actor_id}
-use Rattle.flow_meaning.specs.Numbered.{put}
+use Rattle.flow_numbered.specs.Numbered.{put}
 use Rattle.flow_meaning.specs.Asks.{Throws, RunsOut, Supply}
 use Rattle.flow_meaning.specs.Evaluating.{StepOf, evaluated, asks}
 use Rattle.flow_meaning.specs.Process.{Run, Throw, Spent, Entry, Proc}

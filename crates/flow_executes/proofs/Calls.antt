@@ -15,7 +15,7 @@ use Rattle.flow_class.specs.Classes.{RawTree}
 use Rattle.flow_code.specs.declared.class.Act.TheVariants as act
 use Rattle.flow_code.specs.declared.program.Code.{Code}
 use Rattle.flow_trace.specs.declared.line.Line.{Line}
-use Rattle.flow_meaning.specs.Numbered.{put}
+use Rattle.flow_numbered.specs.Numbered.{put}
 use Rattle.flow_meaning.specs.Asks.{Act, Goes, Supply}
 use Rattle.flow_meaning.specs.Evaluating.{StepOf, evaluated, asks, setting, function_act, plain_act}
 use Rattle.flow_meaning.specs.Process.{Run, Entry, Proc}

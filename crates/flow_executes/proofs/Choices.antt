@@ -15,7 +15,7 @@ use Rattle.flow_frame.specs.declared.held.Held.{Held}
 use Rattle.flow_frame.specs.Frames.{FrameTree}
 use Rattle.flow_cancel.specs.Heap.{cell_id}
 use Rattle.flow_cancel.specs.Leaving.{waits}
-use Rattle.flow_meaning.specs.Numbered.{thing, put}
+use Rattle.flow_numbered.specs.Numbered.{thing, put}
 use Rattle.flow_meaning.specs.Asks.{Operand, Waits, Supply}
 use Rattle.flow_meaning.specs.Cells.{Ref}
 use Rattle.flow_meaning.specs.Evaluating.{StepOf, evaluated, asks, value}

@@ -12,7 +12,7 @@ use Rattle.flow_eval.specs.Eval.{Res, Done, Fails, Spent, Meaningless, at_once, 
 use Rattle.flow_class.specs.Classes.{RawTree}
 use Rattle.flow_trace.specs.declared.line.Line.{Line}
 use Rattle.flow_cancel.specs.Heap.{pushed}
-use Rattle.flow_meaning.specs.Numbered.{put}
+use Rattle.flow_numbered.specs.Numbered.{put}
 use Rattle.flow_meaning.specs.Asks.{Returns, Supply}
 use Rattle.flow_meaning.specs.Evaluating.{StepOf, evaluated, asks}
 use Rattle.flow_meaning.specs.Process.{Close, Entry, Core, Proc}

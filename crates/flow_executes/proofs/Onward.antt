@@ -15,7 +15,7 @@ use Rattle.flow_meaning.specs.Asks.{Goes, Supply}
 use Rattle.flow_meaning.specs.Cells.{Ref}
 use Rattle.flow_meaning.specs.Evaluating.{asks}
 use Rattle.flow_meaning.specs.Process.{Run, Entry, Proc}
-use Rattle.flow_meaning.specs.Numbered.{put}
+use Rattle.flow_numbered.specs.Numbered.{put}
 use Rattle.flow_meaning.specs.Occ.{Scan, refs_in}
 use Rattle.flow_meaning.specs.Work as work
 use Rattle.flow_meaning.specs.Work.{pushed}

@@ -10,7 +10,7 @@ use Rattle.flow_class.specs.declared.class.Slotted.{Slotted}
 use Rattle.flow_class.specs.Places.{place_named}
 use Rattle.flow_references.specs.Named.{Rule, GivesFutures, Named, FieldsNamed, AllNamed, MaybeNamed, ResNamed, AllResNamed, LookNamed}
 use Rattle.flow_references.proofs.Names.{eval_names, all_names}
-use Rattle.flow_meaning.specs.Numbered.{thing}
+use Rattle.flow_numbered.specs.Numbered.{thing}
 use Rattle.flow_meaning.specs.Cells.{Ref, Cell, Single, Stream}
 use Rattle.flow_meaning.specs.Evaluating.{bind, setting}
 use Rattle.flow_meaning.specs.Process.{Proc}

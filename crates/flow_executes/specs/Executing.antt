@@ -24,7 +24,7 @@ use Rattle.flow_code.specs.declared.class.Operand.TheVariants as operand
 use Rattle.flow_code.specs.declared.program.Code.{Code}
 use Rattle.flow_code.specs.View.{group_numbered}
 use Rattle.flow_trace.specs.declared.line.Line.{Line}
-use Rattle.flow_meaning.specs.Numbered.{thing}
+use Rattle.flow_numbered.specs.Numbered.{thing}
 use Rattle.flow_meaning.specs.Asks.{Supply}
 use Rattle.flow_meaning.specs.Cells.{Ref, Cell, taken}
 use Rattle.flow_meaning.specs.Evaluating.{effect_in, value}

@@ -6,7 +6,7 @@ use Rattle.flow_value.specs.Values.{ValueTree, GoodOutcome, refs_of}
 use Rattle.flow_eval.specs.Eval.{Res, Done}
 use Rattle.flow_class.specs.declared.class.Slotted.{Slotted}
 use Rattle.flow_class.specs.Classes.{RawTree}
-use Rattle.flow_meaning.specs.Numbered.{thing}
+use Rattle.flow_numbered.specs.Numbered.{thing}
 use Rattle.flow_meaning.specs.Cells.{outcome}
 use Rattle.flow_meaning.specs.Asks.{Supply}
 use Rattle.flow_meaning.specs.Evaluating.{value, values}

@@ -21,7 +21,7 @@ use Rattle.flow_stream.specs.Streams.{StreamTree}
 use Rattle.flow_cancel.specs.Heap.{HeapTree, cell_id, without_number}
 use Rattle.flow_cancel.specs.Heap as heap
 use Rattle.flow_cancel.specs.declared.task.Task.TheVariants as task
-use Rattle.flow_meaning.specs.Numbered.{thing}
+use Rattle.flow_numbered.specs.Numbered.{thing}
 use Rattle.flow_meaning.specs.Cells.{Side, FutureSide, Ref, Waiter, Cell, Single, Stream, is_complete}
 use Rattle.flow_meaning.specs.Cells as cells
 use Rattle.flow_meaning.specs.Process.{Task, Run, Throw, Drop, Proc}

@@ -14,7 +14,7 @@ use Rattle.flow_cancel.specs.Heap as heap
 use Rattle.flow_cancel.specs.Dropping.{Lost, dropped}
 use Rattle.flow_cancel.specs.Dropping as dropping
 use Rattle.flow_cancel.specs.Leaving.{withdrawn, cancelled}
-use Rattle.flow_meaning.specs.Numbered.{Numbered, thing}
+use Rattle.flow_numbered.specs.Numbered.{Numbered, thing}
 use Rattle.flow_meaning.specs.Cells.{PromiseSide}
 use Rattle.flow_meaning.specs.Process.{Entry, Core, Proc}
 use Rattle.flow_meaning.specs.Occ.{Scan, in_entries}

@@ -5,7 +5,7 @@ use Rattle.flow_base.specs.declared.ids.ActorId.{ActorId}
 use Rattle.flow_class.specs.Classes.{DropInstr, GotoLast, PassLast, RawTree}
 use Rattle.flow_class.specs.Code.{Fetched, Body, Last, fetch}
 use Rattle.flow_trace.specs.declared.line.Line.{Line}
-use Rattle.flow_meaning.specs.Numbered.{thing, put}
+use Rattle.flow_numbered.specs.Numbered.{thing, put}
 use Rattle.flow_cancel.specs.declared.task.Task.TheVariants as task
 use Rattle.flow_cancel.specs.Heap.{actor_id}
 use Rattle.flow_meaning.specs.Asks.{Throws, RunsOut, Supply}

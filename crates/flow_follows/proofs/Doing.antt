@@ -8,7 +8,7 @@ use Rattle.flow_trace.specs.declared.line.Line.{Line}
 use Rattle.flow_cancel.specs.declared.actors.Note.{Note}
 use Rattle.flow_cancel.specs.declared.task.Task as stack
 use Rattle.flow_cancel.specs.declared.task.Task.TheVariants as task
-use Rattle.flow_meaning.specs.Numbered.{removed}
+use Rattle.flow_numbered.specs.Numbered.{removed}
 use Rattle.flow_meaning.specs.Asks.{Supply}
 use Rattle.flow_meaning.specs.Cells.{FutureSide, side_of}
 use Rattle.flow_meaning.specs.Process.{Task, Drop, Fire, Close, Throw, Catch, Proc}

@@ -17,7 +17,7 @@ use Rattle.flow_cell.specs.Cells.{CellTree, Counts, released}
 use Rattle.flow_cell.specs.declared.counts.Side.TheVariants.{Promise}
 use Rattle.flow_cancel.specs.Heap.{HeapTree, without, finished}
 use Rattle.flow_cancel.specs.Dropping.{drop_cell}
-use Rattle.flow_meaning.specs.Numbered.{thing}
+use Rattle.flow_numbered.specs.Numbered.{thing}
 use Rattle.flow_meaning.specs.Cells.{Side, PromiseSide, FutureSide, Waiter, Cell, Single, Stream}
 use Rattle.flow_meaning.specs.Process.{Entry, Proc}
 use Rattle.flow_meaning.specs.Occ.{Scan, one, count, count_maybe, count_kept, count_waiters}

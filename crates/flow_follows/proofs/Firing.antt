@@ -18,7 +18,7 @@ use Rattle.flow_cell.specs.Cells.{CellTree}
 use Rattle.flow_stream.specs.Streams.{StreamTree}
 use Rattle.flow_cancel.specs.declared.task.Task.TheVariants as task
 use Rattle.flow_cancel.specs.Heap.{HeapTree, cell_id}
-use Rattle.flow_meaning.specs.Numbered.{thing, put}
+use Rattle.flow_numbered.specs.Numbered.{thing, put}
 use Rattle.flow_meaning.specs.Asks.{Spot}
 use Rattle.flow_meaning.specs.Cells.{FutureSide, side_of, Waiter, Cell, Single, Stream, waiters, is_ready, as_list}
 use Rattle.flow_meaning.specs.Process.{Run, Fire, Proc}

@@ -14,7 +14,7 @@ use Rattle.flow_meaning.specs.Process.{Task, Run, Store, Keep, Proc}
 use Rattle.flow_meaning.specs.Occ.{Scan, count, in_task}
 use Rattle.flow_meaning.specs.Work.{pushed}
 use Rattle.flow_meaning.specs.Effects.{gives}
-use Rattle.flow_meaning.specs.Numbered.{thing}
+use Rattle.flow_numbered.specs.Numbered.{thing}
 use Rattle.flow_meaning.specs.Step.{kept_by, on_core}
 use Rattle.flow_meaning.specs.Frame.{Frame}
 use Rattle.flow_picture.specs.Shows.{spot_of_actor}

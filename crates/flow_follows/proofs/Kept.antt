@@ -19,7 +19,7 @@ use Rattle.flow_stream.specs.Streams.{StreamTree, ready}
 use Rattle.flow_frame.specs.Frames.{with_callback}
 use Rattle.flow_cancel.specs.declared.task.Task.TheVariants as task
 use Rattle.flow_cancel.specs.Heap.{HeapTree, actor_id}
-use Rattle.flow_meaning.specs.Numbered.{Numbered, thing, put}
+use Rattle.flow_numbered.specs.Numbered.{Numbered, thing, put}
 use Rattle.flow_meaning.specs.Cells.{Side, FutureSide, Ref, Waiter, Cell, Single, Stream, is_ready}
 use Rattle.flow_meaning.specs.Cells as cells
 use Rattle.flow_meaning.specs.Process.{Run, Throw, Entry, Core, Proc}

@@ -8,7 +8,7 @@ use Rattle.flow_trace.specs.declared.line.Line.{Line}
 use Rattle.flow_cancel.specs.declared.task.Dropped.TheVariants as after
 use Rattle.flow_cancel.specs.Heap.{HeapTree, cell_id}
 use Rattle.flow_cancel.specs.Dropping.{Lost, dropped}
-use Rattle.flow_meaning.specs.Numbered.{thing, removed}
+use Rattle.flow_numbered.specs.Numbered.{thing, removed}
 use Rattle.flow_meaning.specs.Cells.{Side, PromiseSide, FutureSide, side_of, Cell, is_complete}
 use Rattle.flow_meaning.specs.Process.{Entry, Core, Proc}
 use Rattle.flow_meaning.specs.Occ.{one}

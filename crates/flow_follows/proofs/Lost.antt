@@ -7,7 +7,7 @@ use Rattle.flow_value.specs.Values.{ValueTree, refs_of}
 use Rattle.flow_class.specs.declared.class.Slotted.TheVariants.{Slot, Local}
 use Rattle.flow_class.specs.Classes.{RawTree}
 use Rattle.flow_trace.specs.declared.line.Line.{Line}
-use Rattle.flow_meaning.specs.Numbered.{Numbered, put}
+use Rattle.flow_numbered.specs.Numbered.{Numbered, put}
 use Rattle.flow_meaning.specs.Cells.{Ref}
 use Rattle.flow_meaning.specs.Process.{Task, Drop, Entry, Proc}
 use Rattle.flow_meaning.specs.Occ.{Scan, count, refs_in}

@@ -14,7 +14,7 @@ use Rattle.flow_class.specs.Classes.{RawTree}
 use Rattle.flow_trace.specs.declared.line.Line.{Line}
 use Rattle.flow_numbered.specs.Numbered as stored
 use Rattle.flow_cancel.specs.Heap.{next_cell, with_result, with_stream}
-use Rattle.flow_meaning.specs.Numbered.{thing, added}
+use Rattle.flow_numbered.specs.Numbered.{thing, added}
 use Rattle.flow_meaning.specs.Asks as asks
 use Rattle.flow_meaning.specs.Cells.{Cell, Single, Stream}
 use Rattle.flow_meaning.specs.Process.{Task, Run, Store, Keep, Proc}

@@ -9,7 +9,7 @@ use Rattle.flow_value.specs.View.{value_of}
 use Rattle.flow_class.specs.Classes.{RawTree}
 use Rattle.flow_trace.specs.declared.line.Line.{Line}
 use Rattle.flow_frame.specs.Frames.{FrameTree, all_empty}
-use Rattle.flow_meaning.specs.Numbered.{thing}
+use Rattle.flow_numbered.specs.Numbered.{thing}
 use Rattle.flow_meaning.specs.Cells.{Side, Waiter, Cell, Single, Stream, as_list, without, without_one, left_by}
 use Rattle.flow_meaning.specs.Process.{Entry, Core, Proc}
 use Rattle.flow_meaning.specs.Occ.{Scan}

@@ -15,7 +15,7 @@ use Rattle.flow_cancel.specs.declared.actors.Note.{Note}
 use Rattle.flow_cancel.specs.Heap.{HeapTree, pushed}
 use Rattle.flow_cancel.specs.Leaving.{leave_cell_at, leave_one, leave_all, without_callbacks, withdrawn_from, withdrawn, waits}
 use Rattle.flow_cancel.specs.Leaving as leaving
-use Rattle.flow_meaning.specs.Numbered.{thing, put}
+use Rattle.flow_numbered.specs.Numbered.{thing, put}
 use Rattle.flow_meaning.specs.Cells.{Ref}
 use Rattle.flow_meaning.specs.Process.{Task, Entry, Core, Proc}
 use Rattle.flow_meaning.specs.Process as process

@@ -12,7 +12,7 @@ use Rattle.flow_stream.specs.Streams.{StreamTree}
 use Rattle.flow_frame.specs.declared.held.Held.{Held}
 use Rattle.flow_cancel.specs.Heap.{HeapTree, cell_id}
 use Rattle.flow_cancel.specs.Leaving as leaving
-use Rattle.flow_meaning.specs.Numbered.{Numbered, thing, put}
+use Rattle.flow_numbered.specs.Numbered.{Numbered, thing, put}
 use Rattle.flow_meaning.specs.Cells.{Side, FutureSide, side_of, Ref, Waiter, Cell, Single, Stream, with_waiter, is_busy}
 use Rattle.flow_meaning.specs.Process.{Proc}
 use Rattle.flow_meaning.specs.Occ.{one, count}

@@ -24,7 +24,7 @@ use Rattle.flow_numbered.specs.Numbered as stored
 use Rattle.flow_cell.specs.Cells.{CellTree}
 use Rattle.flow_stream.specs.Streams.{StreamTree}
 use Rattle.flow_frame.specs.Frames.{held_in}
-use Rattle.flow_meaning.specs.Numbered.{thing}
+use Rattle.flow_numbered.specs.Numbered.{thing}
 use Rattle.flow_meaning.specs.Cells.{Cell, Single, Stream, outcome}
 use Rattle.flow_meaning.specs.Asks.{Spot}
 use Rattle.flow_meaning.specs.Process.{Entry, Proc}

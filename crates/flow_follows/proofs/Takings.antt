@@ -25,7 +25,7 @@ use Rattle.flow_stream.specs.declared.head.Head.TheVariants as heads
 use Rattle.flow_cancel.specs.declared.task.Task as stack
 use Rattle.flow_cancel.specs.declared.task.Task.TheVariants as task
 use Rattle.flow_cancel.specs.Heap.{HeapTree, actor_id}
-use Rattle.flow_meaning.specs.Numbered.{Numbered, thing, put}
+use Rattle.flow_numbered.specs.Numbered.{Numbered, thing, put}
 use Rattle.flow_meaning.specs.Cells.{Ref, Waiter, Cell, Single, Stream, waiters, taken, after_taking}
 use Rattle.flow_meaning.specs.Process.{Give, Entry, Proc}
 use Rattle.flow_meaning.specs.Occ.{Scan, refs_in, value_in}

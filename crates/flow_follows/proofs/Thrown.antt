@@ -23,7 +23,7 @@ use Rattle.flow_cancel.specs.declared.task.Task.TheVariants as task
 use Rattle.flow_cancel.specs.Heap.{pushed}
 use Rattle.flow_cancel.specs.Dropping as dropping
 use Rattle.flow_cancel.specs.Leaving.{withdrawn}
-use Rattle.flow_meaning.specs.Numbered.{put}
+use Rattle.flow_numbered.specs.Numbered.{put}
 use Rattle.flow_meaning.specs.Cells.{Side}
 use Rattle.flow_meaning.specs.Process.{Task, Catch, Close, Entry, Core, Proc}
 use Rattle.flow_meaning.specs.Occ.{Scan, in_task, refs_in}

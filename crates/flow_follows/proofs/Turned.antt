@@ -7,7 +7,7 @@ use Rattle.flow_frame.specs.declared.held.Held.{Held}
 use Rattle.flow_cancel.specs.declared.task.Task as stack
 use Rattle.flow_cancel.specs.Heap.{HeapTree, pushed}
 use Rattle.flow_cancel.specs.Leaving.{withdrawn}
-use Rattle.flow_meaning.specs.Numbered.{put}
+use Rattle.flow_numbered.specs.Numbered.{put}
 use Rattle.flow_meaning.specs.Process.{Task, Entry, Proc}
 use Rattle.flow_meaning.specs.Occ.{Scan, refs_in}
 use Rattle.flow_meaning.specs.Work as work

@@ -15,7 +15,7 @@ use Rattle.flow_frame.specs.declared.held.Held.{Held}
 use Rattle.flow_frame.specs.Frames.{FrameTree, in_state}
 use Rattle.flow_cancel.specs.declared.task.Task.TheVariants as task
 use Rattle.flow_cancel.specs.Heap.{HeapTree, cell_id}
-use Rattle.flow_meaning.specs.Numbered.{Numbered, thing, put}
+use Rattle.flow_numbered.specs.Numbered.{Numbered, thing, put}
 use Rattle.flow_meaning.specs.Cells.{Side, Ref, Cell}
 use Rattle.flow_meaning.specs.Process.{Task, Throw, Entry, Proc}
 use Rattle.flow_meaning.specs.Occ.{Scan, refs_in, value_in}

@@ -11,7 +11,7 @@ use Rattle.flow_value.specs.View.{outcome_of}
 use Rattle.flow_class.specs.Classes.{RawTree}
 use Rattle.flow_trace.specs.declared.line.Line.{Line}
 use Rattle.flow_cancel.specs.Heap.{next_cell}
-use Rattle.flow_meaning.specs.Numbered.{thing}
+use Rattle.flow_numbered.specs.Numbered.{thing}
 use Rattle.flow_meaning.specs.Asks as asks
 use Rattle.flow_meaning.specs.Process.{Drop, Proc}
 use Rattle.flow_meaning.specs.Occ.{Scan}

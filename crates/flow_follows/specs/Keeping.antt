@@ -5,7 +5,7 @@ use Rattle.flow_class.specs.Classes.{RawTree}
 use Rattle.flow_frame.specs.declared.held.Held.{Held}
 use Rattle.flow_trace.specs.declared.line.Line.{Line}
 use Rattle.flow_cancel.specs.Heap.{cell_id}
-use Rattle.flow_meaning.specs.Numbered.{thing, put}
+use Rattle.flow_numbered.specs.Numbered.{thing, put}
 use Rattle.flow_meaning.specs.Cells.{Ref, Cell}
 use Rattle.flow_meaning.specs.Process.{Run, Entry, Proc}
 use Rattle.flow_meaning.specs.Occ.{Scan}

@@ -13,7 +13,7 @@ use Rattle.flow_trace.specs.declared.line.Line.{Line}
 use Rattle.flow_cancel.specs.declared.task.Task as stack
 use Rattle.flow_cancel.specs.Heap.{actor_id}
 use Rattle.flow_cancel.specs.Leaving.{withdrawn}
-use Rattle.flow_meaning.specs.Numbered.{Numbered, thing, put}
+use Rattle.flow_numbered.specs.Numbered.{Numbered, thing, put}
 use Rattle.flow_meaning.specs.Cells.{Cell, taken, after_taking}
 use Rattle.flow_meaning.specs.Process.{Task, Entry, Core, Proc}
 use Rattle.flow_meaning.specs.Occ.{Scan, refs_in, value_in}

@@ -13,7 +13,7 @@ use Rattle.flow_meaning.specs.Asks.{Spot}
 use Rattle.flow_meaning.specs.Burst.{Live, Burst}
 use Rattle.flow_meaning.specs.Class.{classes}
 use Rattle.flow_meaning.specs.Law.{Simulates}
-use Rattle.flow_meaning.specs.Numbered.{Numbered, thing}
+use Rattle.flow_numbered.specs.Numbered.{Numbered, thing}
 use Rattle.flow_meaning.specs.Orderly.{Phase}
 use Rattle.flow_meaning.specs.Outside.{Outside, host}
 use Rattle.flow_meaning.specs.Process.{Entry, Core, Engine}

@@ -14,7 +14,7 @@ use Rattle.flow_class.specs.Classes.{RawTree}
 use Rattle.flow_meaning.specs.Cells.{Cell, Single, Stream}
 use Rattle.flow_meaning.specs.Class.{classes}
 use Rattle.flow_meaning.specs.Frame.{Frame}
-use Rattle.flow_meaning.specs.Numbered.{thing}
+use Rattle.flow_numbered.specs.Numbered.{thing}
 use Rattle.flow_meaning.specs.Outside.{Outside}
 use Rattle.flow_meaning.specs.Outside as meaning
 use Rattle.flow_meaning.specs.Process.{Proc}

@@ -6,7 +6,7 @@ use Rattle.flow_class.specs.Code.{Fetched, Nothing, Last, fetch}
 use Rattle.flow_code.specs.declared.program.Code.{Code}
 use Rattle.flow_numbered.specs.Numbered as stored
 use Rattle.flow_cancel.specs.Heap.{HeapTree, actor_id}
-use Rattle.flow_meaning.specs.Numbered.{thing}
+use Rattle.flow_numbered.specs.Numbered.{thing}
 use Rattle.flow_meaning.specs.Process.{Entry, Proc}
 use Rattle.flow_meaning.specs.Frame.{Frame}
 use Rattle.flow_meaning.proofs.Shifts.{same_of}

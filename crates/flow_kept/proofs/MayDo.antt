@@ -20,7 +20,7 @@ use Rattle.flow_class.specs.Code.{catcher_at}
 use Rattle.flow_code.specs.declared.program.Code.{Code}
 use Rattle.flow_valid.specs.Named.{has_place, listed}
 use Rattle.flow_cancel.specs.Heap.{actor_id}
-use Rattle.flow_meaning.specs.Numbered.{thing}
+use Rattle.flow_numbered.specs.Numbered.{thing}
 use Rattle.flow_meaning.specs.Cells.{Side, PromiseSide, FutureSide, Waiter, Cell, waiters}
 use Rattle.flow_meaning.specs.Process.{Task, Throw, Close, Fire, Entry, Proc}
 use Rattle.flow_meaning.specs.Occ.{count, refs_in, value_in}

@@ -8,7 +8,7 @@ use Rattle.flow_value.specs.Values.{ValueTree, IntValue, BoolValue, TextValue, V
 use Rattle.flow_eval.specs.Typed.{future_side, HasType, HaveTypes}
 use Rattle.flow_class.specs.Classes.{RawTree}
 use Rattle.flow_valid.specs.Validity.{operand_type}
-use Rattle.flow_meaning.specs.Numbered.{thing}
+use Rattle.flow_numbered.specs.Numbered.{thing}
 use Rattle.flow_meaning.specs.Cells.{Ref, Cell, Single, Stream, taken}
 use Rattle.flow_meaning.specs.Process.{Proc}
 use Rattle.flow_meaning.specs.Occ.{refs_in, value_in}

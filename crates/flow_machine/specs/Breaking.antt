@@ -6,7 +6,7 @@ use Rattle.flow_base.specs.declared.ids.ProcId.{ProcId}
 use Rattle.flow_code.specs.declared.program.Code.{Code}
 use Rattle.flow_trace.specs.declared.line.Line.{Line}
 use Rattle.flow_eval.specs.Predefined.{natural}
-use Rattle.flow_meaning.specs.Numbered.{Numbered}
+use Rattle.flow_numbered.specs.Numbered.{Numbered}
 use Rattle.flow_meaning.specs.Asks.{Drew, Packet}
 use Rattle.flow_meaning.specs.Burst.{Host}
 use Rattle.flow_steps.specs.declared.call.Call.{Call}

@@ -10,7 +10,7 @@ use Rattle.flow_value.specs.declared.value.Value.TheVariants.{Int}
 use Rattle.flow_trace.specs.declared.line.Line.{Line}
 use Rattle.flow_eval.specs.Predefined.{natural}
 use Rattle.flow_cancel.specs.declared.task.Task.TheVariants.{Run, Throw}
-use Rattle.flow_meaning.specs.Numbered.{Numbered, thing}
+use Rattle.flow_numbered.specs.Numbered.{Numbered, thing}
 use Rattle.flow_meaning.specs.Asks.{DiskCall, Timer, Packet, Disks}
 use Rattle.flow_meaning.specs.Burst.{Host}
 use Rattle.flow_meaning.specs.Effects.{between, is_port, judged}

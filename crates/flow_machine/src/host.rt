@@ -3,7 +3,7 @@
 ghost use Rattle.std.specs.Prelude.{◌≡◌, ℕ, ◌+◌, ◌^◌, ◌<◌, ◌≤◌, pos, ◌+ℤ◌, ◌≤ℤ◌, ◌<ℤ◌, List, [], ◌∷◌, is_some, IfOk, OnOk, OnErr};
 ghost use Rattle.flow_base.specs.Faults.{HasCause};
 ghost use Rattle.flow_trace.specs.declared.line.Line.{Line};
-ghost use Rattle.flow_meaning.specs.Numbered.{Numbered, thing};
+ghost use Rattle.flow_numbered.specs.Numbered.{Numbered, thing};
 ghost use Rattle.flow_meaning.specs.Asks.{Timer, Packet, Disks};
 ghost use Rattle.flow_meaning.specs.Burst as meaning;
 ghost use Rattle.flow_machine.specs.Requests.{IsAllowed, call_of};

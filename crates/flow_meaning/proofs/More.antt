@@ -8,7 +8,7 @@ use Rattle.flow_base.specs.ErrorNumbers.{operation_cancelled, broken_promise}
 use Rattle.flow_value.specs.declared.value.Kind.{Kind}
 use Rattle.flow_value.specs.Values.{ValueTree, OutcomeTree, BadOutcome}
 use Rattle.flow_trace.specs.declared.line.Line.{Line}
-use Rattle.flow_meaning.specs.Numbered.{thing, put, removed}
+use Rattle.flow_numbered.specs.Numbered.{thing, put, removed}
 use Rattle.flow_meaning.specs.Cells.{side_of, Side, PromiseSide, FutureSide, Ref, Waiter, Cell, is_ready, waiters, taken, after_taking}
 use Rattle.flow_meaning.specs.Process.{Task, Give, Throw, Fire, Entry, Halt, Spent, NoMeaning, Core}
 use Rattle.flow_meaning.specs.Lines.{take_line, cancel_line, broken_line, end_line}

@@ -5,7 +5,7 @@ use Rattle.std.specs.declared.option.Option.TheVariants.{None, Some}
 use Rattle.flow_base.specs.ErrorNumbers.{operation_cancelled}
 use Rattle.flow_value.specs.declared.value.Kind.TheVariants as kind
 use Rattle.flow_value.specs.Values.{ValueTree, RefValue, OutcomeTree, GoodOutcome, BadOutcome}
-use Rattle.flow_meaning.specs.Numbered.{Numbered, thing, added, put, removed}
+use Rattle.flow_numbered.specs.Numbered.{Numbered, thing, added, put, removed}
 use Rattle.flow_meaning.specs.Cells.{Ref, FutureSide}
 use Rattle.flow_meaning.specs.Asks.{Spot, Goal, Stored, Kept}
 use Rattle.flow_meaning.specs.Process.{Task, Run, Throw, Catch, Store, Keep, Close, Drop, Entry, Core, Raised}

@@ -4,7 +4,7 @@ use Rattle.std.specs.declared.option.Option.{Option}
 use Rattle.std.specs.declared.option.Option.TheVariants.{None, Some}
 use Rattle.flow_value.specs.declared.value.Kind.TheVariants as kind
 use Rattle.flow_value.specs.Values.{ValueTree, IntValue, OutcomeTree, GoodOutcome}
-use Rattle.flow_meaning.specs.Numbered.{added}
+use Rattle.flow_numbered.specs.Numbered.{added}
 use Rattle.flow_meaning.specs.Process.{Drop, Core, Proc, Engine}
 use Rattle.flow_meaning.specs.Work.{turn, pushed, fill}
 use Rattle.flow_meaning.specs.Step.{proc, enrol, astray}

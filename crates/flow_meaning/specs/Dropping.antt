@@ -5,7 +5,7 @@ use Rattle.std.specs.declared.option.Option.TheVariants.{None, Some}
 use Rattle.flow_base.specs.ErrorNumbers.{broken_promise}
 use Rattle.flow_value.specs.declared.value.Kind.{Kind}
 use Rattle.flow_value.specs.Values.{OutcomeTree, BadOutcome}
-use Rattle.flow_meaning.specs.Numbered.{Numbered, thing, removed}
+use Rattle.flow_numbered.specs.Numbered.{Numbered, thing, removed}
 use Rattle.flow_meaning.specs.Cells.{Side, PromiseSide, FutureSide, side_of, Cell, is_complete, is_ready, waiters, Waiter}
 use Rattle.flow_meaning.specs.Process.{Fire, Entry, NoMeaning, Core}
 use Rattle.flow_meaning.specs.Lines.{broken_line, end_line}

@@ -6,7 +6,7 @@ use Rattle.std.specs.declared.option.Option.TheVariants.{None, Some}
 use Rattle.flow_value.specs.Values.{ValueTree, OutcomeTree, GoodOutcome}
 use Rattle.flow_trace.specs.declared.line.Line.{Line}
 use Rattle.flow_base.specs.ErrorNumbers.{second_waiter, already_set}
-use Rattle.flow_meaning.specs.Numbered.{thing, put}
+use Rattle.flow_numbered.specs.Numbered.{thing, put}
 use Rattle.flow_meaning.specs.Cells.{Cell, is_complete}
 use Rattle.flow_meaning.specs.Asks.{Spot, Act, Goes, Pass, Drops, Effects, Operand, Waits, Sends, Cancels, Prints, SendsTo, Returns, Throws, RunsOut, Stuck, Supply}
 use Rattle.flow_meaning.specs.Process.{Run, Throw, Keep, Close, Entry, Spent, NoMeaning, Core}

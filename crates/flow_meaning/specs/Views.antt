@@ -3,7 +3,7 @@
 use Rattle.std.specs.Prelude.{◌≡◌, ℕ, suc, ◌<◌, true, false, List, [], ◌∷◌, ◌++◌, length, slice_get}
 use Rattle.std.specs.declared.option.Option.{Option}
 use Rattle.std.specs.declared.option.Option.TheVariants.{None, Some}
-use Rattle.flow_meaning.specs.Numbered.{Numbered, thing}
+use Rattle.flow_numbered.specs.Numbered.{Numbered, thing}
 use Rattle.flow_class.specs.Classes.{CallbackTree, RawTree}
 use Rattle.flow_class.specs.Code.{group_at}
 use Rattle.flow_meaning.specs.Cells.{Ref, FutureSide}

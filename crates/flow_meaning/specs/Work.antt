@@ -6,7 +6,7 @@ use Rattle.std.specs.declared.option.Option.TheVariants.{None, Some}
 use Rattle.flow_value.specs.Values.{ValueTree, OutcomeTree}
 use Rattle.flow_trace.specs.declared.line.Line.{Line}
 use Rattle.flow_base.specs.ErrorNumbers.{operation_cancelled}
-use Rattle.flow_meaning.specs.Numbered.{Numbered, thing, added, put, removed}
+use Rattle.flow_numbered.specs.Numbered.{Numbered, thing, added, put, removed}
 use Rattle.flow_meaning.specs.Cells.{Ref, Waiter, Cell, is_ready, held, filled, taken, after_taking, with_waiter, is_busy, left_by}
 use Rattle.flow_meaning.specs.Process.{Task, Give, Throw, Fire, Drop, Entry, Halt, Spent, NoMeaning, Core}
 use Rattle.flow_meaning.specs.Lines.{take_line, cancel_line}

@@ -32,7 +32,7 @@ use Rattle.flow_trace.specs.declared.line.Line.{Line}
 use Rattle.flow_numbered.specs.Numbered as stored
 use Rattle.flow_cancel.specs.declared.actors.Note.{Note}
 use Rattle.flow_cancel.specs.Heap.{cell_id}
-use Rattle.flow_meaning.specs.Numbered.{thing}
+use Rattle.flow_numbered.specs.Numbered.{thing}
 use Rattle.flow_meaning.specs.Asks.{Supply, Kept}
 use Rattle.flow_meaning.specs.Evaluating as effects
 use Rattle.flow_meaning.specs.Evaluating.{StepOf, evaluated, value}

@@ -22,7 +22,7 @@ use Rattle.flow_numbered.specs.Numbered as stored
 use Rattle.flow_frame.specs.Frames.{FrameTree}
 use Rattle.flow_cancel.specs.declared.actors.Note.{Note}
 use Rattle.flow_cancel.specs.Heap.{HeapTree}
-use Rattle.flow_meaning.specs.Numbered.{thing}
+use Rattle.flow_numbered.specs.Numbered.{thing}
 use Rattle.flow_meaning.specs.Asks.{Supply, Goal, Stored, Effects}
 use Rattle.flow_meaning.specs.Cells.{Cell}
 use Rattle.flow_meaning.specs.Evaluating.{StepOf, Effectful, World, Actor, asks, given, evaluated, effect_of, world_effect, values}

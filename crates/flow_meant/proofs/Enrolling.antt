@@ -26,7 +26,7 @@ use Rattle.flow_trace.specs.declared.line.Line.{Line}
 use Rattle.flow_cancel.specs.declared.actors.Note.{Note}
 use Rattle.flow_cancel.specs.Heap.{HeapTree, next_cell, with_result, cell_id, is_result, owner, may_start, may_start_at}
 use Rattle.flow_cancel.specs.Dropping as memory_refs
-use Rattle.flow_meaning.specs.Numbered.{thing}
+use Rattle.flow_numbered.specs.Numbered.{thing}
 use Rattle.flow_meaning.specs.Cells.{Ref, Cell, Single}
 use Rattle.flow_meaning.specs.Process.{Entry, Proc}
 use Rattle.flow_meaning.specs.Occ.{Scan, refs_in}

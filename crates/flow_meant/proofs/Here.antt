@@ -25,7 +25,7 @@ use Rattle.flow_numbered.specs.Numbered as stored
 use Rattle.flow_frame.specs.Frames.{FrameTree}
 use Rattle.flow_cancel.specs.Heap.{actor_id, owner, is_result}
 use Rattle.flow_cancel.specs.declared.actors.Note.{Note}
-use Rattle.flow_meaning.specs.Numbered.{thing}
+use Rattle.flow_numbered.specs.Numbered.{thing}
 use Rattle.flow_meaning.specs.Asks.{Supply}
 use Rattle.flow_meaning.specs.Cells.{Ref}
 use Rattle.flow_meaning.specs.Evaluating.{StepOf, evaluated, value, values}

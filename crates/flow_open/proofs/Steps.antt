@@ -11,7 +11,7 @@ use Rattle.flow_trace.specs.declared.line.Line.{Line}
 use Rattle.flow_eval.specs.Predefined.{natural}
 use Rattle.flow_class.specs.Classes.{RawTree}
 use Rattle.flow_references.specs.Named.{Named}
-use Rattle.flow_meaning.specs.Numbered.{Numbered, thing, added, put, removed}
+use Rattle.flow_numbered.specs.Numbered.{Numbered, thing, added, put, removed}
 use Rattle.flow_meaning.specs.Cells.{Side, PromiseSide, FutureSide, side_of, Ref, Waiter, Cell, Single, Stream, is_complete, is_ready, waiters}
 use Rattle.flow_meaning.specs.Asks.{DiskCall, Spot, Effect, Make, Start, Draw, Delay, Never, Listen, Disk, Goal, Act, Goes, Pass, Drops, Effects, Operand, Waits as WaitsFor, Sends, Cancels, Prints, SendsTo, Returns, Throws, RunsOut, Stuck, Ask, Supply}
 use Rattle.flow_meaning.specs.Process.{Task, Run, Give, Throw, Catch, Store, Keep, Close, Fire, Drop, Entry, Halt, Core, Proc, Raised}

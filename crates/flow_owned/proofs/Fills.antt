@@ -4,7 +4,7 @@ use Rattle.std.specs.Option.{option_map}
 use Rattle.std.specs.declared.option.Option.{Option}
 use Rattle.std.specs.declared.option.Option.TheVariants.{None, Some}
 use Rattle.flow_value.specs.Values.{ValueTree, OutcomeTree}
-use Rattle.flow_meaning.specs.Numbered.{Numbered, thing, added, put, removed}
+use Rattle.flow_numbered.specs.Numbered.{Numbered, thing, added, put, removed}
 use Rattle.flow_meaning.specs.Cells.{Ref, Waiter, Cell, Single, Stream, is_busy, taken, after_taking, with_waiter, left_by}
 use Rattle.flow_meaning.specs.Asks.{Spot}
 use Rattle.flow_meaning.specs.Process.{Task, Give, Throw, Entry, Core}

@@ -6,7 +6,7 @@ use Rattle.flow_timers.specs.Pending.{Pending}
 use Rattle.std.specs.Prelude.{◌≡◌}
 use Rattle.std.specs.declared.option.Option.TheVariants.{Some}
 use Rattle.flow_class.specs.Classes.{RawTree}
-use Rattle.flow_meaning.specs.Numbered.{thing}
+use Rattle.flow_numbered.specs.Numbered.{thing}
 use Rattle.flow_meaning.specs.Cells.{PromiseSide}
 use Rattle.flow_meaning.specs.Asks.{Supply}
 use Rattle.flow_meaning.specs.Process.{Core, Proc}

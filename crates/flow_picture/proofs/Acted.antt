@@ -14,7 +14,7 @@ use Rattle.flow_numbered.proofs.Things.{put_same}
 use Rattle.flow_cell.specs.Cells.{CellTree}
 use Rattle.flow_frame.specs.Frames.{FrameTree, fresh, padded}
 use Rattle.flow_cancel.specs.Heap.{HeapTree, cell_id, next_cell, next_actor, new_note, started, promised, promised_at}
-use Rattle.flow_meaning.specs.Numbered.{Numbered, thing, added, put, removed}
+use Rattle.flow_numbered.specs.Numbered.{Numbered, thing, added, put, removed}
 use Rattle.flow_meaning.specs.Asks.{Spot}
 use Rattle.flow_meaning.specs.Process.{Entry, Proc}
 use Rattle.flow_meaning.specs.Step.{kept_by, entry_of}

@@ -15,7 +15,7 @@ use Rattle.flow_cancel.specs.declared.task.Dropped.{Dropped}
 use Rattle.flow_cancel.specs.declared.task.Dropped.TheVariants.{Cancel, Nothing}
 use Rattle.flow_cancel.specs.Heap.{HeapTree, actor_id, next_cell}
 use Rattle.flow_cancel.specs.Leaving.{marked_in}
-use Rattle.flow_meaning.specs.Numbered.{thing}
+use Rattle.flow_numbered.specs.Numbered.{thing}
 use Rattle.flow_meaning.specs.Cells.{Side, PromiseSide, FutureSide, Cell, Single, Stream}
 use Rattle.flow_meaning.specs.Process.{Entry, Proc}
 use Rattle.flow_meaning.specs.Frame.{Frame}

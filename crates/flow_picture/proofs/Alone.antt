@@ -6,7 +6,7 @@ use Rattle.std.specs.declared.option.Option.{Option}
 use Rattle.std.specs.declared.option.Option.TheVariants.{None, Some}
 use Rattle.flow_value.specs.Values.{ValueTree, refs_of}
 use Rattle.flow_references.specs.Named.{GivesFutures, AllNamed}
-use Rattle.flow_meaning.specs.Numbered.{Numbered}
+use Rattle.flow_numbered.specs.Numbered.{Numbered}
 use Rattle.flow_meaning.specs.Cells.{PromiseSide, FutureSide, side_of, Ref, Waiter, Cell, waiters, held}
 use Rattle.flow_meaning.specs.Asks.{Start, Delay, Never, Listen, Disk, Make, Draw}
 use Rattle.flow_meaning.specs.Process.{Task, Run, Give, Throw, Catch, Store, Keep, Close, Fire, Drop, Entry}

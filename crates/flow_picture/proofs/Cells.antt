@@ -9,7 +9,7 @@ use Rattle.flow_value.specs.View.{value_of, outcome_of}
 use Rattle.flow_numbered.specs.Numbered as stored
 use Rattle.flow_cell.specs.Cells.{CellTree}
 use Rattle.flow_stream.specs.Streams.{StreamTree}
-use Rattle.flow_meaning.specs.Numbered.{Numbered, thing, added, put, removed}
+use Rattle.flow_numbered.specs.Numbered.{Numbered, thing, added, put, removed}
 use Rattle.flow_meaning.specs.Cells.{Waiter, Cell, Single, Stream}
 use Rattle.flow_meaning.specs.Asks.{Spot}
 use Rattle.flow_meaning.specs.Orderly.{Rising}

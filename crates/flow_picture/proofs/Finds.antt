@@ -3,7 +3,7 @@ use Rattle.std.proofs.Common.{◌≡◌, ℕ, ◌<◌, nat_eq, Bool, true, false
 use Rattle.std.specs.declared.option.Option.TheVariants.{None, Some}
 use Rattle.flow_numbered.specs.Numbered as stored
 use Rattle.flow_numbered.proofs.Things as things
-use Rattle.flow_meaning.specs.Numbered.{Numbered, thing, added, removed}
+use Rattle.flow_numbered.specs.Numbered.{Numbered, thing, added, removed}
 use Rattle.flow_meaning.specs.Orderly.{Rising}
 use Rattle.flow_meaning.proofs.Posture.{same_number, other_number, above_none}
 

@@ -23,7 +23,7 @@ use Rattle.flow_cancel.specs.Heap as heap
 use Rattle.flow_cancel.specs.Dropping.{Lost, dropped}
 use Rattle.flow_cancel.specs.Leaving as leaving
 use Rattle.flow_cancel.specs.Leaving.{leave_cell_at, leave_stream_at, leave_all, withdrawn_from, withdrawn, is_waiter, suspended, cancelled_by, cancelled, marked_in}
-use Rattle.flow_meaning.specs.Numbered.{thing, put}
+use Rattle.flow_numbered.specs.Numbered.{thing, put}
 use Rattle.flow_meaning.specs.Cells.{Side, PromiseSide, FutureSide, side_of, Ref, Cell, is_complete}
 use Rattle.flow_meaning.specs.Process.{Throw, Entry, Core, Proc}
 use Rattle.flow_meaning.specs.Lines.{cancel_line, broken_line}

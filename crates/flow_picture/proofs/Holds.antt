@@ -17,7 +17,7 @@ use Rattle.flow_stream.specs.Streams.{StreamTree}
 use Rattle.flow_cancel.specs.declared.task.Task as stack
 use Rattle.flow_cancel.specs.declared.task.Task.TheVariants as task
 use Rattle.flow_cancel.specs.Heap.{HeapTree, actor_id, pushed}
-use Rattle.flow_meaning.specs.Numbered.{thing}
+use Rattle.flow_numbered.specs.Numbered.{thing}
 use Rattle.flow_meaning.specs.Cells.{Side, PromiseSide, FutureSide, Waiter, Cell, Single, Stream, is_complete}
 use Rattle.flow_meaning.specs.Process.{Task, Run, Proc}
 use Rattle.flow_meaning.specs.Occ.{Scan, one, refs_in, value_in, in_task}

@@ -15,7 +15,7 @@ use Rattle.flow_cancel.specs.Heap as memory
 use Rattle.flow_cancel.specs.Heap.{HeapTree, actor_id, next_cell, next_actor}
 use Rattle.flow_cancel.specs.Leaving as leaving
 use Rattle.flow_cancel.specs.Leaving.{leave_all, without_callbacks, withdrawn, withdrawn_from, waits, suspended_in, suspended, marked_in, cancelled_by, cancelled}
-use Rattle.flow_meaning.specs.Numbered.{Numbered, thing, put}
+use Rattle.flow_numbered.specs.Numbered.{Numbered, thing, put}
 use Rattle.flow_meaning.specs.Cells.{Ref, Waiter, Cell, Single, Stream, as_list, without, without_one, left_by}
 use Rattle.flow_meaning.specs.Asks.{Spot}
 use Rattle.flow_meaning.specs.Process.{Throw, Entry, Proc}

@@ -20,7 +20,7 @@ use Rattle.flow_cancel.specs.declared.task.Dropped.TheVariants as memory
 use Rattle.flow_cancel.specs.Heap.{HeapTree, actor_id, without}
 use Rattle.flow_cancel.specs.Heap as heap
 use Rattle.flow_cancel.specs.Dropping.{dropping, content, broken_if_not, cancel_if_not, cancel_owner, cell_less, cell_lost, drop_cell, loss_of, cell_may_lose, may_drop_cell}
-use Rattle.flow_meaning.specs.Numbered.{thing}
+use Rattle.flow_numbered.specs.Numbered.{thing}
 use Rattle.flow_meaning.specs.Cells.{Side, PromiseSide, FutureSide, side_of, Waiter, Single, good, held, is_complete}
 use Rattle.flow_meaning.specs.Process.{Entry, Proc}
 use Rattle.flow_meaning.specs.Occ.{refs_in, one, count, count_waiters, in_entries}

@@ -18,7 +18,7 @@ use Rattle.flow_stream.specs.Streams.{StreamTree}
 use Rattle.flow_cancel.specs.Heap.{HeapTree, without, has_number}
 use Rattle.flow_cancel.specs.Dropping as lost
 use Rattle.flow_cancel.specs.Dropping.{dropping, broken_if_not, stream_less, stream_lost, without_port, drop_stream, loss_of, stream_may_lose, may_drop_stream}
-use Rattle.flow_meaning.specs.Numbered.{thing, removed}
+use Rattle.flow_numbered.specs.Numbered.{thing, removed}
 use Rattle.flow_meaning.specs.Cells.{Side, PromiseSide, FutureSide, side_of, Waiter, Cell, Stream, as_list, is_complete, is_some}
 use Rattle.flow_meaning.specs.Process.{Entry, Proc}
 use Rattle.flow_meaning.specs.Occ.{refs_in, one, count, count_waiters}

@@ -5,7 +5,7 @@ use Rattle.std.specs.declared.option.Option.{Option}
 use Rattle.std.specs.declared.option.Option.TheVariants.{None, Some}
 use Rattle.flow_value.specs.Values.{ValueTree, ValueTrees, IntValue, BoolValue, TextValue, VoidValue, ErrorValue, RecordValue, RefValue, NoValues, MoreValues, OutcomeTree, GoodOutcome, BadOutcome, refs_of, refs_of_all}
 use Rattle.flow_references.specs.Named.{Named, FieldsNamed, AllNamed}
-use Rattle.flow_meaning.specs.Numbered.{Numbered}
+use Rattle.flow_numbered.specs.Numbered.{Numbered}
 use Rattle.flow_meaning.specs.Cells.{PromiseSide, side_of, Ref, Cell, Single, Stream, held}
 use Rattle.flow_meaning.specs.Process.{Entry, Task, Run, Give, Throw, Catch, Store, Keep, Close, Fire, Drop}
 use Rattle.flow_meaning.specs.Occ.{count_kept, in_entries, same_side, refs_in, value_in, one, count, in_cells, in_task, in_tasks}

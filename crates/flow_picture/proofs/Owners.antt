@@ -10,7 +10,7 @@ use Rattle.flow_numbered.specs.Numbered as stored
 use Rattle.flow_numbered.proofs.Things.{above}
 use Rattle.flow_cancel.specs.declared.actors.Note.{Note}
 use Rattle.flow_cancel.specs.Heap as memory
-use Rattle.flow_meaning.specs.Numbered.{Numbered, thing, removed}
+use Rattle.flow_numbered.specs.Numbered.{Numbered, thing, removed}
 use Rattle.flow_meaning.specs.Cells.{PromiseSide}
 use Rattle.flow_meaning.specs.Process.{Entry}
 use Rattle.flow_meaning.specs.Occ.{one, count_maybe, in_entries}

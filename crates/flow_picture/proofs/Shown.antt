@@ -15,7 +15,7 @@ use Rattle.flow_cancel.specs.Heap.{HeapTree, cell_id, next_cell, with_result, wi
 use Rattle.flow_cancel.specs.declared.task.Task as stack
 use Rattle.flow_cancel.specs.Heap as memory
 use Rattle.flow_cancel.specs.Dropping as memory_drops
-use Rattle.flow_meaning.specs.Numbered.{Numbered, thing, put, removed}
+use Rattle.flow_numbered.specs.Numbered.{Numbered, thing, put, removed}
 use Rattle.flow_meaning.specs.Cells.{Waiter, Cell, Single, Stream, filled, after_taking, taken, with_waiter}
 use Rattle.flow_meaning.specs.Asks.{Spot}
 use Rattle.flow_meaning.specs.Process.{Task, Proc}

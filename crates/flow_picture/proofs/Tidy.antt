@@ -6,7 +6,7 @@ use Rattle.std.specs.declared.option.Option.{Option}
 use Rattle.std.specs.declared.option.Option.TheVariants.{None, Some}
 use Rattle.flow_base.specs.ErrorNumbers.{operation_cancelled}
 use Rattle.flow_value.specs.Values.{ValueTree, OutcomeTree}
-use Rattle.flow_meaning.specs.Numbered.{Numbered, thing, added, put, removed}
+use Rattle.flow_numbered.specs.Numbered.{Numbered, thing, added, put, removed}
 use Rattle.flow_meaning.specs.Cells.{FutureSide, Waiter, Cell, Single, Stream, waiters, filled, taken, after_taking, as_list, without, left_by}
 use Rattle.flow_meaning.specs.Process.{Task, Give, Throw, Entry, Core}
 use Rattle.flow_meaning.specs.Occ.{Scan, Occ}

@@ -8,7 +8,7 @@ use Rattle.flow_value.specs.declared.value.Outcome.{Outcome}
 use Rattle.flow_numbered.specs.Numbered as stored
 use Rattle.flow_cell.specs.Cells.{CellTree}
 use Rattle.flow_stream.specs.Streams.{StreamTree}
-use Rattle.flow_meaning.specs.Numbered.{Numbered, thing}
+use Rattle.flow_numbered.specs.Numbered.{Numbered, thing}
 use Rattle.flow_meaning.specs.Cells.{Waiter, Cell, Single, Stream, as_list}
 use Rattle.flow_meaning.specs.Asks.{Spot}
 use Rattle.flow_picture.specs.Shows.{CellShows, waiter_in}

@@ -7,7 +7,7 @@ use Rattle.flow_numbered.specs.Numbered as stored
 use Rattle.flow_frame.specs.Frames.{FrameTree}
 use Rattle.flow_cancel.specs.declared.actors.Note.{Note}
 use Rattle.flow_cancel.specs.Heap.{HeapTree, cell_id, started, finished}
-use Rattle.flow_meaning.specs.Numbered.{thing, added, put, removed}
+use Rattle.flow_numbered.specs.Numbered.{thing, added, put, removed}
 use Rattle.flow_meaning.specs.Process.{Task, Keep, Entry, Core, Proc}
 use Rattle.flow_meaning.specs.Step.{proc, entry_of}
 use Rattle.flow_meaning.specs.Orderly.{Rising}

@@ -17,7 +17,7 @@ use Rattle.flow_cancel.specs.declared.task.Dropped.TheVariants.{Cancel, Nothing}
 use Rattle.flow_cancel.specs.Heap.{HeapTree, actor_id, next_cell, with_result, with_stream}
 use Rattle.flow_cancel.specs.Dropping.{dropped}
 use Rattle.flow_cancel.specs.Leaving.{marked}
-use Rattle.flow_meaning.specs.Numbered.{thing}
+use Rattle.flow_numbered.specs.Numbered.{thing}
 use Rattle.flow_meaning.specs.Cells.{Side, FutureSide, Cell}
 use Rattle.flow_meaning.specs.Process.{Entry, Proc}
 use Rattle.flow_meaning.specs.Frame.{Frame}

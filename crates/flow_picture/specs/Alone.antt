@@ -3,7 +3,7 @@ use Rattle.std.specs.Prelude.{◌≡◌, ℕ, suc, ◌+◌, ◌<◌, ◌&&◌, n
 use Rattle.std.specs.declared.option.Option.TheVariants.{Some}
 use Rattle.flow_class.specs.Classes.{RawTree}
 use Rattle.flow_references.specs.Named.{Rule}
-use Rattle.flow_meaning.specs.Numbered.{Numbered}
+use Rattle.flow_numbered.specs.Numbered.{Numbered}
 use Rattle.flow_meaning.specs.Cells.{PromiseSide, side_of}
 use Rattle.flow_meaning.specs.Asks.{Supply, Effect, Start, Delay, Never, Listen, Disk}
 use Rattle.flow_meaning.specs.Process.{Entry, Core, Proc}

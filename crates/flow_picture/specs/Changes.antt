@@ -15,7 +15,7 @@ use Rattle.flow_cancel.specs.declared.task.Task.TheVariants as task
 use Rattle.flow_cancel.specs.Heap as memory
 use Rattle.flow_cancel.specs.Heap.{HeapTree, cell_id, next_cell, with_result, with_stream}
 use Rattle.flow_cancel.specs.Dropping as memory_drops
-use Rattle.flow_meaning.specs.Numbered.{thing, put, removed}
+use Rattle.flow_numbered.specs.Numbered.{thing, put, removed}
 use Rattle.flow_meaning.specs.Cells.{Ref, Waiter, Cell, Single, Stream, taken, after_taking, with_waiter}
 use Rattle.flow_meaning.specs.Process.{Task, Core, Proc}
 use Rattle.flow_meaning.specs.Work.{pushed, dropping, dropping_values, new_cell, fill}

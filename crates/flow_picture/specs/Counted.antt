@@ -10,7 +10,7 @@ use Rattle.flow_cell.specs.declared.counts.Side.TheVariants.{Promise, Future}
 use Rattle.flow_cell.specs.Cells.{CellTree, count_of}
 use Rattle.flow_stream.specs.Streams.{StreamTree}
 use Rattle.flow_cancel.specs.Heap.{HeapTree}
-use Rattle.flow_meaning.specs.Numbered.{Numbered, thing}
+use Rattle.flow_numbered.specs.Numbered.{Numbered, thing}
 use Rattle.flow_meaning.specs.Cells.{Side, PromiseSide, FutureSide, Ref, Waiter, Cell, waiters}
 use Rattle.flow_meaning.specs.Process.{Entry, Core, Proc}
 use Rattle.flow_meaning.specs.Occ.{Scan, scan_of, Occ}

@@ -21,7 +21,7 @@ use Rattle.flow_cancel.specs.declared.task.Dropped.TheVariants as after
 use Rattle.flow_cancel.specs.Heap.{HeapTree, actor_id, pushed}
 use Rattle.flow_cancel.specs.Dropping.{Lost, dropped}
 use Rattle.flow_cancel.specs.Leaving.{withdrawn, cancelled}
-use Rattle.flow_meaning.specs.Numbered.{thing}
+use Rattle.flow_numbered.specs.Numbered.{thing}
 use Rattle.flow_meaning.specs.Cells.{Ref, side_of, Cell, is_complete}
 use Rattle.flow_meaning.specs.Process.{Task, Run, Entry, Core, Proc}
 use Rattle.flow_meaning.specs.Occ.{Scan, count, refs_in, value_in, in_task}

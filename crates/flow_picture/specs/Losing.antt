@@ -8,7 +8,7 @@ use Rattle.flow_class.specs.Classes.{RawTree}
 use Rattle.flow_cancel.specs.Heap.{HeapTree, actor_id}
 use Rattle.flow_cancel.specs.Dropping.{Lost, dropped, may_drop}
 use Rattle.flow_cancel.specs.declared.task.Dropped.TheVariants as memory
-use Rattle.flow_meaning.specs.Numbered.{thing, removed}
+use Rattle.flow_numbered.specs.Numbered.{thing, removed}
 use Rattle.flow_meaning.specs.Cells.{PromiseSide, FutureSide, side_of, Cell, Single, Stream}
 use Rattle.flow_meaning.specs.Process.{Core, Proc}
 use Rattle.flow_meaning.specs.Occ.{one}

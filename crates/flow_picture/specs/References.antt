@@ -3,7 +3,7 @@ use Rattle.std.specs.Prelude.{◌≡◌, ℕ, suc, ◌+◌, true, false, List, [
 use Rattle.std.specs.declared.option.Option.{Option}
 use Rattle.std.specs.declared.option.Option.TheVariants.{Some}
 use Rattle.flow_value.specs.Values.{ValueTree, OutcomeTree}
-use Rattle.flow_meaning.specs.Numbered.{thing, added, put, removed}
+use Rattle.flow_numbered.specs.Numbered.{thing, added, put, removed}
 use Rattle.flow_meaning.specs.Cells.{Side, PromiseSide, FutureSide, Ref, Waiter, Cell, Single, Stream, waiters, held, is_complete, is_busy, taken, after_taking, with_waiter}
 use Rattle.flow_meaning.specs.Process.{Task, Entry, Proc}
 use Rattle.flow_meaning.specs.Occ.{refs_in, value_in, one, count, count_maybe, count_waiters, count_kept, in_task}

@@ -5,7 +5,7 @@ use Rattle.std.specs.declared.option.Option.TheVariants.{None, Some}
 use Rattle.flow_class.specs.Classes.{RawTree}
 use Rattle.flow_numbered.specs.Numbered as stored
 use Rattle.flow_cancel.specs.Heap.{HeapTree, has_number, without_number}
-use Rattle.flow_meaning.specs.Numbered.{Numbered, thing, removed}
+use Rattle.flow_numbered.specs.Numbered.{Numbered, thing, removed}
 use Rattle.flow_meaning.specs.Cells.{PromiseSide, FutureSide, Cell, Single, Stream}
 use Rattle.flow_meaning.specs.Process.{Entry, Core, Proc}
 use Rattle.flow_meaning.specs.Orderly.{Orderly, Rising}

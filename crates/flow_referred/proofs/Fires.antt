@@ -4,7 +4,7 @@ use Rattle.std.specs.declared.option.Option.{Option}
 use Rattle.std.specs.declared.option.Option.TheVariants.{None, Some}
 use Rattle.flow_value.specs.Values.{OutcomeTree}
 use Rattle.flow_class.specs.Classes.{RawTree}
-use Rattle.flow_meaning.specs.Numbered.{Numbered, thing, put}
+use Rattle.flow_numbered.specs.Numbered.{Numbered, thing, put}
 use Rattle.flow_meaning.specs.Cells.{Side, FutureSide, Waiter, Cell, is_ready, waiters, taken, after_taking}
 use Rattle.flow_meaning.specs.Process.{Task, Give, Fire, Entry, Core}
 use Rattle.flow_meaning.specs.Occ.{in_task}

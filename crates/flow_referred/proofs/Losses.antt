@@ -5,7 +5,7 @@ use Rattle.std.specs.declared.option.Option.TheVariants.{None, Some}
 use Rattle.flow_base.specs.ErrorNumbers.{broken_promise, operation_cancelled}
 use Rattle.flow_value.specs.Values.{BadOutcome}
 use Rattle.flow_class.specs.Classes.{RawTree}
-use Rattle.flow_meaning.specs.Numbered.{Numbered, thing, put, removed}
+use Rattle.flow_numbered.specs.Numbered.{Numbered, thing, put, removed}
 use Rattle.flow_meaning.specs.Cells.{Side, PromiseSide, FutureSide, Cell, Single, Stream, is_complete, held, filled}
 use Rattle.flow_meaning.specs.Process.{Task, Throw, Fire, Entry, Core}
 use Rattle.flow_meaning.specs.Occ.{one, count_maybe, count_kept, in_entries, in_ports, in_task, refs_in, count}

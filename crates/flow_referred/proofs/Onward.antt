@@ -4,7 +4,7 @@ use Rattle.std.specs.Option.{option_map}
 use Rattle.std.specs.declared.option.Option.{Option}
 use Rattle.std.specs.declared.option.Option.TheVariants.{None, Some}
 use Rattle.flow_value.specs.Values.{ValueTree, OutcomeTree, GoodOutcome, BadOutcome}
-use Rattle.flow_meaning.specs.Numbered.{Numbered, thing, added, put, removed}
+use Rattle.flow_numbered.specs.Numbered.{Numbered, thing, added, put, removed}
 use Rattle.flow_meaning.specs.Cells.{Side, PromiseSide, FutureSide, side_of, Ref, Waiter, Cell, Single, Stream, waiters, held, good, filled, taken, after_taking, left_by}
 use Rattle.flow_meaning.specs.Process.{Task, Entry, Core, Proc}
 use Rattle.flow_meaning.specs.Occ.{refs_in, value_in, one, count, count_waiters, in_task}

@@ -6,7 +6,7 @@ use Rattle.flow_tree.specs.Tree.{FutureType}
 use Rattle.flow_tree.specs.Decls.{RoutineTree}
 use Rattle.flow_value.specs.Values.{ValueTree, GoodOutcome}
 use Rattle.flow_class.specs.Classes.{RawTree}
-use Rattle.flow_meaning.specs.Numbered.{Numbered, thing, put}
+use Rattle.flow_numbered.specs.Numbered.{Numbered, thing, put}
 use Rattle.flow_meaning.specs.Cells.{Side, Cell}
 use Rattle.flow_meaning.specs.Asks.{Act, Goes, Pass, Drops, Effects, Operand, Waits, Sends, Cancels, Prints, SendsTo, Returns, Throws, RunsOut, Stuck, Effect, Make, Start, Draw, Delay, Never, Listen, Disk, Goal, Ask, Supply}
 use Rattle.flow_meaning.specs.Process.{Task, Run, Throw, Keep, Close, Entry, Core}

@@ -8,7 +8,7 @@ use Rattle.flow_value.specs.declared.value.Kind.{Kind}
 use Rattle.flow_value.specs.Values.{ValueTree, OutcomeTree, GoodOutcome, BadOutcome}
 use Rattle.flow_class.specs.Classes.{CatcherTree, EffectInstr, ChooseLast, RawTree}
 use Rattle.flow_class.specs.Code.{Body, Last, fetch, catcher_at}
-use Rattle.flow_meaning.specs.Numbered.{Numbered, thing, put, removed}
+use Rattle.flow_numbered.specs.Numbered.{Numbered, thing, put, removed}
 use Rattle.flow_meaning.specs.Cells.{Side, PromiseSide, FutureSide, side_of, Ref, Waiter, Cell, Single, Stream, is_ready, waiters, taken, after_taking}
 use Rattle.flow_meaning.specs.Process.{Task, Run, Give, Throw, Catch, Store, Keep, Close, Fire, Drop, Entry, Core, Raised}
 use Rattle.flow_meaning.specs.Occ.{Scan, Occ, refs_in, value_in, one, count, count_kept, in_task}

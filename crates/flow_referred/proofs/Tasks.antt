@@ -10,7 +10,7 @@ use Rattle.flow_value.specs.declared.value.Kind.TheVariants as kind
 use Rattle.flow_value.specs.Values.{ValueTree, RefValue, OutcomeTree, GoodOutcome, BadOutcome}
 use Rattle.flow_class.specs.Classes.{RawTree}
 use Rattle.flow_valid.specs.Validity.{operand_type}
-use Rattle.flow_meaning.specs.Numbered.{Numbered, thing, put, removed}
+use Rattle.flow_numbered.specs.Numbered.{Numbered, thing, put, removed}
 use Rattle.flow_meaning.specs.Cells.{Side, PromiseSide, FutureSide, side_of, Ref, Waiter, Cell, Single, Stream, waiters, taken, after_taking}
 use Rattle.flow_meaning.specs.Process.{Task, Run, Give, Throw, Catch, Store, Keep, Close, Fire, Drop, Entry, Core}
 use Rattle.flow_meaning.specs.Occ.{refs_in, value_in, one, count, count_kept, in_task}

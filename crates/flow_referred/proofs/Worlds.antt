@@ -13,7 +13,7 @@ use Rattle.flow_tree.specs.Decls.{RoutineTree}
 use Rattle.flow_value.specs.Values.{VoidValue, GoodOutcome}
 use Rattle.flow_class.specs.Classes.{RawTree}
 use Rattle.flow_valid.specs.Validity.{IsValid}
-use Rattle.flow_meaning.specs.Numbered.{Numbered, thing}
+use Rattle.flow_numbered.specs.Numbered.{Numbered, thing}
 use Rattle.flow_meaning.specs.Cells.{Cell, Single, Stream}
 use Rattle.flow_meaning.specs.Process.{Halt, Core, Proc}
 use Rattle.flow_meaning.specs.Orderly.{UnlessStopped}

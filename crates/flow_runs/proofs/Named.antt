@@ -5,7 +5,7 @@ use Rattle.std.specs.declared.option.Option.{Option}
 use Rattle.std.specs.declared.option.Option.TheVariants.{None, Some}
 use Rattle.flow_value.specs.Values.{ValueTree, OutcomeTree, GoodOutcome, BadOutcome}
 use Rattle.flow_eval.specs.Predefined.{natural}
-use Rattle.flow_meaning.specs.Numbered.{thing}
+use Rattle.flow_numbered.specs.Numbered.{thing}
 use Rattle.flow_meaning.specs.Cells.{Ref}
 use Rattle.flow_meaning.specs.Asks.{DiskCall, Spot, Effect, Make, Start, Draw, Delay, Never, Listen, Disk, Goal, Act, Goes, Pass, Drops, Effects, Operand, Waits, Sends, Cancels, Prints, SendsTo, Returns, Throws, RunsOut, Stuck, Ask, Request, Packet, Supply}
 use Rattle.flow_meaning.specs.Process.{Task, Run, Give, Throw, Catch, Store, Keep, Close, Fire, Drop, Entry, Halt, Core, Proc, Engine}
@@ -80,7 +80,7 @@ module _ (s : Supply) where
 
     next_named : (i : ℕ) (ts : List Task) (x : Option Ask × A) (p : Proc A) → Named (run_next e s i ts x p).1
     next_named i ts (None, a) p = tt
-    next_named i ts (Some ask, a) p = answer_named i ask.act (steps.proc (record p.core { tasks = ts; left = ask.left }) (Rattle.flow_meaning.specs.Numbered.put p.actors i a))
+    next_named i ts (Some ask, a) p = answer_named i ask.act (steps.proc (record p.core { tasks = ts; left = ask.left }) (Rattle.flow_numbered.specs.Numbered.put p.actors i a))
 
     run_named : (i : ℕ) (ts : List Task) (x : Option A) (p : Proc A) → Named (run e s i ts x p).1
     run_named i ts None p = tt

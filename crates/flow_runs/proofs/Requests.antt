@@ -10,7 +10,7 @@ use Rattle.flow_draw.specs.Words.{scaled}
 use Rattle.flow_value.specs.Values.{ValueTree, IntValue, RefValue, OutcomeTree, GoodOutcome, BadOutcome}
 use Rattle.flow_trace.specs.declared.line.Line.{Line}
 use Rattle.flow_eval.specs.Predefined.{natural}
-use Rattle.flow_meaning.specs.Numbered.{thing, added, put, removed}
+use Rattle.flow_numbered.specs.Numbered.{thing, added, put, removed}
 use Rattle.flow_meaning.specs.Cells.{Side, FutureSide, side_of, Ref, Waiter, Cell, is_complete, is_ready, waiters, taken, Single, Stream}
 use Rattle.flow_meaning.specs.Asks.{DiskCall, Spot, Effect, Make, Start, Draw, Delay, Never, Listen, Disk, Goal, Act, Goes, Pass, Drops, Effects, Operand, Waits, Sends, Cancels, Prints, SendsTo, Returns, Throws, RunsOut, Stuck, Ask, Supply}
 use Rattle.flow_meaning.specs.Process.{Task, Run, Give, Throw, Catch, Store, Keep, Close, Fire, Drop, Entry, Halt, Core, Proc, Raised, Engine}

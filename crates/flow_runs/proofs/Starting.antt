@@ -11,7 +11,7 @@ use Rattle.flow_value.specs.Values.{IntValue, OutcomeTree, GoodOutcome}
 use Rattle.flow_simdisk.specs.Disk.{File, served}
 use Rattle.flow_class.specs.Classes.{RawTree}
 use Rattle.flow_valid.specs.Validity.{IsValid}
-use Rattle.flow_meaning.specs.Numbered.{Numbered, thing}
+use Rattle.flow_numbered.specs.Numbered.{Numbered, thing}
 use Rattle.flow_meaning.specs.Cells.{PromiseSide}
 use Rattle.flow_meaning.specs.Asks.{DiskCall, ReadCall, WriteCall, SyncCall, SizeCall}
 use Rattle.flow_meaning.specs.Process.{Drop, Halt, Core, Proc}

@@ -16,7 +16,7 @@ use Rattle.flow_value.specs.declared.value.Value.TheFolds.{fold-roll-Value}
 use Rattle.flow_value.specs.declared.value.Value.TheOpen as layer
 use Rattle.flow_trace.specs.declared.line.Line.{Line}
 use Rattle.flow_cancel.specs.declared.task.Task.TheVariants as task
-use Rattle.flow_meaning.specs.Numbered.{Numbered, thing, added}
+use Rattle.flow_numbered.specs.Numbered.{Numbered, thing, added}
 use Rattle.flow_meaning.specs.Asks as asks
 use Rattle.flow_meaning.specs.Asks.{DiskCall, Request}
 use Rattle.flow_meaning.specs.Process.{Task, Run, Throw, Core, Proc}

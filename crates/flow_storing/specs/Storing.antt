@@ -11,7 +11,7 @@ use Rattle.flow_trace.specs.declared.line.Line.{Line}
 use Rattle.flow_cancel.specs.declared.task.Task.{Task}
 use Rattle.flow_cancel.specs.declared.task.Task.TheVariants as task
 use Rattle.flow_cancel.specs.Heap.{HeapTree}
-use Rattle.flow_meaning.specs.Numbered.{Numbered}
+use Rattle.flow_numbered.specs.Numbered.{Numbered}
 use Rattle.flow_meaning.specs.Burst.{Host}
 use Rattle.flow_steps.specs.declared.call.Call.{Call}
 use Rattle.flow_steps.specs.declared.process.Process.{Process}

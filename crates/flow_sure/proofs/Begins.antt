@@ -26,7 +26,7 @@ use Rattle.flow_numbered.specs.Numbered as stored
 use Rattle.flow_cancel.specs.declared.task.Task as stack
 use Rattle.flow_cancel.specs.declared.task.Task.TheVariants as task
 use Rattle.flow_cancel.specs.Heap.{actor_id}
-use Rattle.flow_meaning.specs.Numbered.{thing}
+use Rattle.flow_numbered.specs.Numbered.{thing}
 use Rattle.flow_meaning.specs.Asks.{Spot}
 use Rattle.flow_meaning.specs.Process.{Task, Run, Give, Keep, Entry, Proc}
 use Rattle.flow_meaning.specs.Occ.{Scan}

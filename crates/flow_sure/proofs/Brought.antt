@@ -12,7 +12,7 @@ use Rattle.flow_cancel.proofs.Noted.{at_number}
 use Rattle.flow_meaning.specs.Burst.{Host}
 use Rattle.flow_meaning.specs.Deliver.{begin, closed_request}
 use Rattle.flow_meaning.specs.Frame.{Frame}
-use Rattle.flow_meaning.specs.Numbered.{Numbered}
+use Rattle.flow_numbered.specs.Numbered.{Numbered}
 use Rattle.flow_meaning.specs.Process.{Drop, Proc}
 use Rattle.flow_meaning.specs.Step.{on_core}
 use Rattle.flow_meaning.specs.Work.{pushed}

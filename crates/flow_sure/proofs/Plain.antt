@@ -27,7 +27,7 @@ use Rattle.flow_cancel.specs.declared.actors.Note.{Note}
 use Rattle.flow_cancel.specs.declared.task.Task as stack
 use Rattle.flow_cancel.specs.declared.task.Task.TheVariants as task
 use Rattle.flow_cancel.specs.Heap.{HeapTree, actor_id, finished}
-use Rattle.flow_meaning.specs.Numbered.{thing}
+use Rattle.flow_numbered.specs.Numbered.{thing}
 use Rattle.flow_meaning.specs.Asks.{Spot}
 use Rattle.flow_meaning.specs.Cells.{PromiseSide, FutureSide, side_of, Waiter, Cell, Single, Stream, waiters}
 use Rattle.flow_meaning.specs.Process.{Task, Drop, Fire, Throw, Close, Entry, Proc}

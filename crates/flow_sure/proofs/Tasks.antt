@@ -36,7 +36,7 @@ use Rattle.flow_kept.proofs.Acting.{acts_at, standing_there}
 use Rattle.flow_allowed.specs.Tasking.{IsProgram, StateIsNone, InNoWait}
 use Rattle.flow_base.specs.declared.ids.ActorId.{ActorId}
 use Rattle.flow_base.specs.declared.ids.CellId.{CellId}
-use Rattle.flow_meaning.specs.Numbered.{thing}
+use Rattle.flow_numbered.specs.Numbered.{thing}
 use Rattle.flow_meaning.specs.Views.{spot_at}
 use Rattle.flow_picture.specs.Holds.{with_refs}
 use Rattle.flow_picture.specs.Rested.{Sorted}

@@ -8,7 +8,7 @@ use Rattle.flow_worldfile.specs.declared.directive.Order.{Order}
 use Rattle.flow_worldfile.specs.declared.directive.Order.TheVariants.{Kill, Stop, Boot, Cut, Heal, DiskFail}
 use Rattle.flow_value.specs.Values.{IntValue, VoidValue, OutcomeTree, GoodOutcome}
 use Rattle.flow_class.specs.Classes.{RawTree}
-use Rattle.flow_meaning.specs.Numbered.{Numbered}
+use Rattle.flow_numbered.specs.Numbered.{Numbered}
 use Rattle.flow_meaning.specs.Process.{Core}
 use Rattle.flow_meaning.specs.Step.{proc}
 use Rattle.flow_meaning.specs.Deliver.{idle_core, idle, boot_core, boot_with, stop, deliver, arrive}
@@ -59,7 +59,7 @@ module _ (r : RawTree) where
       let e = classes r in
       let R = Itself e (Going r) going in
       let d = boot_core e.main (e.label e.main) c in
-      let ys = Rattle.flow_meaning.specs.Numbered.added xs (suc c.started) f in
+      let ys = Rattle.flow_numbered.specs.Numbered.added xs (suc c.started) f in
       both d ys (boot_in_order e.main (e.label e.main) c o)
       (unless_map d.halted (λ n. placed_of e (Going r) going d ys (related_new e e R (itself e (Going r) going) (suc c.started) c d xs xs f f (related_of e (Going r) going c xs k) n.0 n.1 (refl, h f refl)))
       (booted_enrolled e.main (e.label e.main) c o.numbered))

@@ -13,7 +13,7 @@ use Rattle.flow_rules.specs.Known.{Meaning, RecordOf, FunctionOf, ActorOf, known
 use Rattle.flow_rules.specs.Rules.{one_int, is_main}
 use Rattle.flow_valid.specs.Heads.{all_decls}
 use Rattle.flow_valid.specs.Validity.{IsValid}
-use Rattle.flow_meaning.specs.Numbered.{Numbered, thing, added}
+use Rattle.flow_numbered.specs.Numbered.{Numbered, thing, added}
 use Rattle.flow_meaning.specs.Cells.{Single}
 use Rattle.flow_meaning.specs.Process.{Entry, Core}
 use Rattle.flow_meaning.specs.Lines.{start_line}

@@ -6,7 +6,7 @@ use Rattle.flow_ast.specs.Typing.{packet_fields}
 use Rattle.flow_value.specs.declared.value.Kind.TheVariants as kind
 use Rattle.flow_value.specs.Values.{GoodOutcome}
 use Rattle.flow_class.specs.Classes.{RawTree}
-use Rattle.flow_meaning.specs.Numbered.{Numbered}
+use Rattle.flow_numbered.specs.Numbered.{Numbered}
 use Rattle.flow_meaning.specs.Process.{Drop, Core}
 use Rattle.flow_meaning.specs.Work.{pushed, fill}
 use Rattle.flow_meaning.specs.Deliver.{closed_request}

@@ -6,7 +6,7 @@ use Rattle.std.specs.declared.option.Option.TheVariants.{None, Some}
 use Rattle.flow_tree.specs.Tree.{TypeTree, FutureType, FutureStreamType}
 use Rattle.flow_value.specs.Values.{ValueTree, OutcomeTree, GoodOutcome, BadOutcome}
 use Rattle.flow_class.specs.Classes.{RawTree}
-use Rattle.flow_meaning.specs.Numbered.{Numbered, thing, put}
+use Rattle.flow_numbered.specs.Numbered.{Numbered, thing, put}
 use Rattle.flow_meaning.specs.Cells.{Waiter, Cell, Single, Stream, is_ready, waiters, filled, taken, after_taking, without, left_by}
 use Rattle.flow_meaning.specs.Process.{Task, Entry, Core}
 use Rattle.flow_meaning.specs.Occ.{refs_in}

@@ -6,7 +6,7 @@ use Rattle.flow_trace.specs.declared.line.Line.{Line}
 use Rattle.flow_tree.specs.Tree.{TypeTree, FutureType}
 use Rattle.flow_value.specs.Values.{OutcomeTree, GoodOutcome, BadOutcome}
 use Rattle.flow_class.specs.Classes.{RawTree}
-use Rattle.flow_meaning.specs.Numbered.{Numbered, thing, removed}
+use Rattle.flow_numbered.specs.Numbered.{Numbered, thing, removed}
 use Rattle.flow_meaning.specs.Cells.{PromiseSide, FutureSide, Waiter, Cell, waiters}
 use Rattle.flow_meaning.specs.Process.{Task, Close, Entry, Core}
 use Rattle.flow_meaning.specs.Lines.{end_line}

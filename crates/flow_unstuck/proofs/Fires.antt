@@ -6,7 +6,7 @@ use Rattle.flow_tree.specs.Tree.{TypeTree}
 use Rattle.flow_value.specs.declared.value.Kind.{Kind}
 use Rattle.flow_eval.specs.Typed.{future_side}
 use Rattle.flow_class.specs.Classes.{RawTree}
-use Rattle.flow_meaning.specs.Numbered.{Numbered, thing, removed}
+use Rattle.flow_numbered.specs.Numbered.{Numbered, thing, removed}
 use Rattle.flow_meaning.specs.Cells.{PromiseSide, FutureSide, side_of, Waiter, Cell, is_ready, waiters}
 use Rattle.flow_meaning.specs.Process.{Task, Fire, Drop, Entry, Core}
 use Rattle.flow_meaning.specs.Occ.{in_cells, in_entries, in_task, in_tasks, in_ports, in_requests, count_maybe, Occ}

@@ -12,7 +12,7 @@ use Rattle.flow_class.specs.Classes.{ChooseLast, ClassTree, RawTree}
 use Rattle.flow_class.specs.Code.{Last, callback_at}
 use Rattle.flow_meaning.specs.Effects.{result_task, push_result, gives}
 use Rattle.flow_valid.specs.Validity.{operand_type}
-use Rattle.flow_meaning.specs.Numbered.{Numbered, thing, put}
+use Rattle.flow_numbered.specs.Numbered.{Numbered, thing, put}
 use Rattle.flow_meaning.specs.Cells.{Ref, Cell, is_ready, taken, after_taking}
 use Rattle.flow_meaning.specs.Asks.{Goal, Stored, Kept, Request}
 use Rattle.flow_meaning.specs.Process.{Task, Run, Give, Throw, Catch, Store, Keep, Close, Fire, Drop, Entry, Core}

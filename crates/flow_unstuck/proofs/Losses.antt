@@ -7,7 +7,7 @@ use Rattle.flow_trace.specs.declared.line.Line.{Line}
 use Rattle.flow_tree.specs.Tree.{TypeTree}
 use Rattle.flow_value.specs.Values.{BadOutcome}
 use Rattle.flow_class.specs.Classes.{RawTree}
-use Rattle.flow_meaning.specs.Numbered.{Numbered, thing, removed}
+use Rattle.flow_numbered.specs.Numbered.{Numbered, thing, removed}
 use Rattle.flow_meaning.specs.Cells.{Side, PromiseSide, FutureSide, Cell, Single, Stream, is_complete}
 use Rattle.flow_meaning.specs.Process.{Entry, Core}
 use Rattle.flow_meaning.specs.Lines.{broken_line, cancel_line}

@@ -4,7 +4,7 @@ use Rattle.std.specs.declared.option.Option.{Option}
 use Rattle.std.specs.declared.option.Option.TheVariants.{None, Some}
 use Rattle.flow_tree.specs.Tree.{TypeTree, FutureType}
 use Rattle.flow_class.specs.Classes.{RawTree}
-use Rattle.flow_meaning.specs.Numbered.{Numbered, thing, added}
+use Rattle.flow_numbered.specs.Numbered.{Numbered, thing, added}
 use Rattle.flow_meaning.specs.Cells.{Waiter, Cell, waiters}
 use Rattle.flow_meaning.specs.Process.{Task, Entry, Core}
 use Rattle.flow_meaning.specs.Work.{new_cell}

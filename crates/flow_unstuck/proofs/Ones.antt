@@ -2,7 +2,7 @@
 use Rattle.std.proofs.Common.{◌≡◌, ℕ, suc, ◌+◌, nat_eq, Bool, true, false, List, [], ◌∷◌, refl, sym, ap, ◌∙◌, arith, if◌then◌else◌}
 use Rattle.std.specs.declared.option.Option.TheVariants.{None, Some}
 use Rattle.flow_value.specs.Values.{OutcomeTree}
-use Rattle.flow_meaning.specs.Numbered.{Numbered, thing, removed}
+use Rattle.flow_numbered.specs.Numbered.{Numbered, thing, removed}
 use Rattle.flow_meaning.specs.Cells.{Side, PromiseSide, FutureSide}
 use Rattle.flow_meaning.specs.Process.{Task, Close, Entry, Core}
 use Rattle.flow_meaning.specs.Occ.{refs_in, value_in, one, count, count_maybe, count_kept, in_cells, in_entries, in_tasks, in_ports, in_requests, Occ}

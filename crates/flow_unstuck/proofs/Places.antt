@@ -4,7 +4,7 @@ use Rattle.std.specs.declared.option.Option.TheVariants.{None, Some}
 use Rattle.flow_tree.specs.Decls.{RoutineTree}
 use Rattle.flow_class.specs.Classes.{EffectInstr, RawTree}
 use Rattle.flow_class.specs.Code.{Body, fetch}
-use Rattle.flow_meaning.specs.Numbered.{Numbered}
+use Rattle.flow_numbered.specs.Numbered.{Numbered}
 use Rattle.flow_meaning.specs.Asks.{Supply}
 use Rattle.flow_meaning.specs.Process.{Core}
 use Rattle.flow_meaning.specs.Orderly.{Orderly}

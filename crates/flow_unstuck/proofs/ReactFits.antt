@@ -13,7 +13,7 @@ use Rattle.flow_eval.specs.Predefined.{natural}
 use Rattle.flow_eval.specs.Typed.{reference_type, future_side}
 use Rattle.flow_trace.specs.declared.line.Line.{Line}
 use Rattle.flow_class.specs.Classes.{ClassTree, RawTree}
-use Rattle.flow_meaning.specs.Numbered.{Numbered, thing, added}
+use Rattle.flow_numbered.specs.Numbered.{Numbered, thing, added}
 use Rattle.flow_meaning.specs.Cells.{Cell, Single, Stream, is_complete, waiters}
 use Rattle.flow_meaning.specs.Asks.{DiskCall, ReadCall, WriteCall, SyncCall, SizeCall, Request, Drew, Timer, Disks, Effect, Make, Start, Draw, Delay, Never, Listen, Disk, Goal, Stored, Kept, Supply}
 use Rattle.flow_meaning.specs.Process.{Run, Throw, Entry, Core}

@@ -11,7 +11,7 @@ use Rattle.flow_draw.specs.Words.{scaled}
 use Rattle.flow_eval.specs.Predefined.{natural}
 use Rattle.flow_trace.specs.declared.line.Line.{Line}
 use Rattle.flow_class.specs.Code.{fetch}
-use Rattle.flow_meaning.specs.Numbered.{Numbered, thing, added, put}
+use Rattle.flow_numbered.specs.Numbered.{Numbered, thing, added, put}
 use Rattle.flow_meaning.specs.Cells.{Cell, Single, Stream, is_complete}
 use Rattle.flow_meaning.specs.Asks.{Spot, Act, Goes, Pass, Drops, Effects, Operand, Waits, Sends, Cancels, Prints, SendsTo, Returns, Throws, RunsOut, Stuck, DiskCall, Effect, Make, Start, Draw, Delay, Never, Listen, Disk, Goal, Stored, Kept, Supply}
 use Rattle.flow_meaning.specs.Process.{Run, Throw, Store, Keep, Close, Entry, Core}

@@ -2,7 +2,7 @@
 use Rattle.std.proofs.Common.{◌≡◌, ℕ, suc, nat_eq, Bool, true, false, List, [], ◌∷◌, ◌++◌, ◌⊎◌, inl, inr, if◌then◌else◌, refl, sym, ap, ◌∙◌, subst, arith}
 use Rattle.std.specs.declared.option.Option.{Option}
 use Rattle.std.specs.declared.option.Option.TheVariants.{None, Some}
-use Rattle.flow_meaning.specs.Numbered.{Numbered, thing, added, put, removed}
+use Rattle.flow_numbered.specs.Numbered.{Numbered, thing, added, put, removed}
 use Rattle.flow_meaning.specs.Cells.{Ref, Waiter, Cell, Single, Stream, is_busy, waiters, with_waiter, without, left_by}
 use Rattle.flow_meaning.specs.Process.{Entry}
 use Rattle.flow_meaning.specs.Work.{left_cells, Registration, Registered, Refused, Missing, register_at, register_one, register}

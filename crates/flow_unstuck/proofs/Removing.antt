@@ -5,7 +5,7 @@ use Rattle.std.specs.declared.option.Option.TheVariants.{None, Some}
 use Rattle.flow_tree.specs.Tree.{TypeTree, FutureType}
 use Rattle.flow_value.specs.Values.{ValueTree, GoodOutcome, BadOutcome}
 use Rattle.flow_class.specs.Classes.{RawTree}
-use Rattle.flow_meaning.specs.Numbered.{Numbered, thing, removed}
+use Rattle.flow_numbered.specs.Numbered.{Numbered, thing, removed}
 use Rattle.flow_meaning.specs.Cells.{PromiseSide, FutureSide, Ref, Waiter, Cell, Single, Stream, waiters, held}
 use Rattle.flow_meaning.specs.Process.{Task, Entry, Core}
 use Rattle.flow_meaning.specs.Occ.{in_cells, in_entries, in_tasks, in_ports, in_requests, count_kept, count_maybe, in_core, Occ}

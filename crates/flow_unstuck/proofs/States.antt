@@ -8,7 +8,7 @@ use Rattle.flow_value.specs.Values.{ValueTree, ValueTrees, NoValues, MoreValues,
 use Rattle.flow_value.specs.declared.value.Kind.TheVariants.{Future}
 use Rattle.flow_eval.specs.Typed.{HaveTypes}
 use Rattle.flow_class.specs.Classes.{RawTree}
-use Rattle.flow_meaning.specs.Numbered.{Numbered, thing, put}
+use Rattle.flow_numbered.specs.Numbered.{Numbered, thing, put}
 use Rattle.flow_meaning.specs.Cells.{Ref, Waiter, Cell, waiters}
 use Rattle.flow_meaning.specs.Process.{Task, Run, Give, Throw, Catch, Store, Keep, Close, Fire, Drop, Entry, Halt, Spent, NoMeaning, Core}
 use Rattle.flow_meaning.specs.Asks.{Request}

@@ -7,7 +7,7 @@ use Rattle.flow_value.specs.Values.{ValueTree, BadOutcome}
 use Rattle.flow_class.specs.Classes.{GotoLast, PassLast, TestLast, ChooseLast, ReturnLast, ThrowLast, CallbackTree, ClassTree, RawTree}
 use Rattle.flow_class.specs.Code.{Fetched, Body, Last, Nothing, callback_at}
 use Rattle.flow_valid.specs.Validity.{leads_forward, catchers_kept}
-use Rattle.flow_meaning.specs.Numbered.{Numbered, thing, put, removed}
+use Rattle.flow_numbered.specs.Numbered.{Numbered, thing, put, removed}
 use Rattle.flow_meaning.specs.Cells.{Side, PromiseSide, FutureSide, Ref, Waiter, Cell, is_ready, waiters, held}
 use Rattle.flow_meaning.specs.Process.{Task, Fire, Entry, Core}
 use Rattle.flow_meaning.specs.Lines.{broken_line}

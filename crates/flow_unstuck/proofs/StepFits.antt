@@ -8,7 +8,7 @@ use Rattle.flow_tree.specs.Decls.{RoutineTree}
 use Rattle.flow_value.specs.Values.{GoodOutcome}
 use Rattle.flow_eval.specs.Typed.{CellsFit}
 use Rattle.flow_class.specs.Classes.{ClassTree, RawTree}
-use Rattle.flow_meaning.specs.Numbered.{Numbered, thing, added}
+use Rattle.flow_numbered.specs.Numbered.{Numbered, thing, added}
 use Rattle.flow_meaning.specs.Cells.{Waiter, Cell, Single, Stream, waiters, outcome}
 use Rattle.flow_meaning.specs.Asks.{Supply}
 use Rattle.flow_meaning.specs.Process.{Task, Run, Entry, Core}

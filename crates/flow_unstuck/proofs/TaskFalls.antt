@@ -9,7 +9,7 @@ use Rattle.flow_value.specs.Values.{ValueTree, OutcomeTree, GoodOutcome, BadOutc
 use Rattle.flow_class.specs.Classes.{CatcherTree, InstrTree, SetInstr, EffectInstr, NewInstr, ActInstr, DropInstr, RawTree}
 use Rattle.flow_class.specs.Code.{Fetched, Body, Last, Nothing, fetch, catcher_at}
 use Rattle.flow_valid.specs.Validity.{catchers_kept}
-use Rattle.flow_meaning.specs.Numbered.{Numbered, thing, put, removed}
+use Rattle.flow_numbered.specs.Numbered.{Numbered, thing, put, removed}
 use Rattle.flow_meaning.specs.Cells.{Ref}
 use Rattle.flow_meaning.specs.Asks.{Spot, Act, Effects, Effect, Start, Goal, Ask, Supply}
 use Rattle.flow_meaning.specs.Process.{Task, Run, Give, Throw, Catch, Store, Keep, Close, Fire, Drop, Entry, Halt, Core}

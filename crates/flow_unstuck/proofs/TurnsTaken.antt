@@ -6,7 +6,7 @@ use Rattle.flow_base.specs.ErrorNumbers.{broken_promise}
 use Rattle.flow_value.specs.declared.value.Kind.{Kind}
 use Rattle.flow_value.specs.declared.value.Kind.TheVariants as kind
 use Rattle.flow_value.specs.Values.{ValueTree, IntValue, BoolValue, TextValue, VoidValue, ErrorValue, RecordValue, RefValue, OutcomeTree, BadOutcome}
-use Rattle.flow_meaning.specs.Numbered.{thing, put, removed}
+use Rattle.flow_numbered.specs.Numbered.{thing, put, removed}
 use Rattle.flow_meaning.specs.Cells.{Side, FutureSide, PromiseSide, side_of, Cell, taken, after_taking}
 use Rattle.flow_meaning.specs.Asks.{Goal, Stored, Kept}
 use Rattle.flow_meaning.specs.Process.{Entry, Core}

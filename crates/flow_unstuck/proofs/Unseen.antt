@@ -7,7 +7,7 @@ use Rattle.flow_value.specs.declared.value.Kind.{Kind}
 use Rattle.flow_value.specs.declared.value.Kind.TheVariants as kind
 use Rattle.flow_value.specs.Values.{ValueTree, ValueTrees, NoValues, MoreValues, IntValue, BoolValue, TextValue, VoidValue, ErrorValue, RecordValue, RefValue, OutcomeTree, GoodOutcome, BadOutcome, refs_of, refs_of_all}
 use Rattle.flow_class.specs.declared.class.Slotted.TheVariants.{Slot, Local}
-use Rattle.flow_meaning.specs.Numbered.{Numbered, thing}
+use Rattle.flow_numbered.specs.Numbered.{Numbered, thing}
 use Rattle.flow_meaning.specs.Cells.{Side, PromiseSide, FutureSide, Ref, side_of, Waiter, Cell, Single, Stream, waiters, held}
 use Rattle.flow_meaning.specs.Process.{Task, Run, Give, Throw, Catch, Store, Keep, Close, Fire, Drop, Entry}
 use Rattle.flow_meaning.specs.Occ.{refs_in, value_in, one, count, count_maybe, count_waiters, in_cells, count_kept, in_entries, in_task, in_tasks, in_ports, in_requests, scan_of}

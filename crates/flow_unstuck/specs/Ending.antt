@@ -7,7 +7,7 @@ use Rattle.flow_value.specs.Values.{ValueTree}
 use Rattle.flow_class.specs.Classes.{EffectInstr, ClassTree, RawTree}
 use Rattle.flow_class.specs.Code.{Body, fetch}
 use Rattle.flow_valid.specs.Validity.{leads_forward, catchers_kept}
-use Rattle.flow_meaning.specs.Numbered.{Numbered, thing}
+use Rattle.flow_numbered.specs.Numbered.{Numbered, thing}
 use Rattle.flow_meaning.specs.Process.{Task, Store, Core, Engine}
 use Rattle.flow_meaning.specs.Orderly.{Orderly, UnlessStopped}
 use Rattle.flow_meaning.specs.Burst.{Host, Live, advance}

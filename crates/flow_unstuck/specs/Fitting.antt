@@ -9,7 +9,7 @@ use Rattle.flow_value.specs.Values.{ValueTree, RefValue, OutcomeTree}
 use Rattle.flow_eval.specs.Typed.{future_side, HasType}
 use Rattle.flow_class.specs.Classes.{CallbackTree, ClassTree, RawTree}
 use Rattle.flow_class.specs.Code.{fetch, callback_at}
-use Rattle.flow_meaning.specs.Numbered.{Numbered, thing}
+use Rattle.flow_numbered.specs.Numbered.{Numbered, thing}
 use Rattle.flow_meaning.specs.Cells.{Ref, Waiter, Cell, Single, Stream, waiters}
 use Rattle.flow_meaning.specs.Process.{Task, Run, Give, Throw, Catch, Store, Keep, Close, Fire, Drop, Entry, Core}
 use Rattle.flow_meaning.specs.Orderly.{tasks_of, Rising}

@@ -12,7 +12,7 @@ use Rattle.flow_cancel.specs.Heap.{actor_id}
 use Rattle.flow_run.specs.Tracing.{name_of, own_count, callback_line, own_lines, frames_lines}
 use Rattle.flow_meaning.specs.Asks.{Spot}
 use Rattle.flow_meaning.specs.Cells.{Ref}
-use Rattle.flow_meaning.specs.Numbered.{Numbered, thing}
+use Rattle.flow_numbered.specs.Numbered.{Numbered, thing}
 use Rattle.flow_meaning.specs.Orderly.{Rising}
 use Rattle.flow_meaning.specs.Process.{Entry, Proc, Engine}
 use Rattle.flow_meaning.specs.Views.{spot_at, unfinished, branches_from, waiting}

@@ -15,7 +15,7 @@ use Rattle.flow_meaning.specs.Asks.{Spot}
 use Rattle.flow_meaning.specs.Cells.{Ref}
 use Rattle.flow_meaning.specs.Frame.{Frame}
 use Rattle.flow_meaning.specs.Law.{AtRest}
-use Rattle.flow_meaning.specs.Numbered.{Numbered, thing}
+use Rattle.flow_numbered.specs.Numbered.{Numbered, thing}
 use Rattle.flow_meaning.specs.Process.{Entry, Proc}
 use Rattle.flow_meaning.specs.Views.{spot_at, frame_spot, unfinished, branches_from, waiting}
 use Rattle.flow_picture.specs.Shows.{Shows, FrameShows, stands, ended, here, at_wait, Position, ActorShows, nobody, somebody, Somebody, wait_spot, held_from}

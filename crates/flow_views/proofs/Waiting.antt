@@ -8,7 +8,7 @@ use Rattle.flow_worldfile.specs.declared.directive.Order.{Order}
 use Rattle.flow_worldfile.specs.declared.directive.Order.TheVariants.{Kill, Stop, Boot, Cut, Heal, DiskFail}
 use Rattle.flow_value.specs.Values.{IntValue, VoidValue, OutcomeTree, GoodOutcome}
 use Rattle.flow_class.specs.Classes.{RawTree}
-use Rattle.flow_meaning.specs.Numbered.{Numbered, thing}
+use Rattle.flow_numbered.specs.Numbered.{Numbered, thing}
 use Rattle.flow_meaning.specs.Process.{Task, Run, Give, Throw, Catch, Store, Keep, Close, Fire, Drop, Entry, Core}
 use Rattle.flow_meaning.specs.Step.{proc}
 use Rattle.flow_meaning.specs.Deliver.{idle, boot_core, boot_with, stop, deliver, arrive}

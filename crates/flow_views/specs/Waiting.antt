@@ -4,7 +4,7 @@ use Rattle.std.specs.List.{AllByRecursion}
 use Rattle.std.specs.declared.option.Option.TheVariants.{None, Some}
 use Rattle.flow_worldfile.specs.Worlds as file
 use Rattle.flow_class.specs.Classes.{RawTree}
-use Rattle.flow_meaning.specs.Numbered.{thing}
+use Rattle.flow_numbered.specs.Numbered.{thing}
 use Rattle.flow_meaning.specs.Process.{Entry, Proc}
 use Rattle.flow_meaning.specs.Burst.{Live, Burst}
 use Rattle.flow_meaning.specs.Outside.{Outside, host}

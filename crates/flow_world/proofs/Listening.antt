@@ -7,7 +7,7 @@ use Rattle.std.specs.BTreeMap.{get, is_at}
 use Rattle.std.specs.declared.option.Option.{Option}
 use Rattle.std.specs.declared.option.Option.TheVariants.{None, Some}
 use Rattle.flow_cancel.proofs.Noted.{at_number}
-use Rattle.flow_meaning.specs.Numbered.{Numbered, thing, added, removed}
+use Rattle.flow_numbered.specs.Numbered.{Numbered, thing, added, removed}
 use Rattle.flow_meaning.specs.Dropping.{port_of}
 use Rattle.flow_meaning.proofs.Posture.{same_number, other_number, each_number, thing_added, thing_removed_other}
 use Rattle.flow_picture.proofs.Finds.{thing_new}

@@ -15,7 +15,7 @@ use Rattle.flow_timers.specs.Pending.{Pending}
 use Rattle.flow_simnet.specs.declared.packet.Packet.{Packet}
 use Rattle.flow_simdisk.specs.declared.ask.DiskAsk.{DiskAsk}
 use Rattle.flow_meaning.specs.Burst.{Host}
-use Rattle.flow_meaning.specs.Numbered.{Numbered}
+use Rattle.flow_numbered.specs.Numbered.{Numbered}
 use Rattle.flow_meaning.specs.Outside as meaning
 use Rattle.flow_steps.specs.declared.process.Process.{Process}
 use Rattle.flow_machine.specs.declared.host.RunFault.TheVariants.{Astray}

@@ -15,7 +15,7 @@ use Rattle.flow_simnet.specs.declared.packet.Fate.{Fate}
 use Rattle.flow_simnet.specs.declared.packet.Fate.TheVariants.{Cut, Drawn, At}
 use Rattle.flow_simdisk.specs.declared.ask.DiskAsk.{DiskAsk}
 use Rattle.flow_machine.specs.Requests.{call_of}
-use Rattle.flow_meaning.specs.Numbered.{Numbered, thing, added}
+use Rattle.flow_numbered.specs.Numbered.{Numbered, thing, added}
 use Rattle.flow_meaning.specs.Dropping.{port_of}
 use Rattle.flow_meaning.specs.Asks.{Request, Drew, Timer, Packet, Disks}
 use Rattle.flow_meaning.specs.Outside.{Outside, serve, supply}

@@ -3,7 +3,7 @@ use Rattle.std.specs.Prelude.{◌≡◌, ℕ, List, [], ◌∷◌, Result, Ok}
 use Rattle.flow_base.specs.declared.ids.ProcId.{ProcId}
 use Rattle.flow_base.specs.declared.fault.OutFault.{OutFault}
 use Rattle.flow_trace.specs.declared.line.Line.{Line}
-use Rattle.flow_meaning.specs.Numbered.{Numbered}
+use Rattle.flow_numbered.specs.Numbered.{Numbered}
 use Rattle.flow_meaning.specs.Outside.{Outside}
 use Rattle.flow_world.specs.declared.ports.Ports.{Ports}
 use Rattle.flow_world.specs.Changes.{Surroundings}

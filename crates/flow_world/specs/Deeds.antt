@@ -4,7 +4,7 @@ use Rattle.flow_trace.specs.declared.line.Line.{Line}
 use Rattle.flow_code.specs.declared.program.Code.{Code}
 use Rattle.flow_value.specs.declared.value.Kind.TheVariants as kind
 use Rattle.flow_value.specs.declared.value.Outcome.TheVariants as outcome
-use Rattle.flow_meaning.specs.Numbered.{Numbered}
+use Rattle.flow_numbered.specs.Numbered.{Numbered}
 use Rattle.flow_meaning.specs.Burst.{Host}
 use Rattle.flow_steps.specs.declared.process.Process.{Process}
 use Rattle.flow_steps.specs.Doing.{begun}

@@ -28,7 +28,7 @@ use Rattle.flow_simdisk.specs.declared.ask.DiskAsk.{DiskAsk}
 use Rattle.flow_simdisk.specs.declared.ask.DiskReply.{DiskReply}
 use Rattle.flow_simdisk.specs.declared.write.Kept.{Kept}
 use Rattle.flow_simdisk.specs.Disk.{Disk}
-use Rattle.flow_meaning.specs.Numbered.{Numbered, thing}
+use Rattle.flow_numbered.specs.Numbered.{Numbered, thing}
 use Rattle.flow_meaning.specs.Outside as meaning
 use Rattle.flow_meaning.specs.World.{packet, disk_outcome, kept_line}
 use Rattle.flow_steps.specs.Doing.{vanished}

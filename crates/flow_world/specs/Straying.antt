@@ -23,7 +23,7 @@ use Rattle.flow_simnet.specs.declared.packet.Packet.{Packet}
 use Rattle.flow_simnet.specs.Links.{numbered}
 use Rattle.flow_simdisk.specs.declared.ask.DiskAsk.{DiskAsk}
 use Rattle.flow_simdisk.specs.declared.ask.DiskReply.{DiskReply}
-use Rattle.flow_meaning.specs.Numbered.{Numbered}
+use Rattle.flow_numbered.specs.Numbered.{Numbered}
 use Rattle.flow_meaning.specs.Burst.{Host}
 use Rattle.flow_meaning.specs.Outside as meaning
 use Rattle.flow_meaning.specs.World.{packet, disk_outcome}

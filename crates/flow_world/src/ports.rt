@@ -2,7 +2,7 @@
 
 ghost use Rattle.std.specs.Prelude.{◌≡◌, ℕ, List, [], OnOk, None};
 ghost use Rattle.std.specs.Option.{option_map};
-ghost use Rattle.flow_meaning.specs.Numbered.{Numbered, thing, added};
+ghost use Rattle.flow_numbered.specs.Numbered.{Numbered, thing, added};
 ghost use Rattle.flow_meaning.specs.Dropping.{port_of};
 ghost use Rattle.flow_machine.specs.Hosting.{unheard};
 ghost use Rattle.flow_world.specs.Ports.{PortsShow};
