@@ -20,8 +20,9 @@ use Rattle.flow_picture.proofs.Beside.{one_each, port_gone}
 use Rattle.flow_steps.specs.declared.call.Call.{Call}
 use Rattle.flow_steps.specs.declared.call.Call.TheVariants as call
 use Rattle.flow_machine.specs.Hosting.{unheard_at, unheard}
+use Rattle.flow_follows.specs.Stepped.{OnlyTells}
 use Rattle.flow_kept.specs.Staying.{ports_after}
-use Rattle.flow_bursts.specs.Bursting.{IsTold, ports_left}
+use Rattle.flow_bursts.specs.Bursting.{ports_left}
 use Rattle.flow_executes.specs.Going.{Silent, no_more, then_on}
 use Rattle.flow_asked.specs.Ports as law
 use Rattle.flow_asked.specs.Ports.{PortsChange, same, more}
@@ -196,7 +197,7 @@ ports_remain r s h g p q told sh sg numbers once steps is_told streams = by_told
             (λ j l. none_removed j port p.core.ports (none_over 0 p.core.made j p.core.ports l numbers.ports))
             (λ j. sym (sg.ports j) ∙ ap (λ ns. has_number ns j) e ∙ gone.ports j)
 
-    by_told : (told : Option Call) → IsTold told → g.ports ≡ ports_after told h.ports → q.core.ports ≡ ports_left told p.core.ports
+    by_told : (told : Option Call) → OnlyTells told → g.ports ≡ ports_after told h.ports → q.core.ports ≡ ports_left told p.core.ports
     by_told None t e = all_left e
     by_told (Some (call.Line l)) t e = all_left e
     by_told (Some (call.Unlisten k)) t e = one_gone k.0 e

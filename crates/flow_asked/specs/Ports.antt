@@ -14,8 +14,9 @@ use Rattle.flow_meaning.specs.Frame.{Frame}
 use Rattle.flow_picture.specs.Shows.{Shows}
 use Rattle.flow_picture.specs.Rested.{InNumbers}
 use Rattle.flow_steps.specs.declared.call.Call.{Call}
+use Rattle.flow_follows.specs.Stepped.{OnlyTells}
 use Rattle.flow_kept.specs.Staying.{ports_after}
-use Rattle.flow_bursts.specs.Bursting.{IsTold, ports_left}
+use Rattle.flow_bursts.specs.Bursting.{ports_left}
 use Rattle.flow_executes.specs.Going.{Silent}
 
 -- What a step does to the ports: nothing; one whose stream is lost goes; or one comes, whose stream is the next
@@ -36,5 +37,5 @@ abbrev pub PortsLeft : Type 0
 PortsLeft =
     (r : RawTree) (s : Supply) (h g : HeapTree) (p q : Proc Frame) (told : Option Call) → Shows r h p → Shows r g q
     → InNumbers p.core → ((k : ℕ) → has_number (without_number h.ports k) k ≡ false) → Silent r s p q
-    → IsTold told → g.ports ≡ ports_after told h.ports
+    → OnlyTells told → g.ports ≡ ports_after told h.ports
     → q.core.ports ≡ ports_left told p.core.ports

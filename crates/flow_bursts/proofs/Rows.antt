@@ -32,6 +32,7 @@ use Rattle.flow_machine.specs.declared.host.Burst.{Burst}
 use Rattle.flow_machine.specs.declared.host.Burst.TheVariants as burst
 use Rattle.flow_machine.specs.Serving.{Served, ServedIf}
 use Rattle.flow_machine.specs.Bursts.{Bursts, rests, runs_out, asks}
+use Rattle.flow_follows.specs.Stepped.{OnlyTells}
 use Rattle.flow_follows.specs.Shown.{told, Shown, AreSpent, shows, ends}
 use Rattle.flow_follows.specs.Shown as memory
 use Rattle.flow_served.specs.Serving as serving
@@ -43,7 +44,7 @@ use Rattle.flow_kept.specs.Allowed.{IsRun}
 use Rattle.flow_kept.proofs.Once.{sorted_stays}
 use Rattle.flow_kept.proofs.Stays.{task_stays}
 use Rattle.flow_bursts.specs.Bursting as law
-use Rattle.flow_bursts.specs.Bursting.{IsTold, ports_left, Steadfast, Abroad, AsksWorld, TaskGoes, by_itself, by_the_world, TasksGo, Wrote, no_line, and_more, EndsAs, Follows}
+use Rattle.flow_bursts.specs.Bursting.{ports_left, Steadfast, Abroad, AsksWorld, TaskGoes, by_itself, by_the_world, TasksGo, Wrote, no_line, and_more, EndsAs, Follows}
 use Rattle.flow_bursts.proofs.Ports.{no_port}
 use Rattle.flow_poised.specs.Poised.{Poised, Branched}
 use Rattle.flow_poised.proofs.Tasks.{task_keeps}
@@ -98,7 +99,7 @@ module _ {A W : Type 0} (serves : Host W) (shown_by : A → Numbered ℕ → W �
     rested : (n : Process) (q : Proc Frame) → To p w q w → In ls n a q w → q.core.tasks ≡ [] → TasksEnd ls m a p w next.Rested n
     spent : (n : Process) (q : Proc Frame) → To p w q w → AreSpent ls n q → n.asked ≡ None → TasksEnd ls m a p w next.Spent n
     told_last : (n k : Process) (o q : Proc Frame) → To p w o w → In ls k a o w → Stays k n → Poised n.heap → To o w q w → memory.Follows r ls nothing_in_hand n q
-        → IsTold n.asked → (n.spent ≡ false → q.core.ports ≡ ports_left n.asked o.core.ports) → is_some n.asked ≡ true → TasksEnd ls m a p w next.Asks n
+        → OnlyTells n.asked → (n.spent ≡ false → q.core.ports ≡ ports_left n.asked o.core.ports) → is_some n.asked ≡ true → TasksEnd ls m a p w next.Asks n
     asked_last : (n k : Process) (o q : Proc Frame) → To p w o w → In ls k a o w → Stays k n → Poised n.heap → To o w q w → AsksWorld serves shown_by wrote code processes r ls n a q w
         → TasksEnd ls m a p w next.Asks n
 
@@ -205,7 +206,7 @@ module _ {A W : Type 0} (serves : Host W) (shown_by : A → Numbered ℕ → W �
       free s = no_port r n.heap q s.holds.shows (kept_then o q w w now.between.kept now.between.shown.goes s.goes reach).tied.numbers
 
       -- where it told nothing more than a line, or that a port is heard no more
-      told_then : (some : is_some n.asked ≡ true) (x : Option Call) → n.asked ≡ x → IsTold x → (n.spent ≡ false → q.core.ports ≡ ports_left x o.core.ports) → memory.Follows r ls nothing_in_hand n q
+      told_then : (some : is_some n.asked ≡ true) (x : Option Call) → n.asked ≡ x → OnlyTells x → (n.spent ≡ false → q.core.ports ≡ ports_left x o.core.ports) → memory.Follows r ls nothing_in_hand n q
           → ServedIf serves shown_by wrote processes x (unasked n) a j b → ServedThen ls a o w j b
       told_then some None is fits ports f served = absurd (none_some n.asked some is)
       told_then some (Some (call.Line l)) is fits ports (shows s) served =

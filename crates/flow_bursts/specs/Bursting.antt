@@ -28,18 +28,12 @@ use Rattle.flow_machine.specs.declared.host.Burst.TheVariants as burst
 use Rattle.flow_machine.specs.Hosting.{unheard}
 use Rattle.flow_machine.specs.Serving.{Served}
 use Rattle.flow_machine.specs.Bursts.{Bursts}
+use Rattle.flow_follows.specs.Stepped.{OnlyTells}
 use Rattle.flow_follows.specs.Shown.{Shown}
 use Rattle.flow_follows.specs.Shown as memory
 use Rattle.flow_served.specs.Serving.{Told, Done}
 use Rattle.flow_poised.specs.Poised.{Poised, Branched}
 use Rattle.flow_kept.specs.Allowed.{IsRun, BetweenTasks}
-
--- what a process asks that the world serves by writing a line, or by hearing a port no more
-abbrev pub IsTold : Option Call → Type 0
-IsTold None = Unit {0}
-IsTold (Some (call.Line l)) = Unit {0}
-IsTold (Some (call.Unlisten k)) = Unit {0}
-IsTold _ = ⊥
 
 -- the ports that are left of those of before
 abbrev pub ports_left : Option Call → Numbered ℕ → Numbered ℕ
@@ -80,7 +74,7 @@ module _ {A W : Type 0} (serves : Host W) (shows : A → Numbered ℕ → W → 
   -- A task that is done in memory is a row of steps; the last of them may ask something of the world.
   pub data TaskGoes (ls : List Line) (n : Process) (a : A) (p : Proc Frame) (w : W) : Type 0 where
     by_itself : (q : Proc Frame) → Reaches (classes r) serves (live p w) (live q w) → memory.Follows r ls nothing_in_hand n q
-        → IsTold n.asked → (n.spent ≡ false → q.core.ports ≡ ports_left n.asked p.core.ports) → TaskGoes ls n a p w
+        → OnlyTells n.asked → (n.spent ≡ false → q.core.ports ≡ ports_left n.asked p.core.ports) → TaskGoes ls n a p w
     by_the_world : (q : Proc Frame) → Reaches (classes r) serves (live p w) (live q w) → AsksWorld ls n a q w
         → TaskGoes ls n a p w
 

@@ -29,20 +29,21 @@ use Rattle.flow_steps.specs.declared.process.Process.{Process}
 use Rattle.flow_steps.specs.Doing.{doing}
 use Rattle.flow_steps.specs.Standing.{noted}
 use Rattle.flow_steps.specs.Sights.{with_left, Halted, Evaluates, gives, throws, runs_out}
+use Rattle.flow_follows.specs.Stepped.{OnlyTells}
 use Rattle.flow_follows.specs.Shown.{Shown, AreSpent, shows, ends, with_task}
 use Rattle.flow_follows.specs.Placing.{Stood}
 use Rattle.flow_follows.specs.Carried.{StepsAs}
 use Rattle.flow_follows.specs.Evaluated.{GivesValue}
 use Rattle.flow_follows.proofs.Working.{as_many_shown, task_done}
 use Rattle.flow_follows.proofs.Carrying.{with_turns, asked}
-use Rattle.flow_effects.specs.Asking.{resumed, IsTold, Answered, by_itself, MayAsk}
+use Rattle.flow_effects.specs.Asking.{resumed, Answered, by_itself, MayAsk}
 
 -- nothing is asked, or a line is told
-pub nothing_told : (o : Option Call) → o ≡ None → IsTold o
-nothing_told o e = subst IsTold (sym e) tt
+pub nothing_told : (o : Option Call) → o ≡ None → OnlyTells o
+nothing_told o e = subst OnlyTells (sym e) tt
 
-pub line_told : (o : Option Call) (l : Line) → o ≡ Some (call.Line l) → IsTold o
-line_told o l e = subst IsTold (sym e) tt
+pub line_told : (o : Option Call) (l : Line) → o ≡ Some (call.Line l) → OnlyTells o
+line_told o l e = subst OnlyTells (sym e) tt
 
 -- one evaluation after another
 pub evaluated_then : {A B C : Type 0} (a : A) (o : Res B) (go : B → ℕ → Res C) (on : C → ℕ → StepOf A)

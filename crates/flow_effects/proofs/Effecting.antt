@@ -45,6 +45,7 @@ use Rattle.flow_steps.specs.Standing.{noted}
 use Rattle.flow_steps.specs.Sights.{with_left, Evaluates}
 use Rattle.flow_steps.specs.Acting.{Values, args_of, disk_of, EffectAsked, ActorCalled, not_called, actor_starts, EffectDone}
 use Rattle.flow_machine.specs.Requests.{asked_of}
+use Rattle.flow_follows.specs.Stepped.{OnlyTells}
 use Rattle.flow_follows.specs.Shown.{Shown, shows, told}
 use Rattle.flow_follows.specs.Working.{SameGoal}
 use Rattle.flow_follows.specs.Placing.{Stood}
@@ -52,7 +53,7 @@ use Rattle.flow_follows.specs.Evaluated.{GivesValue}
 use Rattle.flow_follows.proofs.Making.{same_goal_by, cell_given}
 use Rattle.flow_follows.proofs.Takings.{turned_asked}
 use Rattle.flow_follows.proofs.Carrying.{asked}
-use Rattle.flow_effects.specs.Asking.{Asks, draws, delays, listens, disks, resumed, AsksAs, IsTold, Answered, by_itself, by_the_world, MayAsk}
+use Rattle.flow_effects.specs.Asking.{Asks, draws, delays, listens, disks, resumed, AsksAs, Answered, by_itself, by_the_world, MayAsk}
 use Rattle.flow_effects.specs.Effects as law
 use Rattle.flow_effects.specs.Effects.{SameEffect, MayMake}
 use Rattle.flow_effects.proofs.Answering.{nothing_told, line_told, resumed_stood, evaluation_at}
@@ -152,7 +153,7 @@ module _ (r : RawTree) (ls : List Line) (m : Process) (p : Proc Frame) (i : ℕ)
         silent_start None k left = refl
         silent_start (Some a) k left = refl
 
-        start_told : (k : Process) (caller : ActorId) (class : ℕ) (args : Values) (n : Process) → k.asked ≡ None → ActorCalled code caller g class args.items k n → IsTold n.asked
+        start_told : (k : Process) (caller : ActorId) (class : ℕ) (args : Values) (n : Process) → k.asked ≡ None → ActorCalled code caller g class args.items k n → OnlyTells n.asked
         start_told k caller class args n none (not_called l q) = nothing_told n.asked (ap (λ (z : Process). z.asked) q ∙ turned_asked k ∙ none)
         start_told k caller class args n none (actor_starts l z) = line_told n.asked (line.Start z.actor z.starts.of.name) (ap (λ (z : Process). z.asked) z.starts.told)
     by_called (World q) (effect.Actor c) args comes_to left pace n is may done next goes = absurd is

@@ -60,6 +60,7 @@ use Rattle.flow_steps.specs.Standing.{reframed, noted, next_stand, place_held, f
 use Rattle.flow_steps.specs.Sights.{with_left}
 use Rattle.flow_steps.specs.Acting.{Sends, MethodCalled}
 use Rattle.flow_steps.specs.Stepping.{IsMethod, IsMethodOf}
+use Rattle.flow_follows.specs.Stepped.{OnlyTells}
 use Rattle.flow_follows.specs.Shown.{Shown, Follows, shows, with_task, Sound}
 use Rattle.flow_follows.specs.Going.{MayBeStale}
 use Rattle.flow_follows.specs.Evaluated.{GivesValue}
@@ -67,7 +68,7 @@ use Rattle.flow_follows.proofs.Working.{as_many_shown, task_done}
 use Rattle.flow_follows.proofs.Cancelling.{owner_stopped}
 use Rattle.flow_follows.proofs.Brought.{there_by, all_there_by, sending_follows}
 use Rattle.flow_follows.proofs.Takings.{turned_asked}
-use Rattle.flow_effects.specs.Asking.{resumed, IsTold, Answered, by_itself}
+use Rattle.flow_effects.specs.Asking.{resumed, Answered, by_itself}
 use Rattle.flow_effects.specs.Calling as law
 use Rattle.flow_effects.specs.Calling.{AimsAtRef, MayCall}
 use Rattle.flow_effects.proofs.Answering.{nothing_told, evaluated_then, evaluation_at}
@@ -117,7 +118,7 @@ sending_asked i kd k o m = by_tests (complete_at kd k m.heap) (nat_lt 0 m.left)
     by_tests false true = turned_asked m
     by_tests false false = turned_asked m
 
-pub cancelled_told : (d : Dropped) (m : Process) → m.asked ≡ None → IsTold (cancelled_if d m).asked
+pub cancelled_told : (d : Dropped) (m : Process) → m.asked ≡ None → OnlyTells (cancelled_if d m).asked
 cancelled_told (after.Cancel a) m none = tt
 cancelled_told after.Nothing m none = nothing_told m.asked none
 cancelled_told after.Freed m none = nothing_told m.asked none
@@ -193,7 +194,7 @@ module _ (r : RawTree) (ls : List Line) (m : Process) (p : Proc Frame) (i : ℕ)
           steps = stepped r ls m p i e f x s w st left (asks.Cancels k.0) is;
           carries = shows (subst (λ z. Shown r ls x z (on_core (λ c. cancel_owner (owner k.0 c.entries) c) (ran left))) (sym out)
               (owner_stopped r ls x (doing (task.Run (actor_id i)) n1) (ran left) k.0 run may.asked (sound_then left st.acting may.sound) sorted_then));
-        }) (subst (λ (z : Process). IsTold z.asked) (sym out) (cancelled_told (dropping.cancel_owner n1.heap.actors.things (heap.owner k.0 n1.heap.actors.things)) (doing (task.Run (actor_id i)) n1) may.asked))
+        }) (subst (λ (z : Process). OnlyTells z.asked) (sym out) (cancelled_told (dropping.cancel_owner n1.heap.actors.things (heap.owner k.0 n1.heap.actors.things)) (doing (task.Run (actor_id i)) n1) may.asked))
 
     by_method : (called : Method) (kd : Kind) (k : CellId) (given : Option Value) (left : ℕ) (n : Process) → There p (kd, k.0) → AllThere p (refs_of (arg (map value_of (given_values given)) 0))
         → MethodCalled (actor_id i) called kd k given (noted (next_stand s) (with_left left m)) n

@@ -1,6 +1,5 @@
 -- What an actor in memory asks of the world is what it asks by the definitions.
 use Rattle.std.specs.Prelude.{◌≡◌, ℕ, ℤ, List}
-use Rattle.std.specs.declared.option.Option.{Option}
 use Rattle.std.specs.declared.option.Option.TheVariants.{None, Some}
 use Rattle.flow_base.specs.declared.ids.ActorId.{ActorId}
 use Rattle.flow_class.specs.Classes.{RawTree}
@@ -27,6 +26,7 @@ use Rattle.flow_steps.specs.declared.process.Process.{Process}
 use Rattle.flow_steps.specs.Doing.{unasked}
 use Rattle.flow_steps.specs.Standing.{noted}
 use Rattle.flow_machine.specs.Requests.{asked_of}
+use Rattle.flow_follows.specs.Stepped.{OnlyTells}
 use Rattle.flow_follows.specs.Shown.{Shown}
 use Rattle.flow_follows.specs.Working.{SameGoal}
 use Rattle.flow_follows.specs.Placing.{Stood}
@@ -61,17 +61,10 @@ pub record AsksAs (r : RawTree) (ls : List Line) (x : Scan) (w : Supply) (p : Pr
   pub steps : step (classes r) w (on_core (pushed (Run i)) p)
       ≡ Some (reacted (put p.actors i frame) (react w i act (resumed i frame left p).core))
 
--- what a step asks where it asks nothing of an actor: that a line be written, that a port be heard no more, or nothing
-abbrev pub IsTold : Option Call → Type 0
-IsTold None = Unit {0}
-IsTold (Some (call.Line l)) = Unit {0}
-IsTold (Some (call.Unlisten k)) = Unit {0}
-IsTold _ = ⊥
-
 -- A step in memory after which other tasks come first is one that the process answers by itself, or one that the world is asked.
 pub data Answered (r : RawTree) (ls : List Line) (x : Scan) (w : Supply) (p : Proc Frame) (i : ℕ) (e : Entry) (pace : Pace) (n : Process)
     : Type 0 where
-  by_itself : StepsAs r ls x w p i e pace n → IsTold n.asked → Answered r ls x w p i e pace n
+  by_itself : StepsAs r ls x w p i e pace n → OnlyTells n.asked → Answered r ls x w p i e pace n
   by_the_world : pace ≡ Off → AsksAs r ls x w p i n → Answered r ls x w p i e pace n
 
 -- An actor that takes a step: memory shows it once its frame there is told where it stands.

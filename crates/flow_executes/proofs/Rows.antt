@@ -20,10 +20,11 @@ use Rattle.flow_steps.specs.declared.next.Pace.TheVariants.{On, Off}
 use Rattle.flow_steps.specs.declared.process.Process.{Process}
 use Rattle.flow_steps.specs.Sights.{program_time}
 use Rattle.flow_steps.specs.Stepping.{GoesOn, StepsOn, Runs, runs_on, runs_off}
+use Rattle.flow_follows.specs.Stepped.{OnlyTells}
 use Rattle.flow_follows.specs.Shown.{Follows}
 use Rattle.flow_follows.specs.Seeing.{IsCodeOf}
 use Rattle.flow_executes.specs.Going as going
-use Rattle.flow_executes.specs.Going.{Silent, no_more, then_on, MayStep, moves, chooses, GoesBy, Leads, InClass, GoesFurther, OnlyTells}
+use Rattle.flow_executes.specs.Going.{Silent, no_more, then_on, MayStep, moves, chooses, GoesBy, Leads, InClass, GoesFurther}
 use Rattle.flow_executes.specs.Executing.{coded_by, InProgram, Asks, by_effect, by_act, by_method, by_operand}
 use Rattle.flow_executes.specs.Running as law
 use Rattle.flow_executes.specs.Running.{Allows, AsksAtLast, RanOff}

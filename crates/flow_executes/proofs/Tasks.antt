@@ -31,12 +31,12 @@ use Rattle.flow_steps.specs.Holding.{value_refs}
 use Rattle.flow_steps.specs.Tasks.{Given, Stored, TopTaken, IsKept, IsDone}
 use Rattle.flow_follows.specs.Shown.{Shown, with_task}
 use Rattle.flow_follows.specs.Placing.{Acts, Stood}
-use Rattle.flow_follows.specs.Stepped.{TopOff, Doable}
+use Rattle.flow_follows.specs.Stepped.{OnlyTells, TopOff, Doable}
 use Rattle.flow_follows.proofs.Working.{as_many_shown}
 use Rattle.flow_follows.proofs.Gone.{appended}
 use Rattle.flow_follows.proofs.Doing as stepped
 use Rattle.flow_follows.proofs.Doing.{top_follows}
-use Rattle.flow_executes.specs.Going.{GoesFurther, OnlyTells}
+use Rattle.flow_executes.specs.Going.{GoesFurther}
 use Rattle.flow_executes.specs.Giving.{MayStore, TaskSteps}
 use Rattle.flow_executes.specs.Tasking as law
 use Rattle.flow_executes.specs.Tasking.{TaskGoes, is_step, goes_further, runs, MayGo, is_free, has_operands, MayGet, MayKeepOne, MayBeDone}

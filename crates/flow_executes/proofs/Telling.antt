@@ -43,8 +43,8 @@ use Rattle.flow_steps.specs.Waiting.{TakesBranch, no_turn, takes_branch, Keeps, 
 use Rattle.flow_steps.specs.Sights.{Evaluates, gives, throws, runs_out}
 use Rattle.flow_steps.specs.Stepping.{OnAfter, IsSet, Does, Passes, no_pass, pass_begins, IsTest, ReferenceKept, OperandStep, Chooses, asks_operand, all_kept, ErrorThrown, Ends, by_instruction, by_last, kept_by, StepsOn}
 use Rattle.flow_steps.specs.Tasks.{FiresAt, drops_one, IsDone, Stored}
+use Rattle.flow_follows.specs.Stepped.{OnlyTells}
 use Rattle.flow_follows.proofs.Takings.{turned_asked}
-use Rattle.flow_executes.specs.Going.{OnlyTells}
 use Rattle.flow_executes.specs.Executing.{Asks, by_effect, by_act, by_method, by_operand}
 
 -- nothing is asked

@@ -1,7 +1,7 @@
 -- What an actor in memory does by an instruction is a row of steps of the class machine.
 use Rattle.std.specs.Prelude.{◌≡◌, ℕ, true, false, List, slice_get}
 use Rattle.std.specs.declared.option.Option.{Option}
-use Rattle.std.specs.declared.option.Option.TheVariants.{None, Some}
+use Rattle.std.specs.declared.option.Option.TheVariants.{Some}
 use Rattle.flow_base.specs.declared.ids.ActorId.{ActorId}
 use Rattle.flow_value.specs.declared.value.Value.{Value}
 use Rattle.flow_class.specs.Classes.{RawTree}
@@ -16,8 +16,6 @@ use Rattle.flow_meaning.specs.Work.{pushed}
 use Rattle.flow_meaning.specs.Step.{silent, step, on_core}
 use Rattle.flow_meaning.specs.Class.{classes}
 use Rattle.flow_meaning.specs.Frame.{Frame}
-use Rattle.flow_steps.specs.declared.call.Call.{Call}
-use Rattle.flow_steps.specs.declared.call.Call.TheVariants as call
 use Rattle.flow_steps.specs.declared.frames.Stand.{Stand}
 use Rattle.flow_steps.specs.declared.next.Pace.{Pace}
 use Rattle.flow_steps.specs.declared.next.Pace.TheVariants.{On, Off}
@@ -26,6 +24,7 @@ use Rattle.flow_steps.specs.Holding.{on_heap}
 use Rattle.flow_steps.specs.Waiting.{Keeps}
 use Rattle.flow_steps.specs.Stepping as stepping
 use Rattle.flow_steps.specs.Tasks.{TopTaken, bound}
+use Rattle.flow_follows.specs.Stepped.{OnlyTells}
 use Rattle.flow_follows.specs.Shown.{Follows}
 use Rattle.flow_follows.specs.Placing.{Stood}
 use Rattle.flow_follows.specs.Taking.{Standing, AtWait, MayGo}
@@ -93,14 +92,6 @@ pub data Leads (code : Code) : Process → Process → Type 0 where
 pub record InClass (code : Code) (number : ℕ) (s : Stand) : Type 0 where
   pub class : slice_get code.classes.items number ≡ Some s.class.now
   pub block : slice_get s.class.now.blocks.items s.place ≡ Some s.block.now
-
--- what a step asks where it asks nothing of an actor's: nothing, that a line be written, or that a port be heard
--- no more
-abbrev pub OnlyTells : Option Call → Type 0
-OnlyTells None = Unit {0}
-OnlyTells (Some (call.Line l)) = Unit {0}
-OnlyTells (Some (call.Unlisten k)) = Unit {0}
-OnlyTells _ = ⊥
 
 -- An actor begins its steps in memory with a value in its place, where what that held is left over; or with an
 -- operand kept.

@@ -18,9 +18,10 @@ use Rattle.flow_steps.specs.declared.next.Pace.TheVariants.{Off}
 use Rattle.flow_steps.specs.declared.process.Process.{Process}
 use Rattle.flow_steps.specs.Sights.{program_time}
 use Rattle.flow_steps.specs.Stepping.{Runs}
+use Rattle.flow_follows.specs.Stepped.{OnlyTells}
 use Rattle.flow_follows.specs.Shown.{Follows}
 use Rattle.flow_follows.specs.Seeing.{IsCodeOf}
-use Rattle.flow_executes.specs.Going.{MayStep, Silent, Leads, InClass, OnlyTells, GoesFurther}
+use Rattle.flow_executes.specs.Going.{MayStep, Silent, Leads, InClass, GoesFurther}
 use Rattle.flow_executes.specs.Executing.{MayDoNext, InProgram, Asks}
 
 -- What holds of each process of an event is kept by its steps, and allows the next step of an actor whose

@@ -25,8 +25,8 @@ use Rattle.flow_steps.specs.Tasks.{TopTaken, IsDone}
 use Rattle.flow_follows.specs.Shown.{Shown, Sound}
 use Rattle.flow_follows.specs.Placing.{Acts}
 use Rattle.flow_follows.specs.Keeping.{MayKeep}
-use Rattle.flow_follows.specs.Stepped.{MayDo, Steps}
-use Rattle.flow_executes.specs.Going.{AtOperands, GoesFurther, OnlyTells}
+use Rattle.flow_follows.specs.Stepped.{OnlyTells, MayDo, Steps}
+use Rattle.flow_executes.specs.Going.{AtOperands, GoesFurther}
 use Rattle.flow_executes.specs.Giving.{Begins, MayRun, MayBranch, MayStore}
 
 -- what a task that was the newest leads to, when it is off

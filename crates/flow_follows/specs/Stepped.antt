@@ -1,5 +1,6 @@
 -- A task that needs no step of an actor, done in memory, is a step of the class machine.
 use Rattle.std.specs.Prelude.{◌≡◌, List, ◌∷◌}
+use Rattle.std.specs.declared.option.Option.{Option}
 use Rattle.std.specs.declared.option.Option.TheVariants.{None, Some}
 use Rattle.flow_class.specs.Classes.{RawTree}
 use Rattle.flow_code.specs.declared.program.Code.{Code}
@@ -15,6 +16,8 @@ use Rattle.flow_picture.specs.Counted.{nothing_in_hand}
 use Rattle.flow_picture.specs.Rested.{Sorted}
 use Rattle.flow_picture.specs.Changes.{SameTask}
 use Rattle.flow_picture.specs.Holds.{There}
+use Rattle.flow_steps.specs.declared.call.Call.{Call}
+use Rattle.flow_steps.specs.declared.call.Call.TheVariants as call
 use Rattle.flow_steps.specs.declared.process.Process.{Process}
 use Rattle.flow_steps.specs.Tasks.{TopTaken, IsDone}
 use Rattle.flow_follows.specs.Shown.{Shown, Follows, Sound, with_task}
@@ -22,6 +25,13 @@ use Rattle.flow_follows.specs.Placing.{Acts}
 use Rattle.flow_follows.specs.Closing.{MayClose}
 use Rattle.flow_follows.specs.Tasking.{MayFire}
 use Rattle.flow_follows.specs.Throwing.{MayThrow}
+
+-- what a process asks that is no actor's: nothing, that a line be written, or that a port be heard no more
+abbrev pub OnlyTells : Option Call → Type 0
+OnlyTells None = Unit {0}
+OnlyTells (Some (call.Line l)) = Unit {0}
+OnlyTells (Some (call.Unlisten k)) = Unit {0}
+OnlyTells _ = ⊥
 
 -- The newest task is taken off, in memory and in the process, and what it holds is in hand.
 pub record TopOff (r : RawTree) (ls : List Line) (t : stack.Task) (start : Process) (p : Proc Frame) : Type 0 where

@@ -33,7 +33,6 @@ use Rattle.flow_unstuck.specs.Places.{HoldsTypes}
 use Rattle.flow_unstuck.specs.Fitting.{typed_by, DoingFits, PostureFits}
 use Rattle.flow_unstuck.proofs.StepFits.{actor_here}
 use Rattle.flow_steps.specs.declared.call.Call.{Call}
-use Rattle.flow_steps.specs.declared.call.Call.TheVariants as call
 use Rattle.flow_steps.specs.declared.frames.Stand.{Stand}
 use Rattle.flow_steps.specs.declared.next.Pace.{Pace}
 use Rattle.flow_steps.specs.declared.next.Pace.TheVariants.{On, Off}
@@ -44,7 +43,7 @@ use Rattle.flow_steps.specs.Tasks.{TopTaken, IsDone, bound}
 use Rattle.flow_follows.specs.Shown.{Sound, Follows, shows, ends}
 use Rattle.flow_follows.specs.Placing.{Acts}
 use Rattle.flow_follows.specs.Coded.{CodedBy}
-use Rattle.flow_follows.specs.Stepped.{TopOff}
+use Rattle.flow_follows.specs.Stepped.{OnlyTells, TopOff}
 use Rattle.flow_follows.proofs.Doing.{top_follows}
 use Rattle.flow_awake.specs.Awake.{HasCallback}
 use Rattle.flow_kept.specs.Kept.{Kept}
@@ -55,9 +54,9 @@ use Rattle.flow_kept.proofs.Off.{sound_off, unfinished}
 use Rattle.flow_kept.proofs.Acting.{acts_at, standing_there}
 use Rattle.flow_kept.proofs.Quiet.{Calm, Quiet, After, after_then, quiet_still, quiet_then, on_heap_quiet, left_over, keeps_after, step_after}
 use Rattle.flow_kept.proofs.Stays.{task_stays, bound_stays, popped_quiet}
-use Rattle.flow_bursts.specs.Bursting.{IsTold, ports_left, Abroad, TaskGoes, by_itself, by_the_world}
+use Rattle.flow_bursts.specs.Bursting.{ports_left, Abroad, TaskGoes, by_itself, by_the_world}
 use Rattle.flow_bursts.proofs.Rows.{burst_follows}
-use Rattle.flow_executes.specs.Going.{Silent, no_more, then_on, MayStep, moves, chooses, OnlyTells, Leads, stays_there, goes_on, Began, by_value, by_operand}
+use Rattle.flow_executes.specs.Going.{Silent, no_more, then_on, MayStep, moves, chooses, Leads, stays_there, goes_on, Began, by_value, by_operand}
 use Rattle.flow_executes.specs.Running.{Allows, AsksAtLast, RanOff}
 use Rattle.flow_executes.specs.Tasking as executes
 use Rattle.flow_executes.specs.Tasking.{is_step, goes_further, runs}
@@ -78,27 +77,6 @@ use Rattle.flow_allowed.specs.Tasking.{IsProgram, StateIsNone, InNoWait}
 use Rattle.flow_allowed.proofs.Steps.{step_allowed}
 use Rattle.flow_allowed.proofs.Tasks.{any_goes}
 use Rattle.flow_goes.specs.Goes as law
-
--- what is told, in the words of each crate
-pub told_here : (o : Option Call) → OnlyTells o → IsTold o
-told_here None h = tt
-told_here (Some (call.Line l)) h = tt
-told_here (Some (call.Unlisten k)) h = tt
-told_here (Some (call.Draw i g lo hi)) h = absurd h
-told_here (Some (call.Delay i g t)) h = absurd h
-told_here (Some (call.Listen i g t)) h = absurd h
-told_here (Some (call.Disk i g d)) h = absurd h
-told_here (Some (call.SendTo i t port text)) h = absurd h
-
-pub told_there : (o : Option Call) → effects.IsTold o → IsTold o
-told_there None h = tt
-told_there (Some (call.Line l)) h = tt
-told_there (Some (call.Unlisten k)) h = tt
-told_there (Some (call.Draw i g lo hi)) h = absurd h
-told_there (Some (call.Delay i g t)) h = absurd h
-told_there (Some (call.Listen i g t)) h = absurd h
-told_there (Some (call.Disk i g d)) h = absurd h
-told_there (Some (call.SendTo i t port text)) h = absurd h
 
 -- what an actor asks of the world is about no port that is heard
 not_heard : (p : Proc Frame) (i : _) (c : Call) (a : asking.Act) → effects.Asks p i c a → (ps : List ℕ) → ports_after (Some c) ps ≡ ps
@@ -251,7 +229,7 @@ module _ (r : RawTree) (code : Code) (program : IsProgram r code) where
       abbrev Goes : Type 0
       Goes = TaskGoes serves shown_by wrote code processes r ls n a p w
 
-      ports : (q : Proc Frame) → Follows r ls nothing_in_hand n q → IsTold n.asked → Silent r (serves.supply w) p q → n.spent ≡ false → q.core.ports ≡ ports_left n.asked p.core.ports
+      ports : (q : Proc Frame) → Follows r ls nothing_in_hand n q → OnlyTells n.asked → Silent r (serves.supply w) p q → n.spent ≡ false → q.core.ports ≡ ports_left n.asked p.core.ports
       ports q (shows s) told row unspent =
           ports_remain r (serves.supply w) m.heap n.heap p q n.asked now.between.shown.holds.shows s.holds.shows now.between.kept.tied.numbers now.between.sorted.ports row told stays.ports
       ports q (ends s) told row unspent = absurd (both_ways s.spent unspent)
@@ -263,7 +241,7 @@ module _ (r : RawTree) (code : Code) (program : IsProgram r code) where
       clock = now.clock ∙ ap pos now.time
 
       ran_off : RanOff r ls nothing_in_hand (serves.supply w) (Kept r) code p n → Goes
-      ran_off x = let told = told_here n.asked x.told in by_itself x.after (silent_reaches w p x.after x.steps) x.follows told (ports x.after x.follows told x.steps)
+      ran_off x = by_itself x.after (silent_reaches w p x.after x.steps) x.follows x.told (ports x.after x.follows x.told x.steps)
 
       asks_last : (i : ℕ) (from : Process) → Sorted from.heap → AsksAtLast r ls nothing_in_hand (serves.supply w) (Kept r) code program.coded i p from n → Goes
       asks_last i from sorted x =
@@ -289,7 +267,7 @@ module _ (r : RawTree) (code : Code) (program : IsProgram r code) where
           by_answer : Answered r ls nothing_in_hand (serves.supply w) x.process i x.entry Off n → Goes
           by_answer (effects.by_itself s told) =
               let row = with_last r (serves.supply w) p full s.after x.steps s.steps in
-              let told = told_there n.asked told in by_itself s.after (silent_reaches w p s.after row) s.carries told (ports s.after s.carries told row)
+              by_itself s.after (silent_reaches w p s.after row) s.carries told (ports s.after s.carries told row)
           by_answer (effects.by_the_world is ask) =
               by_the_world full (silent_reaches w p full x.steps)
               (world_asked serves shown_by wrote code processes r ls n a x.process i w ask sound.numbers (stays.time ∙ now.time) now.among (subst (λ ps. shown_by a ps w) (sym same) now.world))
@@ -307,7 +285,7 @@ module _ (r : RawTree) (code : Code) (program : IsProgram r code) where
       by_goes : executes.TaskGoes code r ls (serves.supply w) p start n → Goes
       by_goes (is_step s told) =
           let row = then_on p s.after s.after s.steps (no_more s.after) in
-          let told = told_here n.asked told in by_itself s.after (silent_reaches w p s.after row) s.follows told (ports s.after s.follows told row)
+          by_itself s.after (silent_reaches w p s.after row) s.follows told (ports s.after s.follows told row)
       by_goes (goes_further i class g) =
           let none = off.asked ∙ now.asked in
           let after = began_after start g.pace g.between none g.began in

@@ -5,7 +5,6 @@ use Rattle.flow_meant.specs.Meant.{AtStep}
 use Rattle.flow_meant.proofs.Here.{Fit}
 use Rattle.flow_meant.proofs.Froms.{EndOf, end_from}
 use Rattle.flow_executes.proofs.Rows.{entered, acting, runs_follow, further_follows}
-use Rattle.flow_bursts.specs.Bursting.{IsTold}
 use Rattle.flow_executes.specs.Going.{AtOperands, MayStep, moves, chooses}
 use Rattle.flow_executes.specs.Running.{AsksAtLast, RanOff}
 use Rattle.flow_executes.specs.Executing.{coded_by, InProgram, Asks, by_effect, by_act, by_method, by_operand}
@@ -60,6 +59,7 @@ use Rattle.flow_steps.specs.declared.frames.Stand.{Stand}
 use Rattle.flow_steps.specs.declared.next.Pace.{Pace}
 use Rattle.flow_steps.specs.declared.next.Pace.TheVariants.{Off}
 use Rattle.flow_steps.specs.declared.process.Process.{Process}
+use Rattle.flow_follows.specs.Stepped.{OnlyTells}
 use Rattle.flow_follows.proofs.Takings.{turned_asked}
 use Rattle.flow_code.specs.declared.class.Effect.{Effect}
 use Rattle.flow_steps.specs.declared.call.Call.{Call}
@@ -117,7 +117,7 @@ quiet_drawn n k e none amiss = nothing_drawn n.asked (ap (λ (z : Process). z.as
 asked_drawn : (n k : Process) (c : Call) → n ≡ asking c k → ServingAmiss n.asked → ServingAmiss (Some c)
 asked_drawn n k c e amiss = subst (λ (z : Process). ServingAmiss z.asked) e amiss
 
-told_drawn : (o : Option Call) → IsTold o → ServingAmiss o → ⊥
+told_drawn : (o : Option Call) → OnlyTells o → ServingAmiss o → ⊥
 told_drawn None told amiss = amiss
 told_drawn (Some (call.Line l)) told amiss = amiss
 told_drawn (Some (call.Unlisten k)) told amiss = amiss
@@ -172,7 +172,7 @@ called_drawn i m kind.PromiseStream k given p n none h amiss = quiet_drawn n _ h
 called_drawn i m kind.Future k given p n none h amiss =
     let q : Process = doing (task.Run i) p in
     let told = cancelled_told (cancel_owner q.heap.actors.things (owner k.0 q.heap.actors.things)) q none in
-    told_drawn n.asked (subst (λ (z : Process). IsTold z.asked) (sym h.1) (goes.told_there _ told)) amiss
+    told_drawn n.asked (subst (λ (z : Process). OnlyTells z.asked) (sym h.1) told) amiss
 called_drawn i m kind.FutureStream k given p n none h amiss = absurd h
 
 module _ (code : Code) (s : Stand) (n : Process) where
@@ -288,14 +288,14 @@ module _ (r : RawTree) (code : Code) (program : IsProgram r code) (ls : List Lin
 
   by_end : (i : ℕ) (start_at : Proc Frame) (from : Process) → Sorted from.heap
       → RanOff r ls nothing_in_hand supply (Kept r) code start_at n ⊎ AsksAtLast r ls nothing_in_hand supply (Kept r) code program.coded i start_at from n → ServingAmiss n.asked → ⊥
-  by_end i start_at from sorted (inl x) amiss = told_drawn n.asked (goes.told_here n.asked x.told) amiss
+  by_end i start_at from sorted (inl x) amiss = told_drawn n.asked x.told amiss
   by_end i start_at from sorted (inr x) amiss = asks_at_last i start_at from sorted x amiss
 
   sorted : Sorted start.heap
   sorted = still_sorted r code program ls m p now t start taken
 
   by_goes : TaskGoes code r ls supply p start n → ServingAmiss n.asked → ⊥
-  by_goes (is_step s told) amiss = told_drawn n.asked (goes.told_here n.asked told) amiss
+  by_goes (is_step s told) amiss = told_drawn n.asked told amiss
   by_goes (goes_further i class g) amiss =
       let none_off = off.asked ∙ none in
       let after = goes.began_after start g.pace g.between none_off g.began in
