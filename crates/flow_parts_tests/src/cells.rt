@@ -160,7 +160,7 @@ fn the_newest_of_a_waiter_leaves(rt: HostRuntime) -> Result<(), NoMemory> {
     Ok(())
 }
 
-// The next cell is told after each of three, and after one of them is removed.
+// The next of three cells is told after one that is there and one that isn't, and after one of them is removed.
 fn skips_none(cells: &mut Cells<u64>) -> Result<bool, NoMemory>
     requires { cells.old ≡ record { things = []; greatest = 0 } }
 {

@@ -156,7 +156,7 @@ fn fails_twice(alloc: Global, disk: &mut Disk, name: &Text) -> Result<bool, NoMe
     Ok(fails_to_sync(disk, name)? && fails_to_write(alloc, disk, name)? && has_size(disk, name, 0))
 }
 
-// A loss of power leaves it at what fails.
+// A loss of power uses up no failure.
 fn fails_after_a_loss(disk: &mut Disk, name: &Text, draws: &mut Draws) -> Result<bool, NoMemory> {
     disk.fail_next(1);
     Ok(loses_nothing(disk, draws)? && fails_to_read(disk, name)? && has_size(disk, name, 0))

@@ -107,7 +107,7 @@ fn is_put(alloc: Global, line: &Line, printed: &mut LineBuf, wanted: &[u8]) -> b
     puts(&mut out, line, printed, wanted)
 }
 
-// The line that these bytes spell is printed as these bytes, and a copy of it too.
+// A copy of the line that these bytes spell is printed as these bytes.
 fn is_read_back(alloc: Global, printed: &mut LineBuf, bytes: &[u8]) -> bool {
     let read = read_line(alloc, bytes);
     match &read {

@@ -267,7 +267,7 @@ fn restores_parts(rt: HostRuntime) -> Result<(), NoMemory> {
     Ok(())
 }
 
-// The packet with this count is sent: whether the one of half its number arrives.
+// The packet with this count is sent: whether the one behind half its number arrives.
 fn pass(
     alloc: Global,
     net: &mut Net,

@@ -288,10 +288,10 @@ fn reads_word(alloc: Global, word: Word) -> bool {
     }
 }
 
-fn first_unread_word(alloc: Global) -> Option<Word> {
+fn first_unread_word(alloc: Global) -> Option<&'static [u8]> {
     for word in Word::ALL {
         if !reads_word(alloc, word) {
-            return Some(word);
+            return Some(word.spelling());
         }
     }
     None
@@ -312,10 +312,10 @@ fn reads_sign(alloc: Global, sign: Sign) -> bool {
     }
 }
 
-fn first_unread_sign(alloc: Global) -> Option<Sign> {
+fn first_unread_sign(alloc: Global) -> Option<&'static [u8]> {
     for sign in Sign::ALL {
         if !reads_sign(alloc, sign) {
-            return Some(sign);
+            return Some(sign.spelling());
         }
     }
     None

@@ -74,7 +74,7 @@ fn reference_method(alloc: Global, word: &[u8]) -> Result<Expr, NoMemory> {
     method_expr(alloc, var(alloc, b"r")?, word, Vec::new(alloc))
 }
 
-// What a method of a reference comes to where the cells hold this.
+// Whether a method of a reference comes to what is wanted where the cells hold this.
 fn comes_at(
     alloc: Global,
     (kind, word): (Kind, &[u8]),
@@ -117,7 +117,6 @@ fn first_wrong_reference(alloc: Global) -> Result<Option<(Kind, &'static [u8])>,
 
 #[test]
 fn methods_of_references(rt: HostRuntime) -> Result<(), NoMemory> {
-    let wrong = first_wrong_reference(rt.alloc())?;
-    assert!(rt; wrong.is_none());
+    assert_eq!(rt; first_wrong_reference(rt.alloc())?, None);
     Ok(())
 }

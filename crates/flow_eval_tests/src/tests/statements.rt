@@ -225,8 +225,7 @@ fn first_wrong_alone(alloc: Global) -> Result<Option<(i64, u32)>, NoMemory> {
 
 #[test]
 fn statements_take_turns_by_pass(rt: HostRuntime) -> Result<(), NoMemory> {
-    let wrong = first_wrong_alone(rt.alloc())?;
-    assert!(rt; wrong.is_none());
+    assert_eq!(rt; first_wrong_alone(rt.alloc())?, None);
     Ok(())
 }
 
