@@ -1,5 +1,5 @@
 -- What the functions that read expressions answer.
-use Rattle.std.specs.Prelude.{◌≡◌, ℕ, ◌+◌, ◌≤◌, ◌<◌, List, true, false, nat_lt, if◌then◌else◌, drop, length, Result, Ok, Err, slice_get}
+use Rattle.std.specs.Prelude.{◌≡◌, ℕ, suc, ◌+◌, ◌≤◌, ◌<◌, List, true, false, nat_lt, if◌then◌else◌, drop, length, Result, Ok, Err, slice_get}
 use Rattle.std.specs.declared.option.Option.{Option}
 use Rattle.std.specs.declared.option.Option.TheVariants.{None, Some}
 use Rattle.flow_base.specs.declared.place.Place.{Place}
@@ -20,7 +20,7 @@ use Rattle.flow_tree.specs.View.{expr_of, exprs_of}
 use Rattle.flow_exprs.specs.declared.expr.Read.{Read}
 use Rattle.flow_exprs.specs.declared.expr.ReadArgs.{ReadArgs}
 use Rattle.flow_tree.specs.Tree.{ExprTree, ExprTrees, IntExpr, TextExpr, BoolExpr, VarExpr, FieldExpr}
-use Rattle.flow_tree.specs.Grammar.{level}
+use Rattle.flow_tree.specs.Grammar.{level, dot_level}
 use Rattle.flow_exprs.specs.declared.kind.Kind.{Kind}
 use Rattle.flow_exprs.specs.declared.kind.Kind.TheVariants as kind
 use Rattle.flow_exprs.specs.declared.stop.Stop.{Stop}
@@ -28,6 +28,10 @@ use Rattle.flow_exprs.specs.declared.stop.Stop.TheVariants.{Short, Deep, NoMemor
 use Rattle.flow_exprs.specs.Kinds.{kind_at}
 use Rattle.flow_exprs.specs.Machine.{Stack, Want, Have, Head, WantArgs, called, height, heights, head_height, hole, fits_stack, Outcome, ShortAt, DeepAt, run, Below}
 use Rattle.flow_tree.specs.declared.limits.TheConstants.{DEPTH}
+
+-- the level of what not even a dot splits
+abbrev pub primary_level : ℕ
+primary_level = suc dot_level
 
 -- an opening bracket behind this expression makes no call
 abbrev pub NotCallable : ExprTree → Type 0
@@ -38,7 +42,7 @@ NotCallable _ = Unit {0}
 -- a token of this kind doesn't go on with the expression at this level or a higher one
 abbrev pub KindStops : ℕ → ExprTree → Kind → Type 0
 KindStops m t (kind.Op op) = level op < m
-KindStops m t kind.Dot = 7 < m
+KindStops m t kind.Dot = dot_level < m
 KindStops m t kind.Open = NotCallable t
 KindStops m t _ = Unit {0}
 
@@ -58,7 +62,7 @@ pub record ReadsExpr (spots : List Spot) (from n depth m : ℕ) (t : ExprTree) (
   pub after : from < to
   pub within : to ≤ length spots
   pub high_is : high ≡ height t
-  pub fits_in : depth + high ≤ 65
+  pub fits_in : depth + high ≤ suc DEPTH
   pub comes : (K : Stack) → Fit n depth K → run from (Want K) (drop from spots) ≡ run to (Have t K) (drop to spots)
   pub stops : Stops m t (kind_at spots to)
 
@@ -67,7 +71,7 @@ pub record Goes (spots : List Spot) (t : ExprTree) (from n depth m : ℕ) (u : E
   pub after : from < to
   pub within : to ≤ length spots
   pub high_is : high ≡ height u
-  pub fits_in : depth + high ≤ 65
+  pub fits_in : depth + high ≤ suc DEPTH
   pub comes : (K : Stack) → Fit n depth K → run from (Have t K) (drop from spots) ≡ run to (Have u K) (drop to spots)
   pub stops : Stops m u (kind_at spots to)
 
@@ -77,7 +81,7 @@ pub record ReadsArgs (spots : List Spot) (from depth : ℕ) (ts : ExprTrees) (hi
   pub within : to ≤ length spots
   pub high_is : high ≡ heights ts
   pub fits_in : depth + high ≤ DEPTH
-  pub comes : (h : Head) (K : Stack) → Fit 7 depth K → depth + head_height h ≤ DEPTH → run from (WantArgs h K) (drop from spots) ≡ run to (Have (called h ts) K) (drop to spots)
+  pub comes : (h : Head) (K : Stack) → Fit dot_level depth K → depth + head_height h ≤ DEPTH → run from (WantArgs h K) (drop from spots) ≡ run to (Have (called h ts) K) (drop to spots)
 
 -- why nothing is read
 abbrev pub Ends : Outcome → Stop → Type 0
@@ -89,7 +93,7 @@ abbrev pub Refuses : List Spot → ℕ → ℕ → ℕ → Stop → Type 0
 Refuses spots from n depth stop = (K : Stack) → Fit n depth K → Ends (run from (Want K) (drop from spots)) stop
 
 abbrev pub RefusesArgs : List Spot → ℕ → ℕ → Stop → Type 0
-RefusesArgs spots from depth stop = (h : Head) (K : Stack) → Fit 7 depth K → depth + head_height h ≤ DEPTH → Ends (run from (WantArgs h K) (drop from spots)) stop
+RefusesArgs spots from depth stop = (h : Head) (K : Stack) → Fit dot_level depth K → depth + head_height h ≤ DEPTH → Ends (run from (WantArgs h K) (drop from spots)) stop
 
 -- the sign with which the tokens go on at this level or a higher one
 abbrev pub next_op : ℕ → Option Kind → Option Op

@@ -10,7 +10,7 @@ use Rattle.flow_tree.specs.declared.expr.Op.{Op}
 use Rattle.flow_tree.specs.declared.expr.Op.TheVariants.{Sub}
 use Rattle.flow_tree.specs.declared.ty.Ident.{Ident}
 use Rattle.flow_tree.specs.Tree.{ExprTree, ExprTrees, IntExpr, TextExpr, BoolExpr, VoidExpr, VarExpr, CallExpr, FieldExpr, MethodExpr, NotExpr, NegExpr, BinaryExpr, ParenExpr, NoExprs, MoreExprs}
-use Rattle.flow_tree.specs.Grammar.{level}
+use Rattle.flow_tree.specs.Grammar.{level, unary_level}
 use Rattle.flow_exprs.specs.declared.kind.Kind.{Kind}
 use Rattle.flow_exprs.specs.declared.kind.Kind.TheVariants as kind
 use Rattle.flow_exprs.specs.Kinds.{kind_of}
@@ -200,7 +200,7 @@ fits_stack (InArgs h ts K) = nat_le (hole K + max (head_height h) (heights ts)) 
 
 abbrev pub fits : State → Bool
 fits (Want K) = fits_stack K
-fits (Have t K) = nat_le (hole K + height t) 65 && fits_stack K
+fits (Have t K) = nat_le (hole K + height t) (suc DEPTH) && fits_stack K
 fits (WantArgs h K) = nat_le (hole K + head_height h) DEPTH && fits_stack K
 fits (WantName t K) = nat_le (hole K + height t) DEPTH && fits_stack K
 fits (WantOpen K) = nat_le (hole K) DEPTH && fits_stack K
@@ -236,6 +236,6 @@ run k S (x ∷ xs) = turn k S (step S x) (run (suc k) (step S x) xs)
 abbrev pub Below : ℕ → Stack → Type 0
 Below n (Top d) = Unit {0}
 Below n (InParen K) = Unit {0}
-Below n (InUnary u K) = 6 ≤ n
+Below n (InUnary u K) = unary_level ≤ n
 Below n (InTwo op l K) = level op < n
 Below n (InArgs h ts K) = Unit {0}

@@ -1,5 +1,5 @@
 -- What the functions that read types answer.
-use Rattle.std.specs.Prelude.{◌≡◌, ℕ, ◌+◌, ◌≤◌, ◌<◌, List, true, drop, length, Result, Ok, Err}
+use Rattle.std.specs.Prelude.{◌≡◌, ℕ, suc, ◌+◌, ◌≤◌, ◌<◌, List, true, drop, length, Result, Ok, Err}
 use Rattle.flow_tree.specs.declared.token.Spot.{Spot}
 use Rattle.flow_tree.specs.Tree.{TypeTree}
 use Rattle.flow_tree.specs.View.{type_of}
@@ -7,6 +7,7 @@ use Rattle.flow_exprs.specs.declared.stop.Stop.{Stop}
 use Rattle.flow_exprs.specs.declared.stop.Stop.TheVariants.{Short, Deep, NoMemory}
 use Rattle.flow_exprs.specs.declared.ty.ReadType.{ReadType}
 use Rattle.flow_exprs.specs.TypeMachine.{Around, WantType, HaveType, type_hole, type_height, around_fits, TypeOutcome, TypeShort, TypeDeep, type_run}
+use Rattle.flow_tree.specs.declared.limits.TheConstants.{DEPTH}
 
 -- the machine may want a type of this depth here
 pub record TypeFit (depth : ℕ) (K : Around) : Type 0 where
@@ -17,7 +18,7 @@ pub record TypeFit (depth : ℕ) (K : Around) : Type 0 where
 pub record ReadsType (spots : List Spot) (from depth : ℕ) (t : TypeTree) (to : ℕ) : Type 0 where
   pub after : from < to
   pub within : to ≤ length spots
-  pub fits_in : depth + type_height t ≤ 65
+  pub fits_in : depth + type_height t ≤ suc DEPTH
   pub comes : (K : Around) → TypeFit depth K → type_run from (WantType K) (drop from spots) ≡ type_run to (HaveType t K) (drop to spots)
 
 abbrev pub TypeEnds : TypeOutcome → Stop → Type 0

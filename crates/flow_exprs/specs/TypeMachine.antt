@@ -144,7 +144,7 @@ around_fits (Inside w K) = nat_le (type_hole K) DEPTH && around_fits K
 abbrev pub type_fits : TypeState → Bool
 type_fits (WantType K) = around_fits K
 type_fits (WantLess w K) = nat_le (type_hole K) DEPTH && around_fits K
-type_fits (HaveType t K) = nat_le (type_hole K + type_height t) 65 && around_fits K
+type_fits (HaveType t K) = nat_le (type_hole K + type_height t) (suc DEPTH) && around_fits K
 type_fits DeadType = true
 
 pub data TypeOutcome : Type 0 where

@@ -1,15 +1,16 @@
 // Expressions.
 
-ghost use Rattle.std.specs.Prelude.{◌≡◌, ◌↔◌, ℕ, ◌+◌, ◌<◌, ◌≤◌, length, MatchResult, OnSome, IsTrue, Some, slice_get};
+ghost use Rattle.std.specs.Prelude.{◌≡◌, ◌↔◌, ℕ, suc, ◌+◌, ◌<◌, ◌≤◌, length, MatchResult, OnSome, IsTrue, Some, slice_get};
 ghost use Rattle.std.specs.Bool.{OnTrue};
 ghost use Rattle.std.specs.Option.{option_map};
 ghost use Rattle.flow_tree.specs.Tree.{VoidExpr, VarExpr, NotExpr, NegExpr, BinaryExpr, ParenExpr, FieldExpr, MethodExpr, CallExpr};
 ghost use Rattle.flow_tree.specs.View.{expr_of, exprs_of};
-ghost use Rattle.flow_tree.specs.Grammar.{level, ExprRule};
+ghost use Rattle.flow_tree.specs.Grammar.{level, unary_level, dot_level, ExprRule};
+ghost use Rattle.flow_tree.specs.declared.limits.TheConstants.{DEPTH};
 ghost use Rattle.flow_tree.specs.GrammarAnswer.{ReaderAnswer};
 ghost use Rattle.flow_exprs.specs.Kinds.{kind_at};
 ghost use Rattle.flow_exprs.specs.Machine.{height};
-ghost use Rattle.flow_exprs.specs.Answer.{Answer, ArgsAnswer, GoesAnswer, RefusalIs, NoSign, next_op, leaf_of_word, leaf_of, leaf_at, ident_at};
+ghost use Rattle.flow_exprs.specs.Answer.{primary_level, Answer, ArgsAnswer, GoesAnswer, RefusalIs, NoSign, next_op, leaf_of_word, leaf_of, leaf_at, ident_at};
 
 use crate::kind::{self, Kind};
 use crate::stop::Stop;
@@ -193,8 +194,8 @@ fn expression(
     depth: u32,
 ) -> Result<Read, Stop>
     requires within { from ≤ length spots.now }
-    requires small { least ≤ 6 }
-    requires shallow { depth ≤ 65 }
+    requires small { least ≤ unary_level }
+    requires shallow { depth ≤ suc DEPTH }
     ensures { Answer spots.now from least depth least result }
 {
     let mut left = operand(alloc, spots, from, depth)?;
@@ -210,8 +211,8 @@ fn with_right(alloc: Global, spots: &[Spot], left: Read, op: Op, depth: u32) -> 
     requires within { left.to < length spots.now }
     requires sign { kind_at spots.now left.to ≡ Some (Kind.Op op) }
     requires measured { left.high ≡ height (expr_of left.expr) }
-    requires fits { depth + left.high ≤ 65 }
-    ensures { GoesAnswer spots.now left (level op) depth 7 result }
+    requires fits { depth + left.high ≤ suc DEPTH }
+    ensures { GoesAnswer spots.now left (level op) depth dot_level result }
 {
     if depth + left.high > DEPTH {
         return Err(Stop::Deep(left.to));
@@ -227,8 +228,8 @@ fn with_right(alloc: Global, spots: &[Spot], left: Read, op: Op, depth: u32) -> 
 #[cycle(parse)]
 fn operand(alloc: Global, spots: &[Spot], from: usize, depth: u32) -> Result<Read, Stop>
     requires within { from ≤ length spots.now }
-    requires shallow { depth ≤ 65 }
-    ensures { Answer spots.now from 6 depth 7 result }
+    requires shallow { depth ≤ suc DEPTH }
+    ensures { Answer spots.now from unary_level depth dot_level result }
 {
     let Some(kind) = kind::at(spots, from) else {
         return Err(Stop::Short(from));
@@ -246,8 +247,8 @@ fn operand(alloc: Global, spots: &[Spot], from: usize, depth: u32) -> Result<Rea
 fn negated(alloc: Global, spots: &[Spot], from: usize, depth: u32) -> Result<Read, Stop>
     requires within { from < length spots.now }
     requires sign { kind_at spots.now from ≡ Some Kind.Not }
-    requires shallow { depth ≤ 65 }
-    ensures { Answer spots.now from 6 depth 7 result }
+    requires shallow { depth ≤ suc DEPTH }
+    ensures { Answer spots.now from unary_level depth dot_level result }
 {
     if depth > DEPTH {
         return Err(Stop::Deep(from));
@@ -264,8 +265,8 @@ fn negated(alloc: Global, spots: &[Spot], from: usize, depth: u32) -> Result<Rea
 fn minus(alloc: Global, spots: &[Spot], from: usize, depth: u32) -> Result<Read, Stop>
     requires within { from < length spots.now }
     requires sign { kind_at spots.now from ≡ Some (Kind.Op Op.Sub) }
-    requires shallow { depth ≤ 65 }
-    ensures { Answer spots.now from 6 depth 7 result }
+    requires shallow { depth ≤ suc DEPTH }
+    ensures { Answer spots.now from unary_level depth dot_level result }
 {
     if depth > DEPTH {
         return Err(Stop::Deep(from));
@@ -283,8 +284,8 @@ fn postfix(alloc: Global, spots: &[Spot], from: usize, kind: Kind, depth: u32) -
     requires within { from < length spots.now }
     requires here { kind_at spots.now from ≡ Some kind }
     requires unsigned { NoSign kind }
-    requires shallow { depth ≤ 65 }
-    ensures { Answer spots.now from 6 depth 7 result }
+    requires shallow { depth ≤ suc DEPTH }
+    ensures { Answer spots.now from unary_level depth dot_level result }
 {
     let mut left = primary(alloc, spots, from, kind, depth)?;
     'dots: while is_at(spots, left.to, Kind::Dot) {
@@ -299,8 +300,8 @@ fn with_suffix(alloc: Global, spots: &[Spot], left: Read, depth: u32) -> Result<
     requires within { left.to < length spots.now }
     requires dot { kind_at spots.now left.to ≡ Some Kind.Dot }
     requires measured { left.high ≡ height (expr_of left.expr) }
-    requires fits { depth + left.high ≤ 65 }
-    ensures { GoesAnswer spots.now left 6 depth 8 result }
+    requires fits { depth + left.high ≤ suc DEPTH }
+    ensures { GoesAnswer spots.now left unary_level depth primary_level result }
 {
     if depth + left.high > DEPTH {
         return Err(Stop::Deep(left.to));
@@ -328,8 +329,8 @@ fn primary(alloc: Global, spots: &[Spot], from: usize, kind: Kind, depth: u32) -
     requires within { from < length spots.now }
     requires here { kind_at spots.now from ≡ Some kind }
     requires unsigned { NoSign kind }
-    requires shallow { depth ≤ 65 }
-    ensures { Answer spots.now from 6 depth 8 result }
+    requires shallow { depth ≤ suc DEPTH }
+    ensures { Answer spots.now from unary_level depth primary_level result }
 {
     match kind {
         Kind::Leaf => leaf(alloc, spots, from, depth),
@@ -344,8 +345,8 @@ fn primary(alloc: Global, spots: &[Spot], from: usize, kind: Kind, depth: u32) -
 fn leaf(alloc: Global, spots: &[Spot], from: usize, depth: u32) -> Result<Read, Stop>
     requires within { from < length spots.now }
     requires here { kind_at spots.now from ≡ Some Kind.Leaf }
-    requires shallow { depth ≤ 65 }
-    ensures { Answer spots.now from 6 depth 8 result }
+    requires shallow { depth ≤ suc DEPTH }
+    ensures { Answer spots.now from unary_level depth primary_level result }
 {
     if depth > DEPTH {
         return Err(Stop::Deep(from));
@@ -363,8 +364,8 @@ fn leaf(alloc: Global, spots: &[Spot], from: usize, depth: u32) -> Result<Read, 
 fn void(spots: &[Spot], from: usize, depth: u32) -> Result<Read, Stop>
     requires within { from < length spots.now }
     requires here { kind_at spots.now from ≡ Some Kind.Void }
-    requires shallow { depth ≤ 65 }
-    ensures { Answer spots.now from 6 depth 8 result }
+    requires shallow { depth ≤ suc DEPTH }
+    ensures { Answer spots.now from unary_level depth primary_level result }
 {
     if depth > DEPTH {
         return Err(Stop::Deep(from));
@@ -387,8 +388,8 @@ fn void(spots: &[Spot], from: usize, depth: u32) -> Result<Read, Stop>
 fn named(alloc: Global, spots: &[Spot], from: usize, depth: u32) -> Result<Read, Stop>
     requires within { from < length spots.now }
     requires here { kind_at spots.now from ≡ Some Kind.Name }
-    requires shallow { depth ≤ 65 }
-    ensures { Answer spots.now from 6 depth 8 result }
+    requires shallow { depth ≤ suc DEPTH }
+    ensures { Answer spots.now from unary_level depth primary_level result }
 {
     if depth > DEPTH {
         return Err(Stop::Deep(from));
@@ -415,8 +416,8 @@ fn named(alloc: Global, spots: &[Spot], from: usize, depth: u32) -> Result<Read,
 fn bracket(alloc: Global, spots: &[Spot], from: usize, depth: u32) -> Result<Read, Stop>
     requires within { from < length spots.now }
     requires here { kind_at spots.now from ≡ Some Kind.Open }
-    requires shallow { depth ≤ 65 }
-    ensures { Answer spots.now from 6 depth 8 result }
+    requires shallow { depth ≤ suc DEPTH }
+    ensures { Answer spots.now from unary_level depth primary_level result }
 {
     if depth > DEPTH {
         return Err(Stop::Deep(from));

@@ -1,11 +1,12 @@
 // Types.
 
-ghost use Rattle.std.specs.Prelude.{◌≡◌, ◌↔◌, ℕ, ◌+◌, ◌<◌, ◌≤◌, length, MatchResult, OnSome, IsTrue, Some, None, slice_get};
+ghost use Rattle.std.specs.Prelude.{◌≡◌, ◌↔◌, ℕ, suc, ◌+◌, ◌<◌, ◌≤◌, length, MatchResult, OnSome, IsTrue, Some, None, slice_get};
 ghost use Rattle.std.specs.Bool.{OnTrue};
 ghost use Rattle.std.specs.Option.{option_map};
 ghost use Rattle.flow_tree.specs.View.{type_of};
 ghost use Rattle.flow_tree.specs.Grammar.{TypeRule};
 ghost use Rattle.flow_tree.specs.GrammarAnswer.{ReaderAnswer};
+ghost use Rattle.flow_tree.specs.declared.limits.TheConstants.{DEPTH};
 ghost use Rattle.flow_exprs.specs.TypeMachine.{type_word_kind, type_sign_kind, type_kind_of, type_kind_at, plain_of_word, plain_of, plain_at, IsWrapper, wrapped_by};
 ghost use Rattle.flow_exprs.specs.TypeAnswer.{TypeAnswer};
 
@@ -175,7 +176,7 @@ fn wrap(alloc: Global, kind: TypeKind, of: Ty) -> Result<Ty, Stop>
 #[cycle(types)]
 fn read(alloc: Global, spots: &[Spot], from: usize, depth: u32) -> Result<ReadType, Stop>
     requires within { from ≤ length spots.now }
-    requires shallow { depth ≤ 65 }
+    requires shallow { depth ≤ suc DEPTH }
     ensures { TypeAnswer spots.now from depth result }
 {
     let Some(kind) = kind_at(spots, from) else {
@@ -194,7 +195,7 @@ fn read(alloc: Global, spots: &[Spot], from: usize, depth: u32) -> Result<ReadTy
 fn plain(alloc: Global, spots: &[Spot], from: usize, depth: u32) -> Result<ReadType, Stop>
     requires within { from < length spots.now }
     requires here { type_kind_at spots.now from ≡ Some TypeKind.Plain }
-    requires shallow { depth ≤ 65 }
+    requires shallow { depth ≤ suc DEPTH }
     ensures { TypeAnswer spots.now from depth result }
 {
     if depth > DEPTH {
@@ -217,7 +218,7 @@ fn argument(
     requires within { from < length spots.now }
     requires here { type_kind_at spots.now from ≡ Some kind }
     requires wraps { IsWrapper kind }
-    requires shallow { depth ≤ 65 }
+    requires shallow { depth ≤ suc DEPTH }
     ensures { TypeAnswer spots.now from depth result }
 {
     if depth > DEPTH {

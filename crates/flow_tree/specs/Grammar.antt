@@ -79,6 +79,14 @@ level Mul = 5
 level Div = 5
 level Rem = 5
 
+-- the level of the signs before an operand
+abbrev pub unary_level : ℕ
+unary_level = 6
+
+-- the level of what no sign splits, behind which a dot may stand
+abbrev pub dot_level : ℕ
+dot_level = 7
+
 abbrev pub op_sign : Op → Sign
 op_sign Or = sign.OrOr
 op_sign And = sign.AndAnd
@@ -95,8 +103,7 @@ op_sign Div = sign.Slash
 op_sign Rem = sign.Percent
 
 -- An expression of at least this level and of this depth; its operands and arguments are one
--- deeper. Levels 0 to 5 are those of the signs between two operands, which bind to the left, 6 is
--- that of the signs before one, and 7 holds what no sign splits.
+-- deeper. Levels 0 to 5 are those of the signs between two operands, which bind to the left.
 mutual
   pub data ExprRule : ℕ → ℕ → List Marked → ExprTree → Type 0 where
     number : {k d : ℕ} (n : ℤ) (p : Place) → ExprRule k d (opens (Node d ∷ []) (token.Number n) p ∷ []) (IntExpr n)
@@ -109,13 +116,13 @@ mutual
         → all ≡ node_name d f ∷ sign_at sign.OpenRound p ∷ (args ++ sign_at sign.CloseRound q ∷ []) → ExprRule k d all (CallExpr f ts)
     paren : {k d : ℕ} {t : ExprTree} {all : List Marked} (p q : Place) (of : List Marked) → ExprRule 0 (suc d) of t
         → all ≡ node_sign d sign.OpenRound p ∷ (of ++ sign_at sign.CloseRound q ∷ []) → ExprRule k d all (ParenExpr t)
-    field : {k d : ℕ} {t : ExprTree} {all : List Marked} (p : Place) (x : Ident) (of : List Marked) → ExprRule 7 (suc d) of t
+    field : {k d : ℕ} {t : ExprTree} {all : List Marked} (p : Place) (x : Ident) (of : List Marked) → ExprRule dot_level (suc d) of t
         → all ≡ begin (Node d) of ++ (sign_at sign.Dot p ∷ name_at x ∷ []) → ExprRule k d all (FieldExpr t x)
-    method : {k d : ℕ} {t : ExprTree} {ts : ExprTrees} {all : List Marked} (p q r : Place) (f : Ident) (of args : List Marked) → ExprRule 7 (suc d) of t → ArgsRule (suc d) args ts
+    method : {k d : ℕ} {t : ExprTree} {ts : ExprTrees} {all : List Marked} (p q r : Place) (f : Ident) (of args : List Marked) → ExprRule dot_level (suc d) of t → ArgsRule (suc d) args ts
         → all ≡ begin (Node d) of ++ (sign_at sign.Dot p ∷ name_at f ∷ sign_at sign.OpenRound q ∷ (args ++ sign_at sign.CloseRound r ∷ [])) → ExprRule k d all (MethodExpr t f ts)
-    negation : {k d : ℕ} {t : ExprTree} {all : List Marked} (p : Place) (of : List Marked) → k ≤ 6 → ExprRule 6 (suc d) of t
+    negation : {k d : ℕ} {t : ExprTree} {all : List Marked} (p : Place) (of : List Marked) → k ≤ unary_level → ExprRule unary_level (suc d) of t
         → all ≡ node_sign d sign.Not p ∷ of → ExprRule k d all (NotExpr t)
-    minus : {k d : ℕ} {t : ExprTree} {all : List Marked} (p : Place) (of : List Marked) → k ≤ 6 → ExprRule 6 (suc d) of t
+    minus : {k d : ℕ} {t : ExprTree} {all : List Marked} (p : Place) (of : List Marked) → k ≤ unary_level → ExprRule unary_level (suc d) of t
         → all ≡ node_sign d sign.Minus p ∷ of → ExprRule k d all (NegExpr t)
     binary : {k d : ℕ} {a b : ExprTree} {all : List Marked} (op : Op) (p : Place) (left right : List Marked) → k ≤ level op → ExprRule (level op) (suc d) left a → ExprRule (suc (level op)) (suc d) right b
         → all ≡ begin (Node d) left ++ (sign_at (op_sign op) p ∷ right) → ExprRule k d all (BinaryExpr op a b)
