@@ -1,4 +1,3 @@
-pub mod Numbered
 pub mod Cells
 pub mod Asks
 pub mod Process
