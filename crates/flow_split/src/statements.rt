@@ -50,6 +50,22 @@ impl Emitter {
         })
     }
 
+    // The callbacks of a wait that goes on at this block.
+    fn only_callback(
+        &self,
+        context: &Context,
+        waiting: &Waiting,
+        block: u32,
+    ) -> Result<Vec<Callback>, NoMemory>
+        ensures { IfOk result (λ v. callbacks_of v.items
+            ≡ callback (names_in context.now) (slots_in context.now) self.now.scopes
+            (waiting_of waiting.now) self.now.next block ∷ []) }
+    {
+        let mut callbacks = Vec::new(self.alloc);
+        callbacks.push(self.callback(context, waiting, self.next, block)?)?;
+        Ok(callbacks)
+    }
+
     // The callbacks of a choose whose first branch goes on at this block.
     fn callbacks(
         &self,
@@ -104,9 +120,7 @@ impl Emitter {
             (WaitStmt at (waiting_of waiting.now)) (emitted self.old) (emitted self.new)) }
     {
         let block = self.block()?;
-        let callback = self.callback(context, waiting, self.next, block)?;
-        let mut callbacks = Vec::new(self.alloc);
-        callbacks.push(callback)?;
+        let callbacks = self.only_callback(context, waiting, block)?;
         self.wait_for(context, around, callbacks)?;
         self.begin();
         self.declare_maybe(&waiting.into)
