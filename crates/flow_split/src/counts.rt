@@ -229,3 +229,26 @@ pub fn part_size(tried: bool, part: &Option<Box<Stmt>>) -> Result<Size, NoMemory
         Some(stmt) => stmt_size(tried, stmt),
     }
 }
+
+/// The number of the block behind so many, which stand behind a first one.
+pub fn behind(first: u32, blocks: u32) -> Result<u32, NoMemory>
+    ensures { IfOk result (λ n. n ≡ first + 1 + blocks) }
+{
+    sum(sum(first, 1)?, blocks)
+}
+
+/// The number of the block behind a body whose first block has this number.
+pub fn past_body(first: u32, tried: bool, body: &[Stmt]) -> Result<u32, NoMemory>
+    ensures { IfOk result (λ n. n ≡ first + 1 + blocks_in tried (body_of body.now)) }
+{
+    let size = body_size(tried, body)?;
+    behind(first, size.blocks)
+}
+
+/// The number of the block in which a part of a `for` ends that begins in this one.
+pub fn past_part(first: u32, tried: bool, part: &Option<Box<Stmt>>) -> Result<u32, NoMemory>
+    ensures { IfOk result (λ n. n ≡ first + blocks_in tried (simple_of part.now)) }
+{
+    let size = part_size(tried, part)?;
+    sum(first, size.blocks)
+}
