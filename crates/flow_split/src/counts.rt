@@ -152,33 +152,60 @@ fn stmt_size(tried: bool, stmt: &Stmt) -> Result<Size, NoMemory>
         ≡ n.locals + locals_in k) }
 {
     match &stmt.kind {
-        StmtKind::Block(body) => Ok(body_size(tried, body)?.with(1, 0)?),
+        StmtKind::Block(body) => Ok(body_with(tried, body, 1, 0)?),
         StmtKind::If(_, body, otherwise) => {
-            let size = body_size(tried, body)?.and(else_size(tried, otherwise)?)?;
-            Ok(size.with(2, 0)?)
+            let size = body_with(tried, body, 2, 0)?;
+            Ok(size.and(else_size(tried, otherwise)?)?)
         }
-        StmtKind::While(_, body) => Ok(body_size(false, body)?.with(3, 0)?),
+        StmtKind::While(_, body) => Ok(body_with(false, body, 3, 0)?),
         StmtKind::For(init, test, step, body) => {
             let parts = part_size(tried, init)?.and(part_size(tried, step)?)?;
-            let size = parts.and(body_size(false, body)?)?;
-            Ok(size.with(test_size(test), 0)?.with(3, 0)?)
+            let size = parts.and(body_with(false, body, 3, 0)?)?;
+            Ok(size.with(test_size(test), 0)?)
         }
-        StmtKind::Loop(body) => Ok(body_size(false, body)?.with(2, 0)?),
+        StmtKind::Loop(body) => Ok(body_with(false, body, 2, 0)?),
         StmtKind::Break => Ok(exit_size(tried)),
         StmtKind::Continue => Ok(exit_size(tried)),
         StmtKind::Return(_) => Ok(Size::none()),
         StmtKind::Throw(_) => Ok(Size::none()),
         StmtKind::Try(body, _, _, handler) => {
-            let size = body_size(true, body)?.and(body_size(tried, handler)?)?;
-            Ok(size.with(3, 1)?)
+            let size = body_with(true, body, 3, 1)?;
+            Ok(size.and(body_size(tried, handler)?)?)
         }
-        StmtKind::Choose(branches) => Ok(branches_size(tried, branches)?.with(1, 0)?),
-        StmtKind::Declare(into, _) => Ok(Size::none().with(0, into_size(into))?),
+        StmtKind::Choose(branches) => Ok(choose_size(tried, branches)?),
+        StmtKind::Declare(into, _) => Ok(Size {
+            blocks: 0,
+            locals: into_size(into),
+        }),
         StmtKind::Assign(_, _) => Ok(Size::none()),
         StmtKind::Modify(_, _) => Ok(Size::none()),
         StmtKind::Call(_, _) => Ok(Size::none()),
-        StmtKind::Wait(waiting) => Ok(Size::none().with(1, maybe_size(&waiting.into))?),
+        StmtKind::Wait(waiting) => Ok(Size {
+            blocks: 1,
+            locals: maybe_size(&waiting.into),
+        }),
     }
+}
+
+// A body, with so many blocks and locals more.
+#[cycle(size)]
+fn body_with(tried: bool, body: &[Stmt], blocks: u32, locals: u32) -> Result<Size, NoMemory>
+    ensures blocks { IfOk result (λ n. n.blocks ≡ blocks_in tried (body_of body.now) + blocks) }
+    ensures locals { IfOk result (λ n. n.locals ≡ locals_in (body_of body.now) + locals) }
+{
+    let size = body_size(tried, body)?;
+    size.with(blocks, locals)
+}
+
+// The branches of a `choose`, with the block behind it.
+#[cycle(size)]
+fn choose_size(tried: bool, branches: &[When]) -> Result<Size, NoMemory>
+    ensures blocks { IfOk result (λ n. n.blocks
+        ≡ branch_blocks tried (branches_of branches.now) + 1) }
+    ensures locals { IfOk result (λ n. n.locals ≡ branch_local_count (branches_of branches.now)) }
+{
+    let size = branches_size(tried, branches)?;
+    size.with(1, 0)
 }
 
 /// The blocks and locals of the branches of a `choose`.
@@ -228,4 +255,27 @@ pub fn part_size(tried: bool, part: &Option<Box<Stmt>>) -> Result<Size, NoMemory
         None => Ok(Size::none()),
         Some(stmt) => stmt_size(tried, stmt),
     }
+}
+
+/// The number of the block behind so many, which stand behind a first one.
+pub fn behind(first: u32, blocks: u32) -> Result<u32, NoMemory>
+    ensures { IfOk result (λ n. n ≡ first + 1 + blocks) }
+{
+    sum(sum(first, 1)?, blocks)
+}
+
+/// The number of the block behind a body whose first block has this number.
+pub fn past_body(first: u32, tried: bool, body: &[Stmt]) -> Result<u32, NoMemory>
+    ensures { IfOk result (λ n. n ≡ first + 1 + blocks_in tried (body_of body.now)) }
+{
+    let size = body_size(tried, body)?;
+    behind(first, size.blocks)
+}
+
+/// The number of the block in which a part of a `for` ends that begins in this one.
+pub fn past_part(first: u32, tried: bool, part: &Option<Box<Stmt>>) -> Result<u32, NoMemory>
+    ensures { IfOk result (λ n. n ≡ first + blocks_in tried (simple_of part.now)) }
+{
+    let size = part_size(tried, part)?;
+    sum(first, size.blocks)
 }

@@ -1,18 +1,19 @@
 // From an actor to its class.
 
-ghost use Rattle.std.specs.Prelude.{◌≡◌, map, IfOk};
+ghost use Rattle.std.specs.Prelude.{◌≡◌, map, length, IfOk};
 ghost use Rattle.flow_tree.specs.View.{type_of};
 ghost use Rattle.flow_tree.specs.DeclView.{slot_of, actor_of, program_of};
-ghost use Rattle.flow_class.specs.View.{class_of};
+ghost use Rattle.flow_class.specs.View.{class_of, block_of, group_of};
 ghost use Rattle.flow_layout.specs.Laying.{laid};
 ghost use Rattle.flow_meaning.specs.Source.{names_of};
+ghost use Rattle.flow_split.specs.Contexts.{names_in};
 ghost use Rattle.flow_split.specs.Lowered.{lowered_class};
 
 use crate::around::Around;
 use crate::context::Context;
 use crate::emitter::Emitter;
 use flow_base::memory::NoMemory;
-use flow_class::class::Class;
+use flow_class::class::{Block, Class, Group};
 use flow_layout::places::Layout;
 use flow_tree::decl::{ActorDecl, Program, Slot};
 use flow_tree::ty::Ty;
@@ -50,6 +51,54 @@ fn count(things: usize) -> Result<u32, NoMemory>
     }
 }
 
+// What the text of an actor emits.
+fn text(context: &Context, actor: &ActorDecl) -> Result<Emitter, NoMemory>
+    ensures blocks { IfOk result (λ e. map block_of e.blocks.items
+        ≡ (lowered_class (names_in context.now) (laid context.now.layout.now)
+        (actor_of actor.now)).blocks) }
+    ensures groups { IfOk result (λ e. map group_of e.groups.items
+        ≡ (lowered_class (names_in context.now) (laid context.now.layout.now)
+        (actor_of actor.now)).groups) }
+{
+    let mut emitter = Emitter::new(context.alloc);
+    match emitter.put_body(context, &Around::text(actor.close), &actor.body) {
+        Ok(()) => Ok(emitter),
+        Err(error) => Err(error),
+    }
+}
+
+// The class of an actor with these blocks and groups.
+fn class_with(
+    context: &Context,
+    actor: &ActorDecl,
+    blocks: Vec<Block>,
+    groups: Vec<Group>,
+) -> Result<Class, NoMemory>
+    ensures { IfOk result (λ c. class_of c ≡ record {
+      name = (actor_of actor.now).name.name;
+      returns = (actor_of actor.now).returns;
+      params = length (actor_of actor.now).params;
+      slots = (laid context.now.layout.now).slots;
+      locals = (laid context.now.layout.now).locals;
+      blocks = map block_of blocks.items;
+      groups = map group_of groups.items;
+    }) }
+{
+    let params = count(actor.params.len())?;
+    let slots = copy_slots(context.alloc, &context.layout.slots)?;
+    let locals = copy_types(context.alloc, &context.layout.locals)?;
+    let name = actor.name.name.copy(context.alloc)?;
+    Ok(Class {
+        returns: actor.returns.copy(context.alloc)?,
+        name,
+        params,
+        slots,
+        locals,
+        blocks,
+        groups,
+    })
+}
+
 /// The class of an actor of a program, by its layout.
 pub fn lower(
     alloc: Global,
@@ -67,15 +116,6 @@ pub fn lower(
         program,
         layout,
     };
-    let mut emitter = Emitter::new(alloc);
-    emitter.put_body(&context, &Around::text(actor.close), &actor.body)?;
-    Ok(Class {
-        name: actor.name.name.copy(alloc)?,
-        returns: actor.returns.copy(alloc)?,
-        params: count(actor.params.len())?,
-        slots: copy_slots(alloc, &layout.slots)?,
-        locals: copy_types(alloc, &layout.locals)?,
-        blocks: emitter.blocks,
-        groups: emitter.groups,
-    })
+    let emitter = text(&context, actor)?;
+    class_with(&context, actor, emitter.blocks, emitter.groups)
 }

@@ -2,7 +2,7 @@
 
 ghost use Rattle.std.specs.Prelude.{◌≡◌, pos, [], ◌∷◌, map, IfOk, OnOk};
 ghost use Rattle.std.specs.Option.{option_map};
-ghost use Rattle.flow_tree.specs.Tree.{IntExpr, VarExpr, BinaryExpr, ParenExpr};
+ghost use Rattle.flow_tree.specs.Tree.{IntExpr, VarExpr, FieldExpr, BinaryExpr, ParenExpr};
 ghost use Rattle.flow_tree.specs.View.{type_of, expr_of, exprs_of};
 ghost use Rattle.flow_tree.specs.StmtView.{into_of, change_of};
 ghost use Rattle.flow_class.specs.Classes.{ActInstr};
@@ -53,6 +53,14 @@ fn single(alloc: Global, name: Ident) -> Result<Target, NoMemory>
     Ok(Target { path })
 }
 
+// A field of a value.
+fn field_of(alloc: Global, of: Expr, name: &Ident) -> Result<Expr, NoMemory>
+    ensures { IfOk result (λ e. expr_of e ≡ FieldExpr (expr_of of) name.now) }
+{
+    let of = Box::new(alloc, of)?;
+    Ok(Expr::Field(of, name.copy(alloc)?))
+}
+
 impl<'a> Context<'a> {
     // An assignment of an expression of the text to a path over places.
     fn assigned(&self, scopes: &Scopes, target: Target, value: &Expr) -> Result<Instr, NoMemory>
@@ -75,7 +83,7 @@ impl<'a> Context<'a> {
     {
         let mut expr = Expr::Var(ident_over(self.alloc, &self.layout.slots, scopes, first)?);
         for name in rest {
-            expr = Expr::Field(Box::new(self.alloc, expr)?, name.copy(self.alloc)?);
+            expr = field_of(self.alloc, expr, name)?;
         }
         Ok(expr)
     }

@@ -16,7 +16,9 @@ ghost use Rattle.flow_split.specs.Emitting.{emitted, acted, closed, callbacks_of
 
 use crate::around::{Around, Exit, Handler, Jump};
 use crate::context::Context;
-use crate::counts::{body_size, branch_size, branches_size, part_size, sum, test_size};
+use crate::counts::{
+    behind, body_size, branch_size, branches_size, past_body, past_part, sum, test_size,
+};
 use crate::emitter::Emitter;
 use flow_base::memory::NoMemory;
 use flow_base::name::Name;
@@ -48,6 +50,22 @@ impl Emitter {
             into: self.place_maybe(context, &waiting.into, next),
             block,
         })
+    }
+
+    // The callbacks of a wait that goes on at this block.
+    fn only_callback(
+        &self,
+        context: &Context,
+        waiting: &Waiting,
+        block: u32,
+    ) -> Result<Vec<Callback>, NoMemory>
+        ensures { IfOk result (λ v. callbacks_of v.items
+            ≡ callback (names_in context.now) (slots_in context.now) self.now.scopes
+            (waiting_of waiting.now) self.now.next block ∷ []) }
+    {
+        let mut callbacks = Vec::new(self.alloc);
+        callbacks.push(self.callback(context, waiting, self.next, block)?)?;
+        Ok(callbacks)
     }
 
     // The callbacks of a choose whose first branch goes on at this block.
@@ -104,9 +122,7 @@ impl Emitter {
             (WaitStmt at (waiting_of waiting.now)) (emitted self.old) (emitted self.new)) }
     {
         let block = self.block()?;
-        let callback = self.callback(context, waiting, self.next, block)?;
-        let mut callbacks = Vec::new(self.alloc);
-        callbacks.push(callback)?;
+        let callbacks = self.only_callback(context, waiting, block)?;
         self.wait_for(context, around, callbacks)?;
         self.begin();
         self.declare_maybe(&waiting.into)
@@ -350,9 +366,8 @@ impl Emitter {
             (IfStmt at (expr_of test.now) (body_of body.now)) (emitted self.old)
             (emitted self.new)) }
     {
-        let size = body_size(around.looped.tried, body)?;
         let main = self.block()?;
-        let join = sum(sum(main, 1)?, size.blocks)?;
+        let join = past_body(main, around.looped.tried, body)?;
         let test = context.over(&self.scopes, test)?;
         self.close_with(around, Last::Test(test, main, join))?;
         let inner = around.scope(Exit::Scope(Jump::Goto(join)))?;
@@ -377,11 +392,9 @@ impl Emitter {
             (IfElseStmt at (expr_of test.now) (body_of body.now) (body_of other.now))
             (emitted self.old) (emitted self.new)) }
     {
-        let size = body_size(around.looped.tried, body)?;
-        let other_size = body_size(around.looped.tried, other)?;
         let main = self.block()?;
-        let otherwise = sum(sum(main, 1)?, size.blocks)?;
-        let join = sum(sum(otherwise, 1)?, other_size.blocks)?;
+        let otherwise = past_body(main, around.looped.tried, body)?;
+        let join = past_body(otherwise, around.looped.tried, other)?;
         let test = context.over(&self.scopes, test)?;
         self.close_with(around, Last::Test(test, main, otherwise))?;
         let inner = around.scope(Exit::Scope(Jump::Goto(join)))?;
@@ -405,9 +418,8 @@ impl Emitter {
             → Emits (names_in context.now) (slots_in context.now) (around_of around.now)
             (LoopStmt at (body_of body.now)) (emitted self.old) (emitted self.new)) }
     {
-        let size = body_size(false, body)?;
         let head = self.block()?;
-        let out = sum(sum(head, 1)?, size.blocks)?;
+        let out = past_body(head, false, body)?;
         self.close(around, Last::Pass(head))?;
         let inner = around.pass(1, Jump::Pass(head), out)?;
         self.begin();
@@ -430,13 +442,12 @@ impl Emitter {
             (WhileStmt at (expr_of test.now) (body_of body.now)) (emitted self.old)
             (emitted self.new)) }
     {
-        let size = body_size(false, body)?;
         let head = self.block()?;
         let main = sum(head, 1)?;
-        let out = sum(sum(main, 1)?, size.blocks)?;
-        let test = context.over(&self.scopes, test)?;
+        let out = past_body(main, false, body)?;
         self.close(around, Last::Pass(head))?;
         self.begin();
+        let test = context.over(&self.scopes, test)?;
         self.close_with(around, Last::Test(test, main, out))?;
         let inner = around.pass(1, Jump::Pass(head), out)?;
         self.begin();
@@ -487,13 +498,10 @@ impl Emitter {
             (ForStmt at (simple_of init.now) (option_map expr_of test.now) (simple_of step.now)
             (body_of body.now)) (emitted self.old) (emitted self.new)) }
     {
-        let init_size = part_size(around.looped.tried, init)?;
-        let size = body_size(false, body)?;
-        let step_size = part_size(around.looped.tried, step)?;
-        let head = sum(self.block()?, init_size.blocks)?;
+        let head = past_part(self.block()?, around.looped.tried, init)?;
         let main = sum(head, test_size(test))?;
-        let again = sum(sum(main, 1)?, size.blocks)?;
-        let out = sum(sum(again, 1)?, step_size.blocks)?;
+        let again = past_body(main, false, body)?;
+        let out = sum(past_part(again, around.looped.tried, step)?, 1)?;
         let part = around.scope(Exit::Part(Jump::Pass(head)))?;
         let inner = around.pass(2, Jump::Goto(again), out)?;
         self.enter()?;
@@ -525,13 +533,14 @@ impl Emitter {
             (emitted self.new)) }
     {
         let size = body_size(true, body)?;
-        let handler_size = body_size(around.looped.tried, handler)?;
         let main = self.block()?;
+        let block = behind(main, size.blocks)?;
+        let error_local = sum(self.next, size.locals)?;
+        let join = past_body(block, around.looped.tried, handler)?;
         let catch = Handler {
-            block: sum(sum(main, 1)?, size.blocks)?,
-            error: sum(self.next, size.locals)?,
+            block,
+            error: error_local,
         };
-        let join = sum(sum(catch.block, 1)?, handler_size.blocks)?;
         let exit = Exit::Scope(Jump::Goto(join));
         self.close(around, Last::Goto(main))?;
         self.begin();

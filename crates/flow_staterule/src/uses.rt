@@ -175,7 +175,7 @@ impl<'a> Finder<'a> {
     }
 
     /// The uses in a statement, and what it declares.
-    #[tactic(auto, using(crate::proofs::EachKind::after_block, crate::proofs::EachKind::after_if, crate::proofs::EachKind::after_while, crate::proofs::EachKind::after_loop, crate::proofs::EachKind::after_for, crate::proofs::EachKind::after_break, crate::proofs::EachKind::after_continue, crate::proofs::EachKind::after_return, crate::proofs::EachKind::after_throw, crate::proofs::EachKind::after_try, crate::proofs::EachKind::after_choose, crate::proofs::EachKind::after_declare, crate::proofs::EachKind::after_assign, crate::proofs::EachKind::after_modify, crate::proofs::EachKind::after_call, crate::proofs::EachKind::after_wait, crate::proofs::Adding::same_extends))]
+    #[tactic(auto, using(crate::proofs::EachKind::after_for, crate::proofs::Adding::same_extends))]
     #[cycle(uses)]
     fn inside(&mut self, here: Here, stmt: &'a Stmt) -> Result<(), NoMemory>
         ensures finds { IfOk result (λ _. Finds self.old self.new here (stmt_of stmt.now)) }

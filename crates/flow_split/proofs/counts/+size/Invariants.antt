@@ -31,3 +31,10 @@ decreases-else_size l = 4 * goal.size-else_size l + 2
 
 abbrev pub decreases-part_size : goal.decreases-part_size
 decreases-part_size l = 4 * goal.size-part_size l + 2
+
+-- a list with the blocks around it
+abbrev pub decreases-body_with : goal.decreases-body_with
+decreases-body_with l = 4 * goal.size-body_with l + 2
+
+abbrev pub decreases-choose_size : goal.decreases-choose_size
+decreases-choose_size l = 4 * goal.size-choose_size l + 2

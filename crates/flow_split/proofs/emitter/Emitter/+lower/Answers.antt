@@ -4,10 +4,11 @@ use Rattle.flow_tree.specs.declared.stmt.StmtKind.TheVariants as kind
 use Rattle.std.specs.Option.{option_map}
 use Rattle.flow_tree.specs.View.{expr_of}
 use Rattle.flow_tree.specs.StmtView.{simple_of, branches_of}
+use Rattle.flow_class.specs.Scopes.{over}
 use Rattle.flow_split.specs.Contexts.{names_in, slots_in, around_of}
 use Rattle.flow_split.specs.Counts.{Next, past}
 use Rattle.flow_split.specs.Lowered.{tested}
-use Rattle.flow_split.specs.Emitting.{emitted, going, out_of_scope}
+use Rattle.flow_split.specs.Emitting.{emitted, going, opened, out_of_scope}
 use Rattle.flow_split.proofs.Compounds.{block_emits, if_emits, if_else_emits, loop_emits, while_emits}
 use Rattle.flow_split.proofs.Bodies.{tested_block, try_emits, for_emits}
 use Rattle.flow_split.proofs.Exits.{choose_emits}
@@ -22,31 +23,31 @@ put_block-returns t c at =
 
 pub put_if-returns : goal.put_if-returns
 put_if-returns t c at =
-    if_emits _ _ _ _ _ _ _ _ _ at _ _ _ _ _ c.requires c.in_ok-main.ensures (omega (arith, c.in_ok-join.ensures, c.in_ok-sum.ensures, c.in_ok-main.ensures, c.in_ok-size.ensures.blocks))
+    if_emits _ _ _ _ _ _ _ _ _ at _ _ _ _ _ c.requires c.in_ok-main.ensures (omega (arith, c.in_ok-join.ensures, c.in_ok-main.ensures))
     c.in_ok-test.ensures c.in_ok-close_with.ensures c.begin.ensures c.in_ok-inner.ensures c.in_ok-put_scope.ensures c.begin-2.ensures
 
 pub put_if_else-returns : goal.put_if_else-returns
 put_if_else-returns t c at =
-    if_else_emits _ _ _ _ _ _ _ _ _ _ _ at _ _ _ _ _ _ _ c.requires c.in_ok-main.ensures (omega (arith, c.in_ok-otherwise.ensures, c.in_ok-sum.ensures, c.in_ok-main.ensures, c.in_ok-size.ensures.blocks))
-    (omega (arith, c.in_ok-join.ensures, c.in_ok-sum-2.ensures, c.in_ok-otherwise.ensures, c.in_ok-sum.ensures, c.in_ok-main.ensures, c.in_ok-size.ensures.blocks, c.in_ok-other_size.ensures.blocks))
+    if_else_emits _ _ _ _ _ _ _ _ _ _ _ at _ _ _ _ _ _ _ c.requires c.in_ok-main.ensures (omega (arith, c.in_ok-otherwise.ensures, c.in_ok-main.ensures))
+    (omega (arith, c.in_ok-join.ensures, c.in_ok-otherwise.ensures, c.in_ok-main.ensures))
     c.in_ok-test.ensures c.in_ok-close_with.ensures c.begin.ensures c.in_ok-inner.ensures c.in_ok-put_scope.ensures c.begin-2.ensures c.in_ok-put_scope-2.ensures c.begin-3.ensures
 
 pub put_loop-returns : goal.put_loop-returns
 put_loop-returns t c at =
-    loop_emits _ _ _ _ _ _ _ _ _ at _ _ _ c.requires c.in_ok-head.ensures (omega (arith, c.in_ok-out.ensures, c.in_ok-sum.ensures, c.in_ok-head.ensures, c.in_ok-size.ensures.blocks))
+    loop_emits _ _ _ _ _ _ _ _ _ at _ _ _ c.requires c.in_ok-head.ensures (omega (arith, c.in_ok-out.ensures, c.in_ok-head.ensures))
     c.in_ok-close.ensures c.begin.ensures c.in_ok-inner.ensures c.in_ok-put_scope.ensures c.begin-2.ensures
 
 pub put_while-returns : goal.put_while-returns
 put_while-returns t c at =
     while_emits _ _ _ _ _ _ _ _ _ _ _ at _ _ _ _ _ _ c.requires c.in_ok-head.ensures (omega (arith, c.in_ok-main.ensures, c.in_ok-head.ensures))
-    (omega (arith, c.in_ok-out.ensures, c.in_ok-sum.ensures, c.in_ok-main.ensures, c.in_ok-head.ensures, c.in_ok-size.ensures.blocks))
-    c.in_ok-test.ensures c.in_ok-close.ensures c.begin.ensures c.in_ok-close_with.ensures c.begin-2.ensures c.in_ok-inner.ensures c.in_ok-put_scope.ensures c.begin-3.ensures
+    (omega (arith, c.in_ok-out.ensures, c.in_ok-main.ensures, c.in_ok-head.ensures))
+    (c.in_ok-test.ensures ∙ ap (λ d. over (slots_in c.args.context.now) d.scopes (expr_of c.args.test.now)) (c.begin.ensures ∙ ap opened c.in_ok-close.ensures)) c.in_ok-close.ensures c.begin.ensures c.in_ok-close_with.ensures c.begin-2.ensures c.in_ok-inner.ensures c.in_ok-put_scope.ensures c.begin-3.ensures
 
 pub put_try-returns : goal.put_try-returns
 put_try-returns t c at catch =
     try_emits _ _ _ _ _ _ _ _ _ _ _ _ at catch _ _ _ _ _ _ _ c.requires c.in_ok-main.ensures
-    (omega (arith, c.in_ok-sum-2.ensures, c.in_ok-sum.ensures, c.in_ok-main.ensures, c.in_ok-size.ensures.blocks)) (omega (arith, c.in_ok-sum-3.ensures, c.in_ok-size.ensures.locals))
-    (omega (arith, c.in_ok-join.ensures, c.in_ok-sum-4.ensures, c.in_ok-sum-2.ensures, c.in_ok-sum.ensures, c.in_ok-main.ensures, c.in_ok-size.ensures.blocks, c.in_ok-handler_size.ensures.blocks))
+    (omega (arith, c.in_ok-block.ensures, c.in_ok-main.ensures, c.in_ok-size.ensures.blocks)) (omega (arith, c.in_ok-error_local.ensures, c.in_ok-size.ensures.locals))
+    (omega (arith, c.in_ok-join.ensures, c.in_ok-block.ensures, c.in_ok-main.ensures, c.in_ok-size.ensures.blocks))
     c.in_ok-close.ensures c.begin.ensures c.in_ok-try_body.ensures c.in_ok-put_scope.ensures c.begin-2.ensures c.in_ok-catch_body.ensures c.in_ok-put_handler.ensures c.begin-3.ensures
 
 pub put_for-returns : goal.put_for-returns
@@ -55,10 +56,10 @@ put_for-returns t c at =
     let k : Next = tested (option_map expr_of c.args.test.now) h in
     let main : c.in_ok-main.main ≡ k.block =
     tested_block (names_in c.args.context.now) (slots_in c.args.context.now) (around_of c.args.around.now) (option_map expr_of c.args.test.now) h c.in_ok-main.main
-    (omega (arith, c.in_ok-main.ensures, c.test_size.ensures, c.in_ok-head.ensures, c.in_ok-block.ensures, c.in_ok-init_size.ensures.blocks)) in
-    for_emits _ _ _ _ _ _ _ _ _ _ _ _ _ _ _ at _ _ _ _ _ _ _ _ c.requires (omega (arith, c.in_ok-head.ensures, c.in_ok-block.ensures, c.in_ok-init_size.ensures.blocks)) main
-    (omega (arith, c.in_ok-again.ensures, c.in_ok-sum.ensures, main, c.in_ok-size.ensures.blocks))
-    (omega (arith, c.in_ok-out.ensures, c.in_ok-sum-2.ensures, c.in_ok-again.ensures, c.in_ok-sum.ensures, main, c.in_ok-size.ensures.blocks, c.in_ok-step_size.ensures.blocks))
+    (omega (arith, c.in_ok-main.ensures, c.test_size.ensures, c.in_ok-head.ensures, c.in_ok-block.ensures)) in
+    for_emits _ _ _ _ _ _ _ _ _ _ _ _ _ _ _ at _ _ _ _ _ _ _ _ c.requires (omega (arith, c.in_ok-head.ensures, c.in_ok-block.ensures)) main
+    (omega (arith, c.in_ok-again.ensures, main))
+    (omega (arith, c.in_ok-out.ensures, c.in_ok-past_part.ensures, c.in_ok-again.ensures, main))
     c.in_ok-part.ensures c.in_ok-inner.ensures c.in_ok-enter.ensures c.in_ok-put_part.ensures c.begin.ensures c.in_ok-put_test.ensures c.in_ok-put_scope.ensures c.begin-2.ensures c.in_ok-put_part-2.ensures
     c.begin-3.ensures (c.leave.ensures ∙ ap out_of_scope c.in_ok-drop_scope.ensures)
 
