@@ -229,9 +229,13 @@ fn takes_the_newest(heap: &mut Heap) -> Result<bool, NoMemory> {
     Ok(takes_throw(heap, ErrorCode(9)) && takes_run(heap) && takes_nothing(heap))
 }
 
-// A function that makes a heap has one end, since the whole heap is dropped at each.
+// An empty heap, in a box: what owns a heap itself drops all its parts at each of its ends.
+pub(crate) fn boxed_heap(alloc: Global) -> Result<Box<Heap>, NoMemory> {
+    Ok(Box::new(alloc, Heap::new(alloc)?)?)
+}
+
 fn newest_first(alloc: Global) -> Result<bool, NoMemory> {
-    let mut heap = Heap::new(alloc)?;
+    let mut heap = boxed_heap(alloc)?;
     takes_the_newest(&mut heap)
 }
 
@@ -256,7 +260,7 @@ fn takes_both(heap: &mut Heap, value: &Value) -> Result<bool, NoMemory> {
 
 fn references_in_order(alloc: Global) -> Result<bool, NoMemory> {
     let value = two_references(alloc)?;
-    let mut heap = Heap::new(alloc)?;
+    let mut heap = boxed_heap(alloc)?;
     takes_both(&mut heap, &value)
 }
 
@@ -284,7 +288,7 @@ fn clears(heap: &mut Heap) -> Result<bool, NoMemory> {
 }
 
 fn clears_alone(alloc: Global) -> Result<bool, NoMemory> {
-    let mut heap = Heap::new(alloc)?;
+    let mut heap = boxed_heap(alloc)?;
     clears(&mut heap)
 }
 
@@ -317,7 +321,7 @@ fn drops(heap: &mut Heap) -> Result<bool, NoMemory> {
 }
 
 fn drops_alone(alloc: Global) -> Result<bool, NoMemory> {
-    let mut heap = Heap::new(alloc)?;
+    let mut heap = boxed_heap(alloc)?;
     drops(&mut heap)
 }
 
@@ -353,7 +357,7 @@ fn cancels(heap: &mut Heap) -> Result<bool, NoMemory> {
 }
 
 fn cancels_alone(alloc: Global) -> Result<bool, NoMemory> {
-    let mut heap = Heap::new(alloc)?;
+    let mut heap = boxed_heap(alloc)?;
     cancels(&mut heap)
 }
 
@@ -387,7 +391,7 @@ fn leaves_its_wait(heap: &mut Heap) -> Result<bool, NoMemory> {
 }
 
 fn leaves_alone(alloc: Global) -> Result<bool, NoMemory> {
-    let mut heap = Heap::new(alloc)?;
+    let mut heap = boxed_heap(alloc)?;
     leaves_its_wait(&mut heap)
 }
 

@@ -1,6 +1,6 @@
 // What bench/heap.sh times and measures.
 
-use crate::heaps::{add_wait, begin, hold, is_there, lose, make, suspend, wait_at};
+use crate::heaps::{add_wait, begin, boxed_heap, hold, is_there, lose, make, suspend, wait_at};
 use flow_base::ids::{ActorId, CellId};
 use flow_base::memory::NoMemory;
 use flow_cancel::heap::Heap;
@@ -78,7 +78,7 @@ fn rounds(heap: &mut Heap, most: u32) -> Result<bool, NoMemory> {
 }
 
 fn rounds_alone(alloc: Global, most: u32) -> Result<bool, NoMemory> {
-    let mut heap = Heap::new(alloc)?;
+    let mut heap = boxed_heap(alloc)?;
     rounds(&mut heap, most)
 }
 
@@ -168,7 +168,7 @@ fn lists(heap: &mut Heap, most: u32, times: u32) -> Result<bool, NoMemory> {
 
 // Whether a heap with so many suspended actors lists them all, so many times.
 fn lists_alone(alloc: Global, most: u32, times: u32) -> Result<bool, NoMemory> {
-    let mut heap = Heap::new(alloc)?;
+    let mut heap = boxed_heap(alloc)?;
     lists(&mut heap, most, times)
 }
 

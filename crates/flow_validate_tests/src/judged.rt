@@ -35,6 +35,15 @@ fn wanted(text: &str) -> Option<Option<(u8, Option<u32>)>> {
     }
 }
 
+// Whether a fault, or none, is as wanted.
+fn is_wanted(fault: Option<Invalid>, wanted: Option<(u8, Option<u32>)>) -> bool {
+    match fault {
+        None => wanted.is_none(),
+        Some(Invalid::Rule { rule, class }) => wanted == Some((rule, class)),
+        Some(Invalid::OutOfMemory) => false,
+    }
+}
+
 /// Whether the verdict on a class program is this rule and class, or, where none is wanted, that it is valid.
 pub fn is_judged(alloc: Global, raw: RawClasses, wanted: Option<(u8, Option<u32>)>) -> bool {
     if raw.classes.len() > 1_000_000 {
@@ -43,50 +52,66 @@ pub fn is_judged(alloc: Global, raw: RawClasses, wanted: Option<(u8, Option<u32>
     if !are_few(&raw.classes) {
         return false;
     }
-    match validate(alloc, raw) {
-        Ok(_program) => wanted.is_none(),
-        Err(Invalid::Rule { rule, class }) => wanted == Some((rule, class)),
-        Err(Invalid::OutOfMemory) => false,
-    }
+    is_wanted(validate(alloc, raw).err(), wanted)
 }
 
-// The classes of a line, with what stands before the inside of a class.
-fn around(alloc: Global, before: &str, classes: &str) -> Result<String, AllocError> {
-    let mut text = String::new(alloc);
+// Adds the classes of a line, with what stands before the inside of a class.
+fn add_around(text: &mut String, before: &str, classes: &str) -> Result<(), AllocError> {
     if classes.starts_with("class") {
         text.push_str(classes)?;
-        return Ok(text);
+        return Ok(());
     }
     text.push_str(BEFORE)?;
     text.push_str(before)?;
     text.push_str(classes)?;
     text.push_str(BEHIND)?;
+    Ok(())
+}
+
+fn around(alloc: Global, before: &str, classes: &str) -> Result<String, AllocError> {
+    let mut text = String::new(alloc);
+    add_around(&mut text, before, classes)?;
     Ok(text)
+}
+
+// Whether the verdict on the class program of these texts is this one.
+fn are_judged(
+    alloc: Global,
+    (plain, classes): (&str, &str),
+    wanted: Option<(u8, Option<u32>)>,
+) -> bool {
+    match raw_classes(alloc, plain, classes) {
+        Ok(raw) => is_judged(alloc, raw, wanted),
+        Err(_) => false,
+    }
+}
+
+// The records and functions of a line, and what stands before the inside of its class.
+fn usual(plain: &str) -> (&str, &str) {
+    match plain {
+        "-" => (PLAIN, ""),
+        "=" => (PLAIN, SLOTS),
+        _ => (plain, ""),
+    }
+}
+
+// The verdict, the records and functions, and the classes of a line.
+fn parts(line: &str) -> Option<(Option<(u8, Option<u32>)>, &str, &str)> {
+    let (verdict, texts) = line.split_once(" # ")?;
+    let (plain, classes) = texts.split_once(" # ")?;
+    Some((wanted(verdict)?, plain, classes))
 }
 
 /// Whether a line has the verdict with which it begins: `ok`, or `V` with the number of a rule and the place of a class, if one is
 /// named. Behind ` # ` stand the records and functions, or `-` or `=` for the usual ones, and behind another ` # ` the classes, or the
 /// inside of a class.
 pub fn is_line_judged(alloc: Global, line: &str) -> Result<bool, AllocError> {
-    let Some((verdict, texts)) = line.split_once(" # ") else {
+    let Some((wanted, plain, classes)) = parts(line) else {
         return Ok(false);
     };
-    let Some((plain, classes)) = texts.split_once(" # ") else {
-        return Ok(false);
-    };
-    let Some(wanted) = wanted(verdict) else {
-        return Ok(false);
-    };
-    let (plain, before) = match plain {
-        "-" => (PLAIN, ""),
-        "=" => (PLAIN, SLOTS),
-        _ => (plain, ""),
-    };
-    let classes = around(alloc, before, classes)?;
-    match raw_classes(alloc, plain, &classes) {
-        Ok(raw) => Ok(is_judged(alloc, raw, wanted)),
-        Err(_) => Ok(false),
-    }
+    let (plain, before) = usual(plain);
+    let text = around(alloc, before, classes)?;
+    Ok(are_judged(alloc, (plain, text.as_str()), wanted))
 }
 
 /// The first line of a table that hasn't the verdict with which it begins.

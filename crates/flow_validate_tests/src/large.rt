@@ -1,7 +1,7 @@
 // Large class programs.
 
-use crate::classes::raw_classes;
-use flow_base::name::Name;
+use crate::classes::{add_classes, raw_classes};
+use flow_base::name::{Name, is_name};
 use flow_base::place::Place;
 use flow_class::class::{Block, Class, Instr, Last, RawClasses};
 use flow_tree::decl::Slot;
@@ -18,17 +18,31 @@ const FIRST_PLACE: Place = Place {
     byte: 0,
 };
 
-// The name of a local.
-fn local(alloc: Global, number: u32) -> Result<Ident, SourceFault> {
-    let mut buffer = Buffer::new();
-    let mut bytes = Vec::new(alloc);
-    bytes.push(b'l')?;
-    bytes.extend_from_slice(buffer.format(number).as_bytes())?;
-    if !flow_base::name::is_name(&bytes) {
+// A name; no test has a word that is none.
+fn name(alloc: Global, word: &[u8]) -> Result<Name, SourceFault> {
+    if !is_name(word) {
         return Err(SourceFault::OutOfMemory);
     }
+    Ok(Name::new(alloc, word)?)
+}
+
+fn add_local(word: &mut Vec<u8>, number: u32) -> Result<(), SourceFault> {
+    let mut buffer = Buffer::new();
+    word.push(b'l')?;
+    word.extend_from_slice(buffer.format(number).as_bytes())?;
+    Ok(())
+}
+
+// The name of a local.
+fn local_name(alloc: Global, number: u32) -> Result<Name, SourceFault> {
+    let mut word = Vec::new(alloc);
+    add_local(&mut word, number)?;
+    name(alloc, &word)
+}
+
+fn local(alloc: Global, number: u32) -> Result<Ident, SourceFault> {
     Ok(Ident {
-        name: Name::new(alloc, &bytes)?,
+        name: local_name(alloc, number)?,
         at: FIRST_PLACE,
     })
 }
@@ -47,17 +61,33 @@ fn target(alloc: Global, number: u32) -> Result<Target, SourceFault> {
     Ok(Target { path })
 }
 
-// A local is filled with what another has, and the next block follows.
-fn step(alloc: Global, number: u32) -> Result<Block, SourceFault> {
-    let value = filler(alloc, number)?;
+// A local is filled with what another has.
+fn filling(alloc: Global, number: u32) -> Result<Instr, SourceFault> {
     let filled = target(alloc, number)?;
+    Ok(Instr::Set(filled, filler(alloc, number)?))
+}
+
+fn body(alloc: Global, number: u32) -> Result<Vec<Instr>, SourceFault> {
     let mut body = Vec::with_capacity(alloc, 1)?;
-    body.push(Instr::Set(filled, value))?;
+    body.push(filling(alloc, number)?)?;
+    Ok(body)
+}
+
+// A local is filled, and the next block follows.
+fn step(alloc: Global, number: u32) -> Result<Block, SourceFault> {
     Ok(Block {
         catcher: None,
-        body,
+        body: body(alloc, number)?,
         last: Last::Goto(number.saturating_add(1)),
     })
+}
+
+fn returning(alloc: Global) -> Block {
+    Block {
+        catcher: None,
+        body: Vec::new(alloc),
+        last: Last::Return(Expr::VoidValue),
+    }
 }
 
 // So many blocks that fill a local each, and one that returns.
@@ -66,11 +96,7 @@ fn steps(alloc: Global, count: u32) -> Result<Vec<Block>, SourceFault> {
     for number in 0..count {
         blocks.push(step(alloc, number)?)?;
     }
-    blocks.push(Block {
-        catcher: None,
-        body: Vec::new(alloc),
-        last: Last::Return(Expr::VoidValue),
-    })?;
+    blocks.push(returning(alloc))?;
     Ok(blocks)
 }
 
@@ -85,10 +111,8 @@ fn numbers(alloc: Global, count: u32) -> Result<Vec<Ty>, SourceFault> {
 
 fn parameter(alloc: Global) -> Result<Vec<Slot>, SourceFault> {
     let mut slots = Vec::new(alloc);
-    slots.push(Slot {
-        ty: Ty::Int,
-        name: Name::new(alloc, b"p")?,
-    })?;
+    let name = name(alloc, b"p")?;
+    slots.push(Slot { ty: Ty::Int, name })?;
     Ok(slots)
 }
 
@@ -97,7 +121,7 @@ fn main_class(alloc: Global, count: u32) -> Result<Class, SourceFault> {
     let blocks = steps(alloc, count)?;
     let slots = parameter(alloc)?;
     Ok(Class {
-        name: Name::new(alloc, b"main")?,
+        name: name(alloc, b"main")?,
         returns: Ty::Void,
         params: 1,
         slots,
@@ -144,13 +168,18 @@ const PLAIN: &str = "struct R { int n; Promise<int> reply; }; int f(int n) { ret
 
 const MAIN: &str = "class main returns Void params 1 { slot 0 int p; block 0 { return Void(); } }";
 
-/// An ordinary class.
-fn ordinary_class(alloc: Global, number: u32) -> Result<String, SourceFault> {
+fn add_ordinary_text(text: &mut String, number: u32) -> Result<(), SourceFault> {
     let mut buffer = Buffer::new();
-    let mut text = String::new(alloc);
     text.push_str(CLASS)?;
     text.push_str(buffer.format(number))?;
     text.push_str(INSIDE)?;
+    Ok(())
+}
+
+// The text of an ordinary class.
+fn ordinary_class(alloc: Global, number: u32) -> Result<String, SourceFault> {
+    let mut text = String::new(alloc);
+    add_ordinary_text(&mut text, number)?;
     Ok(text)
 }
 
@@ -161,21 +190,25 @@ fn add_ordinary(
     classes: &mut Vec<Class>,
 ) -> Result<usize, SourceFault> {
     let text = ordinary_class(alloc, number)?;
-    for class in raw_classes(alloc, "", &text)?.classes {
-        classes.push(class)?;
-    }
+    add_classes(alloc, &text, classes)?;
     Ok(text.len())
 }
 
-/// A class program of as many ordinary classes as have so many bytes of text.
-pub fn ordinary(alloc: Global, bytes: usize) -> Result<RawClasses, SourceFault> {
-    let mut raw = raw_classes(alloc, PLAIN, MAIN)?;
+// Adds as many ordinary classes as have so many bytes of text.
+fn add_many(alloc: Global, bytes: usize, classes: &mut Vec<Class>) -> Result<(), SourceFault> {
     let mut size: usize = 0;
     for number in 0..1_000_000 {
         if size >= bytes {
             break;
         }
-        size = size.saturating_add(add_ordinary(alloc, number, &mut raw.classes)?);
+        size = size.saturating_add(add_ordinary(alloc, number, classes)?);
     }
+    Ok(())
+}
+
+/// A class program of as many ordinary classes as have so many bytes of text.
+pub fn ordinary(alloc: Global, bytes: usize) -> Result<RawClasses, SourceFault> {
+    let mut raw = raw_classes(alloc, PLAIN, MAIN)?;
+    add_many(alloc, bytes, &mut raw.classes)?;
     Ok(raw)
 }

@@ -1,5 +1,5 @@
 // Tokens of a class text, read one after another. Any text may come: what isn't in place is refused at the end of the text, since
-// no test asks for the place.
+// no test asks for the place. Until then the reader keeps that something wasn't, so that what is read hasn't to be dropped.
 
 use flow_base::name::Name;
 use flow_base::place::Place;
@@ -14,25 +14,44 @@ use flow_tree::token::{Sign, Token, Tokens, Word};
 use flow_tree::ty::{Ident, Ty};
 use std::alloc::Global;
 
-/// The tokens of a text, and how many of them are read.
+const FIRST_PLACE: Place = Place {
+    line: 1,
+    column: 1,
+    byte: 0,
+};
+
+/// The tokens of a text, how many of them are read, and whether one of these wasn't in place.
 #[derive(Drop)]
 pub struct Reader {
     tokens: Tokens,
     at: usize,
+    wrong: bool,
 }
 
 impl Reader {
     /// From the first token on.
     pub fn new(tokens: Tokens) -> Reader {
-        Reader { tokens, at: 0 }
+        Reader {
+            tokens,
+            at: 0,
+            wrong: false,
+        }
     }
 
-    /// What isn't in place.
-    pub fn refusal(&self) -> SourceFault {
+    // What isn't in place.
+    fn refusal(&self) -> SourceFault {
         SourceFault::Refused {
             rule: Rule::S(5),
             at: self.tokens.end,
         }
+    }
+
+    /// A refusal, where a token wasn't in place.
+    pub fn verdict(&self) -> Result<(), SourceFault> {
+        if self.wrong {
+            return Err(self.refusal());
+        }
+        Ok(())
     }
 
     /// How many tokens there are, which no list in the text is longer than.
@@ -51,9 +70,9 @@ impl Reader {
         self.at = self.at.saturating_add(1);
     }
 
-    /// Whether all tokens are read.
+    /// Whether all tokens are read, or one wasn't in place.
     pub fn is_done(&self) -> bool {
-        self.at >= self.tokens.spots.len()
+        self.wrong || self.at >= self.tokens.spots.len()
     }
 
     /// Whether this name is next.
@@ -84,27 +103,24 @@ impl Reader {
     }
 
     /// This name.
-    pub fn name(&mut self, name: &str) -> Result<(), SourceFault> {
-        if self.takes_name(name) {
-            return Ok(());
+    pub fn name(&mut self, name: &str) {
+        if !self.takes_name(name) {
+            self.wrong = true;
         }
-        Err(self.refusal())
     }
 
     /// This reserved word.
-    pub fn word(&mut self, word: Word) -> Result<(), SourceFault> {
-        if self.takes_word(word) {
-            return Ok(());
+    pub fn word(&mut self, word: Word) {
+        if !self.takes_word(word) {
+            self.wrong = true;
         }
-        Err(self.refusal())
     }
 
     /// This sign.
-    pub fn sign(&mut self, sign: Sign) -> Result<(), SourceFault> {
-        if self.takes_sign(sign) {
-            return Ok(());
+    pub fn sign(&mut self, sign: Sign) {
+        if !self.takes_sign(sign) {
+            self.wrong = true;
         }
-        Err(self.refusal())
     }
 
     /// Reads this name, if it is next.
@@ -134,29 +150,47 @@ impl Reader {
         found
     }
 
-    /// Some name, which is next.
-    pub fn any_name(&mut self, alloc: Global) -> Result<Name, SourceFault> {
-        let name = match self.token() {
-            Some(Token::Name(next)) => next.copy(alloc)?,
-            Some(_) => return Err(self.refusal()),
-            None => return Err(self.refusal()),
-        };
-        self.skip();
-        Ok(name)
+    // Reads a number or a place, where it is next; else something isn't in place.
+    fn taken<T: Drop>(&mut self, next: Option<T>, other: T) -> T {
+        match next {
+            Some(taken) => {
+                self.skip();
+                taken
+            }
+            None => {
+                self.wrong = true;
+                other
+            }
+        }
     }
 
-    /// A number below 2^32.
-    pub fn number(&mut self) -> Result<u32, SourceFault> {
-        let number = match self.token() {
+    fn next_name(&self, alloc: Global) -> Result<Name, SourceFault> {
+        match self.token() {
+            Some(Token::Name(next)) => Ok(next.copy(alloc)?),
+            Some(_) => Err(self.refusal()),
+            None => Err(self.refusal()),
+        }
+    }
+
+    /// Some name, which is next.
+    pub fn any_name(&mut self, alloc: Global) -> Result<Name, SourceFault> {
+        let name = self.next_name(alloc);
+        self.skip();
+        name
+    }
+
+    fn next_number(&self) -> Option<u32> {
+        match self.token() {
             Some(Token::Number(next)) => u32::try_from(*next).ok(),
             Some(_) => None,
             None => None,
-        };
-        let Some(number) = number else {
-            return Err(self.refusal());
-        };
-        self.skip();
-        Ok(number)
+        }
+    }
+
+    /// A number below 2^32.
+    pub fn number(&mut self) -> u32 {
+        let next = self.next_number();
+        self.taken(next, 0)
     }
 
     fn next_place(&self) -> Option<Slotted> {
@@ -168,38 +202,43 @@ impl Reader {
     }
 
     /// A slot or a local.
-    pub fn place(&mut self) -> Result<Slotted, SourceFault> {
-        let Some(place) = self.next_place() else {
-            return Err(self.refusal());
-        };
-        self.skip();
-        Ok(place)
+    pub fn place(&mut self) -> Slotted {
+        let next = self.next_place();
+        self.taken(next, Slotted::Local(0))
     }
 
     /// The number of a local.
-    pub fn local(&mut self) -> Result<u32, SourceFault> {
-        match self.place()? {
-            Slotted::Local(number) => Ok(number),
-            Slotted::Slot(_) => Err(self.refusal()),
+    pub fn local(&mut self) -> u32 {
+        match self.place() {
+            Slotted::Local(number) => number,
+            Slotted::Slot(number) => {
+                self.wrong = true;
+                number
+            }
         }
     }
 
     /// Locals, with commas between them.
     pub fn locals(&mut self, alloc: Global) -> Result<Vec<u32>, SourceFault> {
         let mut numbers = Vec::new(alloc);
-        numbers.push(self.local()?)?;
+        numbers.push(self.local())?;
         for _ in 0..self.most() {
             if !self.takes_sign(Sign::Comma) {
                 break;
             }
-            numbers.push(self.local()?)?;
+            numbers.push(self.local())?;
         }
         Ok(numbers)
     }
 
-    /// Names with dots between them.
-    pub fn target(&mut self, alloc: Global) -> Result<Target, SourceFault> {
-        let mut path = Vec::new(alloc);
+    fn ident(&mut self, alloc: Global) -> Result<Ident, SourceFault> {
+        Ok(Ident {
+            name: self.any_name(alloc)?,
+            at: FIRST_PLACE,
+        })
+    }
+
+    fn add_path(&mut self, alloc: Global, path: &mut Vec<Ident>) -> Result<(), SourceFault> {
         path.push(self.ident(alloc)?)?;
         for _ in 0..self.most() {
             if !self.takes_sign(Sign::Dot) {
@@ -207,17 +246,14 @@ impl Reader {
             }
             path.push(self.ident(alloc)?)?;
         }
-        Ok(Target { path })
+        Ok(())
     }
 
-    fn ident(&mut self, alloc: Global) -> Result<Ident, SourceFault> {
-        let at = Place {
-            line: 1,
-            column: 1,
-            byte: 0,
-        };
-        let name = self.any_name(alloc)?;
-        Ok(Ident { name, at })
+    /// Names with dots between them.
+    pub fn target(&mut self, alloc: Global) -> Result<Target, SourceFault> {
+        let mut path = Vec::new(alloc);
+        self.add_path(alloc, &mut path)?;
+        Ok(Target { path })
     }
 
     /// An expression.
@@ -240,21 +276,32 @@ impl Reader {
         Ok(ty)
     }
 
-    /// Arguments in brackets.
-    pub fn args(&mut self, alloc: Global) -> Result<Vec<Expr>, SourceFault> {
-        self.sign(Sign::OpenRound)?;
-        let mut args = Vec::new(alloc);
-        if self.takes_sign(Sign::CloseRound) {
-            return Ok(args);
-        }
-        args.push(self.expr(alloc)?)?;
+    fn add_exprs(&mut self, alloc: Global, exprs: &mut Vec<Expr>) -> Result<(), SourceFault> {
+        exprs.push(self.expr(alloc)?)?;
         for _ in 0..self.most() {
             if !self.takes_sign(Sign::Comma) {
                 break;
             }
-            args.push(self.expr(alloc)?)?;
+            exprs.push(self.expr(alloc)?)?;
         }
-        self.sign(Sign::CloseRound)?;
+        Ok(())
+    }
+
+    // Behind the opening bracket.
+    fn add_args(&mut self, alloc: Global, args: &mut Vec<Expr>) -> Result<(), SourceFault> {
+        if self.takes_sign(Sign::CloseRound) {
+            return Ok(());
+        }
+        self.add_exprs(alloc, args)?;
+        self.sign(Sign::CloseRound);
+        Ok(())
+    }
+
+    /// Arguments in brackets.
+    pub fn args(&mut self, alloc: Global) -> Result<Vec<Expr>, SourceFault> {
+        self.sign(Sign::OpenRound);
+        let mut args = Vec::new(alloc);
+        self.add_args(alloc, &mut args)?;
         Ok(args)
     }
 }

@@ -5,7 +5,7 @@ use crate::judged::{first_misjudged, is_judged};
 use crate::kept::{KEPT, WORKED};
 use crate::large::{many_blocks, ordinary};
 use flow_tree::fault::SourceFault;
-use std::alloc::AllocError;
+use std::alloc::{AllocError, Global};
 
 #[test]
 fn kept(rt: HostRuntime) -> Result<(), AllocError> {
@@ -51,32 +51,50 @@ fn order(rt: HostRuntime) -> Result<(), AllocError> {
     Ok(())
 }
 
+// How many classes are made.
+fn many_made(alloc: Global) -> Result<usize, SourceFault> {
+    let raw = many_blocks(alloc, 100_000)?;
+    Ok(raw.classes.len())
+}
+
+fn many_are_judged(alloc: Global) -> Result<bool, SourceFault> {
+    let raw = many_blocks(alloc, 100_000)?;
+    Ok(is_judged(alloc, raw, None))
+}
+
 // The next test without the verdict.
 #[test]
 fn a_hundred_thousand_blocks_and_places_are_made(rt: HostRuntime) -> Result<(), SourceFault> {
-    let raw = many_blocks(rt.alloc(), 100_000)?;
-    assert_eq!(rt; raw.classes.len(), 1);
+    assert_eq!(rt; many_made(rt.alloc())?, 1);
     Ok(())
 }
 
 #[test]
 fn a_hundred_thousand_blocks_and_places_are_judged(rt: HostRuntime) -> Result<(), SourceFault> {
-    let raw = many_blocks(rt.alloc(), 100_000)?;
-    assert!(rt; is_judged(rt.alloc(), raw, None));
+    assert!(rt; many_are_judged(rt.alloc())?);
     Ok(())
+}
+
+// How many classes are read.
+fn large_read(alloc: Global) -> Result<usize, SourceFault> {
+    let raw = ordinary(alloc, 16_777_216)?;
+    Ok(raw.classes.len())
+}
+
+fn large_is_judged(alloc: Global) -> Result<bool, SourceFault> {
+    let raw = ordinary(alloc, 16_777_216)?;
+    Ok(is_judged(alloc, raw, None))
 }
 
 // The next test without the verdict.
 #[test]
 fn sixteen_mebibytes_are_read(rt: HostRuntime) -> Result<(), SourceFault> {
-    let raw = ordinary(rt.alloc(), 16_777_216)?;
-    assert!(rt; raw.classes.len() > 1_000);
+    assert!(rt; large_read(rt.alloc())? > 1_000);
     Ok(())
 }
 
 #[test]
 fn sixteen_mebibytes_are_judged(rt: HostRuntime) -> Result<(), SourceFault> {
-    let raw = ordinary(rt.alloc(), 16_777_216)?;
-    assert!(rt; is_judged(rt.alloc(), raw, None));
+    assert!(rt; large_is_judged(rt.alloc())?);
     Ok(())
 }
