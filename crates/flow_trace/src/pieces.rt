@@ -1,9 +1,10 @@
 // The pieces that a line is printed from.
 
-ghost use Rattle.std.specs.Prelude.{◌≡◌, ◌≤◌, ◌<◌, ◌^◌, ◌+◌, ℕ, List, [], ◌∷◌, ◌++◌, map, length, codes, decimal};
+ghost use Rattle.std.specs.Prelude.{◌≡◌, ◌≤◌, ◌<◌, ◌^◌, ◌+◌, ℕ, List, [], ◌∷◌, ◌++◌, map, length, codes, decimal, true, false};
 ghost use Rattle.flow_base.specs.Quote.{quoted};
 ghost use Rattle.flow_trace.specs.Bytes.{fields, spelled, outcome, truth, text, IsField, IsLine};
 ghost use Rattle.flow_base.specs.Names.{IsName};
+ghost use Rattle.flow_trace.specs.Groups.{is_event, is_deed};
 ghost use Rattle.flow_trace.specs.Pieces.{words_of, piece_words, room_of, piece_room};
 ghost use Rattle.flow_trace.specs.declared.pieces.Piece.TheVariants.{Absent, Word, Number, Integer, Quoted};
 
@@ -257,14 +258,14 @@ fn quoted_bytes<'a>(bytes: &'a [u8]) -> Piece<'a>
     Piece::Quoted(bytes)
 }
 
-/// The pieces of a line, which has room in so many bytes; and every line is in the range of its type.
-pub(crate) fn line_pieces<'a>(line: &'a Line) -> Pieces<'a>
+// The pieces of an event's line.
+fn event_pieces<'a>(line: &'a Line) -> Pieces<'a>
+    requires { is_event line.now ≡ true }
     ensures words { words_of result ≡ map spelled (fields line.now) }
     ensures range { IsLine line.now }
     ensures room { room_of result ≤ 262238 }
 {
     match line {
-        Line::Head => fixed(b"trace", b"1"),
         Line::Boot(n, t, p) => event(*n, *t, b"boot", *p),
         Line::Kill(n, t, p) => event(*n, *t, b"kill", *p),
         Line::Stop(n, t, p) => event(*n, *t, b"stop", *p),
@@ -279,6 +280,18 @@ pub(crate) fn line_pieces<'a>(line: &'a Line) -> Pieces<'a>
         Line::Sync(n, t, p, c, ok) => answer(*n, *t, b"sync", *p, *c, outcome(*ok)),
         Line::Size(n, t, p, c, Some(k)) => answer(*n, *t, b"size", *p, *c, number(*k)),
         Line::Size(n, t, p, c, None) => answer(*n, *t, b"size", *p, *c, Piece::Word(b"fail")),
+        _ => unreachable!(),
+    }
+}
+
+// The pieces of a line that tells what an actor does.
+fn deed_pieces<'a>(line: &'a Line) -> Pieces<'a>
+    requires { is_deed line.now ≡ true }
+    ensures words { words_of result ≡ map spelled (fields line.now) }
+    ensures range { IsLine line.now }
+    ensures room { room_of result ≤ 262238 }
+{
+    match line {
         Line::Start(a, class) => numbered_with(b"start", a.0, named(class)),
         Line::Wait(a, group) => numbered_with(b"wait", a.0, number(*group)),
         Line::Take(a, group, branch) => words(
@@ -297,6 +310,20 @@ pub(crate) fn line_pieces<'a>(line: &'a Line) -> Pieces<'a>
         Line::PrintInt(a, value) => numbered_with(b"print", a.0, Piece::Integer(*value)),
         Line::PrintBool(a, value) => numbered_with(b"print", a.0, truth(*value)),
         Line::PrintText(a, text) => numbered_with(b"print", a.0, quoted(text)),
+        _ => unreachable!(),
+    }
+}
+
+// The pieces of a line of a packet or a write, of a frame, or at an edge of a trace.
+fn other_pieces<'a>(line: &'a Line) -> Pieces<'a>
+    requires no_event { is_event line.now ≡ false }
+    requires no_deed { is_deed line.now ≡ false }
+    ensures words { words_of result ≡ map spelled (fields line.now) }
+    ensures range { IsLine line.now }
+    ensures room { room_of result ≤ 262238 }
+{
+    match line {
+        Line::Head => fixed(b"trace", b"1"),
         Line::Send(m, q, port, text) => words(
             b"send",
             Piece::Number(*m),
@@ -338,5 +365,21 @@ pub(crate) fn line_pieces<'a>(line: &'a Line) -> Pieces<'a>
             Piece::Absent,
             Piece::Absent,
         ),
+        _ => unreachable!(),
+    }
+}
+
+/// The pieces of a line, which has room in so many bytes; and every line is in the range of its type.
+pub(crate) fn line_pieces<'a>(line: &'a Line) -> Pieces<'a>
+    ensures words { words_of result ≡ map spelled (fields line.now) }
+    ensures range { IsLine line.now }
+    ensures room { room_of result ≤ 262238 }
+{
+    if line.is_event() {
+        event_pieces(line)
+    } else if line.is_deed() {
+        deed_pieces(line)
+    } else {
+        other_pieces(line)
     }
 }
