@@ -1,9 +1,9 @@
 -- What writing a statement adds to a text.
-use Rattle.std.specs.Prelude.{◌≡◌, ℕ, suc, List, [], ◌∷◌, ◌++◌, codes}
+use Rattle.std.specs.Prelude.{◌≡◌, ℕ, suc, Bool, true, false, List, [], ◌∷◌, ◌++◌, codes}
 use Rattle.std.specs.declared.option.Option.{Option}
 use Rattle.std.specs.declared.option.Option.TheVariants.{None, Some}
 use Rattle.flow_tree.specs.declared.ty.Ident.{Ident}
-use Rattle.flow_tree.specs.Body.{Body, Branches}
+use Rattle.flow_tree.specs.Body.{Body, Branches, BreakStmt, ContinueStmt, ReturnStmt, ThrowStmt, DeclareStmt, AssignStmt, ModifyStmt, CallStmt, WaitStmt}
 use Rattle.flow_tree.specs.Decls.{ParamTree}
 use Rattle.flow_tree.specs.Canon.{line, body_text, branches_text, params_text}
 
@@ -36,3 +36,16 @@ more_names_text (x ∷ xs) = codes "." ++ x.name ++ more_names_text xs
 abbrev pub behind_result : Ident → List ParamTree → Body → List ℕ
 behind_result x params body =
     codes " " ++ x.name ++ codes "(" ++ params_text params ++ (codes ") {" ++ 10 ∷ []) ++ body_text 1 body ++ (codes "}" ++ 10 ∷ [])
+
+-- whether a body begins with a statement of one line
+abbrev pub is_line : Body → Bool
+is_line (BreakStmt at rest) = true
+is_line (ContinueStmt at rest) = true
+is_line (ReturnStmt at e rest) = true
+is_line (ThrowStmt at e rest) = true
+is_line (DeclareStmt at i value rest) = true
+is_line (AssignStmt at path e rest) = true
+is_line (ModifyStmt at path c rest) = true
+is_line (CallStmt at path es rest) = true
+is_line (WaitStmt at w rest) = true
+is_line other = false

@@ -3,13 +3,14 @@
 ghost use Rattle.std.specs.Prelude.{◌≡◌, ◌++◌, codes, IfOk};
 ghost use Rattle.flow_tree.specs.View.{type_of, expr_of, exprs_of};
 ghost use Rattle.flow_tree.specs.Grammar.{op_sign};
+ghost use Rattle.flow_tree.specs.Spelling.{sign_bytes};
 ghost use Rattle.flow_tree.specs.Canon.{type_text, bool_text, minus_gap, expr_text, args_text, more_args_text};
 
 use crate::source::Source;
 use flow_base::memory::NoMemory;
 use flow_tree::expr::{Expr, Op};
 use flow_tree::token::Sign;
-use flow_tree::ty::Ty;
+use flow_tree::ty::{Ident, Ty};
 use itoa::Buffer;
 
 // The sign between two operands.
@@ -96,36 +97,17 @@ impl Source {
             Expr::Bool(value) => self.put_bool(*value),
             Expr::VoidValue => self.put(b"Void()"),
             Expr::Var(name) => self.put(name.name.bytes()),
-            Expr::Call(name, args) => {
-                self.put(name.name.bytes())?;
-                self.put_args(args)
-            }
-            Expr::Field(of, name) => {
-                self.put_expr(of)?;
-                self.put(b".")?;
-                self.put(name.name.bytes())
-            }
+            Expr::Call(name, args) => self.put_function_call(name, args),
+            Expr::Field(of, name) => self.put_field(of, name),
             Expr::Method(of, name, args) => {
-                self.put_expr(of)?;
-                self.put(b".")?;
-                self.put(name.name.bytes())?;
+                self.put_field(of, name)?;
                 self.put_args(args)
             }
-            Expr::Not(of) => {
-                self.put(b"!")?;
-                self.put_expr(of)
-            }
-            Expr::Neg(of) => {
-                self.put(b"-")?;
-                self.put_gap(of)?;
-                self.put_expr(of)
-            }
+            Expr::Not(of) => self.put_not(of),
+            Expr::Neg(of) => self.put_negated(of),
             Expr::Binary(op, left, right) => {
                 self.put_expr(left)?;
-                self.put(b" ")?;
-                self.put(sign(*op).spelling())?;
-                self.put(b" ")?;
-                self.put_expr(right)
+                self.put_right(*op, right)
             }
             Expr::Paren(of) => {
                 self.put(b"(")?;
@@ -133,6 +115,60 @@ impl Source {
                 self.put(b")")
             }
         }
+    }
+
+    // A name and arguments.
+    #[cycle(expr)]
+    fn put_function_call(&mut self, name: &Ident, args: &[Expr]) -> Result<(), NoMemory>
+        ensures { IfOk result (λ _. self.new ≡ self.old
+            ++ (name.now.name ++ codes "(" ++ args_text (exprs_of args.now) ++ codes ")")) }
+    {
+        self.put(name.name.bytes())?;
+        self.put_args(args)
+    }
+
+    // A field of an operand.
+    #[cycle(expr)]
+    fn put_field(&mut self, of: &Expr, name: &Ident) -> Result<(), NoMemory>
+        ensures { IfOk result (λ _. self.new
+            ≡ self.old ++ (expr_text (expr_of of.now) ++ codes "." ++ name.now.name)) }
+    {
+        self.put_expr(of)?;
+        self.put(b".")?;
+        self.put(name.name.bytes())
+    }
+
+    // A sign `!` and its operand.
+    #[cycle(expr)]
+    fn put_not(&mut self, of: &Expr) -> Result<(), NoMemory>
+        ensures { IfOk result (λ _. self.new
+            ≡ self.old ++ (codes "!" ++ expr_text (expr_of of.now))) }
+    {
+        self.put(b"!")?;
+        self.put_expr(of)
+    }
+
+    // A unary sign `-` and its operand.
+    #[cycle(expr)]
+    fn put_negated(&mut self, of: &Expr) -> Result<(), NoMemory>
+        ensures { IfOk result (λ _. self.new ≡ self.old
+            ++ (codes "-" ++ minus_gap (expr_of of.now) ++ expr_text (expr_of of.now))) }
+    {
+        self.put(b"-")?;
+        self.put_gap(of)?;
+        self.put_expr(of)
+    }
+
+    // A sign behind an operand, and the other operand.
+    #[cycle(expr)]
+    fn put_right(&mut self, op: Op, right: &Expr) -> Result<(), NoMemory>
+        ensures { IfOk result (λ _. self.new ≡ self.old ++ (codes " "
+            ++ sign_bytes (op_sign op) ++ codes " " ++ expr_text (expr_of right.now))) }
+    {
+        self.put(b" ")?;
+        self.put(sign(op).spelling())?;
+        self.put(b" ")?;
+        self.put_expr(right)
     }
 
     /// The arguments of a call, in parentheses.

@@ -1,12 +1,12 @@
 // The texts of statements.
 
-ghost use Rattle.std.specs.Prelude.{◌≡◌, suc, ◌++◌, ◌∷◌, [], codes, map, IfOk, if◌then◌else◌};
+ghost use Rattle.std.specs.Prelude.{◌≡◌, suc, ◌++◌, ◌∷◌, [], codes, map, true, false, IfOk, if◌then◌else◌};
 ghost use Rattle.std.specs.Option.{option_map};
 ghost use Rattle.flow_tree.specs.View.{type_of, expr_of, exprs_of};
 ghost use Rattle.flow_tree.specs.StmtView.{into_of, waiting_of, change_of, kind_of, stmt_of, body_of, branch_of, branches_of, simple_of, else_of};
 ghost use Rattle.flow_tree.specs.Canon.{line, expr_text, named_text, into_text, into_part, waiting_text, maybe_text, path_text, declare_text, assign_text, change_text, modify_text, call_text, part_text, body_text, branches_text};
 ghost use Rattle.flow_tree.specs.Body.{End};
-ghost use Rattle.flow_show.specs.Lines.{PutsBefore, PutsBranch, else_text, handler_text, more_names_text};
+ghost use Rattle.flow_show.specs.Lines.{PutsBefore, PutsBranch, is_line, else_text, handler_text, more_names_text};
 
 use crate::source::Source;
 use flow_base::memory::NoMemory;
@@ -21,6 +21,24 @@ fn inner(level: usize) -> Result<usize, NoMemory>
     match level.checked_add(1) {
         Some(level) => Ok(level),
         None => Err(NoMemory),
+    }
+}
+
+// Whether a statement takes one line.
+fn is_line(stmt: &Stmt) -> bool
+    ensures { result ≡ is_line (stmt_of stmt.now End) }
+{
+    match &stmt.kind {
+        StmtKind::Break
+        | StmtKind::Continue
+        | StmtKind::Return(_)
+        | StmtKind::Throw(_)
+        | StmtKind::Declare(..)
+        | StmtKind::Assign(..)
+        | StmtKind::Modify(..)
+        | StmtKind::Call(..)
+        | StmtKind::Wait(_) => true,
+        _ => false,
     }
 }
 
@@ -358,6 +376,52 @@ impl Source {
         Ok(())
     }
 
+    // A statement of one line, at this level.
+    fn put_one_line(&mut self, level: usize, stmt: &Stmt) -> Result<(), NoMemory>
+        requires { is_line (stmt_of stmt.now End) ≡ true }
+        ensures { IfOk result (λ _. PutsBefore level (stmt_of stmt.now) self.old self.new) }
+    {
+        match &stmt.kind {
+            StmtKind::Break => {
+                self.put_line(level, b"break;")?;
+                Ok(())
+            }
+            StmtKind::Continue => {
+                self.put_line(level, b"continue;")?;
+                Ok(())
+            }
+            StmtKind::Return(value) => {
+                self.put_around(level, b"return ", value, b";")?;
+                Ok(())
+            }
+            StmtKind::Throw(error) => {
+                self.put_throw(level, error)?;
+                Ok(())
+            }
+            StmtKind::Declare(into, value) => {
+                self.put_declare_line(level, into, value)?;
+                Ok(())
+            }
+            StmtKind::Assign(target, value) => {
+                self.put_assign_line(level, target, value)?;
+                Ok(())
+            }
+            StmtKind::Modify(target, change) => {
+                self.put_modify_line(level, target, change)?;
+                Ok(())
+            }
+            StmtKind::Call(target, args) => {
+                self.put_call_line(level, target, args)?;
+                Ok(())
+            }
+            StmtKind::Wait(waiting) => {
+                self.put_wait_line(level, waiting)?;
+                Ok(())
+            }
+            _ => unreachable!(),
+        }
+    }
+
     /// Statements, each on a line at this level.
     #[cycle(stmt)]
     #[tactic(auto, using(crate::proofs::Texts::body_step, crate::proofs::Texts::body_end))]
@@ -373,6 +437,19 @@ impl Source {
     // A statement at this level.
     #[cycle(stmt)]
     fn put_stmt(&mut self, level: usize, stmt: &Stmt) -> Result<(), NoMemory>
+        ensures { IfOk result (λ _. PutsBefore level (stmt_of stmt.now) self.old self.new) }
+    {
+        if is_line(stmt) {
+            self.put_one_line(level, stmt)
+        } else {
+            self.put_nested(level, stmt)
+        }
+    }
+
+    // A statement with others inside, at this level.
+    #[cycle(stmt)]
+    fn put_nested(&mut self, level: usize, stmt: &Stmt) -> Result<(), NoMemory>
+        requires { is_line (stmt_of stmt.now End) ≡ false }
         ensures { IfOk result (λ _. PutsBefore level (stmt_of stmt.now) self.old self.new) }
     {
         match &stmt.kind {
@@ -402,22 +479,6 @@ impl Source {
                 self.put_inner(level, body)?;
                 Ok(())
             }
-            StmtKind::Break => {
-                self.put_line(level, b"break;")?;
-                Ok(())
-            }
-            StmtKind::Continue => {
-                self.put_line(level, b"continue;")?;
-                Ok(())
-            }
-            StmtKind::Return(value) => {
-                self.put_around(level, b"return ", value, b";")?;
-                Ok(())
-            }
-            StmtKind::Throw(error) => {
-                self.put_throw(level, error)?;
-                Ok(())
-            }
             StmtKind::Try(body, _, error, handler) => {
                 self.put_line(level, b"try {")?;
                 self.put_deeper(level, body)?;
@@ -429,26 +490,7 @@ impl Source {
                 self.put_branches(level, branches)?;
                 Ok(())
             }
-            StmtKind::Declare(into, value) => {
-                self.put_declare_line(level, into, value)?;
-                Ok(())
-            }
-            StmtKind::Assign(target, value) => {
-                self.put_assign_line(level, target, value)?;
-                Ok(())
-            }
-            StmtKind::Modify(target, change) => {
-                self.put_modify_line(level, target, change)?;
-                Ok(())
-            }
-            StmtKind::Call(target, args) => {
-                self.put_call_line(level, target, args)?;
-                Ok(())
-            }
-            StmtKind::Wait(waiting) => {
-                self.put_wait_line(level, waiting)?;
-                Ok(())
-            }
+            _ => unreachable!(),
         }
     }
 

@@ -1,4 +1,5 @@
 pub mod Bytes
+pub mod Groups
 pub mod Out
 pub mod Pieces
 pub mod Quote

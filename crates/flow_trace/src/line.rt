@@ -1,6 +1,7 @@
 // The lines of a trace.
 
-ghost use Rattle.std.specs.Prelude.{◌≡◌, IfOk};
+ghost use Rattle.std.specs.Prelude.{◌≡◌, true, false, IfOk};
+ghost use Rattle.flow_trace.specs.Groups.{is_event, is_deed};
 
 use flow_base::ids::{ActorId, CellId, ErrorCode, ProcId};
 use flow_base::memory::NoMemory;
@@ -87,12 +88,54 @@ pub enum Line {
 }
 
 impl Line {
-    /// An equal line.
-    pub fn copy(&self, alloc: Global) -> Result<Line, NoMemory>
+    /// Whether a line is an event's.
+    pub(crate) fn is_event(&self) -> bool
+        ensures { result ≡ is_event self.now }
+    {
+        matches!(
+            self,
+            Line::Boot(..)
+                | Line::Kill(..)
+                | Line::Stop(..)
+                | Line::Cut(..)
+                | Line::Heal(..)
+                | Line::DiskFail(..)
+                | Line::Timer(..)
+                | Line::Arrival(..)
+                | Line::Read(..)
+                | Line::Write(..)
+                | Line::Sync(..)
+                | Line::Size(..)
+        )
+    }
+
+    /// Whether a line tells what an actor does.
+    pub(crate) fn is_deed(&self) -> bool
+        ensures { result ≡ is_deed self.now }
+    {
+        matches!(
+            self,
+            Line::Start(..)
+                | Line::Wait(..)
+                | Line::Take(..)
+                | Line::Throw(..)
+                | Line::Catch(..)
+                | Line::Fail(..)
+                | Line::Finish(_)
+                | Line::Cancel(_)
+                | Line::Broken(_)
+                | Line::PrintInt(..)
+                | Line::PrintBool(..)
+                | Line::PrintText(..)
+        )
+    }
+
+    // An equal line, of an event's.
+    fn copy_event(&self, alloc: Global) -> Result<Line, NoMemory>
+        requires { is_event self.now ≡ true }
         ensures { IfOk result (λ line. line ≡ self.now) }
     {
         match self {
-            Line::Head => Ok(Line::Head),
             Line::Boot(n, t, p) => Ok(Line::Boot(*n, *t, *p)),
             Line::Kill(n, t, p) => Ok(Line::Kill(*n, *t, *p)),
             Line::Stop(n, t, p) => Ok(Line::Stop(*n, *t, *p)),
@@ -112,6 +155,16 @@ impl Line {
             Line::Write(n, t, p, c, ok) => Ok(Line::Write(*n, *t, *p, *c, *ok)),
             Line::Sync(n, t, p, c, ok) => Ok(Line::Sync(*n, *t, *p, *c, *ok)),
             Line::Size(n, t, p, c, size) => Ok(Line::Size(*n, *t, *p, *c, *size)),
+            _ => unreachable!(),
+        }
+    }
+
+    // An equal line, of one that tells what an actor does.
+    fn copy_deed(&self, alloc: Global) -> Result<Line, NoMemory>
+        requires { is_deed self.now ≡ true }
+        ensures { IfOk result (λ line. line ≡ self.now) }
+    {
+        match self {
             Line::Start(a, class) => Ok(Line::Start(*a, class.copy(alloc)?)),
             Line::Wait(a, group) => Ok(Line::Wait(*a, *group)),
             Line::Take(a, group, branch) => Ok(Line::Take(*a, *group, *branch)),
@@ -124,6 +177,18 @@ impl Line {
             Line::PrintInt(a, value) => Ok(Line::PrintInt(*a, *value)),
             Line::PrintBool(a, value) => Ok(Line::PrintBool(*a, *value)),
             Line::PrintText(a, text) => Ok(Line::PrintText(*a, text.copy(alloc)?)),
+            _ => unreachable!(),
+        }
+    }
+
+    // An equal line, of the rest.
+    fn copy_other(&self, alloc: Global) -> Result<Line, NoMemory>
+        requires no_event { is_event self.now ≡ false }
+        requires no_deed { is_deed self.now ≡ false }
+        ensures { IfOk result (λ line. line ≡ self.now) }
+    {
+        match self {
+            Line::Head => Ok(Line::Head),
             Line::Send(m, q, port, text) => Ok(Line::Send(*m, *q, *port, text.copy(alloc)?)),
             Line::LostCut(m) => Ok(Line::LostCut(*m)),
             Line::LostDraw(m) => Ok(Line::LostDraw(*m)),
@@ -140,6 +205,20 @@ impl Line {
             Line::EndBound => Ok(Line::EndBound),
             Line::EndSpent => Ok(Line::EndSpent),
             Line::EndStop(monitor) => Ok(Line::EndStop(monitor.copy(alloc)?)),
+            _ => unreachable!(),
+        }
+    }
+
+    /// An equal line.
+    pub fn copy(&self, alloc: Global) -> Result<Line, NoMemory>
+        ensures { IfOk result (λ line. line ≡ self.now) }
+    {
+        if self.is_event() {
+            self.copy_event(alloc)
+        } else if self.is_deed() {
+            self.copy_deed(alloc)
+        } else {
+            self.copy_other(alloc)
         }
     }
 }

@@ -1,9 +1,10 @@
 // The pieces that a line is printed from.
 
-ghost use Rattle.std.specs.Prelude.{◌≡◌, ◌≤◌, ◌<◌, ◌^◌, ◌+◌, ℕ, List, [], ◌∷◌, ◌++◌, map, length, codes, decimal};
+ghost use Rattle.std.specs.Prelude.{◌≡◌, ◌≤◌, ◌<◌, ◌^◌, ◌+◌, ℕ, List, [], ◌∷◌, ◌++◌, map, length, codes, decimal, true, false};
 ghost use Rattle.flow_base.specs.Quote.{quoted};
 ghost use Rattle.flow_trace.specs.Bytes.{fields, spelled, outcome, truth, text, IsField, IsLine};
 ghost use Rattle.flow_base.specs.Names.{IsName};
+ghost use Rattle.flow_trace.specs.Groups.{is_event, is_deed};
 ghost use Rattle.flow_trace.specs.Pieces.{words_of, piece_words, room_of, piece_room};
 ghost use Rattle.flow_trace.specs.declared.pieces.Piece.TheVariants.{Absent, Word, Number, Integer, Quoted};
 
@@ -59,27 +60,120 @@ fn words<'a>(
     }
 }
 
-// An event's line.
-fn event<'a>(
-    number: u64,
-    time: u64,
-    what: &'a [u8],
-    fifth: Piece<'a>,
-    sixth: Piece<'a>,
-    seventh: Piece<'a>,
-) -> Pieces<'a>
+// A line of two fixed words.
+fn fixed<'a>(first: &'a [u8], second: &'a [u8]) -> Pieces<'a>
+    ensures words { words_of result ≡ first.now ∷ second.now ∷ [] }
+    ensures room { room_of result ≡ length first.now + length second.now + 2 }
+{
+    Pieces {
+        first,
+        second: Piece::Word(second),
+        third: Piece::Absent,
+        fourth: Piece::Absent,
+        fifth: Piece::Absent,
+        sixth: Piece::Absent,
+        seventh: Piece::Absent,
+    }
+}
+
+// A line of a fixed word and a number.
+fn numbered<'a>(first: &'a [u8], number: u64) -> Pieces<'a>
+    ensures words { words_of result ≡ first.now ∷ decimal number ∷ [] }
+    ensures range { number < 2 ^ 64 }
+    ensures room { room_of result ≡ length first.now + 22 }
+{
+    Pieces {
+        first,
+        second: Piece::Number(number),
+        third: Piece::Absent,
+        fourth: Piece::Absent,
+        fifth: Piece::Absent,
+        sixth: Piece::Absent,
+        seventh: Piece::Absent,
+    }
+}
+
+// A line of a fixed word, a number and one word more.
+fn numbered_with<'a>(first: &'a [u8], number: u64, third: Piece<'a>) -> Pieces<'a>
+    ensures words { words_of result ≡ first.now ∷ decimal number ∷ piece_words third.entry }
+    ensures range { number < 2 ^ 64 }
+    ensures room { room_of result ≡ length first.now + 22 + piece_room third.entry }
+{
+    Pieces {
+        first,
+        second: Piece::Number(number),
+        third,
+        fourth: Piece::Absent,
+        fifth: Piece::Absent,
+        sixth: Piece::Absent,
+        seventh: Piece::Absent,
+    }
+}
+
+// The line of an event of a process.
+fn event<'a>(number: u64, time: u64, what: &'a [u8], process: ProcId) -> Pieces<'a>
     ensures words { words_of result ≡ codes "event" ∷ decimal number ∷ decimal time ∷ what.now
-        ∷ piece_words fifth.entry ++ piece_words sixth.entry ++ piece_words seventh.entry }
-    ensures room { room_of result ≡ 49 + length what.now + piece_room fifth.entry + piece_room
-        sixth.entry + piece_room seventh.entry }
+        ∷ decimal process.0 ∷ [] }
+    ensures range { process.0 < 2 ^ 8 }
+    ensures room { room_of result ≡ 70 + length what.now }
 {
     Pieces {
         first: b"event",
         second: Piece::Number(number),
         third: Piece::Number(time),
         fourth: Piece::Word(what),
-        fifth,
+        fifth: Piece::Number(u64::from(process.0)),
+        sixth: Piece::Absent,
+        seventh: Piece::Absent,
+    }
+}
+
+// The line of an event of a process, with one word more.
+fn event_with<'a>(
+    number: u64,
+    time: u64,
+    what: &'a [u8],
+    process: ProcId,
+    sixth: Piece<'a>,
+) -> Pieces<'a>
+    ensures words { words_of result ≡ codes "event" ∷ decimal number ∷ decimal time ∷ what.now
+        ∷ decimal process.0 ∷ piece_words sixth.entry }
+    ensures range { process.0 < 2 ^ 8 }
+    ensures room { room_of result ≡ 70 + length what.now + piece_room sixth.entry }
+{
+    Pieces {
+        first: b"event",
+        second: Piece::Number(number),
+        third: Piece::Number(time),
+        fourth: Piece::Word(what),
+        fifth: Piece::Number(u64::from(process.0)),
         sixth,
+        seventh: Piece::Absent,
+    }
+}
+
+// The line of an answer of the disk into a cell of a process.
+fn answer<'a>(
+    number: u64,
+    time: u64,
+    what: &'a [u8],
+    process: ProcId,
+    cell: CellId,
+    seventh: Piece<'a>,
+) -> Pieces<'a>
+    ensures words { words_of result ≡ codes "event" ∷ decimal number ∷ decimal time ∷ what.now
+        ∷ decimal process.0 ∷ decimal cell.0 ∷ piece_words seventh.entry }
+    ensures process { process.0 < 2 ^ 8 }
+    ensures cell { cell.0 < 2 ^ 64 }
+    ensures room { room_of result ≡ 91 + length what.now + piece_room seventh.entry }
+{
+    Pieces {
+        first: b"event",
+        second: Piece::Number(number),
+        third: Piece::Number(time),
+        fourth: Piece::Word(what),
+        fifth: Piece::Number(u64::from(process.0)),
+        sixth: Piece::Number(cell.0),
         seventh,
     }
 }
@@ -164,90 +258,42 @@ fn quoted_bytes<'a>(bytes: &'a [u8]) -> Piece<'a>
     Piece::Quoted(bytes)
 }
 
-/// The pieces of a line, which has room in so many bytes; and every line is in the range of its type.
-pub(crate) fn line_pieces<'a>(line: &'a Line) -> Pieces<'a>
+// The pieces of an event's line.
+fn event_pieces<'a>(line: &'a Line) -> Pieces<'a>
+    requires { is_event line.now ≡ true }
     ensures words { words_of result ≡ map spelled (fields line.now) }
     ensures range { IsLine line.now }
     ensures room { room_of result ≤ 262238 }
 {
     match line {
-        Line::Head => words(
-            b"trace",
-            Piece::Word(b"1"),
-            Piece::Absent,
-            Piece::Absent,
-            Piece::Absent,
-        ),
-        Line::Boot(n, t, p) => event(*n, *t, b"boot", process(*p), Piece::Absent, Piece::Absent),
-        Line::Kill(n, t, p) => event(*n, *t, b"kill", process(*p), Piece::Absent, Piece::Absent),
-        Line::Stop(n, t, p) => event(*n, *t, b"stop", process(*p), Piece::Absent, Piece::Absent),
-        Line::Cut(n, t, p, q) => event(*n, *t, b"cut", process(*p), process(*q), Piece::Absent),
-        Line::Heal(n, t, p, q) => event(*n, *t, b"heal", process(*p), process(*q), Piece::Absent),
-        Line::DiskFail(n, t, p, k) => event(
-            *n,
-            *t,
-            b"diskfail",
-            process(*p),
-            number(*k),
-            Piece::Absent,
-        ),
-        Line::Timer(n, t, p, c) => event(*n, *t, b"timer", process(*p), cell(*c), Piece::Absent),
-        Line::Arrival(n, t, q, m) => event(
-            *n,
-            *t,
-            b"packet",
-            process(*q),
-            Piece::Number(*m),
-            Piece::Absent,
-        ),
-        Line::Read(n, t, p, c, Some(bytes)) => event(
-            *n,
-            *t,
-            b"read",
-            process(*p),
-            cell(*c),
-            quoted(bytes),
-        ),
-        Line::Read(n, t, p, c, None) => event(
-            *n,
-            *t,
-            b"read",
-            process(*p),
-            cell(*c),
-            Piece::Word(b"fail"),
-        ),
-        Line::Write(n, t, p, c, ok) => event(*n, *t, b"write", process(*p), cell(*c), outcome(*ok)),
-        Line::Sync(n, t, p, c, ok) => event(*n, *t, b"sync", process(*p), cell(*c), outcome(*ok)),
-        Line::Size(n, t, p, c, Some(k)) => event(
-            *n,
-            *t,
-            b"size",
-            process(*p),
-            cell(*c),
-            number(*k),
-        ),
-        Line::Size(n, t, p, c, None) => event(
-            *n,
-            *t,
-            b"size",
-            process(*p),
-            cell(*c),
-            Piece::Word(b"fail"),
-        ),
-        Line::Start(a, class) => words(
-            b"start",
-            actor(*a),
-            named(class),
-            Piece::Absent,
-            Piece::Absent,
-        ),
-        Line::Wait(a, group) => words(
-            b"wait",
-            actor(*a),
-            number(*group),
-            Piece::Absent,
-            Piece::Absent,
-        ),
+        Line::Boot(n, t, p) => event(*n, *t, b"boot", *p),
+        Line::Kill(n, t, p) => event(*n, *t, b"kill", *p),
+        Line::Stop(n, t, p) => event(*n, *t, b"stop", *p),
+        Line::Cut(n, t, p, q) => event_with(*n, *t, b"cut", *p, process(*q)),
+        Line::Heal(n, t, p, q) => event_with(*n, *t, b"heal", *p, process(*q)),
+        Line::DiskFail(n, t, p, k) => event_with(*n, *t, b"diskfail", *p, number(*k)),
+        Line::Timer(n, t, p, c) => event_with(*n, *t, b"timer", *p, cell(*c)),
+        Line::Arrival(n, t, q, m) => event_with(*n, *t, b"packet", *q, Piece::Number(*m)),
+        Line::Read(n, t, p, c, Some(text)) => answer(*n, *t, b"read", *p, *c, quoted(text)),
+        Line::Read(n, t, p, c, None) => answer(*n, *t, b"read", *p, *c, Piece::Word(b"fail")),
+        Line::Write(n, t, p, c, ok) => answer(*n, *t, b"write", *p, *c, outcome(*ok)),
+        Line::Sync(n, t, p, c, ok) => answer(*n, *t, b"sync", *p, *c, outcome(*ok)),
+        Line::Size(n, t, p, c, Some(k)) => answer(*n, *t, b"size", *p, *c, number(*k)),
+        Line::Size(n, t, p, c, None) => answer(*n, *t, b"size", *p, *c, Piece::Word(b"fail")),
+        _ => unreachable!(),
+    }
+}
+
+// The pieces of a line that tells what an actor does.
+fn deed_pieces<'a>(line: &'a Line) -> Pieces<'a>
+    requires { is_deed line.now ≡ true }
+    ensures words { words_of result ≡ map spelled (fields line.now) }
+    ensures range { IsLine line.now }
+    ensures room { room_of result ≤ 262238 }
+{
+    match line {
+        Line::Start(a, class) => numbered_with(b"start", a.0, named(class)),
+        Line::Wait(a, group) => numbered_with(b"wait", a.0, number(*group)),
         Line::Take(a, group, branch) => words(
             b"take",
             actor(*a),
@@ -255,79 +301,39 @@ pub(crate) fn line_pieces<'a>(line: &'a Line) -> Pieces<'a>
             number(*branch),
             Piece::Absent,
         ),
-        Line::Throw(a, e) => words(b"throw", actor(*a), error(*e), Piece::Absent, Piece::Absent),
-        Line::Catch(a, e) => words(b"catch", actor(*a), error(*e), Piece::Absent, Piece::Absent),
-        Line::Fail(a, e) => words(b"fail", actor(*a), error(*e), Piece::Absent, Piece::Absent),
-        Line::Finish(a) => words(
-            b"done",
-            actor(*a),
-            Piece::Absent,
-            Piece::Absent,
-            Piece::Absent,
-        ),
-        Line::Cancel(a) => words(
-            b"cancel",
-            actor(*a),
-            Piece::Absent,
-            Piece::Absent,
-            Piece::Absent,
-        ),
-        Line::Broken(c) => words(
-            b"broken",
-            cell(*c),
-            Piece::Absent,
-            Piece::Absent,
-            Piece::Absent,
-        ),
-        Line::PrintInt(a, value) => words(
-            b"print",
-            actor(*a),
-            Piece::Integer(*value),
-            Piece::Absent,
-            Piece::Absent,
-        ),
-        Line::PrintBool(a, value) => words(
-            b"print",
-            actor(*a),
-            truth(*value),
-            Piece::Absent,
-            Piece::Absent,
-        ),
-        Line::PrintText(a, bytes) => words(
-            b"print",
-            actor(*a),
-            quoted(bytes),
-            Piece::Absent,
-            Piece::Absent,
-        ),
-        Line::Send(m, q, port, bytes) => words(
+        Line::Throw(a, e) => numbered_with(b"throw", a.0, error(*e)),
+        Line::Catch(a, e) => numbered_with(b"catch", a.0, error(*e)),
+        Line::Fail(a, e) => numbered_with(b"fail", a.0, error(*e)),
+        Line::Finish(a) => numbered(b"done", a.0),
+        Line::Cancel(a) => numbered(b"cancel", a.0),
+        Line::Broken(c) => numbered(b"broken", c.0),
+        Line::PrintInt(a, value) => numbered_with(b"print", a.0, Piece::Integer(*value)),
+        Line::PrintBool(a, value) => numbered_with(b"print", a.0, truth(*value)),
+        Line::PrintText(a, text) => numbered_with(b"print", a.0, quoted(text)),
+        _ => unreachable!(),
+    }
+}
+
+// The pieces of a line of a packet or a write, of a frame, or at an edge of a trace.
+fn other_pieces<'a>(line: &'a Line) -> Pieces<'a>
+    requires no_event { is_event line.now ≡ false }
+    requires no_deed { is_deed line.now ≡ false }
+    ensures words { words_of result ≡ map spelled (fields line.now) }
+    ensures range { IsLine line.now }
+    ensures room { room_of result ≤ 262238 }
+{
+    match line {
+        Line::Head => fixed(b"trace", b"1"),
+        Line::Send(m, q, port, text) => words(
             b"send",
             Piece::Number(*m),
             process(*q),
             Piece::Number(u64::from(*port)),
-            quoted(bytes),
+            quoted(text),
         ),
-        Line::LostCut(m) => words(
-            b"lost",
-            Piece::Number(*m),
-            Piece::Word(b"cut"),
-            Piece::Absent,
-            Piece::Absent,
-        ),
-        Line::LostDraw(m) => words(
-            b"lost",
-            Piece::Number(*m),
-            Piece::Word(b"draw"),
-            Piece::Absent,
-            Piece::Absent,
-        ),
-        Line::Discard(m) => words(
-            b"discard",
-            Piece::Number(*m),
-            Piece::Absent,
-            Piece::Absent,
-            Piece::Absent,
-        ),
+        Line::LostCut(m) => numbered_with(b"lost", *m, Piece::Word(b"cut")),
+        Line::LostDraw(m) => numbered_with(b"lost", *m, Piece::Word(b"draw")),
+        Line::Discard(m) => numbered(b"discard", *m),
         Line::Kept(file, offset, len, kept) => words(
             b"kept",
             quoted(file),
@@ -349,27 +355,9 @@ pub(crate) fn line_pieces<'a>(line: &'a Line) -> Pieces<'a>
             number(*k),
             cell(*c),
         ),
-        Line::EndIdle => words(
-            b"end",
-            Piece::Word(b"idle"),
-            Piece::Absent,
-            Piece::Absent,
-            Piece::Absent,
-        ),
-        Line::EndBound => words(
-            b"end",
-            Piece::Word(b"bound"),
-            Piece::Absent,
-            Piece::Absent,
-            Piece::Absent,
-        ),
-        Line::EndSpent => words(
-            b"end",
-            Piece::Word(b"spent"),
-            Piece::Absent,
-            Piece::Absent,
-            Piece::Absent,
-        ),
+        Line::EndIdle => fixed(b"end", b"idle"),
+        Line::EndBound => fixed(b"end", b"bound"),
+        Line::EndSpent => fixed(b"end", b"spent"),
         Line::EndStop(monitor) => words(
             b"end",
             Piece::Word(b"stop"),
@@ -377,5 +365,21 @@ pub(crate) fn line_pieces<'a>(line: &'a Line) -> Pieces<'a>
             Piece::Absent,
             Piece::Absent,
         ),
+        _ => unreachable!(),
+    }
+}
+
+/// The pieces of a line, which has room in so many bytes; and every line is in the range of its type.
+pub(crate) fn line_pieces<'a>(line: &'a Line) -> Pieces<'a>
+    ensures words { words_of result ≡ map spelled (fields line.now) }
+    ensures range { IsLine line.now }
+    ensures room { room_of result ≤ 262238 }
+{
+    if line.is_event() {
+        event_pieces(line)
+    } else if line.is_deed() {
+        deed_pieces(line)
+    } else {
+        other_pieces(line)
     }
 }

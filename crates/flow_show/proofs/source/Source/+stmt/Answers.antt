@@ -1,48 +1,22 @@
 use Rattle.std.proofs.Common.{suc, ◌++◌, refl, ap, ap₂, ◌∙◌}
 use Rattle.std.specs.Prelude.{codes}
-use Rattle.flow_tree.specs.View.{exprs_of}
 use Rattle.flow_tree.specs.StmtView.{body_of, branches_of}
-use Rattle.flow_tree.specs.Canon.{line, call_text, body_text, branches_text}
-use Rattle.flow_tree.proofs.Views.{kind_declare, kind_assign, kind_modify, kind_call, kind_wait, kind_try, kind_choose}
+use Rattle.flow_tree.specs.Canon.{line, body_text, branches_text}
+use Rattle.flow_tree.proofs.Views.{kind_try, kind_choose}
 use Rattle.flow_show.proofs.StatementKinds.{puts_kind}
 use Rattle.flow_show.proofs.Texts.{three, five}
 use Rattle.flow_show.proofs.source.Source.+stmt.Goals as goal
 
-pub put_stmt-returns-in_ok-put_declare_line-in-Declare : goal.put_stmt-returns-in_ok-put_declare_line-in-Declare
-put_stmt-returns-in_ok-put_declare_line-in-Declare t c =
-    puts_kind c.args.level c.args.stmt.now _ _ _ _ _ c.in-Declare.is (kind_declare c.in-Declare.into c.in-Declare.value) (λ at rest. refl)
-    c.in_ok-put_declare_line-in-Declare.ensures
-
-pub put_stmt-returns-in_ok-put_assign_line-in-Assign : goal.put_stmt-returns-in_ok-put_assign_line-in-Assign
-put_stmt-returns-in_ok-put_assign_line-in-Assign t c =
-    puts_kind c.args.level c.args.stmt.now _ _ _ _ _ c.in-Assign.is (kind_assign c.in-Assign.target c.in-Assign.value) (λ at rest. refl)
-    c.in_ok-put_assign_line-in-Assign.ensures
-
-pub put_stmt-returns-in_ok-put_modify_line-in-Modify : goal.put_stmt-returns-in_ok-put_modify_line-in-Modify
-put_stmt-returns-in_ok-put_modify_line-in-Modify t c =
-    puts_kind c.args.level c.args.stmt.now _ _ _ _ _ c.in-Modify.is (kind_modify c.in-Modify.target c.in-Modify.change) (λ at rest. refl)
-    c.in_ok-put_modify_line-in-Modify.ensures
-
-pub put_stmt-returns-in_ok-put_wait_line-in-Wait : goal.put_stmt-returns-in_ok-put_wait_line-in-Wait
-put_stmt-returns-in_ok-put_wait_line-in-Wait t c =
-    puts_kind c.args.level c.args.stmt.now _ _ _ _ _ c.in-Wait.is (kind_wait c.in-Wait.waiting) (λ at rest. refl)
-    c.in_ok-put_wait_line-in-Wait.ensures
-
-pub put_stmt-returns-in_ok-put_call_line-in-Call : goal.put_stmt-returns-in_ok-put_call_line-in-Call
-put_stmt-returns-in_ok-put_call_line-in-Call t c =
-    puts_kind c.args.level c.args.stmt.now _ _ _ _ _ c.in-Call.is (kind_call c.in-Call.target c.in-Call.args) (λ at rest. refl)
-    (c.in_ok-put_call_line-in-Call.ensures ∙ ap (λ l. c.args.self.now ++ line c.args.level (call_text c.in-Call.target.path.items (exprs_of l) ++ codes ";")) c.deref-in-Call.ensures.value)
-
-pub put_stmt-returns-in_ok-put_handler-in-Try : goal.put_stmt-returns-in_ok-put_handler-in-Try
-put_stmt-returns-in_ok-put_handler-in-Try t c =
+pub put_nested-returns-in_ok-put_handler-in-Try : goal.put_nested-returns-in_ok-put_handler-in-Try
+put_nested-returns-in_ok-put_handler-in-Try t c =
     let k = c.args.level in
     puts_kind k c.args.stmt.now _ _ _ _ _ c.in-Try.is (kind_try c.in-Try.body c.in-Try.field-1 c.in-Try.error c.in-Try.handler) (λ at rest. refl)
     (five c.args.self.now _ _ _ (line k (codes "try {")) _ _ _ _ c.in_ok-put_line-in-Try.ensures c.in_ok-put_deeper-in-Try.ensures c.in_ok-put_handler-in-Try.ensures
     ∙ ap₂ (λ b h. c.args.self.now ++ (line k (codes "try {") ++ body_text (suc k) (body_of b) ++ line k (codes "} catch (Error& " ++ c.in-Try.error.name ++ codes ") {") ++ body_text (suc k) (body_of h) ++ line k (codes "}")))
     c.deref-in-Try.ensures.value c.deref-in-Try-2.ensures.value)
 
-pub put_stmt-returns-in_ok-put_branches-in-Choose : goal.put_stmt-returns-in_ok-put_branches-in-Choose
-put_stmt-returns-in_ok-put_branches-in-Choose t c =
+pub put_nested-returns-in_ok-put_branches-in-Choose : goal.put_nested-returns-in_ok-put_branches-in-Choose
+put_nested-returns-in_ok-put_branches-in-Choose t c =
     let k = c.args.level in
     puts_kind k c.args.stmt.now _ _ _ _ _ c.in-Choose.is (kind_choose c.in-Choose.branches) (λ at rest. refl)
     (three c.args.self.now _ _ (line k (codes "choose {")) _ _ c.in_ok-put_line-in-Choose.ensures c.in_ok-put_branches-in-Choose.ensures
