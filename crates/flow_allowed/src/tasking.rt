@@ -16,8 +16,8 @@ ghost use Rattle.flow_allowed.specs.Tasking.{IsProgram, AnyAllowed, AnyGoes};
 pub fn tasks_allowed()
     ensures allowed { (r : RawTree) (code : Code) (program : IsProgram r code)
         (ls : List Line) (m : Process) (p : Proc Frame) (now : BetweenTasks r ls m p)
-            → AnyAllowed r code program ls m p now }
+        → AnyAllowed r code program ls m p now }
     ensures goes { (r : RawTree) (code : Code) (program : IsProgram r code)
         (ls : List Line) (m : Process) (p : Proc Frame) (now : BetweenTasks r ls m p)
-            → AnyGoes r code program ls m p now }
+        → AnyGoes r code program ls m p now }
 {}

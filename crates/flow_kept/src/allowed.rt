@@ -14,8 +14,8 @@ ghost use Rattle.flow_kept.specs.Allowed.{IsRun, BetweenTasks, TaskAllowed, Plai
 pub fn tasks_allowed()
     ensures allowed { (r : RawTree) (code : Code) (run : IsRun r code) (ls : List Line)
         (m : Process) (p : Proc Frame) (now : BetweenTasks r ls m p)
-            → TaskAllowed r code run ls m p now }
+        → TaskAllowed r code run ls m p now }
     ensures steps { (r : RawTree) (code : Code) (run : IsRun r code) (ls : List Line)
         (m : Process) (p : Proc Frame) (now : BetweenTasks r ls m p)
-            → PlainSteps r code run ls m p now }
+        → PlainSteps r code run ls m p now }
 {}

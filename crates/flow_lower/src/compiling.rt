@@ -76,7 +76,7 @@ pub fn first_heavy(sound: &Sound) -> Option<Place>
 fn push_record(alloc: Global, records: &mut Vec<RecordDecl>, decl: &Decl) -> Result<(), NoMemory>
     ensures { let olds = map record_of records.old.items in
         IfOk result (λ _. map record_of records.new.items
-            ≡ olds ++ records_in (decl_of decl.now ∷ [])) }
+        ≡ olds ++ records_in (decl_of decl.now ∷ [])) }
 {
     match decl {
         Decl::Struct(record) => {
@@ -150,7 +150,7 @@ fn push_class(
 ) -> Result<(), NoMemory>
     ensures { let olds = map class_of classes.old.items in
         let added = map (class_in (names_of (program_of program.now))) (actors_in
-            (decl_of decl.now ∷ [])) in
+        (decl_of decl.now ∷ [])) in
         IfOk result (λ _. map class_of classes.new.items ≡ olds ++ added) }
 {
     match decl {
@@ -168,7 +168,7 @@ fn push_class(
 fn classes_of(alloc: Global, program: &Program, decls: &[Decl]) -> Result<Vec<Class>, NoMemory>
     ensures { let ns = names_of (program_of program.now) in
         IfOk result (λ v. map class_of v.items ≡ map (class_in ns) (actors_in
-            (map decl_of decls.now))) }
+        (map decl_of decls.now))) }
 {
     let mut classes = Vec::new(alloc);
     for decl in decls {

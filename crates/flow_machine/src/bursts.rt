@@ -145,7 +145,7 @@ fn send_to<H: Host>(
     ensures kept { H.kept host.new ≡ H.kept host.old }
     ensures broke { OnErr result
         (SendBroke H.serves H.shows H.wrote H.broke (natural to.0)
-            (natural to.1) text host.old host.new) }
+        (natural to.1) text host.old host.new) }
     ensures astray { IsErrOf result Astray → ⊥ }
 {
     let (number, port) = to;

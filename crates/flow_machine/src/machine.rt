@@ -101,7 +101,7 @@ impl Machine {
         ensures host { H.kept host.new ≡ H.kept host.old }
         ensures breaks { let start = begun now turns self.old.process in
             IfErr result (λ f. BringingBreaksOff H.serves H.shows H.wrote H.broke code.now
-                self.old.processes
+            self.old.processes
             (AnswerAmiss cell.0 outcome start.heap)
             (brought kind.Promise cell.0 outcome (on_heap (answered cell.0) start)) host.old
             f host.new) }
@@ -133,7 +133,7 @@ impl Machine {
         ensures host { H.kept host.new ≡ H.kept host.old }
         ensures breaks { let start = begun now turns self.old.process in
             IfErr result (λ f. BringingBreaksOff H.serves H.shows H.wrote H.broke code.now
-                self.old.processes
+            self.old.processes
             (BringAmiss kind.PromiseStream cell.0 (outcome.Value item) start.heap)
             (brought kind.PromiseStream cell.0 (outcome.Value item) start) host.old f host.new) }
         ensures processes { self.new.processes ≡ self.old.processes }
@@ -162,7 +162,7 @@ impl Machine {
         ensures host { H.kept host.new ≡ H.kept host.old }
         ensures breaks { let start = begun now turns self.old.process in
             IfErr result (λ f. BringingBreaksOff H.serves H.shows H.wrote H.broke code.now
-                self.old.processes ⊥
+            self.old.processes ⊥
             (on_heap (main_dropped start.heap.main) start) host.old f host.new) }
         ensures processes { self.new.processes ≡ self.old.processes }
         ensures me { self.new.me ≡ self.old.me }

@@ -49,7 +49,7 @@ impl Model for Net {
 
     ghost invariant = { λ n. (n.processes ≤ 64) × (length n.cuts.items ≡ 4096)
         × HasLinks n.processes n.cuts.items × (n.latency.0 < n.latency.1)
-            × (n.latency.1 ≤ 1000000000) };
+        × (n.latency.1 ≤ 1000000000) };
 }
 
 impl Net {

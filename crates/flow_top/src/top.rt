@@ -21,7 +21,7 @@ pub fn flow_main<F: Files, S: Sink>(
 ) -> u8
     ensures { let given = map string_bytes words.now in
         Answers given (F.seen files.old) (F.seen files.new) (S.seen out.old)
-            (S.seen out.new) result }
+        (S.seen out.new) result }
 {
     let outcome = decide(alloc, words, files);
     report(alloc, outcome, out)

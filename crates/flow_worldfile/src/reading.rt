@@ -7,10 +7,10 @@ ghost use Rattle.flow_worldfile.specs.declared.TheConstants.{WORLD_BYTES};
 ghost use Rattle.flow_worldfile.specs.Worlds.{World, seen, IsInRange};
 ghost use Rattle.flow_worldfile.specs.Drafts.{LinesRead};
 
+use crate::WORLD_BYTES;
 use crate::draft::Draft;
 use crate::forms::directive;
 use crate::lines::first_line;
-use crate::WORLD_BYTES;
 use crate::world::{World0, WorldFault};
 use std::alloc::Global;
 
