@@ -6,12 +6,13 @@ use Rattle.std.specs.declared.option.Option.TheVariants.{None, Some}
 use Rattle.flow_base.specs.declared.place.Place.{Place}
 use Rattle.flow_tree.specs.declared.expr.Expr.{Expr}
 use Rattle.flow_tree.specs.declared.stmt.Stmt.{Stmt}
+use Rattle.flow_tree.specs.declared.stmt.When.{When}
 use Rattle.flow_tree.specs.declared.stmt.StmtKind.TheVariants as kind
 use Rattle.flow_tree.specs.View.{expr_of}
-use Rattle.flow_tree.specs.StmtView.{stmt_of, body_of, else_of}
+use Rattle.flow_tree.specs.StmtView.{stmt_of, body_of, branches_of, else_of}
 use Rattle.flow_tree.specs.Body.{Body, IfStmt, IfElseStmt}
-use Rattle.flow_layout.proofs.StmtKinds.{is_break, is_continue, is_if, is_if_else, is_block, is_while, is_loop, is_return, is_throw, is_declare, is_assign, is_modify, is_call, is_wait}
-use Rattle.flow_staterule.specs.StateRule.{wait_places, else_places}
+use Rattle.flow_layout.proofs.StmtKinds.{is_break, is_continue, is_if, is_if_else, is_for, is_block, is_while, is_loop, is_return, is_throw, is_try, is_choose, is_declare, is_assign, is_modify, is_call, is_wait}
+use Rattle.flow_staterule.specs.StateRule.{wait_places, branch_places, else_places}
 use Rattle.flow_staterule.proofs.waits.+waits.Goals as goal
 
 -- what a statement adds, and then what stands behind it
@@ -32,6 +33,27 @@ if_added s e b (Some c) old mid new is p q =
     let second = wait_places (body_of c.items) in
     added s (IfElseStmt s.at (expr_of e) (body_of b.items) (body_of c.items)) old new (first ++ second) (λ k. is_if_else s e b c k is) (λ k. refl)
     (two old mid new first second p q)
+
+two_bodies : (s : Stmt) (put : Body → Body) (old mid new : List Place) (x y b h : List Stmt) → ((k : Body) → stmt_of s k ≡ put k)
+    → ((k : Body) → wait_places (body_of b) ++ wait_places (body_of h) ++ wait_places k ≡ wait_places (put k)) → mid ≡ old ++ wait_places (body_of x) → x ≡ b → new ≡ mid ++ wait_places (body_of y) → y ≡ h
+    → (k : Body) → new ++ wait_places k ≡ old ++ wait_places (stmt_of s k)
+two_bodies s put old mid new x y b h is whole p d q e =
+    added s put old new (wait_places (body_of b) ++ wait_places (body_of h)) is whole
+    (two old mid new (wait_places (body_of b)) (wait_places (body_of h)) (p ∙ ap (λ l. old ++ wait_places (body_of l)) d) (q ∙ ap (λ l. mid ++ wait_places (body_of l)) e))
+
+for_parts : (s : Stmt) (put : Body → Body) (old first second new i t : List Place) (x b : List Stmt) → ((k : Body) → stmt_of s k ≡ put k)
+    → ((k : Body) → i ++ t ++ wait_places (body_of b) ++ wait_places k ≡ wait_places (put k)) → first ≡ old ++ i → second ≡ first ++ t → new ≡ second ++ wait_places (body_of x) → x ≡ b
+    → (k : Body) → new ++ wait_places k ≡ old ++ wait_places (stmt_of s k)
+for_parts s put old first second new i t x b is whole p q r d =
+    added s put old new (i ++ t ++ wait_places (body_of b)) is whole
+    (two old second new (i ++ t) (wait_places (body_of b)) (two old first second i t p q) (r ∙ ap (λ l. second ++ wait_places (body_of l)) d))
+
+choose_parts : (s : Stmt) (put : Body → Body) (old mid new : List Place) (at : Place) (x bs : List When) → ((k : Body) → stmt_of s k ≡ put k)
+    → ((k : Body) → (at ∷ branch_places (branches_of bs)) ++ wait_places k ≡ wait_places (put k)) → mid ≡ old ++ at ∷ [] → new ≡ mid ++ branch_places (branches_of x) → x ≡ bs
+    → (k : Body) → new ++ wait_places k ≡ old ++ wait_places (stmt_of s k)
+choose_parts s put old mid new at x bs is whole p q d =
+    added s put old new (at ∷ branch_places (branches_of bs)) is whole
+    (two old mid new (at ∷ []) (branch_places (branches_of bs)) p (q ∙ ap (λ l. mid ++ branch_places (branches_of l)) d))
 
 pub list_stmt-returns-in-Break : goal.list_stmt-returns-in-Break
 list_stmt-returns-in-Break t c k = ap (λ b. c.args.places.now.items ++ wait_places b) (sym (is_break c.args.stmt.now k c.in-Break.is))
@@ -78,3 +100,18 @@ list_stmt-returns-in_ok-push-in-Wait t c = added c.args.stmt.now _ c.args.places
 pub list_stmt-returns-in_ok-list_else-in-If : goal.list_stmt-returns-in_ok-list_else-in-If
 list_stmt-returns-in_ok-list_else-in-If t c =
     if_added c.args.stmt.now _ c.in-If.chosen c.in-If.otherwise c.args.places.now.items _ _ c.in-If.is (c.in_ok-list_body-in-If.ensures ∙ ap (λ l. c.args.places.now.items ++ wait_places (body_of l)) c.deref-in-If.ensures.value) c.in_ok-list_else-in-If.ensures
+
+pub list_stmt-returns-in_ok-list_body-in-Try-2 : goal.list_stmt-returns-in_ok-list_body-in-Try-2
+list_stmt-returns-in_ok-list_body-in-Try-2 t c =
+    two_bodies c.args.stmt.now _ _ _ _ _ _ c.in-Try.body.items c.in-Try.handler.items (λ k. is_try c.args.stmt.now c.in-Try.body _ _ c.in-Try.handler k c.in-Try.is) (λ k. refl) c.in_ok-list_body-in-Try.ensures
+    c.deref-in-Try.ensures.value c.in_ok-list_body-in-Try-2.ensures c.deref-in-Try-2.ensures.value
+
+pub list_stmt-returns-in_ok-list_body-in-For : goal.list_stmt-returns-in_ok-list_body-in-For
+list_stmt-returns-in_ok-list_body-in-For t c =
+    for_parts c.args.stmt.now _ _ _ _ _ _ _ _ c.in-For.body.items (λ k. is_for c.args.stmt.now c.in-For.init _ c.in-For.step c.in-For.body k c.in-For.is) (λ k. refl) c.in_ok-list_part-in-For.ensures
+    c.in_ok-list_part-in-For-2.ensures c.in_ok-list_body-in-For.ensures c.deref-in-For.ensures.value
+
+pub list_stmt-returns-in_ok-list_branches-in-Choose : goal.list_stmt-returns-in_ok-list_branches-in-Choose
+list_stmt-returns-in_ok-list_branches-in-Choose t c =
+    choose_parts c.args.stmt.now _ _ _ _ _ _ c.in-Choose.branches.items (λ k. is_choose c.args.stmt.now c.in-Choose.branches k c.in-Choose.is) (λ k. refl) c.in_ok-push-in-Choose.ensures.items
+    c.in_ok-list_branches-in-Choose.ensures c.deref-in-Choose.ensures.value
