@@ -3,7 +3,7 @@ use Rattle.std.proofs.lemmas.Result.{on_ok_weaker}
 use Rattle.flow_tree.specs.declared.stmt.StmtKind.TheVariants as kind
 use Rattle.std.specs.Option.{option_map}
 use Rattle.flow_tree.specs.View.{expr_of}
-use Rattle.flow_tree.specs.StmtView.{simple_of, branches_of}
+use Rattle.flow_tree.specs.StmtView.{simple_of, body_of, branches_of}
 use Rattle.flow_class.specs.Scopes.{over}
 use Rattle.flow_split.specs.Contexts.{names_in, slots_in, around_of}
 use Rattle.flow_split.specs.Counts.{Next, past}
@@ -12,10 +12,19 @@ use Rattle.flow_split.specs.Emitting.{emitted, going, opened, out_of_scope}
 use Rattle.flow_split.proofs.Compounds.{block_emits, if_emits, if_else_emits, loop_emits, while_emits}
 use Rattle.flow_split.proofs.Bodies.{tested_block, try_emits, for_emits}
 use Rattle.flow_split.proofs.Exits.{choose_emits}
-use Rattle.flow_split.proofs.Loops.{going_next, whole_body, part_none, part_some}
+use Rattle.flow_split.proofs.Loops.{in_own_scope, in_handler_scope, going_next, whole_body, part_none, part_some}
 use Rattle.flow_split.proofs.Choices.{choose_waits, branching_next, all_branches}
 use Rattle.flow_split.proofs.EachKind.{of_block, of_if, of_if_else, of_while, of_for, of_loop, of_break, of_continue, of_return, of_throw, of_try, of_choose, of_declare, of_assign, of_modify, of_call, of_wait}
 use Rattle.flow_split.proofs.emitter.Emitter.+lower.Goals as goal
+
+pub put_scope-returns : goal.put_scope-returns
+put_scope-returns t c =
+    in_own_scope (names_in c.args.context.now) (slots_in c.args.context.now) (around_of c.args.around.now) (body_of c.args.body.now) _ _ _ _ c.in_ok-enter.ensures c.in_ok-put_body.ensures c.leave.ensures
+
+pub put_handler-returns : goal.put_handler-returns
+put_handler-returns t c =
+    in_handler_scope (names_in c.args.context.now) (slots_in c.args.context.now) (around_of c.args.around.now) c.args.error.now (body_of c.args.handler.now) _ _ _ _ c.in_ok-enter_catch.ensures
+    c.in_ok-put_body.ensures c.leave.ensures
 
 pub put_block-returns : goal.put_block-returns
 put_block-returns t c at =

@@ -3,6 +3,7 @@ use Rattle.flow_tree.specs.StmtView.{body_of}
 use Rattle.flow_staterule.specs.Ways.{ways, head}
 use Rattle.flow_staterule.specs.Uses.{behind, left}
 use Rattle.flow_staterule.specs.View.{in_force, in_handler}
+use Rattle.flow_staterule.proofs.Adding.{same_extends}
 use Rattle.flow_staterule.proofs.EachKind.{after_block, after_if, after_while, after_loop, after_break, after_continue, after_return, after_throw, after_try, after_choose, after_declare, after_assign, after_modify, after_call, after_wait}
 use Rattle.flow_staterule.proofs.uses.Finder.+uses.Goals as goal
 
@@ -77,3 +78,39 @@ pub inside-returns-in_ok-bind-in-Wait-clause-finds : goal.inside-returns-in_ok-b
 inside-returns-in_ok-bind-in-Wait-clause-finds t c =
     after_wait _ c.expr-in-Wait.new.self _ _ c.args.stmt.now c.in-Wait.waiting c.in-Wait.is c.in_ok-expr-in-Wait.ensures.uses c.in_ok-expr-in-Wait.ensures.variables
     c.in_ok-bind-in-Wait.ensures.uses c.in_ok-bind-in-Wait.ensures.variables
+
+pub inside-returns-in_ok-scope-in-Block-clause-keeps : goal.inside-returns-in_ok-scope-in-Block-clause-keeps
+inside-returns-in_ok-scope-in-Block-clause-keeps t c =
+    same_extends c.args.self.now.variables c.scope.new.self.variables (c.in_ok-scope-in-Block.ensures.variables)
+
+pub inside-returns-in_ok-otherwise-in-If-clause-keeps : goal.inside-returns-in_ok-otherwise-in-If-clause-keeps
+inside-returns-in_ok-otherwise-in-If-clause-keeps t c =
+    same_extends c.args.self.now.variables c.otherwise.new.self.variables (c.in_ok-otherwise-in-If.ensures.variables ∙ c.in_ok-scope-in-If.ensures.variables ∙ c.in_ok-expr-in-If.ensures.variables)
+
+pub inside-returns-in_ok-scope-in-While-clause-keeps : goal.inside-returns-in_ok-scope-in-While-clause-keeps
+inside-returns-in_ok-scope-in-While-clause-keeps t c =
+    same_extends c.args.self.now.variables c.scope-in-While.new.self.variables (c.in_ok-scope-in-While.ensures.variables ∙ c.in_ok-expr-in-While.ensures.variables)
+
+pub inside-returns-in_ok-scope-in-Loop-clause-keeps : goal.inside-returns-in_ok-scope-in-Loop-clause-keeps
+inside-returns-in_ok-scope-in-Loop-clause-keeps t c =
+    same_extends c.args.self.now.variables c.scope-in-Loop.new.self.variables (c.in_ok-scope-in-Loop.ensures.variables)
+
+pub inside-returns-in_ok-expr-in-Return-clause-keeps : goal.inside-returns-in_ok-expr-in-Return-clause-keeps
+inside-returns-in_ok-expr-in-Return-clause-keeps t c =
+    same_extends c.args.self.now.variables c.expr-in-Return.new.self.variables (c.in_ok-expr-in-Return.ensures.variables)
+
+pub inside-returns-in_ok-thrown-in-Throw-clause-keeps : goal.inside-returns-in_ok-thrown-in-Throw-clause-keeps
+inside-returns-in_ok-thrown-in-Throw-clause-keeps t c =
+    same_extends c.args.self.now.variables c.thrown.new.self.variables (c.in_ok-thrown-in-Throw.ensures.variables)
+
+pub inside-returns-in_ok-handled-in-Try-clause-keeps : goal.inside-returns-in_ok-handled-in-Try-clause-keeps
+inside-returns-in_ok-handled-in-Try-clause-keeps t c =
+    same_extends c.args.self.now.variables c.handled.new.self.variables (c.in_ok-handled-in-Try.ensures.variables ∙ c.in_ok-scope-in-Try.ensures.variables)
+
+pub inside-returns-in_ok-choose-in-Choose-clause-keeps : goal.inside-returns-in_ok-choose-in-Choose-clause-keeps
+inside-returns-in_ok-choose-in-Choose-clause-keeps t c =
+    same_extends c.args.self.now.variables c.choose.new.self.variables (c.in_ok-choose-in-Choose.ensures.variables)
+
+pub inside-returns-in_ok-expr-in-Assign-clause-keeps : goal.inside-returns-in_ok-expr-in-Assign-clause-keeps
+inside-returns-in_ok-expr-in-Assign-clause-keeps t c =
+    same_extends c.args.self.now.variables c.expr-in-Assign.new.self.variables (c.in_ok-expr-in-Assign.ensures.variables)

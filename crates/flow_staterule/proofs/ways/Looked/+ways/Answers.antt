@@ -1,8 +1,23 @@
-use Rattle.std.proofs.Common.{ap, ap₂, ◌∙◌, arith}
-use Rattle.flow_staterule.specs.Ways.{sequence, looped}
-use Rattle.flow_staterule.proofs.Passing.{ways_next, looked_next, ways_end, branch_ways_next, branch_looked_next, branch_ways_end}
-use Rattle.flow_staterule.proofs.EachWay.{waits_if, waits_for, waits_try, ways_if, ways_for}
+use Rattle.std.proofs.Common.{◌≡◌, ℕ, ◌-◌, length, refl, sym, ap, ap₂, ◌∙◌, arith}
+use Rattle.flow_tree.specs.declared.stmt.Stmt.{Stmt}
+use Rattle.flow_tree.specs.StmtView.{stmt_of, body_of}
+use Rattle.flow_tree.specs.Body.{Body}
+use Rattle.flow_ast.specs.Slots.{body_groups}
+use Rattle.flow_layout.proofs.StmtKinds.{is_block, is_break, is_continue, is_return, is_throw, is_while, is_loop, is_declare, is_assign, is_modify, is_call, is_wait}
+use Rattle.flow_staterule.specs.declared.ways.Ways.{Ways}
+use Rattle.flow_staterule.specs.Ways.{ways, sequence, both, plain, looped}
+use Rattle.flow_staterule.proofs.Passing.{past_two, ways_next, looked_next, ways_end, branch_ways_next, branch_looked_next, branch_ways_end}
+use Rattle.flow_staterule.proofs.EachWay.{waits_while, waits_loop, waits_if, waits_for, waits_try, ways_if, ways_for}
 use Rattle.flow_staterule.proofs.ways.Looked.+ways.Goals as goal
+
+-- the ways out of a statement by its kind, and the waits behind one that has none
+ways_as : (s : Stmt) (put : Body → Body) (n m l : ℕ) (w u : Ways) → ((k : Body) → stmt_of s k ≡ put k) → m ≡ l → w ≡ u → ((k : Body) → ways n (put k) ≡ sequence u (ways l k))
+    → (k : Body) → ways n (stmt_of s k) ≡ sequence w (ways m k)
+ways_as s put n m l w u is me we h k = ap (ways n) (is k) ∙ h k ∙ sym (ap₂ (λ x y. sequence x (ways y k)) we me)
+
+no_waits : (s : Stmt) (put : Body → Body) (n m : ℕ) → ((k : Body) → stmt_of s k ≡ put k) → m ≡ n → ((k : Body) → length (body_groups (put k)) ≡ length (body_groups k))
+    → (k : Body) → n - length (body_groups (stmt_of s k)) ≡ m - length (body_groups k)
+no_waits s put n m is me h k = ap (λ b. n - length (body_groups b)) (is k) ∙ ap (λ x. n - x) (h k) ∙ ap (λ x. x - length (body_groups k)) (sym me)
 
 pub body-loop-stmt-preserved : goal.body-loop-stmt-preserved
 body-loop-stmt-preserved t c = (
@@ -47,3 +62,98 @@ pub stmt-returns-in-Try-clause-looked : goal.stmt-returns-in-Try-clause-looked
 stmt-returns-in-Try-clause-looked t c =
     waits_try c.args.stmt.now _ _ _ _ c.deref-in-Try.result.now c.deref-in-Try-2.result.now c.args.self.0 c.body-body-in-Try.result.looked.0 _ c.in-Try.is
     c.deref-in-Try.ensures.value c.deref-in-Try-2.ensures.value c.body-body-in-Try.ensures.looked c.body-handler.ensures.looked
+
+pub stmt-returns-in-Break-clause-ways : goal.stmt-returns-in-Break-clause-ways
+stmt-returns-in-Break-clause-ways t c =
+    ways_as c.args.stmt.now _ c.args.self.0 _ c.args.self.0 _ _ (λ k. is_break c.args.stmt.now k c.in-Break.is) (ap (λ l. l.0) c.none_of.ensures.looked) (c.none_of.ensures.ways ∙ c.breaking.ensures) (λ k. refl)
+
+pub stmt-returns-in-Break-clause-looked : goal.stmt-returns-in-Break-clause-looked
+stmt-returns-in-Break-clause-looked t c =
+    no_waits c.args.stmt.now _ c.args.self.0 _ (λ k. is_break c.args.stmt.now k c.in-Break.is) (ap (λ l. l.0) c.none_of.ensures.looked) (λ k. refl)
+
+pub stmt-returns-in-Continue-clause-ways : goal.stmt-returns-in-Continue-clause-ways
+stmt-returns-in-Continue-clause-ways t c =
+    ways_as c.args.stmt.now _ c.args.self.0 _ c.args.self.0 _ _ (λ k. is_continue c.args.stmt.now k c.in-Continue.is) (ap (λ l. l.0) c.none_of-in-Continue.ensures.looked) (c.none_of-in-Continue.ensures.ways ∙ c.continuing.ensures) (λ k. refl)
+
+pub stmt-returns-in-Continue-clause-looked : goal.stmt-returns-in-Continue-clause-looked
+stmt-returns-in-Continue-clause-looked t c =
+    no_waits c.args.stmt.now _ c.args.self.0 _ (λ k. is_continue c.args.stmt.now k c.in-Continue.is) (ap (λ l. l.0) c.none_of-in-Continue.ensures.looked) (λ k. refl)
+
+pub stmt-returns-in-Return-clause-ways : goal.stmt-returns-in-Return-clause-ways
+stmt-returns-in-Return-clause-ways t c =
+    ways_as c.args.stmt.now _ c.args.self.0 _ c.args.self.0 _ _ (λ k. is_return c.args.stmt.now _ k c.in-Return.is) (ap (λ l. l.0) c.none_of-in-Return.ensures.looked) (c.none_of-in-Return.ensures.ways ∙ c.node-in-Return.ensures) (λ k. refl)
+
+pub stmt-returns-in-Return-clause-looked : goal.stmt-returns-in-Return-clause-looked
+stmt-returns-in-Return-clause-looked t c =
+    no_waits c.args.stmt.now _ c.args.self.0 _ (λ k. is_return c.args.stmt.now _ k c.in-Return.is) (ap (λ l. l.0) c.none_of-in-Return.ensures.looked) (λ k. refl)
+
+pub stmt-returns-in-Throw-clause-ways : goal.stmt-returns-in-Throw-clause-ways
+stmt-returns-in-Throw-clause-ways t c =
+    ways_as c.args.stmt.now _ c.args.self.0 _ c.args.self.0 _ _ (λ k. is_throw c.args.stmt.now _ k c.in-Throw.is) (ap (λ l. l.0) c.none_of-in-Throw.ensures.looked) (c.none_of-in-Throw.ensures.ways ∙ c.node-in-Throw.ensures) (λ k. refl)
+
+pub stmt-returns-in-Throw-clause-looked : goal.stmt-returns-in-Throw-clause-looked
+stmt-returns-in-Throw-clause-looked t c =
+    no_waits c.args.stmt.now _ c.args.self.0 _ (λ k. is_throw c.args.stmt.now _ k c.in-Throw.is) (ap (λ l. l.0) c.none_of-in-Throw.ensures.looked) (λ k. refl)
+
+pub stmt-returns-in-Declare-clause-ways : goal.stmt-returns-in-Declare-clause-ways
+stmt-returns-in-Declare-clause-ways t c =
+    ways_as c.args.stmt.now _ c.args.self.0 _ c.args.self.0 _ _ (λ k. is_declare c.args.stmt.now _ _ k c.in-Declare.is) (ap (λ l. l.0) c.none_of-in-Declare.ensures.looked) (c.none_of-in-Declare.ensures.ways ∙ c.plain.ensures) (λ k. refl)
+
+pub stmt-returns-in-Declare-clause-looked : goal.stmt-returns-in-Declare-clause-looked
+stmt-returns-in-Declare-clause-looked t c =
+    no_waits c.args.stmt.now _ c.args.self.0 _ (λ k. is_declare c.args.stmt.now _ _ k c.in-Declare.is) (ap (λ l. l.0) c.none_of-in-Declare.ensures.looked) (λ k. refl)
+
+pub stmt-returns-in-Assign-clause-ways : goal.stmt-returns-in-Assign-clause-ways
+stmt-returns-in-Assign-clause-ways t c =
+    ways_as c.args.stmt.now _ c.args.self.0 _ c.args.self.0 _ _ (λ k. is_assign c.args.stmt.now _ _ k c.in-Assign.is) (ap (λ l. l.0) c.none_of-in-Assign.ensures.looked) (c.none_of-in-Assign.ensures.ways ∙ c.plain-in-Assign.ensures) (λ k. refl)
+
+pub stmt-returns-in-Assign-clause-looked : goal.stmt-returns-in-Assign-clause-looked
+stmt-returns-in-Assign-clause-looked t c =
+    no_waits c.args.stmt.now _ c.args.self.0 _ (λ k. is_assign c.args.stmt.now _ _ k c.in-Assign.is) (ap (λ l. l.0) c.none_of-in-Assign.ensures.looked) (λ k. refl)
+
+pub stmt-returns-in-Modify-clause-ways : goal.stmt-returns-in-Modify-clause-ways
+stmt-returns-in-Modify-clause-ways t c =
+    ways_as c.args.stmt.now _ c.args.self.0 _ c.args.self.0 _ _ (λ k. is_modify c.args.stmt.now _ _ k c.in-Modify.is) (ap (λ l. l.0) c.none_of-in-Modify.ensures.looked) (c.none_of-in-Modify.ensures.ways ∙ c.plain-in-Modify.ensures) (λ k. refl)
+
+pub stmt-returns-in-Modify-clause-looked : goal.stmt-returns-in-Modify-clause-looked
+stmt-returns-in-Modify-clause-looked t c =
+    no_waits c.args.stmt.now _ c.args.self.0 _ (λ k. is_modify c.args.stmt.now _ _ k c.in-Modify.is) (ap (λ l. l.0) c.none_of-in-Modify.ensures.looked) (λ k. refl)
+
+pub stmt-returns-in-Call-clause-ways : goal.stmt-returns-in-Call-clause-ways
+stmt-returns-in-Call-clause-ways t c =
+    ways_as c.args.stmt.now _ c.args.self.0 _ c.args.self.0 _ _ (λ k. is_call c.args.stmt.now _ _ k c.in-Call.is) (ap (λ l. l.0) c.none_of-in-Call.ensures.looked) (c.none_of-in-Call.ensures.ways ∙ c.plain-in-Call.ensures) (λ k. refl)
+
+pub stmt-returns-in-Call-clause-looked : goal.stmt-returns-in-Call-clause-looked
+stmt-returns-in-Call-clause-looked t c =
+    no_waits c.args.stmt.now _ c.args.self.0 _ (λ k. is_call c.args.stmt.now _ _ k c.in-Call.is) (ap (λ l. l.0) c.none_of-in-Call.ensures.looked) (λ k. refl)
+
+pub stmt-returns-in-While-clause-ways : goal.stmt-returns-in-While-clause-ways
+stmt-returns-in-While-clause-ways t c =
+    ways_as c.args.stmt.now _ c.args.self.0 _ _ _ _ (λ k. is_while c.args.stmt.now _ c.in-While.body k c.in-While.is) c.looped.ensures.looked c.looped.ensures.ways (λ k. refl)
+
+pub stmt-returns-in-Loop-clause-ways : goal.stmt-returns-in-Loop-clause-ways
+stmt-returns-in-Loop-clause-ways t c =
+    ways_as c.args.stmt.now _ c.args.self.0 _ _ _ _ (λ k. is_loop c.args.stmt.now c.in-Loop.body k c.in-Loop.is) c.looped-in-Loop.ensures.looked c.looped-in-Loop.ensures.ways (λ k. refl)
+
+pub stmt-returns-in-While-clause-looked : goal.stmt-returns-in-While-clause-looked
+stmt-returns-in-While-clause-looked t c =
+    waits_while c.args.stmt.now _ c.in-While.body _ _ c.in-While.is c.looped.ensures.looked
+
+pub stmt-returns-in-Loop-clause-looked : goal.stmt-returns-in-Loop-clause-looked
+stmt-returns-in-Loop-clause-looked t c =
+    waits_loop c.args.stmt.now c.in-Loop.body _ _ c.in-Loop.is c.looped-in-Loop.ensures.looked
+
+pub stmt-returns-in-Block-clause-ways : goal.stmt-returns-in-Block-clause-ways
+stmt-returns-in-Block-clause-ways t c =
+    ways_as c.args.stmt.now _ c.args.self.0 _ _ _ _ (λ k. is_block c.args.stmt.now c.in-Block.body k c.in-Block.is) c.joined.ensures.looked
+    (c.joined.ensures.ways ∙ ap (λ w. both w (ways c.args.self.0 (body_of c.in-Block.body.items))) c.node.ensures) (λ k. refl)
+
+pub stmt-returns-in-Block-clause-looked : goal.stmt-returns-in-Block-clause-looked
+stmt-returns-in-Block-clause-looked t c k =
+    ap (λ b. c.args.self.0 - length (body_groups b)) (is_block c.args.stmt.now c.in-Block.body k c.in-Block.is)
+    ∙ past_two c.args.self.0 c.joined.result.looked.0 (body_groups (body_of c.in-Block.body.items)) (body_groups k) c.joined.ensures.looked
+
+pub stmt-returns-in-Wait-clause-ways : goal.stmt-returns-in-Wait-clause-ways
+stmt-returns-in-Wait-clause-ways t c =
+    ways_as c.args.stmt.now _ c.args.self.0 _ _ _ _ (λ k. is_wait c.args.stmt.now _ k c.in-Wait.is) (ap (λ l. l.0) c.none_of-in-Wait.ensures.looked ∙ c.past_one-in-Wait.ensures)
+    (c.none_of-in-Wait.ensures.ways ∙ c.plain-in-Wait.ensures ∙ ap plain c.waited-in-Wait.ensures) (λ k. refl)
