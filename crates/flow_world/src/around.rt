@@ -10,6 +10,7 @@ ghost use Rattle.flow_world.specs.Standing.{Standing};
 use crate::asked::Asked;
 use crate::outside::{Outside, What};
 use crate::ports::Ports;
+use crate::put::tell;
 use flow_base::fault::OutFault;
 use flow_base::ids::{CellId, ProcId};
 use flow_base::memory::NoMemory;
@@ -81,10 +82,10 @@ impl<'p, 'w, 'l, L: LineOut> Host for Around<'p, 'w, 'l, L> {
     fn packet(&mut self, to: ProcId, port: u16, text: Text) -> Result<(), OutFault> {
         let number = or_fault(self.outside.next_packet())?;
         let copy = or_fault(text.copy(self.outside.alloc))?;
-        self.out.put(&Line::Send(number, to, port, copy))?;
+        tell(self.out, Line::Send(number, to, port, copy))?;
         match or_fault(self.outside.send(self.me, to, port, text))? {
-            Fate::Cut => self.out.put(&Line::LostCut(number)),
-            Fate::Drawn => self.out.put(&Line::LostDraw(number)),
+            Fate::Cut => tell(self.out, Line::LostCut(number)),
+            Fate::Drawn => tell(self.out, Line::LostDraw(number)),
             Fate::At(time) => or_fault(self.outside.add(time, What::Arrives(to, number))),
         }
     }

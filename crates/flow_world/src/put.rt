@@ -1,12 +1,14 @@
 // Putting lines.
 
 ghost use Rattle.std.specs.Prelude.{◌≡◌, Ok, Err, map, OnOk, IsErrOf};
+ghost use Rattle.flow_base.specs.Faults.{HasCause};
 ghost use Rattle.flow_base.specs.declared.fault.OutFault.TheVariants.{Failed};
 ghost use Rattle.flow_meaning.specs.World.{kept_line};
 ghost use Rattle.flow_machine.specs.Cause.{RunCause};
 ghost use Rattle.flow_machine.specs.declared.host.RunFault.TheVariants as run;
 ghost use Rattle.flow_world.specs.Around.{Puts};
 
+use flow_base::fault::OutFault;
 use flow_machine::host::RunFault;
 use flow_simdisk::Kept;
 use flow_trace::line::Line;
@@ -26,6 +28,15 @@ pub fn put<L: LineOut>(out: &mut L, line: Line) -> Result<(), RunFault>
         Ok(()) => Ok(()),
         Err(fault) => Err(RunFault::from(fault)),
     }
+}
+
+/// Puts a line as `put` does, and answers the fault as it comes.
+pub fn tell<L: LineOut>(out: &mut L, line: Line) -> Result<(), OutFault>
+    ensures puts { L.puts out.old line result out.new }
+    ensures cause { HasCause (L.faults out.old) (L.faults out.new) result }
+    ensures kept { L.kept out.new ≡ L.kept out.old }
+{
+    out.put(&line)
 }
 
 #[tactic(auto, using(flow_machine::proofs::Causes::cause_before))]

@@ -27,7 +27,7 @@ use crate::outside::{LAST_TIME, Outside, What};
 use crate::place::Place;
 use crate::put::{put, put_kept};
 use crate::script::Script;
-use crate::starting::{first_boots, fresh_disks, fresh_places};
+use crate::starting::first_parts;
 use crate::teller::{Teller, unless_failed};
 use flow_base::ids::{CellId, ProcId};
 use flow_base::memory::NoMemory;
@@ -67,21 +67,26 @@ impl World {
         ensures bound { IfOk result (λ w. w.events ≡ world.events) }
         ensures ended { IfOk result (λ w. w.ended ≡ false) }
     {
+        // Each way out drops what was made before it, so that the small parts come together and last.
+        let code = Code::new(alloc, classes)?;
+        let script = Script::new(world.script)?;
+        let net = Net::new(alloc, world.processes, world.latency, world.loss)?;
+        let (timers, disks, places) = first_parts(alloc, world.processes)?;
         let outside = Outside {
             alloc,
             time: 0,
-            timers: first_boots(alloc, world.processes)?,
-            net: Net::new(alloc, world.processes, world.latency, world.loss)?,
-            disks: fresh_disks(alloc, world.processes)?,
+            timers,
+            net,
+            disks,
             draws: Draws::new(world.seed, world.words),
             disk_delay: world.diskdelay,
         };
         Ok(World {
             alloc,
-            code: Code::new(alloc, classes)?,
-            places: fresh_places(alloc, world.processes)?,
+            code,
+            places,
             outside,
-            script: Script::new(world.script)?,
+            script,
             ran: 0,
             events: world.events,
             turns: world.turns,
