@@ -1,0 +1,4 @@
+pub mod Cells
+pub mod Steps
+pub mod Brought
+pub mod Worlds
