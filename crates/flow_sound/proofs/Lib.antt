@@ -1,0 +1,5 @@
+pub mod Totals
+pub mod Standing
+pub mod Leading
+pub mod Counting
+pub mod Times

@@ -1,0 +1,9 @@
+// Laws of heaps at rest.
+
+ghost use Rattle.flow_sound.specs.Heaps.{TimesCounted};
+
+/// How often the parts of a heap at rest name a cell by a kind of reference is how often the process that it shows refers to that
+/// side of the cell.
+pub fn references_counted()
+    ensures { TimesCounted }
+{}
