@@ -3,3 +3,5 @@ pub mod Standing
 pub mod Leading
 pub mod Counting
 pub mod Times
+pub mod Waiting
+pub mod Sound

@@ -1,9 +1,14 @@
 // Laws of heaps at rest.
 
-ghost use Rattle.flow_sound.specs.Heaps.{TimesCounted};
+ghost use Rattle.flow_sound.specs.Heaps.{TimesCounted, HeapsSound};
 
 /// How often the parts of a heap at rest name a cell by a kind of reference is how often the process that it shows refers to that
 /// side of the cell.
 pub fn references_counted()
     ensures { TimesCounted }
+{}
+
+/// The parts of such a heap are sound.
+pub fn heaps_sound()
+    ensures { HeapsSound }
 {}
