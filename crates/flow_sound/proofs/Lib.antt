@@ -5,3 +5,6 @@ pub mod Counting
 pub mod Times
 pub mod Waiting
 pub mod Sound
+pub mod Resting
+pub mod Few
+pub mod Worlds

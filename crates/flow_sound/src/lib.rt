@@ -3,3 +3,4 @@
 #![tactic(auto)]
 
 pub mod heaps;
+pub mod laws;
