@@ -38,7 +38,7 @@ less old new ready wait e =
     and_from (is_ready old) (some_wait (waiters old)) (ready both.0) (wait both.1)
 
 -- a cell is taken from, or left by an actor
-pub less_taken : (cell : Cell) → is_due (Some (after_taking cell)) ≡ true → is_due (Some cell) ≡ true
+less_taken : (cell : Cell) → is_due (Some (after_taking cell)) ≡ true → is_due (Some cell) ≡ true
 less_taken (Single o ws) e = e
 less_taken (Stream [] x w) e = e
 less_taken (Stream (v ∷ vs) x w) e = less (Stream (v ∷ vs) x w) (Stream vs x w) (λ r. refl) (λ s. s) e

@@ -23,7 +23,7 @@ use Rattle.flow_cancel.proofs.Noted.{at_number}
 use Rattle.flow_heapstate.specs.State.{cell_part, stream_part, actor_part, result_noted, parts_of}
 use Rattle.flow_heapstate.specs.Referring as parts
 use Rattle.flow_heapstate.specs.Referring.{content_refs, place_refs, noted, named, waited, waits_of, cell_refs, stream_refs, actor_refs, result_refs}
-use Rattle.flow_meaning.specs.Cells.{Side, PromiseSide, FutureSide, Ref, Waiter, Cell, Single, Stream, is_some, as_list, good}
+use Rattle.flow_meaning.specs.Cells.{Side, PromiseSide, FutureSide, side_of, Ref, Waiter, Cell, Single, Stream, is_some, as_list, good}
 use Rattle.flow_meaning.specs.Process.{Proc}
 use Rattle.flow_meaning.specs.Occ.{refs_in, one, count, count_maybe, count_waiters, count_kept, in_cells, in_entries, in_tasks, in_ports, in_requests}
 use Rattle.flow_meaning.specs.Orderly.{Rising}
@@ -73,14 +73,7 @@ noted_has (m ∷ ns) n = ap (λ t. t || has_number ns n) (at_number n m) ∙ by_
 abbrev if_so : Bool → ℕ → ℕ
 if_so b n = if b then n else 0
 
-if_some : (w : ℕ) (o : Option ℕ) (k : ℕ) → if_there (λ n a. w) k o ≡ if_so (is_some o) w
-if_some w None k = refl
-if_some w (Some a) k = refl
-
 module _ (s : Side) (j : ℕ) where
-  asked : ℕ → ℕ
-  asked k = one s j PromiseSide k
-
   requests_sum : (ks : List ℕ) → in_requests s j ks ≡ sum_by (λ n a. one s j PromiseSide n) (numbers ks)
   requests_sum [] = refl
   requests_sum (k ∷ ks) = let a = requests_sum ks in omega (arith, a)
@@ -103,7 +96,7 @@ module _ (s : Side) (j : ℕ) where
   flat_sum refs part [] = refl
   flat_sum refs part (x ∷ xs) = let a = count_joined s j (refs (part x)) (flat_map refs (map part xs)) in let b = flat_sum refs part xs in omega (arith, a, b)
 
-  noted_count : (b : Bool) (q : Kind) (n : ℕ) → count s j (noted b q n) ≡ if_so b (one s j (Rattle.flow_meaning.specs.Cells.side_of q) n)
+  noted_count : (b : Bool) (q : Kind) (n : ℕ) → count s j (noted b q n) ≡ if_so b (one s j (side_of q) n)
   noted_count true q n = omega arith
   noted_count false q n = refl
 
@@ -143,7 +136,7 @@ module _ (s : Side) (j : ℕ) where
   held_joined [] us = omega arith
   held_joined (o ∷ os) us = let a = held_joined os us in omega (arith, a)
 
-  named_count : (o : Option CellId) (q : Kind) → count s j (named o q) ≡ count_maybe s j (Rattle.flow_meaning.specs.Cells.side_of q) (option_map cell_number o)
+  named_count : (o : Option CellId) (q : Kind) → count s j (named o q) ≡ count_maybe s j (side_of q) (option_map cell_number o)
   named_count None q = refl
   named_count (Some k) q = omega arith
 

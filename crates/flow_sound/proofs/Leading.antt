@@ -99,7 +99,7 @@ module _ (r : RawTree) (h : HeapTree) (p : Proc Frame) (f : Fitting r h p) where
   waits_there n [] t = tt
   waits_there n (w ∷ ws) t = (t, waits_there n ws t)
 
-  pub cell_leads : (n : ℕ) (m : CellTree Outcome) → thing h.cells.things n ≡ Some m → AllThere p (cell_refs (cell_part h.requests (n, m)))
+  cell_leads : (n : ℕ) (m : CellTree Outcome) → thing h.cells.things n ≡ Some m → AllThere p (cell_refs (cell_part h.requests (n, m)))
   cell_leads n m e =
       let s = single_at r h p f n m e in
       let x = fits_at n (Single s.content s.waiters) s.at in
@@ -116,7 +116,7 @@ module _ (r : RawTree) (h : HeapTree) (p : Proc Frame) (f : Fitting r h p) where
   waited_there n None t = tt
   waited_there n (Some w) t = (t, tt)
 
-  pub stream_leads : (n : ℕ) (m : StreamTree Value) → thing h.streams.things n ≡ Some m → AllThere p (stream_refs (stream_part h.ports (n, m)))
+  stream_leads : (n : ℕ) (m : StreamTree Value) → thing h.streams.things n ≡ Some m → AllThere p (stream_refs (stream_part h.ports (n, m)))
   stream_leads n m e =
       let s = stream_at r h p f n m e in
       let c : Cell = Stream s.queue s.end s.waiter in
@@ -141,10 +141,10 @@ module _ (r : RawTree) (h : HeapTree) (p : Proc Frame) (f : Fitting r h p) where
           let t = local_typed g.code.locals n (let a = within g.mem.locals n v e in let b = x.locals in omega (arith, a, b)) in
           value_there r f.types p fits v t.0 (x.types (Local n) t.0 v t.1 e)
 
-  pub actor_leads : (i : ℕ) (m : FrameTree Value) → thing h.frames.things i ≡ Some m → AllThere p (actor_refs (actor_part h.actors.things (i, m)))
+  actor_leads : (i : ℕ) (m : FrameTree Value) → thing h.frames.things i ≡ Some m → AllThere p (actor_refs (actor_part h.actors.things (i, m)))
   actor_leads i m e = let a = actor_stands r h p f i m e in subst (λ os. AllThere p (flat_map place_refs os)) (sym a.stands.places) (places_there a.frame a.holds)
 
-  pub result_leads : (i : ℕ) (m : FrameTree Value) → thing h.frames.things i ≡ Some m → AllThere p (result_refs (actor_part h.actors.things (i, m)))
+  result_leads : (i : ℕ) (m : FrameTree Value) → thing h.frames.things i ≡ Some m → AllThere p (result_refs (actor_part h.actors.things (i, m)))
   result_leads i m e =
       let a = actor_stands r h p f i m e in
       subst (λ o. AllThere p (named (result_noted o) kind.Promise)) (sym a.noted) (by_result a.note.result a.entry a.entered a.same.result)
@@ -154,7 +154,7 @@ module _ (r : RawTree) (h : HeapTree) (p : Proc Frame) (f : Fitting r h p) where
       by_result (Some k) x at q =
           let u = unset_is (thing p.core.cells k.0) (f.rested.running.owned.result i k.0 x at q).0 in (record { cell = Single None u.0; at = u.1; right = tt }, tt)
 
-  pub main_leads : AllThere p (named h.main kind.Future)
+  main_leads : AllThere p (named h.main kind.Future)
   main_leads = by_main h.main f.rested.running.shows.main
     where
       by_main : (o : Option CellId) → p.core.main ≡ option_map cell_number o → AllThere p (named o kind.Future)

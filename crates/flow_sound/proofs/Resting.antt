@@ -1,5 +1,5 @@
 -- A heap at rest rests with its parts, and counts each reference in them and no other.
-use Rattle.std.proofs.Common.{◌≡◌, ℕ, Bool, true, false, List, [], ◌∷◌, map, IsSome, refl, sym, ap, ap₂, ◌∙◌, subst, arith}
+use Rattle.std.proofs.Common.{◌≡◌, ℕ, true, List, [], ◌∷◌, map, IsSome, refl, sym, ap, ap₂, ◌∙◌, subst, arith}
 use Rattle.std.specs.List.{AllByRecursion}
 use Rattle.std.specs.declared.option.Option.{Option}
 use Rattle.std.specs.declared.option.Option.TheVariants.{None, Some}
@@ -7,7 +7,7 @@ use Rattle.flow_value.specs.declared.value.Kind.TheVariants as kind
 use Rattle.flow_value.specs.declared.value.Value.{Value}
 use Rattle.flow_value.specs.declared.value.Outcome.{Outcome}
 use Rattle.flow_class.specs.Classes.{RawTree}
-use Rattle.flow_numbered.specs.Numbered.{Numbered, thing}
+use Rattle.flow_numbered.specs.Numbered.{Numbered, thing, IsRising}
 use Rattle.flow_cell.specs.Cells.{CellTree}
 use Rattle.flow_stream.specs.Streams.{StreamTree}
 use Rattle.flow_frame.specs.Frames.{FrameTree}
@@ -30,7 +30,7 @@ use Rattle.flow_picture.specs.Rested.{has}
 use Rattle.flow_picture.specs.Shows.{TasksShow, ActorShows, nobody, somebody}
 use Rattle.flow_sound.specs.Heaps.{Fitting}
 use Rattle.flow_sound.proofs.Totals.{all_by, rising}
-use Rattle.flow_sound.proofs.Standing.{unset_is, stream_is, single_at, single_back, stream_at, stream_back, ActorStands, actor_stands}
+use Rattle.flow_sound.proofs.Standing.{no_true, unmarked, unset_is, stream_is, single_at, single_back, stream_at, stream_back, actor_stands}
 use Rattle.flow_sound.proofs.Counting.{noted_has}
 use Rattle.flow_sound.proofs.Times.{times_counted}
 
@@ -50,14 +50,7 @@ module _ (r : RawTree) (h : HeapTree) (p : Proc Frame) (f : Fitting r h p) where
   at_rest : (i : ℕ) (m : FrameTree Value) → thing h.frames.things i ≡ Some m → IsAtRest h (i, m)
   at_rest i m e =
       let a = actor_stands r h p f i m e in
-      (a.note, a.noted, sym a.same.marked ∙ unmarked a a.entry.marked refl, a.stands.suspended ∙ a.asleep)
-    where
-      no_true : false ≡ true → ⊥
-      no_true e = cc
-
-      unmarked : (a : ActorStands r h p f i m) (b : Bool) → a.entry.marked ≡ b → a.entry.marked ≡ false
-      unmarked a true z = absurd (no_true (sym (f.rested.running.cared.awake i a.entry a.entered z) ∙ a.asleep))
-      unmarked a false z = z
+      (a.note, a.noted, sym a.same.marked ∙ unmarked r h p f i m a, a.stands.suspended ∙ a.asleep)
 
   framed : (i : ℕ) (n : Note) → thing h.actors.things i ≡ Some n → IsSome (thing h.frames.things i)
   framed i n e = by_case (f.rested.running.shows.actors i)
@@ -70,7 +63,7 @@ module _ (r : RawTree) (h : HeapTree) (p : Proc Frame) (f : Fitting r h p) where
   ported k e = by_port (port_of k p.core.ports) refl (sym (f.rested.running.shows.ports k) ∙ e)
     where
       by_port : (o : Option ℕ) → port_of k p.core.ports ≡ o → is_some o ≡ true → IsSome (thing h.streams.things k)
-      by_port None z t = absurd (let n : false ≡ true = t in cc (n))
+      by_port None z t = absurd (no_true t)
       by_port (Some q) z t =
           let s = stream_is (thing p.core.cells k) (f.rested.running.owned.port q k z).0 in
           let m = stream_back r h p f k s.0 s.1 s.2 s.3 in some_there (thing h.streams.things k) m.0 m.1
@@ -85,7 +78,7 @@ module _ (r : RawTree) (h : HeapTree) (p : Proc Frame) (f : Fitting r h p) where
   same_list [] = refl
   same_list (x ∷ xs) = ap (λ ys. x ∷ ys) (same_list xs)
 
-  all_things : {A : Type 0} (Q : ℕ × A → Type 0) (xs : Numbered A) (most : ℕ) → Rattle.flow_numbered.specs.Numbered.IsRising 0 xs most → ((k : ℕ) (a : A) → thing xs k ≡ Some a → Q (k, a)) → AllByRecursion Q xs
+  all_things : {A : Type 0} (Q : ℕ × A → Type 0) (xs : Numbered A) (most : ℕ) → IsRising 0 xs most → ((k : ℕ) (a : A) → thing xs k ≡ Some a → Q (k, a)) → AllByRecursion Q xs
   all_things Q xs most up g = subst (AllByRecursion Q) (same_list xs) (all_by Q (λ x. x) xs 0 most (rising 0 most most xs up (omega arith)) g)
 
   pub numbers_rise : NumbersRise h

@@ -41,14 +41,11 @@ use Rattle.flow_fired.specs.Fired.{is_due, NobodyDue}
 use Rattle.flow_sound.specs.Heaps.{HaveFewerPlaces, Fitting, HeapsSound}
 use Rattle.flow_sound.proofs.Totals.{all_by, rising}
 use Rattle.flow_sound.proofs.Standing as standing
-use Rattle.flow_sound.proofs.Standing.{unset_is, spots, SingleAt, single_at, single_back, StreamAt, stream_back, ActorStands, actor_stands}
+use Rattle.flow_sound.proofs.Standing.{no_true, unmarked, unset_is, spots, SingleAt, single_at, single_back, StreamAt, stream_back, ActorStands, actor_stands}
 use Rattle.flow_sound.proofs.Leading.{parts_lead}
 use Rattle.flow_sound.proofs.Counting.{noted_has}
 use Rattle.flow_sound.proofs.Times.{among, times_counted, requested_refs, ported_refs, noted_once, promises_split, ports_split}
 use Rattle.flow_sound.proofs.Waiting.{part_at, waiters_call, callbacks_wait}
-
-no_true : false ≡ true → ⊥
-no_true e = cc
 
 -- the numbers of parts rise
 rise : {A P : Type 0} (part : ℕ × A → P) (number : P → ℕ) → ((x : ℕ × A) → number (part x) ≡ x.0) → (low most n : ℕ) (xs : Numbered A) → stored.IsRising low xs most → most ≤ n → RiseTo low (map number (map part xs)) n
@@ -75,10 +72,6 @@ none_of f (Some a) e = absurd (no_thing (sym e))
 some_of : {A B : Type 0} (f : A → B) (o : Option A) → IsSome (option_map f o) → (a : A) × (o ≡ Some a)
 some_of f None e = absurd (no_true e)
 some_of f (Some a) e = (a, refl)
-
-empty_of : {A B : Type 0} (f : A → B) (xs : List A) → map f xs ≡ [] → xs ≡ []
-empty_of f [] e = refl
-empty_of f (x ∷ xs) e = absurd (cc)
 
 open_end : (x : Option Cell) → IsOpen x → (q : List ValueTree) (e : Option ℕ) (w : Option Waiter) → x ≡ Some (Stream q e w) → e ≡ None
 open_end None u q e w z = absurd u
@@ -231,25 +224,21 @@ module _ (r : RawTree) (h : HeapTree) (p : Proc Frame) (few : HaveFewerPlaces r)
           let result : a.entry.result ≡ Some k.0 = a.same.result ∙ ap (option_map cell_number) noted in
           let owned = f.rested.running.owned.result i k.0 a.entry a.entered result in
           let x = unset_is (thing p.core.cells k.0) owned.0 in
-          let m = single_back r h p f k.0 None x.0 x.1 in
+          let back = single_back r h p f k.0 None x.0 x.1 in
           let promises = times_counted r h p k.0 (Single None x.0) kind.Promise f x.1 tt in
           let futures = times_counted r h p k.0 (Single None x.0) kind.Future f x.1 tt in
           let split = promises_split k.0 (parts_of h) in
           let mine = once k is in
-          let wanted = f.rested.running.cared.wanted i k.0 a.entry a.entered (unmarked a.entry.marked refl) result in
+          let wanted = f.rested.running.cared.wanted i k.0 a.entry a.entered (unmarked r h p f i m a) result in
           record {
-            cell = cell_part h.requests (k.0, m.0);
-            there = cell_is k.0 ∙ ap (option_map (λ m. cell_part h.requests (k.0, m))) m.1;
-            unset = unset_at k.0 m.0 m.1 owned.0;
+            cell = cell_part h.requests (k.0, back.0);
+            there = cell_is k.0 ∙ ap (option_map (λ m. cell_part h.requests (k.0, m))) back.1;
+            unset = unset_at k.0 back.0 back.1 owned.0;
             own = omega (arith, promises, split, mine, owned.1);
             awaited = omega (arith, futures, wanted);
             unnamed = omega (arith, promises, split, mine, owned.1);
           }
         where
-          unmarked : (b : Bool) → a.entry.marked ≡ b → a.entry.marked ≡ false
-          unmarked true z = absurd (no_true (sym (f.rested.running.cared.awake i a.entry a.entered z) ∙ a.asleep))
-          unmarked false z = z
-
           -- it is one of the promises
           once : (k : CellId) → result_noted (thing h.actors.things i) ≡ Some k → 1 ≤ times kind.Promise k.0 (results (parts_of h))
           once k is =

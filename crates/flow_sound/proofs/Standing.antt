@@ -1,5 +1,5 @@
 -- What stands at a number of a heap at rest, and in the process that it shows.
-use Rattle.std.proofs.Common.{◌≡◌, ℕ, true, false, List, map, refl, sym, ◌∙◌, subst}
+use Rattle.std.proofs.Common.{◌≡◌, ℕ, true, false, List, map, refl, sym, ◌∙◌, subst, Bool}
 use Rattle.std.specs.Prelude.{slice_get}
 use Rattle.std.specs.Option.{option_map}
 use Rattle.std.specs.declared.option.Option.{Option}
@@ -27,6 +27,9 @@ use Rattle.flow_picture.specs.Rested.{IsUnset, IsStream}
 use Rattle.flow_unstuck.specs.Places.{HoldsTypes}
 use Rattle.flow_unstuck.specs.Fitting.{typed_by, PostureFits, ActorAt, ActorFits}
 use Rattle.flow_sound.specs.Heaps.{Fitting}
+
+pub no_true : false ≡ true → ⊥
+no_true e = cc
 
 -- a cell that is an unset single result, and one that is a stream
 pub unset_is : (x : Option Cell) → IsUnset x → (ws : List Waiter) × (x ≡ Some (Single None ws))
@@ -125,9 +128,6 @@ module _ (r : RawTree) (h : HeapTree) (p : Proc Frame) (f : Fitting r h p) where
       subst (λ o. ActorAt r f.types (Some e) o (tasks_of i p.core.tasks)) b
       (subst (λ o. ActorAt r f.types o (thing p.actors i) (tasks_of i p.core.tasks)) a (f.fits.actors i))
 
-  no_true : false ≡ true → ⊥
-  no_true e = cc
-
   built : (i : ℕ) (m : FrameTree Value) (n : Note) (e : Entry) (g : Frame) → thing h.actors.things i ≡ Some n → thing p.core.entries i ≡ Some e → thing p.actors i ≡ Some g → OneActor r n m e g
       → ActorStands i m
   built i m n e g a b c o =
@@ -161,6 +161,14 @@ module _ (r : RawTree) (h : HeapTree) (p : Proc Frame) (f : Fitting r h p) where
       by_case (nobody a b c d) = absurd (no_thing (sym b ∙ e))
       by_case (somebody s) =
           built i m s.note s.entry s.frame s.noted s.entered s.acting (subst (λ x. OneActor r s.note x s.entry s.frame) (same_of (sym s.framed ∙ e)) s.same)
+
+  -- it isn't marked
+  pub unmarked : (i : ℕ) (m : FrameTree Value) (a : ActorStands i m) → a.entry.marked ≡ false
+  unmarked i m a = by_mark a.entry.marked refl
+    where
+      by_mark : (b : Bool) → a.entry.marked ≡ b → b ≡ false
+      by_mark true z = absurd (no_true (sym (f.rested.running.cared.awake i a.entry a.entered z) ∙ a.asleep))
+      by_mark false z = refl
 
   -- where the process has an actor, memory has its frame
   pub actor_back : (i : ℕ) (e : Entry) → thing p.core.entries i ≡ Some e → (m : FrameTree Value) × (thing h.frames.things i ≡ Some m)

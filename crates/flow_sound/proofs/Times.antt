@@ -10,7 +10,7 @@ use Rattle.flow_value.specs.declared.value.Kind.TheVariants.{Promise, Future, Pr
 use Rattle.flow_value.specs.Values.{refs_of}
 use Rattle.flow_numbered.specs.Numbered.{thing}
 use Rattle.flow_cell.specs.declared.waiter.Waiter.{Waiter}
-use Rattle.flow_heapstate.specs.State.{CellPart, StreamPart, ActorPart, Parts, parts_of}
+use Rattle.flow_heapstate.specs.State.{CellPart, StreamPart, Parts, parts_of}
 use Rattle.flow_heapstate.specs.Referring as parts
 use Rattle.flow_heapstate.specs.Referring.{Ref, content_refs, noted, named, waited, waits_of, cell_refs, stream_refs, actor_refs, result_refs, same_kind, times}
 use Rattle.flow_heapstate.specs.Sound.{value_refs, results}
@@ -66,7 +66,7 @@ module _ (q : Kind) (k : ℕ) where
       by_test true = omega arith
       by_test false = omega arith
 
-  pub times_joined : (xs ys : List Ref) → times q k (xs ++ ys) ≡ times q k xs + times q k ys
+  times_joined : (xs ys : List Ref) → times q k (xs ++ ys) ≡ times q k xs + times q k ys
   times_joined [] ys = omega arith
   times_joined (x ∷ xs) ys =
       let a = times_first x (xs ++ ys) in
@@ -93,7 +93,7 @@ module _ (q : Kind) (k : ℕ) where
             ap (λ a. marked a true) (sym (alike c q r.0 right (subst (RightCell r.0) cell t.right)))
         by_test false e = marked_not (same_kind q r.0) ∙ sym (marked_not (same_side (side_of q) (side_of r.0)))
 
-    pub times_count : (rs : List Ref) → AllThere p rs → times q k rs ≡ count (side_of q) k rs
+    times_count : (rs : List Ref) → AllThere p rs → times q k rs ≡ count (side_of q) k rs
     times_count [] t = refl
     times_count (r ∷ rs) t =
         let a = times_first r rs in
@@ -111,124 +111,86 @@ abbrev pub ported_refs : Parts → List Ref
 ported_refs p = flat_map (λ (s : StreamPart). noted s.port PromiseStream s.cell) p.streams
 
 pub noted_once : (q : Kind) (n : ℕ) (b : Bool) → same_kind q q ≡ true → b ≡ true → times q n (noted b q n) ≡ 1
-noted_once q n b same e = ap (λ t. times q n (noted t q n)) e ∙ times_first q n (q, n) [] ∙ (let a : marked (same_kind q q) (nat_eq n n) ≡ 1 = ap (λ t. marked t (nat_eq n n)) same ∙ ap (marked true) (same_number n) in omega (arith, a))
+noted_once q n b same e =
+    ap (λ t. times q n (noted t q n)) e ∙ times_first q n (q, n) []
+    ∙ (let a : marked (same_kind q q) (nat_eq n n) ≡ 1 = ap (λ t. marked t (nat_eq n n)) same ∙ ap (marked true) (same_number n) in omega (arith, a))
 
-module _ (k : ℕ) where
-  -- single results: promises stand in values, and are those of actors and of requests
-  waits_none : (n : ℕ) (ws : List Waiter) → times Promise k (waits_of n ws) ≡ 0
-  waits_none n [] = refl
-  waits_none n (w ∷ ws) = waits_none n ws
+module _ (q : Kind) (k : ℕ) where
+  -- references of other kinds
+  other_first : (o : Kind) (n : ℕ) (rs : List Ref) → same_kind q o ≡ false → times q k ((o, n) ∷ rs) ≡ times q k rs
+  other_first o n rs not = ap (λ b. if b && nat_eq k n then suc (times q k rs) else times q k rs) not
 
-  cells_split : (cs : List CellPart) → times Promise k (flat_map cell_refs cs)
-      ≡ times Promise k (flat_map (λ (c : CellPart). content_refs c.content) cs) + times Promise k (flat_map (λ (c : CellPart). noted c.requested Promise c.cell) cs)
-  cells_split [] = refl
-  cells_split (c ∷ cs) =
-      let j = times_joined Promise k in
-      let a = j (cell_refs c) (flat_map cell_refs cs) in
-      let b = j (content_refs c.content) (noted c.requested Promise c.cell ++ waits_of c.cell c.waiters) in
-      let d = j (noted c.requested Promise c.cell) (waits_of c.cell c.waiters) in
-      let e = waits_none c.cell c.waiters in
-      let f = j (content_refs c.content) (flat_map (λ (c : CellPart). content_refs c.content) cs) in
-      let g = j (noted c.requested Promise c.cell) (flat_map (λ (c : CellPart). noted c.requested Promise c.cell) cs) in
-      let i = cells_split cs in omega (arith, a, b, d, e, f, g, i)
+  noted_other : (o : Kind) → same_kind q o ≡ false → (b : Bool) (n : ℕ) → times q k (noted b o n) ≡ 0
+  noted_other o not true n = other_first o n [] not
+  noted_other o not false n = refl
 
-  streams_none : (ss : List StreamPart) → times Promise k (flat_map stream_refs ss) ≡ times Promise k (flat_map (λ (s : StreamPart). flat_map refs_of s.queue) ss)
-  streams_none [] = refl
-  streams_none (s ∷ ss) =
-      let j = times_joined Promise k in
-      let a = j (stream_refs s) (flat_map stream_refs ss) in
-      let b = j (flat_map refs_of s.queue) (noted s.port PromiseStream s.cell ++ waited s.waiter s.cell) in
-      let c = j (noted s.port PromiseStream s.cell) (waited s.waiter s.cell) in
-      let d = by_port s.port in
-      let e = by_waiter s.waiter in
-      let f = j (flat_map refs_of s.queue) (flat_map (λ (s : StreamPart). flat_map refs_of s.queue) ss) in
-      let g = streams_none ss in omega (arith, a, b, c, d, e, f, g)
-    where
-      by_port : (b : Bool) → times Promise k (noted b PromiseStream s.cell) ≡ 0
-      by_port true = refl
-      by_port false = refl
+  named_other : (o : Kind) → same_kind q o ≡ false → (c : Option CellId) → times q k (named c o) ≡ 0
+  named_other o not None = refl
+  named_other o not (Some c) = other_first o c.0 [] not
 
-      by_waiter : (o : Option Waiter) → times Promise k (waited o s.cell) ≡ 0
-      by_waiter None = refl
-      by_waiter (Some w) = refl
+  waits_other : same_kind q Future ≡ false → (n : ℕ) (ws : List Waiter) → times q k (waits_of n ws) ≡ 0
+  waits_other not n [] = refl
+  waits_other not n (w ∷ ws) = other_first Future n (waits_of n ws) not ∙ waits_other not n ws
 
-  main_none : (o : Option CellId) → times Promise k (named o Future) ≡ 0
-  main_none None = refl
-  main_none (Some c) = refl
+  waited_other : same_kind q FutureStream ≡ false → (o : Option Waiter) (n : ℕ) → times q k (waited o n) ≡ 0
+  waited_other not None n = refl
+  waited_other not (Some w) n = other_first FutureStream n [] not
 
-  pub promises_split : (p : Parts) → times Promise k (parts.references p) ≡ times Promise k (results p) + (times Promise k (value_refs p) + times Promise k (requested_refs p))
-  promises_split p =
-      let j = times_joined Promise k in
-      let a = j (results p) (parts.stored_refs p) in
-      let b = j (flat_map cell_refs p.cells) (flat_map stream_refs p.streams ++ (flat_map actor_refs p.actors ++ named p.main Future)) in
-      let c = j (flat_map stream_refs p.streams) (flat_map actor_refs p.actors ++ named p.main Future) in
-      let d = j (flat_map actor_refs p.actors) (named p.main Future) in
-      let e = cells_split p.cells in
-      let f = streams_none p.streams in
-      let g = main_none p.main in
-      let u = j (flat_map (λ (c : CellPart). content_refs c.content) p.cells) (flat_map (λ (s : StreamPart). flat_map refs_of s.queue) p.streams ++ flat_map actor_refs p.actors) in
-      let v = j (flat_map (λ (s : StreamPart). flat_map refs_of s.queue) p.streams) (flat_map actor_refs p.actors) in omega (arith, a, b, c, d, e, f, g, u, v)
+  flat_other : {P : Type 0} (refs : P → List Ref) → ((x : P) → times q k (refs x) ≡ 0) → (xs : List P) → times q k (flat_map refs xs) ≡ 0
+  flat_other refs none [] = refl
+  flat_other refs none (x ∷ xs) =
+      let a = times_joined q k (refs x) (flat_map refs xs) in
+      let b = none x in
+      let c = flat_other refs none xs in omega (arith, a, b, c)
 
-  -- streams: promises stand in values, and are those of ports
-  results_none : (xs : List ActorPart) → times PromiseStream k (flat_map result_refs xs) ≡ 0
-  results_none [] = refl
-  results_none (x ∷ xs) = let a = times_joined PromiseStream k (result_refs x) (flat_map result_refs xs) in let b = by_result x.result in let c = results_none xs in omega (arith, a, b, c)
-    where
-      by_result : (o : Option CellId) → times PromiseStream k (named o Promise) ≡ 0
-      by_result None = refl
-      by_result (Some c) = refl
+  -- what each part has two lists of, all parts have
+  flat_both : {P : Type 0} (refs f g : P → List Ref) → ((x : P) → times q k (refs x) ≡ times q k (f x) + times q k (g x)) → (xs : List P)
+      → times q k (flat_map refs xs) ≡ times q k (flat_map f xs) + times q k (flat_map g xs)
+  flat_both refs f g both [] = refl
+  flat_both refs f g both (x ∷ xs) =
+      let a = times_joined q k (refs x) (flat_map refs xs) in
+      let b = times_joined q k (f x) (flat_map f xs) in
+      let c = times_joined q k (g x) (flat_map g xs) in
+      let d = both x in
+      let e = flat_both refs f g both xs in omega (arith, a, b, c, d, e)
 
-  waits_no_stream : (n : ℕ) (ws : List Waiter) → times PromiseStream k (waits_of n ws) ≡ 0
-  waits_no_stream n [] = refl
-  waits_no_stream n (w ∷ ws) = waits_no_stream n ws
+  -- Promises stand in values, and are those of actors, of requests and of ports.
+  module _ (single : same_kind q Future ≡ false) (stream : same_kind q FutureStream ≡ false) where
+    of_cell : (c : CellPart) → times q k (cell_refs c) ≡ times q k (content_refs c.content) + times q k (noted c.requested Promise c.cell)
+    of_cell c =
+        let a = times_joined q k (content_refs c.content) (noted c.requested Promise c.cell ++ waits_of c.cell c.waiters) in
+        let b = times_joined q k (noted c.requested Promise c.cell) (waits_of c.cell c.waiters) in
+        let d = waits_other single c.cell c.waiters in omega (arith, a, b, d)
 
-  cells_none : (cs : List CellPart) → times PromiseStream k (flat_map cell_refs cs) ≡ times PromiseStream k (flat_map (λ (c : CellPart). content_refs c.content) cs)
-  cells_none [] = refl
-  cells_none (c ∷ cs) =
-      let j = times_joined PromiseStream k in
-      let a = j (cell_refs c) (flat_map cell_refs cs) in
-      let b = j (content_refs c.content) (noted c.requested Promise c.cell ++ waits_of c.cell c.waiters) in
-      let d = j (noted c.requested Promise c.cell) (waits_of c.cell c.waiters) in
-      let e = waits_no_stream c.cell c.waiters in
-      let f = j (content_refs c.content) (flat_map (λ (c : CellPart). content_refs c.content) cs) in
-      let g = by_request c.requested in
-      let i = cells_none cs in omega (arith, a, b, d, e, f, g, i)
-    where
-      by_request : (b : Bool) → times PromiseStream k (noted b Promise c.cell) ≡ 0
-      by_request true = refl
-      by_request false = refl
+    of_stream : (s : StreamPart) → times q k (stream_refs s) ≡ times q k (flat_map refs_of s.queue) + times q k (noted s.port PromiseStream s.cell)
+    of_stream s =
+        let a = times_joined q k (flat_map refs_of s.queue) (noted s.port PromiseStream s.cell ++ waited s.waiter s.cell) in
+        let b = times_joined q k (noted s.port PromiseStream s.cell) (waited s.waiter s.cell) in
+        let d = waited_other stream s.waiter s.cell in omega (arith, a, b, d)
 
-  streams_split : (ss : List StreamPart) → times PromiseStream k (flat_map stream_refs ss)
-      ≡ times PromiseStream k (flat_map (λ (s : StreamPart). flat_map refs_of s.queue) ss) + times PromiseStream k (flat_map (λ (s : StreamPart). noted s.port PromiseStream s.cell) ss)
-  streams_split [] = refl
-  streams_split (s ∷ ss) =
-      let j = times_joined PromiseStream k in
-      let a = j (stream_refs s) (flat_map stream_refs ss) in
-      let b = j (flat_map refs_of s.queue) (noted s.port PromiseStream s.cell ++ waited s.waiter s.cell) in
-      let c = j (noted s.port PromiseStream s.cell) (waited s.waiter s.cell) in
-      let e = by_waiter s.waiter in
-      let f = j (flat_map refs_of s.queue) (flat_map (λ (s : StreamPart). flat_map refs_of s.queue) ss) in
-      let g = j (noted s.port PromiseStream s.cell) (flat_map (λ (s : StreamPart). noted s.port PromiseStream s.cell) ss) in
-      let i = streams_split ss in omega (arith, a, b, c, e, f, g, i)
-    where
-      by_waiter : (o : Option Waiter) → times PromiseStream k (waited o s.cell) ≡ 0
-      by_waiter None = refl
-      by_waiter (Some w) = refl
+    split : (p : Parts) → times q k (parts.references p) ≡ times q k (results p) + (times q k (value_refs p) + (times q k (requested_refs p) + times q k (ported_refs p)))
+    split p =
+        let contents : CellPart → List Ref = λ c. content_refs c.content in
+        let queues : StreamPart → List Ref = λ s. flat_map refs_of s.queue in
+        let j = times_joined q k in
+        let a = j (results p) (parts.stored_refs p) in
+        let b = j (flat_map cell_refs p.cells) (flat_map stream_refs p.streams ++ (flat_map actor_refs p.actors ++ named p.main Future)) in
+        let c = j (flat_map stream_refs p.streams) (flat_map actor_refs p.actors ++ named p.main Future) in
+        let d = j (flat_map actor_refs p.actors) (named p.main Future) in
+        let e = flat_both cell_refs contents (λ c. noted c.requested Promise c.cell) of_cell p.cells in
+        let f = flat_both stream_refs queues (λ s. noted s.port PromiseStream s.cell) of_stream p.streams in
+        let g = named_other Future single p.main in
+        let u = j (flat_map contents p.cells) (flat_map queues p.streams ++ flat_map actor_refs p.actors) in
+        let v = j (flat_map queues p.streams) (flat_map actor_refs p.actors) in omega (arith, a, b, c, d, e, f, g, u, v)
 
-  main_no_stream : (o : Option CellId) → times PromiseStream k (named o Future) ≡ 0
-  main_no_stream None = refl
-  main_no_stream (Some c) = refl
+-- of single results, and of streams
+pub promises_split : (k : ℕ) (p : Parts) → times Promise k (parts.references p) ≡ times Promise k (results p) + (times Promise k (value_refs p) + times Promise k (requested_refs p))
+promises_split k p =
+    let a = split Promise k refl refl p in
+    let b = flat_other Promise k (λ (s : StreamPart). noted s.port PromiseStream s.cell) (λ s. noted_other Promise k PromiseStream refl s.port s.cell) p.streams in omega (arith, a, b)
 
-  pub ports_split : (p : Parts) → times PromiseStream k (parts.references p) ≡ times PromiseStream k (value_refs p) + times PromiseStream k (ported_refs p)
-  ports_split p =
-      let j = times_joined PromiseStream k in
-      let a = j (results p) (parts.stored_refs p) in
-      let b = j (flat_map cell_refs p.cells) (flat_map stream_refs p.streams ++ (flat_map actor_refs p.actors ++ named p.main Future)) in
-      let c = j (flat_map stream_refs p.streams) (flat_map actor_refs p.actors ++ named p.main Future) in
-      let d = j (flat_map actor_refs p.actors) (named p.main Future) in
-      let e = cells_none p.cells in
-      let f = streams_split p.streams in
-      let g = main_no_stream p.main in
-      let i = results_none p.actors in
-      let u = j (flat_map (λ (c : CellPart). content_refs c.content) p.cells) (flat_map (λ (s : StreamPart). flat_map refs_of s.queue) p.streams ++ flat_map actor_refs p.actors) in
-      let v = j (flat_map (λ (s : StreamPart). flat_map refs_of s.queue) p.streams) (flat_map actor_refs p.actors) in omega (arith, a, b, c, d, e, f, g, i, u, v)
+pub ports_split : (k : ℕ) (p : Parts) → times PromiseStream k (parts.references p) ≡ times PromiseStream k (value_refs p) + times PromiseStream k (ported_refs p)
+ports_split k p =
+    let a = split PromiseStream k refl refl p in
+    let b = flat_other PromiseStream k result_refs (λ x. named_other PromiseStream k Promise refl x.result) p.actors in
+    let c = flat_other PromiseStream k (λ (c : CellPart). noted c.requested Promise c.cell) (λ c. noted_other PromiseStream k Promise refl c.requested c.cell) p.cells in omega (arith, a, b, c)

@@ -43,9 +43,6 @@ part_at number part same (x ∷ xs) n = ap (λ m. if nat_eq n m then Some (part 
     by_test true e rest = let is : x.0 ≡ n = grind (arith, nat_tests, e) in ap (λ m. Some (part (m, x.1))) is
     by_test false e rest = rest
 
-either_first : (a : Bool) → (true || a) ≡ true
-either_first a = refl
-
 or_true : (a b : Bool) → b ≡ true → (a || b) ≡ true
 or_true true b e = refl
 or_true false b e = e
