@@ -3,6 +3,7 @@
 # Looks every two seconds at the prover's processes that the gate started; what ends in between is counted up to the last look.
 top=$(cd "$(dirname "$0")/.." && pwd)
 [ $# -gt 0 ] || set -- rt ci --anew
+export RT_JOBS="${RT_JOBS:-$(nproc)}"
 log=$(mktemp) || exit 1
 begun=$(date +%s)
 (cd "$top" && exec "$@") >"$log" 2>&1 &
