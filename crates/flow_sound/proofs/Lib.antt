@@ -8,3 +8,5 @@ pub mod Sound
 pub mod Resting
 pub mod Few
 pub mod Worlds
+pub mod Ordered
+pub mod Alike
