@@ -10,3 +10,4 @@ pub mod Few
 pub mod Worlds
 pub mod Ordered
 pub mod Alike
+pub mod Onwards

@@ -76,7 +76,7 @@ module _ (r : RawTree) (few : HaveFewerPlaces r) where
   places_told n k events (at ∷ ats) (x ∷ xs) s fits heard fired =
       (process_told at.machine.process k events x s.0.rests fits.0 heard.0 fired.0, places_told n (suc k) events ats xs s.1 fits.1 heard.1 fired.1)
 
-  world_told : (valid : AreValid r) (w : file.World) (v : Seen) → IsInRange w → RestsInRun r w v → AllTold v.places
+  pub world_told : (valid : AreValid r) (w : file.World) (v : Seen) → IsInRange w → RestsInRun r w v → AllTold v.places
   world_told valid w v range x =
       let fits = holds_at (WorldFits r) x.states v.ran x.state (states_fit r valid w x.states range x.run) x.after_as_many in
       let heard = holds_at WorldOpen x.states v.ran x.state (states_open r valid w x.states range x.run) x.after_as_many in

@@ -1,3 +1,4 @@
 pub mod Heaps
 pub mod Worlds
 pub mod Restored
+pub mod Resumed

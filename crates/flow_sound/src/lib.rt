@@ -5,3 +5,4 @@
 pub mod heaps;
 pub mod laws;
 pub mod restored;
+pub mod resumed;
