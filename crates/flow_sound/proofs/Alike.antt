@@ -65,10 +65,14 @@ no_state : (state : ℕ) (xs : List Held) → waits state xs ≡ true → state 
 no_state zero xs e z = no_true e
 no_state (suc n) xs e z = omega (arith, z)
 
-no_callback : (state : ℕ) (xs : List Held) → waits state xs ≡ true → xs ≡ [] → ⊥
+pub no_callback : (state : ℕ) (xs : List Held) → waits state xs ≡ true → xs ≡ [] → ⊥
 no_callback zero xs e z = no_true e
 no_callback (suc n) [] e z = no_true e
 no_callback (suc n) (x ∷ xs) e z = absurd (cc (z))
+
+-- each actor at rest waits
+pub sleeps : (k : HeapTree) → Rests k → (i : ℕ) (m : FrameTree Value) → thing k.frames.things i ≡ Some m → IsAtRest k (i, m)
+sleeps k s i m e = all_at (IsAtRest k) k.frames.things s.at_rest i m e
 
 module _ (h g : HeapTree) (u : RestsWith (parts_of h) h) (t : RestsWith (parts_of h) g) where
   abbrev as_cell : HeapTree → ℕ → CellTree Outcome → CellPart
@@ -154,9 +158,6 @@ module _ (h g : HeapTree) (u : RestsWith (parts_of h) h) (t : RestsWith (parts_o
           ap₂ (count_at s) a c ∙ ap (count_of (memory_side s)) (t.streams k m c ∙ sym (u.streams k l d)) ∙ sym (ap₂ (count_at s) b d)
 
   -- the actors
-  sleeps : (k : HeapTree) → Rests k → (i : ℕ) (m : FrameTree Value) → thing k.frames.things i ≡ Some m → IsAtRest k (i, m)
-  sleeps k s i m e = all_at (IsAtRest k) k.frames.things s.at_rest i m e
-
   module _ (r : RawTree) where
     frame_shown : (i : ℕ) (m l : FrameTree Value) (e : Entry) (f : Frame) → as_actor g i m ≡ as_actor h i l → waits l.state l.callbacks ≡ true → FrameShows r l e f → FrameShows r m e f
     frame_shown i m l e f same asleep (ended x) = absurd (no_callback l.state l.callbacks asleep x.callbacks)

@@ -10,4 +10,5 @@ pub mod Few
 pub mod Worlds
 pub mod Ordered
 pub mod Alike
+pub mod Classed
 pub mod Onwards

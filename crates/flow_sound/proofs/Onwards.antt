@@ -33,12 +33,14 @@ use Rattle.flow_world.specs.Ending.{Seen}
 use Rattle.flow_world.specs.Happening.{Happens, EventDoes}
 use Rattle.flow_world.specs.Ports.{PortsShow}
 use Rattle.flow_world.specs.Starting.{Starts}
+use Rattle.flow_world.specs.Telling.{tells}
 use Rattle.flow_world.proofs.Putting.{puts_more, puts_one}
 use Rattle.flow_events.specs.Showing.{PlaceShows, PlacesShow, WorldShows}
 use Rattle.flow_events.proofs.Next.{same_end}
 use Rattle.flow_events.proofs.Started.{start_shown}
 use Rattle.flow_run.specs.declared.ending.Ending.{Ending}
 use Rattle.flow_run.specs.declared.ending.Ending.TheVariants.{Idle, Bound, Spent}
+use Rattle.flow_run.specs.Straying.{FramesAmiss}
 use Rattle.flow_run.specs.Ends.{end_line}
 use Rattle.flow_run.specs.Tracing.{lines_if, last_answer}
 use Rattle.flow_framed.specs.Framed.{ClassShown, seen_if, Shows, ends, spent, event}
@@ -47,8 +49,6 @@ use Rattle.flow_traced.specs.Traced.{FramesShown}
 use Rattle.flow_traced.proofs.Codes.{code_stays}
 use Rattle.flow_deeds.specs.Settling.{Settled}
 use Rattle.flow_deeds.proofs.Settling.{settled_first}
-use Rattle.flow_lasting.specs.Lasting.{Lasting}
-use Rattle.flow_lasting.proofs.Lasting.{lasting_starts, lasting_stays}
 use Rattle.flow_lasting.proofs.Mid.{begun_mid, burst_mid}
 use Rattle.flow_happens.proofs.Whole.{happening, spent_happening}
 use Rattle.flow_views.proofs.Traced.{Waits, keeps_on, frames}
@@ -57,16 +57,20 @@ use Rattle.flow_preserved.proofs.Carried.{are_carried}
 use Rattle.flow_faithful.proofs.Whole.{compiles_faithfully}
 use Rattle.flow_traces.proofs.Whole.{compiles_whole}
 use Rattle.flow_exact.specs.Exact.{HaveFewPlaces}
+use Rattle.flow_exact.specs.Events.{Upheld}
+use Rattle.flow_exact.proofs.Events.{event_sure}
 use Rattle.flow_exact.proofs.Shown.{code_first}
+use Rattle.flow_exact.proofs.Upheld.{upheld_starts, upheld_stays}
 use Rattle.flow_rested.specs.Boundary.{IsAtRest, RestsInRun}
 use Rattle.flow_rested.proofs.Onwards.{Onwards, first_left, holds_at, next_on}
 use Rattle.flow_rested.proofs.Rests.{world_rests}
 use Rattle.flow_sound.specs.Heaps.{HaveFewerPlaces}
 use Rattle.flow_sound.specs.Worlds.{IsTold, AllTold}
-use Rattle.flow_sound.specs.Resumed.{PlaceAgain, as_it_was, made_from, PlacesAgain, WorldAgain, Resumes, no_event, one_more, again, ResumesTo, ClassesResume, ClassesResumed, ProgramsResume, ProgramsResumed}
+use Rattle.flow_sound.specs.Resumed.{PlaceAgain, as_it_was, made_from, PlacesAgain, WorldAgain, Resumes, no_event, one_more, again, ResumesTo, ClassesRestAlike, ClassesGoOn, ProgramsRestAlike, ProgramsGoOn}
 use Rattle.flow_sound.proofs.Few.{compiled_fewer}
 use Rattle.flow_sound.proofs.Alike.{processes_restored}
 use Rattle.flow_sound.proofs.Worlds.{world_told}
+use Rattle.flow_sound.proofs.Classed.{places_classed}
 
 few_places : (r : RawTree) → HaveFewerPlaces r → HaveFewPlaces r
 few_places r few k x e = let l = few k x e in omega (arith, l)
@@ -112,7 +116,7 @@ module _ (r : RawTree) where
 
 module _ (r : RawTree) (whole : AreWhole r) (few : HaveFewerPlaces r) (f : file.World) (range : IsInRange f) (states : List (World Frame)) (trace : List Line) (run : IsRun (classes r) f states trace) where
   abbrev Keeps : World Frame → Type 0
-  Keeps = Waits (Settled r) (Lasting r) (IsProgram r)
+  Keeps = Waits (Settled r) (Upheld r) (IsProgram r)
 
   -- a world in memory on the way of the run, and the state that it shows, from which the run goes on
   record Here (v : Seen) (m : World Frame) : Type 0 where
@@ -127,11 +131,15 @@ module _ (r : RawTree) (whole : AreWhole r) (few : HaveFewerPlaces r) (f : file.
   at_rest v m h =
       let there : slice_get states v.ran ≡ Some m = ap (slice_get states) h.shows.ran ∙ first_left states m.out.ran m h.on.rest h.on.left in
       let kept = holds_at (WorldRests r) states v.ran m (whole_rest r whole f states range (trace, run)) there in
-      let s = world_rests r v m h.shows h.keeps.0.keeps.fits kept in
+      let s = world_rests r v m h.shows h.keeps.0.lasting.keeps.fits kept in
       (s, record { states = states; run = (trace, run); state = m; after_as_many = there; shows = s })
 
   told : (v : Seen) (m : World Frame) → Here v m → AllTold v.places
   told v m h = world_told r few whole.valid f v range (at_rest v m h).1
+
+  frames_classed : (v : Seen) (m : World Frame) → Here v m → FramesAmiss v → ⊥
+  frames_classed v m h amiss =
+      places_classed r v.code.program.classes.items (ap (λ (x : RawTree). x.classes) h.text) m.out.file.processes 0 v.places m.places (at_rest v m h).0.places (told v m h) amiss.0.0 amiss.1
 
   -- where processes are made again, the world is there still
   here_again : (v w : Seen) (m : World Frame) → Here v m → WorldAgain v w → Here w m
@@ -148,7 +156,7 @@ module _ (r : RawTree) (whole : AreWhole r) (few : HaveFewerPlaces r) (f : file.
     Shown = Shows (classes r) frame_spot with_frames
 
     seen_law : FramesShown (Settled r) Keeps (IsProgram r) with_frames r
-    seen_law = frames (Settled r) (Lasting r) (IsProgram r) with_frames r (λ m p s. (s.resting.shown.holds.shows, s.resting.sorted)) (λ m k. k.keeps.fits.count)
+    seen_law = frames (Settled r) (Upheld r) (IsProgram r) with_frames r (λ m p s. (s.resting.shown.holds.shows, s.resting.sorted)) (λ m k. k.lasting.keeps.fits.count)
 
     -- so many events ran: where the run is then, the lines that were put, and how what is shown from there on is shown from the first on
     record Came (m : World Frame) (a : A) (v : Seen) (b : A) : Type 0 where
@@ -162,14 +170,14 @@ module _ (r : RawTree) (whole : AreWhole r) (few : HaveFewerPlaces r) (f : file.
     event_came m u v a b c d k does told_frames =
         let w = k.last in
         let h = k.there in
-        let shown = happening puts r u v w b c h.code h.shows h.keeps.0 does in
+        let shown = happening puts r u v w b c h.code h.shows h.keeps.0.lasting does in
         let begun = shown.event.begun in
         let left = shown.event.left in
         let own = lines_of begun left in
         let next = after w begun left in
         let ongoing = (same_end (Settled r) puts u v w b c h.shows).2 does in
-        let kept = keeps_on (Settled r) (Lasting r) (IsProgram r) r (lasting_stays r whole.valid) w begun left h.keeps shown.event.begins shown.event.follows shown.rests in
-        let mid = burst_mid (classes r) w.out.ran (before begun) left shown.event.follows (begun_mid (classes r) w.out.ran w begun refl h.keeps.0.times shown.event.begins) in
+        let kept = keeps_on (Settled r) (Upheld r) (IsProgram r) r (upheld_stays r whole.valid) w begun left h.keeps shown.event.begins shown.event.follows shown.rests in
+        let mid = burst_mid (classes r) w.out.ran (before begun) left shown.event.follows (begun_mid (classes r) w.out.ran w begun refl h.keeps.0.lasting.times shown.event.begins) in
         let stays = code_stays puts u v b c Rested does in
         let text = ap (λ (x : Code). raw_of x.program) stays ∙ h.text in
         let views = seen_if (classes r) frame_spot with_frames next in
@@ -215,7 +223,7 @@ module _ (r : RawTree) (whole : AreWhole r) (few : HaveFewerPlaces r) (f : file.
       shows = ends line.EndBound ((same_end (Settled r) puts w v m a b h.shows).1 does);
     }
     ended w v m a b Spent h does =
-        let shown = spent_happening puts r w v m a b h.code h.shows h.keeps.0 does in
+        let shown = spent_happening puts r w v m a b h.code h.shows h.keeps.0.lasting does in
         record {
           own = lines_of shown.event.begun shown.event.left;
           put = shown.event.lines;
@@ -250,21 +258,26 @@ module _ (c : RawClasses) (file : World0) (whole : AreWhole (raw_of c)) (few : H
     code = code_first c file whole (few_places (raw_of c) few) first starts;
     text = ap raw_of starts.program;
     shows = start_shown (Settled (raw_of c)) c file first (settled_first (raw_of c)) starts;
-    keeps = (lasting_starts (raw_of c) (seen file) range, start_waits (seen file));
+    keeps = (upheld_starts (raw_of c) (seen file) range, start_waits (seen file));
     on = record { rest = run.later; lines = run.rest; runs = run.runs; left = run.from_start };
   }
 
 module _ {A : Type 0} (puts : A → Line → Result (Unit {0}) OutFault → A → Type 0) where
-  pub classes_resume : ClassesResume puts
-  classes_resume c file with_frames first v a b whole few range starts goes =
+  pub classes_rest_alike : ClassesRestAlike puts
+  classes_rest_alike c file with_frames first v a b whole few range starts goes =
       let r = raw_of c in
       let x = (runs_exist r whole.valid (seen file) range).is in
       let lines = (runs_exist r whole.valid (seen file) range).lines in
       let k = came r whole few (seen file) range x.0 lines x.1 puts with_frames first v (at_start (seen file)) a b (start c file whole few range first starts x.0 lines x.1) goes in
-      ((at_rest r whole few (seen file) range x.0 lines x.1 v k.last k.there).1, told r whole few (seen file) range x.0 lines x.1 v k.last k.there)
+      record {
+        rests = (at_rest r whole few (seen file) range x.0 lines x.1 v k.last k.there).1;
+        told = told r whole few (seen file) range x.0 lines x.1 v k.last k.there;
+        sure = λ s amiss. event_sure (tells puts) r v k.last s k.there.code k.there.shows k.there.keeps.0 amiss;
+        classed = λ amiss. frames_classed r whole few (seen file) range x.0 lines x.1 v k.last k.there amiss;
+      }
 
-  pub classes_resumed : ClassesResumed puts
-  classes_resumed c file with_frames first v a b y z e whole few range starts goes rest =
+  pub classes_go_on : ClassesGoOn puts
+  classes_go_on c file with_frames first v a b y z e whole few range starts goes rest =
       let r = raw_of c in
       let x = (runs_exist r whole.valid (seen file) range).is in
       let lines = (runs_exist r whole.valid (seen file) range).lines in
@@ -272,13 +285,13 @@ module _ {A : Type 0} (puts : A → Line → Result (Unit {0}) OutFault → A �
       let l = rest_of r whole few (seen file) range x.0 lines x.1 puts with_frames v k.last y z e k.there rest in
       (k.lines, l.lines, record { rest = k.lines ++ l.lines; shows = k.goes l.lines l.shows; with_head = refl }, k.put, l.put, (l.front, l.with_end))
 
-  pub programs_resume : ProgramsResume puts
-  programs_resume text program c file with_frames first v a b sound light has range starts goes =
-      classes_resume c file with_frames first v a b (subst AreWhole (sym has) (compiles_whole text program sound)) (subst HaveFewerPlaces (sym has) (compiled_fewer text program sound)) range starts goes
+  pub programs_rest_alike : ProgramsRestAlike puts
+  programs_rest_alike text program c file with_frames first v a b sound light has range starts goes =
+      classes_rest_alike c file with_frames first v a b (subst AreWhole (sym has) (compiles_whole text program sound)) (subst HaveFewerPlaces (sym has) (compiled_fewer text program sound)) range starts goes
 
-  pub programs_resumed : ProgramsResumed puts
-  programs_resumed text program c file with_frames first v a b y z e sound light has range starts goes rest =
-      let x = classes_resumed c file with_frames first v a b y z e (subst AreWhole (sym has) (compiles_whole text program sound)) (subst HaveFewerPlaces (sym has) (compiled_fewer text program sound))
+  pub programs_go_on : ProgramsGoOn puts
+  programs_go_on text program c file with_frames first v a b y z e sound light has range starts goes rest =
+      let x = classes_go_on c file with_frames first v a b y z e (subst AreWhole (sym has) (compiles_whole text program sound)) (subst HaveFewerPlaces (sym has) (compiled_fewer text program sound))
       range starts goes rest in
       let lines = line.Head ∷ (x.0 ++ x.1) in
       let by_text = shown_of_classes (program_of program) (compiled (program_of program)) (are_carried program (compiles_faithfully text program sound.typed)) with_frames (seen file) lines

@@ -38,6 +38,14 @@ use Rattle.flow_sound.proofs.Times.{times_counted}
 some_there : {A : Type 0} (o : Option A) (a : A) → o ≡ Some a → IsSome o
 some_there o a e = subst IsSome (sym e) refl
 
+-- what holds of the thing at each number holds of all
+same_list : {A : Type 0} (xs : List A) → map (λ x. x) xs ≡ xs
+same_list [] = refl
+same_list (x ∷ xs) = ap (λ ys. x ∷ ys) (same_list xs)
+
+pub all_things : {A : Type 0} (Q : ℕ × A → Type 0) (xs : Numbered A) (most : ℕ) → IsRising 0 xs most → ((k : ℕ) (a : A) → thing xs k ≡ Some a → Q (k, a)) → AllByRecursion Q xs
+all_things Q xs most up g = subst (AllByRecursion Q) (same_list xs) (all_by Q (λ x. x) xs 0 most (rising 0 most most xs up (omega arith)) g)
+
 module _ (r : RawTree) (h : HeapTree) (p : Proc Frame) (f : Fitting r h p) where
   no_task : h.tasks ≡ []
   no_task = by_tasks _ _ h.tasks p.core.tasks f.rested.rest.no_tasks f.rested.running.shows.tasks
@@ -73,13 +81,6 @@ module _ (r : RawTree) (h : HeapTree) (p : Proc Frame) (f : Fitting r h p) where
       let own = f.rested.running.owned.request k (ap (has k) f.rested.running.shows.requests ∙ sym (noted_has h.requests k) ∙ e) in
       let s = unset_is (thing p.core.cells k) own.0 in
       let m = single_back r h p f k None s.0 s.1 in some_there (thing h.cells.things k) m.0 m.1
-
-  same_list : {A : Type 0} (xs : List A) → map (λ x. x) xs ≡ xs
-  same_list [] = refl
-  same_list (x ∷ xs) = ap (λ ys. x ∷ ys) (same_list xs)
-
-  all_things : {A : Type 0} (Q : ℕ × A → Type 0) (xs : Numbered A) (most : ℕ) → IsRising 0 xs most → ((k : ℕ) (a : A) → thing xs k ≡ Some a → Q (k, a)) → AllByRecursion Q xs
-  all_things Q xs most up g = subst (AllByRecursion Q) (same_list xs) (all_by Q (λ x. x) xs 0 most (rising 0 most most xs up (omega arith)) g)
 
   pub numbers_rise : NumbersRise h
   numbers_rise = let s = f.rested.running.sorted in record { cells = s.cells; streams = s.streams; frames = s.frames }

@@ -10,6 +10,7 @@ use Rattle.flow_heapstate.specs.Sound.{SoundHeap, RestsWith}
 use Rattle.flow_heapstate.specs.Restoring.{restored, RisesFrom}
 use Rattle.flow_meaning.specs.Frame.{Frame}
 use Rattle.flow_meaning.specs.Process.{Proc}
+use Rattle.flow_steps.specs.Doing.{never_ran}
 use Rattle.flow_machine.specs.declared.machine.Machine.{Machine}
 use Rattle.flow_machine.specs.Resting.{RestsAs}
 use Rattle.flow_rested.specs.Boundary.{IsAtRest}
@@ -20,19 +21,21 @@ abbrev pub Increase : List ℕ → Type 0
 Increase [] = Unit {0}
 Increase (k ∷ ks) = RisesFrom k ks
 
--- What a heap's own types keep, and its parts don't tell: the numbers of actors, of ports' streams and of
--- open requests stand in their order.
+-- What a heap's own types keep, and its parts don't tell: the numbers of actors, of ports' streams
+-- and of open requests stand in their order.
 pub record InOrder (h : HeapTree) : Type 0 where
   pub actors : IsRising 0 h.actors.things h.actors.greatest
   pub ports : Increase h.ports
   pub requests : Increase h.requests
 
--- The heap that `restore` of flow_heapstate fills from a sound state is in order, and rests with that state's parts.
+-- The heap that flow_heapstate fills from a sound state is in order, and rests with its parts.
 abbrev pub RestoredInOrder : Type 0
 RestoredInOrder =
-    (s : HeapState) → SoundHeap (parts_kept s) → RestsWith (parts_kept s) (restored s) × InOrder (restored s)
+    (s : HeapState) → SoundHeap (parts_kept s)
+    → RestsWith (parts_kept s) (restored s) × InOrder (restored s)
 
--- What `Machine::restore` makes, of the same number among as many, of what `Machine::state` tells of a process.
+-- What `Machine::restore` makes, of the same number among as many, of what `Machine::state` tells of
+-- a process. Besides, its heap is in order, which the contract of `Machine::restore` doesn't say.
 pub record IsMadeFrom (m n : Machine) : Type 0 where
   pub alloc : Global
   pub state : HeapState
@@ -40,9 +43,16 @@ pub record IsMadeFrom (m n : Machine) : Type 0 where
   pub rests : RestsAs alloc m.me m.processes (parts_kept state) n
   pub order : InOrder n.process.heap
 
--- Where a process in memory is at rest and shows one of the definitions, a process made from its state is at rest
--- and shows the same one; and what is told of it is sound again.
+-- One with the heap that is filled is so made.
+abbrev pub MachineFilled : Type 0
+MachineFilled =
+    (alloc : Global) (m : Machine) (s : HeapState) → IsTold m.process
+    → parts_kept s ≡ parts_of m.process.heap
+    → IsMadeFrom m (record m { process = record (never_ran alloc) { heap = restored s } })
+
+-- Where a process in memory is at rest and shows one of the definitions, a process made from its
+-- state is at rest and shows the same one; and what is told of it is sound again.
 abbrev pub ProcessesRestored : Type 0
 ProcessesRestored =
-    (r : RawTree) (m n : Machine) (p : Proc Frame) → IsAtRest r m.process p → IsTold m.process → IsMadeFrom m n
-    → IsAtRest r n.process p × IsTold n.process
+    (r : RawTree) (m n : Machine) (p : Proc Frame) → IsAtRest r m.process p → IsTold m.process
+    → IsMadeFrom m n → IsAtRest r n.process p × IsTold n.process

@@ -1,5 +1,5 @@
-//! What memory at rest tells is sound. The definitions stand in `specs/`; the functions of this crate have empty bodies: each
-//! contract is a law.
+//! What memory at rest tells is sound, and a run goes on alike from it. The definitions stand in `specs/`; the functions of this
+//! crate have empty bodies: each contract is a law.
 #![tactic(auto)]
 
 pub mod heaps;
