@@ -348,7 +348,8 @@ fn filled(alloc: Global, state: HeapState) -> Result<Heap, NoMemory>
 /// other. The next numbers of cells and actors are those that the state's heap would have given.
 pub fn restore(alloc: Global, state: HeapState) -> Result<Heap, NoMemory>
     requires { SoundHeap (parts_kept state) }
-    ensures { IfOk result (λ h. RestsWith (parts_kept state) h) }
+    ensures rests { IfOk result (λ h. RestsWith (parts_kept state) h) }
+    ensures made { IfOk result (λ h. h ≡ restored state) }
 {
     filled(alloc, state)
 }

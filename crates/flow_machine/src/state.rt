@@ -3,6 +3,7 @@
 ghost use Rattle.std.specs.Prelude.{◌≡◌, ◌<◌, ◌≤◌, IfOk};
 ghost use Rattle.flow_heapstate.specs.State.{NumbersRise, parts_kept, parts_of};
 ghost use Rattle.flow_heapstate.specs.Sound.{SoundHeap};
+ghost use Rattle.flow_heapstate.specs.Restoring.{restored};
 ghost use Rattle.flow_machine.specs.Resting.{RestsAs};
 
 use crate::machine::Machine;
@@ -35,7 +36,8 @@ impl Machine {
         requires mine { me.0 < processes }
         requires few { processes ≤ 64 }
         requires sound { SoundHeap (parts_kept state) }
-        ensures { IfOk result (λ m. RestsAs alloc me processes (parts_kept state) m) }
+        ensures rests { IfOk result (λ m. RestsAs alloc me processes (parts_kept state) m) }
+        ensures made { IfOk result (λ m. m.process.heap ≡ restored state) }
     {
         let heap = restore(alloc, state)?;
         Ok(Machine {

@@ -38,7 +38,7 @@ use Rattle.flow_sound.specs.Restored.{Increase, InOrder, ProcessesRestored}
 use Rattle.flow_sound.proofs.Standing.{no_true}
 use Rattle.flow_sound.proofs.Waiting.{part_at}
 use Rattle.flow_sound.proofs.Counting.{noted_has}
-use Rattle.flow_sound.proofs.Ordered.{rises, increase, same_numbers, once, none_noted}
+use Rattle.flow_sound.proofs.Ordered.{rises, increase, same_numbers, once, none_noted, restored_in_order}
 
 -- what holds of all holds of the thing at a number
 all_at : {A : Type 0} (Q : ℕ × A → Type 0) (xs : Numbered A) → AllByRecursion Q xs → (n : ℕ) (a : A) → thing xs n ≡ Some a → Q (n, a)
@@ -267,7 +267,8 @@ processes_restored r m n p s told made =
     let h = m.process.heap in
     let g = n.process.heap in
     let again : RestsWith (parts_of h) g = subst (λ q. RestsWith q g) made.told made.rests.heap in
-    let rested = rested_again h g told.rests again r p s.rested made.order in
+    let filled = restored_in_order made.state (subst SoundHeap (sym made.told) told.sound) in
+    let rested = rested_again h g told.rests again r p s.rested (subst InOrder (sym made.made) filled.1) in
     let sound : SoundHeap (parts_of g) = subst SoundHeap (sym again.parts) told.sound in (
       record {
         settled = record {

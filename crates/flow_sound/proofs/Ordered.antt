@@ -19,7 +19,7 @@ use Rattle.flow_heapstate.proofs.Restored.{in_order, whole, restored_is}
 use Rattle.flow_heapstate.proofs.Whole.{is_restored}
 use Rattle.flow_meaning.proofs.Posture.{same_number}
 use Rattle.flow_picture.specs.Rested.{NumbersRise, has}
-use Rattle.flow_sound.specs.Restored.{Increase, InOrder, RestoredInOrder, MachineFilled}
+use Rattle.flow_sound.specs.Restored.{Increase, InOrder, RestoredInOrder}
 use Rattle.flow_sound.proofs.Standing.{no_true}
 use Rattle.flow_sound.proofs.Counting.{noted_has}
 
@@ -134,8 +134,3 @@ whole_in_order s h =
 
 pub restored_in_order : RestoredInOrder
 restored_in_order s h = (is_restored s h, subst InOrder (sym (restored_is s h)) (whole_in_order s h))
-
-pub machine_filled : MachineFilled
-machine_filled alloc m s told e =
-    let made = restored_in_order s (subst SoundHeap (sym e) told.sound) in
-    record { alloc = alloc; state = s; told = e; rests = record { number = refl; count = refl; heap = made.0; process = refl }; order = made.1 }

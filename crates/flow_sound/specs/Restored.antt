@@ -10,7 +10,6 @@ use Rattle.flow_heapstate.specs.Sound.{SoundHeap, RestsWith}
 use Rattle.flow_heapstate.specs.Restoring.{restored, RisesFrom}
 use Rattle.flow_meaning.specs.Frame.{Frame}
 use Rattle.flow_meaning.specs.Process.{Proc}
-use Rattle.flow_steps.specs.Doing.{never_ran}
 use Rattle.flow_machine.specs.declared.machine.Machine.{Machine}
 use Rattle.flow_machine.specs.Resting.{RestsAs}
 use Rattle.flow_rested.specs.Boundary.{IsAtRest}
@@ -35,20 +34,13 @@ RestoredInOrder =
     → RestsWith (parts_kept s) (restored s) × InOrder (restored s)
 
 -- What `Machine::restore` makes, of the same number among as many, of what `Machine::state` tells of
--- a process. Besides, its heap is in order, which the contract of `Machine::restore` doesn't say.
+-- a process: its contract says both, that it rests with the state and that its heap is the one filled.
 pub record IsMadeFrom (m n : Machine) : Type 0 where
   pub alloc : Global
   pub state : HeapState
   pub told : parts_kept state ≡ parts_of m.process.heap
   pub rests : RestsAs alloc m.me m.processes (parts_kept state) n
-  pub order : InOrder n.process.heap
-
--- One with the heap that is filled is so made.
-abbrev pub MachineFilled : Type 0
-MachineFilled =
-    (alloc : Global) (m : Machine) (s : HeapState) → IsTold m.process
-    → parts_kept s ≡ parts_of m.process.heap
-    → IsMadeFrom m (record m { process = record (never_ran alloc) { heap = restored s } })
+  pub made : n.process.heap ≡ restored state
 
 -- Where a process in memory is at rest and shows one of the definitions, a process made from its
 -- state is at rest and shows the same one; and what is told of it is sound again.

@@ -1,12 +1,10 @@
 // Laws of processes that are made from what memory tells of others.
 
-ghost use Rattle.flow_sound.specs.Restored.{RestoredInOrder, MachineFilled, ProcessesRestored};
+ghost use Rattle.flow_sound.specs.Restored.{RestoredInOrder, ProcessesRestored};
 
-/// The heap that is filled from a sound state rests with its parts, and its numbers are in order; so a machine with it is made as
-/// the laws below ask.
+/// The heap that is filled from a sound state rests with its parts, and its numbers are in order.
 pub fn restored_in_order()
-    ensures order { RestoredInOrder }
-    ensures made { MachineFilled }
+    ensures { RestoredInOrder }
 {}
 
 /// A process made from the state of one that is at rest is at rest, and shows the same process of the definitions; what is told of

@@ -15,5 +15,5 @@ if_filled : {E : Type 0} (s : HeapState) (r : Result HeapTree E) → SoundHeap (
 if_filled s (Ok h) sound is = subst (RestsWith (parts_kept s)) (sym is) (is_restored s sound)
 if_filled s (Err e) sound is = is
 
-pub returns : goal.returns
-returns c = if_filled c.args.state c.filled.result c.requires c.filled.ensures
+pub returns-clause-rests : goal.returns-clause-rests
+returns-clause-rests c = if_filled c.args.state c.filled.result c.requires c.filled.ensures
