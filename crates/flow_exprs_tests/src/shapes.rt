@@ -22,55 +22,50 @@ fn op_text(op: Op) -> &'static str {
     }
 }
 
+fn put(text: &str, out: &mut String) -> Result<(), NoMemory> {
+    out.push_str(text)?;
+    Ok(())
+}
+
 // The tree of an expression: an operand by its first letter, a node by its sign and its parts.
 #[cycle(shape)]
 pub fn shape(expr: &Expr, out: &mut String) -> Result<(), NoMemory> {
     match expr {
-        Expr::Int(n) => out.push_str(if *n == 1 { "1" } else { "2" })?,
-        Expr::Text(_) => out.push_str("t")?,
-        Expr::Bool(_) => out.push_str("b")?,
-        Expr::VoidValue => out.push_str("v")?,
-        Expr::Var(_) => out.push_str("a")?,
-        Expr::Call(_, args) => {
-            out.push_str("[call")?;
-            shapes(args, out)?;
-            out.push_str("]")?;
-        }
-        Expr::Field(of, _) => {
-            out.push_str("[.")?;
-            shape(of, out)?;
-            out.push_str("]")?;
-        }
+        Expr::Int(n) => put(if *n == 1 { "1" } else { "2" }, out),
+        Expr::Text(_) => put("t", out),
+        Expr::Bool(_) => put("b", out),
+        Expr::VoidValue => put("v", out),
+        Expr::Var(_) => put("a", out),
+        Expr::Call(_, args) => call(args, out),
+        Expr::Field(of, _) => node("[.", of, "]", out),
         Expr::Method(of, _, args) => {
-            out.push_str("[method")?;
-            shape(of, out)?;
+            node("[method", of, "", out)?;
             shapes(args, out)?;
-            out.push_str("]")?;
+            put("]", out)
         }
-        Expr::Not(of) => {
-            out.push_str("[!")?;
-            shape(of, out)?;
-            out.push_str("]")?;
-        }
-        Expr::Neg(of) => {
-            out.push_str("[-")?;
-            shape(of, out)?;
-            out.push_str("]")?;
-        }
+        Expr::Not(of) => node("[!", of, "]", out),
+        Expr::Neg(of) => node("[-", of, "]", out),
         Expr::Binary(op, left, right) => {
-            out.push_str("[")?;
-            out.push_str(op_text(*op))?;
-            shape(left, out)?;
-            shape(right, out)?;
-            out.push_str("]")?;
+            put("[", out)?;
+            node(op_text(*op), left, "", out)?;
+            node("", right, "]", out)
         }
-        Expr::Paren(of) => {
-            out.push_str("(")?;
-            shape(of, out)?;
-            out.push_str(")")?;
-        }
+        Expr::Paren(of) => node("(", of, ")", out),
     }
-    Ok(())
+}
+
+#[cycle(shape)]
+fn node(open: &str, of: &Expr, close: &str, out: &mut String) -> Result<(), NoMemory> {
+    put(open, out)?;
+    shape(of, out)?;
+    put(close, out)
+}
+
+#[cycle(shape)]
+fn call(args: &[Expr], out: &mut String) -> Result<(), NoMemory> {
+    put("[call", out)?;
+    shapes(args, out)?;
+    put("]", out)
 }
 
 #[cycle(shape)]
@@ -82,34 +77,25 @@ fn shapes(exprs: &[Expr], out: &mut String) -> Result<(), NoMemory> {
 }
 
 // The tree of a type: its name, and what stands in its brackets.
+#[cycle(type_shape)]
 pub fn type_shape(ty: &Ty, out: &mut String) -> Result<(), NoMemory> {
     match ty {
-        Ty::Int => out.push_str("int")?,
-        Ty::Bool => out.push_str("bool")?,
-        Ty::Str => out.push_str("string")?,
-        Ty::Void => out.push_str("Void")?,
-        Ty::Error => out.push_str("Error")?,
-        Ty::Named(_) => out.push_str("a")?,
-        Ty::Future(of) => {
-            out.push_str("[F ")?;
-            type_shape(of, out)?;
-            out.push_str("]")?;
-        }
-        Ty::FutureStream(of) => {
-            out.push_str("[FS ")?;
-            type_shape(of, out)?;
-            out.push_str("]")?;
-        }
-        Ty::Promise(of) => {
-            out.push_str("[P ")?;
-            type_shape(of, out)?;
-            out.push_str("]")?;
-        }
-        Ty::PromiseStream(of) => {
-            out.push_str("[PS ")?;
-            type_shape(of, out)?;
-            out.push_str("]")?;
-        }
+        Ty::Int => put("int", out),
+        Ty::Bool => put("bool", out),
+        Ty::Str => put("string", out),
+        Ty::Void => put("Void", out),
+        Ty::Error => put("Error", out),
+        Ty::Named(_) => put("a", out),
+        Ty::Future(of) => type_node("[F ", of, out),
+        Ty::FutureStream(of) => type_node("[FS ", of, out),
+        Ty::Promise(of) => type_node("[P ", of, out),
+        Ty::PromiseStream(of) => type_node("[PS ", of, out),
     }
-    Ok(())
+}
+
+#[cycle(type_shape)]
+fn type_node(open: &str, of: &Ty, out: &mut String) -> Result<(), NoMemory> {
+    put(open, out)?;
+    type_shape(of, out)?;
+    put("]", out)
 }
