@@ -1,4 +1,5 @@
-//! Tests of flow_machine: bursts of one process, over a host that keeps the lines.
+//! Tests of flow_machine: bursts of one process, over a host that keeps the lines; and of flow_run: traces of a program in
+//! small worlds.
 #![tactic(auto)]
 
 #[cfg(test)]
@@ -9,3 +10,5 @@ mod heap_again;
 mod lines;
 #[cfg(test)]
 mod running;
+#[cfg(test)]
+mod traces;

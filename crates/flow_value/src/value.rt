@@ -142,36 +142,3 @@ impl Outcome {
         }
     }
 }
-
-#[cfg(test)]
-mod tests {
-    use super::*;
-    use std::test::Fail;
-
-    fn record(alloc: Global, fields: [Value; 2]) -> Result<Value, NoMemory> {
-        Value::record(
-            alloc,
-            RecordId::Declared(3),
-            Vec::from_array(alloc, fields)?,
-        )
-    }
-
-    #[test]
-    fn copies_and_lists_references(rt: HostRuntime) -> Result<(), Fail> {
-        let alloc = rt.alloc();
-        let inner = record(
-            alloc,
-            [
-                Value::Ref(Kind::Future, CellId(7)),
-                Value::text(alloc, Text::new(alloc, b"abc")?)?,
-            ],
-        )?;
-        let outer = record(alloc, [inner, Value::Ref(Kind::PromiseStream, CellId(2))])?;
-        let found = outer.copy(alloc)?.refs(alloc)?;
-        let wanted = [(Kind::Future, CellId(7)), (Kind::PromiseStream, CellId(2))];
-        assert_eq!(rt; found.as_slice(), wanted.as_slice());
-        let outcome = Outcome::Value(Value::Int(-5)).copy(alloc)?;
-        assert!(rt; matches!(outcome, Outcome::Value(Value::Int(-5))));
-        Ok(())
-    }
-}
