@@ -235,9 +235,5 @@ pub known_step : (ds : List Decl) (i : ℕ) (d : Decl) (old new : List (List ℕ
 known_step ds i d old new all lt at n h =
     n (map decl_of (drop (i + 1) ds)) ∙ ap (λ l. named (old ++ map row_of (map decl_of l))) (sym (drop_more ds i d lt at)) ∙ h
 
-pub names_step : {A : Type 0} (f : Decl → List ℕ × A) (ds : List Decl) (i : ℕ) (d : Decl) (old new : List (List ℕ × A)) (all : List ℕ → Option A) → i < length ds → d ≡ get_or ds i d
-    → named (new ++ map f (drop (i + 1) ds)) ≡ named (old ++ (f d ∷ map f (drop (i + 1) ds))) → named (old ++ map f (drop i ds)) ≡ all → named (new ++ map f (drop (i + 1) ds)) ≡ all
-names_step f ds i d old new all lt at n h = n ∙ ap (λ l. named (old ++ map f l)) (sym (drop_more ds i d lt at)) ∙ h
-
-pub names_end : {A : Type 0} (f : Decl → List ℕ × A) (ds : List Decl) (i : ℕ) (rows : List (List ℕ × A)) (all : List ℕ → Option A) → length ds ≤ i → named (rows ++ map f (drop i ds)) ≡ all → named rows ≡ all
-names_end f ds i rows all le h = sym (ap named (append-nil rows)) ∙ ap (λ l. named (rows ++ map f l)) (sym (drop_all ds i le)) ∙ h
+pub known_end : (ds : List Decl) (i : ℕ) (rows : List (List ℕ × Meaning)) (all : List ℕ → Option Meaning) → length ds ≤ i → named (rows ++ map row_of (map decl_of (drop i ds))) ≡ all → named rows ≡ all
+known_end ds i rows all le h = sym (ap named (append-nil rows)) ∙ ap (λ l. named (rows ++ map row_of (map decl_of l))) (sym (drop_all ds i le)) ∙ h

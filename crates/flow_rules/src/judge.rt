@@ -519,7 +519,6 @@ impl<'n, 'a> Setting<'n, 'a> {
 
     // Arguments, each judged, and compared as far as something is needed.
     #[cycle(judge)]
-    #[tactic(auto, using(crate::proofs::Steps::args_step, crate::proofs::Steps::args_end))]
     fn judge_args(&self, needs: Needs<'a>, args: &'a [Expr]) -> Option<u8>
         ensures { result ≡ faults (setting_view self.now) 0 (needs_view needs.entry)
             (exprs_of args.now) }

@@ -153,7 +153,6 @@ fn note_field(meanings: &Meanings<'_>, ty: &Ty, uses: &mut Uses) -> Result<(), N
     Ok(())
 }
 
-#[tactic(auto, using(crate::proofs::Holders::fields_step, crate::proofs::Holders::fields_end))]
 fn fields_uses(alloc: Global, meanings: &Meanings<'_>, fields: &[Param]) -> Result<Uses, NoMemory>
     ensures { IfOk result (λ u. (g : ℕ → Bool) → uses_hold g u
         ≡ fields_hold (numbered meanings.now g) (map field_row (params_of fields.now))) }
@@ -233,7 +232,6 @@ fn put<'a>(meanings: &mut Meanings<'a>, decl: &'a Decl) -> Result<(), NoMemory>
 }
 
 // What the names of these declarations and the predefined record declare.
-#[tactic(auto, using(crate::proofs::Holders::names_step, crate::proofs::Holders::names_end))]
 fn first_meanings<'a>(
     alloc: Global,
     packet: &'a [Param],

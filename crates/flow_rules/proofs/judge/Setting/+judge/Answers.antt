@@ -1,12 +1,13 @@
-use Rattle.std.proofs.Common.{false, sym, ap, ◌∙◌}
+use Rattle.std.proofs.Common.{false, ◌+◌, drop, sym, ap, ap₂, ◌∙◌}
 use Rattle.std.specs.Option.{option_map}
 use Rattle.flow_tree.specs.Tree.{MethodExpr}
 use Rattle.flow_tree.specs.View.{exprs_of, expr_of}
 use Rattle.flow_rules.specs.Least.{lesser}
-use Rattle.flow_rules.specs.Judged.{fault, form, faults, calls, calls_on, placed, called_on, needs_of}
+use Rattle.flow_rules.specs.Judged.{fault, form, faults, fits, calls, calls_on, placed, called_on, needs_of}
 use Rattle.flow_rules.specs.View.{found_of, callee_of, needs_view}
 use Rattle.flow_rules.specs.SettingView.{setting_view}
 use Rattle.flow_rules.proofs.Calls.{call_is, method_is, sign_is}
+use Rattle.flow_rules.proofs.Steps.{args_step, args_end}
 use Rattle.flow_rules.proofs.ExprKinds.{is_call, is_method, is_binary}
 use Rattle.flow_rules.proofs.judge.Setting.+judge.Goals as goal
 
@@ -53,3 +54,15 @@ judge-returns-in-Binary-clause-fault h c =
     (c.judge-right.ensures.form ∙ ap (λ x. form s (expr_of x)) c.deref-in-Binary-2.ensures)
     c.sign_judged.ensures.fault
     ∙ sym (ap (fault s c.args.whole) (is_binary c.args.expr.now c.in-Binary.op c.in-Binary.left c.in-Binary.right c.in-Binary.is))
+
+pub judge_args-loop-number-preserved : goal.judge_args-loop-number-preserved
+judge_args-loop-number-preserved h c =
+    let s = setting_view c.args.self.now in
+    let ns = needs_view c.args.needs in
+    ap (λ x. lesser x (faults s (c.loop-number.number + 1) ns (exprs_of (drop (c.loop-number.number + 1) c.args.args.now)))) c.lesser-fault.ensures
+    ∙ args_step s ns c.args.args.now c.loop-number.number c.index-args-number.result c.loop-number.fault c.lesser.result _ c.loop-number-test.true c.index-args-number.is
+    (c.lesser.ensures ∙ ap₂ lesser c.judge-judged.ensures.fault (c.fits.ensures ∙ ap₂ fits c.judge-judged.ensures.form c.at.ensures)) c.loop-number.invariant
+
+pub judge_args-returns : goal.judge_args-returns
+judge_args-returns h c =
+    args_end (setting_view c.args.self.now) (needs_view c.args.needs) c.args.args.now c.loop-number.number c.loop-number.fault _ c.loop-number-test.false c.loop-number.invariant
