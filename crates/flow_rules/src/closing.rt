@@ -105,7 +105,7 @@ fn any_statement(body: &[Stmt]) -> bool
 
 /// How a body is left.
 #[cycle(ways)]
-#[tactic(auto, using(crate::proofs::Steps::ways_step, crate::proofs::Steps::ways_end))]
+#[tactic(auto, using(crate::proofs::Steps::ways_step))]
 pub fn ways_of(body: &[Stmt]) -> Ways
     ensures { ways_view result ≡ ways (body_of body.now) }
 {
@@ -165,7 +165,6 @@ fn when_ways(branch: &When) -> Ways
 }
 
 #[cycle(ways)]
-#[tactic(auto, using(crate::proofs::Steps::branch_step, crate::proofs::Steps::branch_end))]
 fn branch_ways(branches: &[When]) -> Ways
     ensures { ways_view result ≡ branch_ways (branches_of branches.now) }
 {
