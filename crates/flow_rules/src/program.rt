@@ -194,6 +194,27 @@ fn start<'n, 'a>(alloc: Global, names: &'n Names<'a>, routine: Routine<'a>) -> W
     }
 }
 
+// A routine's header, its body and its closing brace, where this is in force before its parameters.
+fn judge_inside<'a>(
+    before: &Meanings<'_>,
+    walk: &mut Walk<'_, 'a>,
+    routine: Routine<'a>,
+) -> Result<(), SourceFault>
+    requires empty { (vars_of walk.old.setting.vars ≡ []) × (texts_of walk.old.states ≡ []) }
+    requires returns { found_of walk.old.returns ≡ type_of routine.returns.now }
+    ensures { Says (routine_refusal (named (rows_of before.now)) (setting_view walk.old.setting)
+        (routine_of routine.entry)) result }
+{
+    let header = header_fault(before, walk, routine)?;
+    item(routine.at, header)?;
+    let around = Around {
+        looped: false,
+        caught: false,
+    };
+    walk.body(around, routine.body)?;
+    item(routine.close, unless(!ways_of(routine.body).end, FALLS_OFF))
+}
+
 // A routine's header, its body and its closing brace.
 fn judge_routine<'a>(
     alloc: Global,
@@ -205,14 +226,7 @@ fn judge_routine<'a>(
         (setting_by names.now routine.entry.plain) (routine_of routine.entry)) result }
 {
     let mut walk = start(alloc, names, routine);
-    let header = header_fault(before, &mut walk, routine)?;
-    item(routine.at, header)?;
-    let around = Around {
-        looped: false,
-        caught: false,
-    };
-    walk.body(around, routine.body)?;
-    item(routine.close, unless(!ways_of(routine.body).end, FALLS_OFF))
+    judge_inside(before, &mut walk, routine)
 }
 
 fn function_routine(function: &FunctionDecl) -> Routine<'_>

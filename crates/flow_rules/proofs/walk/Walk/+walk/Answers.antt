@@ -13,7 +13,7 @@ use Rattle.flow_rules.specs.WalkView.{env_of, texts_of}
 use Rattle.flow_rules.proofs.Walking.{vars_cut, item_none}
 use Rattle.flow_rules.proofs.Fails.{if_or, grows_started, scoped_closed}
 use Rattle.flow_rules.proofs.Ends.{scoped_ok, body_step, body_ok, branches_step, branches_ok, handler_err, handler_ok, when_body, when_ok}
-use Rattle.flow_rules.proofs.Exits.{block_leads, if_last, loop_leads, while_last, loop_last, for_item, for_step_err, for_body_err, for_ok, try_item, try_last, choose_last, assign_is}
+use Rattle.flow_rules.proofs.Exits.{block_leads, if_then, if_last, loop_leads, while_item, while_last, loop_last, for_init, for_item, for_step_err, for_body_err, for_ok, try_body, try_item, try_last, choose_item, choose_last, declare_item, wait_item, assign_is}
 use Rattle.flow_rules.proofs.StmtKinds.{stmt_block, stmt_while, stmt_loop, stmt_try, stmt_choose, stmt_declare, stmt_assign, stmt_wait, stmt_if, stmt_for, answer_as, branch_answer}
 use Rattle.flow_rules.proofs.Parts.{declare_fresh, wait_fresh, says_at, leads_at, handled_at, body_at, else_some, part_is, branches_at, declare_last, wait_last}
 use Rattle.flow_rules.proofs.walk.Walk.+walk.Goals as goal
@@ -425,4 +425,118 @@ stmt-returns-in_ok-item-in-Wait h c =
     record {
       answer = answer_as e new (stmt_of s) (WaitStmt at w) c.waited.result (stmt_wait s c.in-Wait.waiting c.in-Wait.is)
           (wait_last c.args.self.now c.waited.new.self a at w u c.waited.result (says_at at _ _ (Ok u) c.waiting.ensures c.in_ok-item-in-Wait.ensures) c.waited.ensures.waited c.waited.ensures.memory);
+    }
+
+pub stmt-returns-in_err-item-in-While : goal.stmt-returns-in_err-item-in-While
+stmt-returns-in_err-item-in-While h c =
+    let a = c.args.around in
+    let s = c.args.stmt.now in
+    let at = (out-Stmt s).at in
+    let e = env_of c.args.self.now a in
+    let t = expr_of c.in-While.test in
+    let b = body_of c.in-While.body.items in
+    let x = c.in_err-item-in-While.field-0.0 in
+    let p = err_from_is_err_and c.from_residual-in_err-item-in-While.result c.from_residual-in_err-item-in-While.ensures.1 in
+    record {
+      answer = rw (p.1, p.2) (answer_as e e (stmt_of s) (WhileStmt at t b) (Err x) (stmt_while s c.in-While.test c.in-While.body c.in-While.is)
+          (while_item e e at t b x (says_at at _ _ (Err x) c.test-in-While.ensures c.in_err-item-in-While.ensures)));
+    }
+
+pub stmt-returns-in_err-item-in-Choose : goal.stmt-returns-in_err-item-in-Choose
+stmt-returns-in_err-item-in-Choose h c =
+    let a = c.args.around in
+    let s = c.args.stmt.now in
+    let at = (out-Stmt s).at in
+    let e = env_of c.args.self.now a in
+    let bs = branches_of c.in-Choose.branches.items in
+    let x = c.in_err-item-in-Choose.field-0.0 in
+    let p = err_from_is_err_and c.from_residual-in_err-item-in-Choose.result c.from_residual-in_err-item-in-Choose.ensures.1 in
+    record {
+      answer = rw (p.1, p.2) (answer_as e e (stmt_of s) (ChooseStmt at bs) (Err x) (stmt_choose s c.in-Choose.branches c.in-Choose.is)
+          (choose_item e e at bs x (says_at at _ _ (Err x) c.unless.ensures c.in_err-item-in-Choose.ensures)));
+    }
+
+pub stmt-returns-in_err-item-in-Declare : goal.stmt-returns-in_err-item-in-Declare
+stmt-returns-in_err-item-in-Declare h c =
+    let a = c.args.around in
+    let s = c.args.stmt.now in
+    let at = (out-Stmt s).at in
+    let e = env_of c.args.self.now a in
+    let i = into_of c.in-Declare.into in
+    let v = option_map expr_of c.in-Declare.value in
+    let x = c.in_err-item-in-Declare.field-0.0 in
+    let p = err_from_is_err_and c.from_residual-in_err-item-in-Declare.result c.from_residual-in_err-item-in-Declare.ensures.1 in
+    record {
+      answer = rw (p.1, p.2) (answer_as e e (stmt_of s) (DeclareStmt at i v) (Err x) (stmt_declare s c.in-Declare.into c.in-Declare.value c.in-Declare.is)
+          (declare_item e e at i v x (says_at at _ _ (Err x) c.declaration.ensures c.in_err-item-in-Declare.ensures)));
+    }
+
+pub stmt-returns-in_err-item-in-Wait : goal.stmt-returns-in_err-item-in-Wait
+stmt-returns-in_err-item-in-Wait h c =
+    let a = c.args.around in
+    let s = c.args.stmt.now in
+    let at = (out-Stmt s).at in
+    let e = env_of c.args.self.now a in
+    let w = waiting_of c.in-Wait.waiting in
+    let x = c.in_err-item-in-Wait.field-0.0 in
+    let p = err_from_is_err_and c.from_residual-in_err-item-in-Wait.result c.from_residual-in_err-item-in-Wait.ensures.1 in
+    record {
+      answer = rw (p.1, p.2) (answer_as e e (stmt_of s) (WaitStmt at w) (Err x) (stmt_wait s c.in-Wait.waiting c.in-Wait.is)
+          (wait_item e e at w x (says_at at _ _ (Err x) c.waiting.ensures c.in_err-item-in-Wait.ensures)));
+    }
+
+pub stmt-returns-in_err-scoped-in-If : goal.stmt-returns-in_err-scoped-in-If
+stmt-returns-in_err-scoped-in-If h c =
+    let a = c.args.around in
+    let s = c.args.stmt.now in
+    let at = (out-Stmt s).at in
+    let e = env_of c.args.self.now a in
+    let mid = env_of c.scoped-in-If.new.self a in
+    let t = expr_of c.in-If.test in
+    let b = body_of c.in-If.then.items in
+    let o = else_of c.in-If.otherwise in
+    let u = c.in_ok-item-in-If.field-0 in
+    let x = c.in_err-scoped-in-If.field-0.0 in
+    let p = err_from_is_err_and c.from_residual-in_err-scoped-in-If.result c.from_residual-in_err-scoped-in-If.ensures.1 in
+    record {
+      answer = rw (p.1, p.2) (answer_as e mid (stmt_of s) (if_or at t b o) (Err x) (stmt_if s c.in-If.test c.in-If.then c.in-If.otherwise c.in-If.is)
+          (if_then e mid at t b o mid u x (says_at at _ _ (Ok u) c.test.ensures c.in_ok-item-in-If.ensures)
+          (leads_at e mid c.in-If.then.items c.deref-in-If.result.now (Err x) c.deref-in-If.ensures.value c.in_err-scoped-in-If.ensures.leads)));
+    }
+
+pub stmt-returns-in_err-scoped-in-Try : goal.stmt-returns-in_err-scoped-in-Try
+stmt-returns-in_err-scoped-in-Try h c =
+    let a = c.args.around in
+    let s = c.args.stmt.now in
+    let at = (out-Stmt s).at in
+    let e = env_of c.args.self.now a in
+    let b = body_of c.in-Try.body.items in
+    let k = body_of c.in-Try.handler.items in
+    let kind = stmt_try s c.in-Try.body c.in-Try.catch_at c.in-Try.error c.in-Try.handler c.in-Try.is in
+    let mid = env_of c.scoped-in-Try.new.self a in
+    let x = c.in_err-scoped-in-Try.field-0.0 in
+    let p = err_from_is_err_and c.from_residual-in_err-scoped-in-Try.result c.from_residual-in_err-scoped-in-Try.ensures.1 in
+    record {
+      answer = rw (p.1, p.2) (answer_as e mid (stmt_of s) (TryStmt at b c.in-Try.catch_at c.in-Try.error k) (Err x) kind
+          (try_body e mid at b c.in-Try.catch_at c.in-Try.error k mid x
+          (leads_at e mid c.in-Try.body.items c.deref-in-Try.result.now (Err x) c.deref-in-Try.ensures.value c.in_err-scoped-in-Try.ensures.leads)));
+    }
+
+pub stmt-returns-in_err-part-in-For : goal.stmt-returns-in_err-part-in-For
+stmt-returns-in_err-part-in-For h c =
+    let a = c.args.around in
+    let s = c.args.stmt.now in
+    let at = (out-Stmt s).at in
+    let e = env_of c.args.self.now a in
+    let i = simple_of c.in-For.init in
+    let t = option_map expr_of c.in-For.test in
+    let n = simple_of c.in-For.step in
+    let b = body_of c.in-For.body.items in
+    let kind = stmt_for s c.in-For.init c.in-For.test c.in-For.step c.in-For.body c.in-For.is in
+    let mid = env_of c.part.new.self a in
+    let x = c.in_err-part-in-For.field-0.0 in
+    let p = err_from_is_err_and c.from_residual-in_err-part-in-For.result c.from_residual-in_err-part-in-For.ensures.1 in
+    record {
+      answer = rw (p.1, p.2) (answer_as e mid (stmt_of s) (ForStmt at i t n b) (Err x) kind
+          (for_init e mid at i t n b x mid c.in_err-part-in-For.ensures.answer));
     }
