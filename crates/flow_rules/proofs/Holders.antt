@@ -16,9 +16,9 @@ use Rattle.flow_base.specs.declared.memory.NoMemory.{NoMemory}
 use denote.Ref.{Bor}
 use Rattle.flow_tree.specs.declared.decl.Param.{Param}
 use Rattle.flow_tree.specs.declared.decl.Decl.{Decl}
-use Rattle.flow_tree.specs.Decls.{ParamTree, DeclTree}
+use Rattle.flow_tree.specs.Decls.{DeclTree}
 use Rattle.flow_tree.specs.View.{type_of}
-use Rattle.flow_tree.specs.DeclView.{param_of, params_of, decl_of}
+use Rattle.flow_tree.specs.DeclView.{params_of, decl_of}
 use Rattle.flow_ast.specs.TypingNames.{named}
 use Rattle.flow_ast.specs.Typing.{is_there, or_else}
 use Rattle.flow_rules.specs.declared.holding.Uses.{Uses}

@@ -1,4 +1,3 @@
-use Rattle.flow_tree.specs.View.{type_of}
 use Rattle.flow_rules.specs.Holding.{uses_hold}
 use Rattle.flow_rules.specs.MapView.{numbered}
 use Rattle.flow_rules.proofs.Holders.{fields_step, fields_end}

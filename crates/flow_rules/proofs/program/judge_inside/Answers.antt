@@ -1,7 +1,6 @@
 use Rattle.std.proofs.Common.{◌≡◌, not, Err, refl, sym, ap, subst, ◌∙◌}
 use Rattle.std.specs.declared.option.Option.TheVariants.{None}
 use Rattle.std.proofs.lemmas.Result.{err_from_is_err_and}
-use Rattle.flow_tree.specs.StmtView.{body_of}
 use Rattle.flow_ast.specs.TypingNames.{named}
 use Rattle.flow_rules.specs.declared.rule.TheConstants.{FALLS_OFF}
 use Rattle.flow_rules.specs.Least.{unless}
@@ -9,7 +8,7 @@ use Rattle.flow_rules.specs.Closing.{Ways}
 use Rattle.flow_rules.specs.Items.{item, body_refusal}
 use Rattle.flow_rules.specs.Rules.{header_fault, body_env}
 use Rattle.flow_rules.specs.MapView.{rows_of}
-use Rattle.flow_rules.specs.WalkView.{Says, env_of}
+use Rattle.flow_rules.specs.WalkView.{env_of}
 use Rattle.flow_rules.specs.SettingView.{setting_view}
 use Rattle.flow_rules.specs.ProgramView.{routine_of}
 use Rattle.flow_rules.proofs.Walking.{item_none}

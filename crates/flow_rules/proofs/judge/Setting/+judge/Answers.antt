@@ -3,7 +3,7 @@ use Rattle.std.specs.Option.{option_map}
 use Rattle.flow_tree.specs.Tree.{MethodExpr}
 use Rattle.flow_tree.specs.View.{exprs_of, expr_of}
 use Rattle.flow_rules.specs.Least.{lesser}
-use Rattle.flow_rules.specs.Judged.{fault, form, faults, fits, calls, calls_on, placed, called_on, needs_of}
+use Rattle.flow_rules.specs.Judged.{fault, form, faults, fits, calls, placed, called_on}
 use Rattle.flow_rules.specs.View.{found_of, callee_of, needs_view}
 use Rattle.flow_rules.specs.SettingView.{setting_view}
 use Rattle.flow_rules.proofs.Calls.{call_is, method_is, sign_is}

@@ -1,7 +1,7 @@
-use Rattle.std.proofs.Common.{◌≡◌, true, Ok, Err, Result, refl, sym, ap, ◌∙◌}
+use Rattle.std.proofs.Common.{true, Ok, Err, refl, sym, ap, ◌∙◌}
 use Rattle.std.specs.Option.{option_map}
 use Rattle.std.proofs.lemmas.Result.{err_from_is_err_and}
-use Rattle.flow_tree.specs.declared.stmt.Stmt.{Stmt, out-Stmt}
+use Rattle.flow_tree.specs.declared.stmt.Stmt.{out-Stmt}
 use Rattle.flow_tree.specs.declared.stmt.When.{out-When}
 use Rattle.flow_tree.specs.View.{expr_of}
 use Rattle.flow_tree.specs.StmtView.{into_of, waiting_of, stmt_of, body_of, branches_of, simple_of, else_of}
