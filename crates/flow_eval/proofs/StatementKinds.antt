@@ -12,6 +12,8 @@ use Rattle.flow_tree.specs.declared.expr.Expr.{Expr}
 use Rattle.flow_tree.specs.declared.stmt.Into as code
 use Rattle.flow_tree.specs.declared.stmt.Target.{Target}
 use Rattle.flow_tree.specs.declared.stmt.Change.{Change}
+use Rattle.flow_tree.specs.declared.stmt.When.{When}
+use Rattle.flow_tree.specs.declared.stmt.Waiting.{Waiting}
 use Rattle.std.proofs.Common.{subst}
 use Rattle.std.specs.declared.result.Result.{Result}
 use Rattle.flow_eval.specs.declared.stop.Halt.{Halt}
@@ -22,9 +24,9 @@ use Rattle.flow_tree.specs.declared.stmt.StmtKind.TheVariants as kind
 use Rattle.flow_tree.specs.View.{expr_of, exprs_of}
 use Rattle.flow_tree.specs.StmtView.{into_of, change_of, kind_of, simple_of, else_of, body_of, stmt_of}
 use Rattle.flow_tree.specs.Body.{Body}
-use Rattle.flow_tree.proofs.Views.{stmt_is, kind_block, kind_if, kind_if_else, kind_while, kind_for, kind_loop, kind_return, kind_throw, kind_try, kind_declare, kind_assign, kind_modify, kind_call}
+use Rattle.flow_tree.proofs.Views.{stmt_is, kind_block, kind_if, kind_if_else, kind_while, kind_for, kind_loop, kind_return, kind_throw, kind_try, kind_declare, kind_assign, kind_modify, kind_call, kind_choose, kind_wait, kind_break, kind_continue}
 use Rattle.flow_eval.specs.Eval.{Setting, Runner}
-use Rattle.flow_eval.specs.Functions.{Locals, Run, after, exec, scope, skip, if_run, loop_run, for_run, try_run, return_run, throw_run, declare_run, assign_run, modify_run, call_run}
+use Rattle.flow_eval.specs.Functions.{Locals, Run, Breaks, Continues, NoRun, after, exec, scope, skip, if_run, loop_run, for_run, try_run, return_run, throw_run, declare_run, assign_run, modify_run, call_run}
 use Rattle.flow_eval.specs.View.{else_run, StmtRan}
 
 abbrev Puts : Type 0
@@ -77,6 +79,25 @@ module _ (s : Setting) (run : Runner) (caught : Option (List ℕ)) (vars : Local
 
   pub comes_call : (q : StmtKind) (t : Target) (vs : Vec Expr Global) → q ≡ kind.Call t vs → Comes q (call_run s run t.path.items (exprs_of vs.items) vars left)
   comes_call q t vs e = put_as q _ _ (ap kind_of e ∙ kind_call t vs) (λ k. refl)
+
+  -- a kind behind which nothing runs
+  abbrev Ends : StmtKind → Run → Type 0
+  Ends q r = (k : Body) → exec s run (kind_of q at k) caught vars left ≡ r
+
+  ends_as : (q : StmtKind) (f : Puts) (r : Run) → kind_of q ≡ f → ((k : Body) → exec s run (f at k) caught vars left ≡ r) → Ends q r
+  ends_as q f r e h = λ k. ap (λ (f : Puts). exec s run (f at k) caught vars left) e ∙ h k
+
+  pub ends_break : (q : StmtKind) → q ≡ kind.Break → Ends q (Breaks vars left)
+  ends_break q e = ends_as q _ _ (ap kind_of e ∙ kind_break) (λ k. refl)
+
+  pub ends_continue : (q : StmtKind) → q ≡ kind.Continue → Ends q (Continues vars left)
+  ends_continue q e = ends_as q _ _ (ap kind_of e ∙ kind_continue) (λ k. refl)
+
+  pub ends_choose : (q : StmtKind) (bs : Vec When Global) → q ≡ kind.Choose bs → Ends q NoRun
+  ends_choose q bs e = ends_as q _ _ (ap kind_of e ∙ kind_choose bs) (λ k. refl)
+
+  pub ends_wait : (q : StmtKind) (w : Waiting) → q ≡ kind.Wait w → Ends q NoRun
+  ends_wait q w e = ends_as q _ _ (ap kind_of e ∙ kind_wait w) (λ k. refl)
 
 pub stmt_ran : (s : Setting) (run : Runner) (caught : Option (List ℕ)) (vars : Locals) (left : ℕ) (stmt : Stmt) (q : Result Flow Halt) (ws : Locals) (rest : ℕ)
     → StmtRan (λ k. exec s run (kind_of (out-Stmt stmt).kind (out-Stmt stmt).at k) caught vars left) (λ k. exec s run k caught) q ws rest

@@ -210,7 +210,6 @@ fn run_stmt<V: Variables, C: CellView>(
 
 /// One statement at a place.
 #[cycle(evaluate)]
-#[tactic(auto, using(crate::proofs::Steps::settled))]
 fn run_kind<V: Variables, C: CellView>(
     setting: &Setting<C>,
     nest: u32,

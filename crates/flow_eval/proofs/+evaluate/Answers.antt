@@ -1,20 +1,21 @@
-use Rattle.std.proofs.Common.{◌≡◌, ◌<◌, map, length, arith, ap, ◌∙◌, sym, slice_get, Some, None}
+use Rattle.std.proofs.Common.{◌≡◌, ◌<◌, List, map, length, arith, ap, ◌∙◌, sym, subst, slice_get, Some, None}
 use Rattle.std.proofs.lemmas.Result.{err_from_is_err_and}
 use Rattle.std.specs.Option.{option_map, option_copied}
 use Rattle.flow_tree.specs.DeclView.{function_of}
-use Rattle.flow_tree.specs.View.{expr_of}
-use Rattle.flow_tree.specs.StmtView.{body_of, simple_of, else_of, change_of}
+use Rattle.flow_tree.specs.declared.expr.Expr.{Expr}
+use Rattle.flow_tree.specs.View.{expr_of, exprs_of}
+use Rattle.flow_tree.specs.StmtView.{body_of, simple_of, else_of, into_of, change_of}
 use Rattle.flow_value.specs.declared.value.Value.TheVariants.{Error, rolls-Error}
 use Rattle.flow_value.specs.declared.value.Value.TheOpen as layer
 use Rattle.flow_value.specs.declared.value.Value.TheFolds.{fold-roll-Value}
 use Rattle.flow_value.specs.Values.{ValueTree, ErrorValue}
 use Rattle.flow_value.specs.View.{value_of, value_step}
-use Rattle.flow_eval.specs.Functions.{bound, run_function, exec, scope, skip, if_run, turn_run, loop_run, for_run, try_run}
+use Rattle.flow_eval.specs.Functions.{bound, run_function, exec, scope, skip, if_run, turn_run, loop_run, for_run, try_run, return_run, throw_run, declare_run, assign_run, modify_run, call_run}
 use Rattle.flow_eval.specs.Variables.{var_of}
-use Rattle.flow_eval.specs.View.{setting_of, else_run}
+use Rattle.flow_eval.specs.View.{setting_of, else_run, Ran}
 use Rattle.flow_eval.proofs.Steps.{spent_at, too_deep_at, run_deeper, settled, loop_next, loop_continue, loop_halts}
 use Rattle.flow_eval.proofs.Parts.{for_parts_ran, handler_ran, modify_ran}
-use Rattle.flow_eval.proofs.StatementKinds.{comes_if, comes_while, comes_for, comes_loop, comes_try, stmt_ran}
+use Rattle.flow_eval.proofs.StatementKinds.{comes_block, comes_if, comes_while, comes_for, comes_loop, comes_try, comes_return, comes_throw, comes_declare, comes_assign, comes_modify, comes_call, ends_break, ends_continue, ends_choose, ends_wait, stmt_ran}
 use Rattle.flow_eval.proofs.+evaluate.Goals as goal
 
 pub evaluate::run_at-returns-then-turns-eq0-clause-gives : goal.evaluate::run_at-returns-then-turns-eq0-clause-gives
@@ -56,6 +57,105 @@ pub statements::run_kind-returns-in-Try-clause-gives : goal.statements::run_kind
 statements::run_kind-returns-in-Try-clause-gives g t c =
     settled (try_run (exec (setting_of g.C.CellView.content c.args.setting.now) (run_function (setting_of g.C.CellView.content c.args.setting.now) c.args.nest) (body_of c.in-Try.body.items) (option_copied c.args.caught)) c.in-Try.error.name (exec (setting_of g.C.CellView.content c.args.setting.now) (run_function (setting_of g.C.CellView.content c.args.setting.now) c.args.nest) (body_of c.in-Try.handler.items) (Some c.in-Try.error.name)) (map var_of c.args.locals.now.items) c.args.turns.now.left) _ _ c.run_try.result _ _ c.run_try.ensures.gives
     (comes_try (setting_of g.C.CellView.content c.args.setting.now) (run_function (setting_of g.C.CellView.content c.args.setting.now) c.args.nest) (option_copied c.args.caught) (map var_of c.args.locals.now.items) c.args.turns.now.left c.args.at c.args.kind.now c.in-Try.body c.in-Try.field-1 c.in-Try.error c.in-Try.handler c.in-Try.is)
+
+pub statements::run_kind-returns-in-Block-clause-gives : goal.statements::run_kind-returns-in-Block-clause-gives
+statements::run_kind-returns-in-Block-clause-gives g t c =
+    let s = setting_of g.C.CellView.content c.args.setting.now in
+    let run = run_function s c.args.nest in
+    let caught = option_copied c.args.caught in
+    let vars = map var_of c.args.locals.now.items in
+    let left = c.args.turns.now.left in
+    settled (scope (exec s run (body_of c.in-Block.body.items) caught) vars left) _ _ c.run_scope.result _ _ c.run_scope.ensures.gives (comes_block s run caught vars left c.args.at c.args.kind.now c.in-Block.body c.in-Block.is)
+
+pub statements::run_kind-returns-in-Return-clause-gives : goal.statements::run_kind-returns-in-Return-clause-gives
+statements::run_kind-returns-in-Return-clause-gives g t c =
+    let s = setting_of g.C.CellView.content c.args.setting.now in
+    let run = run_function s c.args.nest in
+    let caught = option_copied c.args.caught in
+    let vars = map var_of c.args.locals.now.items in
+    let left = c.args.turns.now.left in
+    settled (return_run s run (expr_of c.in-Return.value) vars left) _ _ c.run_return.result _ _ c.run_return.ensures.gives (comes_return s run caught vars left c.args.at c.args.kind.now c.in-Return.value c.in-Return.is)
+
+pub statements::run_kind-returns-in-Throw-clause-gives : goal.statements::run_kind-returns-in-Throw-clause-gives
+statements::run_kind-returns-in-Throw-clause-gives g t c =
+    let s = setting_of g.C.CellView.content c.args.setting.now in
+    let run = run_function s c.args.nest in
+    let caught = option_copied c.args.caught in
+    let vars = map var_of c.args.locals.now.items in
+    let left = c.args.turns.now.left in
+    settled (throw_run s run (option_map expr_of c.in-Throw.error) caught vars left) _ _ c.run_throw.result _ _ c.run_throw.ensures.gives (comes_throw s run caught vars left c.args.at c.args.kind.now c.in-Throw.error c.in-Throw.is)
+
+pub statements::run_kind-returns-in-Declare-clause-gives : goal.statements::run_kind-returns-in-Declare-clause-gives
+statements::run_kind-returns-in-Declare-clause-gives g t c =
+    let s = setting_of g.C.CellView.content c.args.setting.now in
+    let run = run_function s c.args.nest in
+    let caught = option_copied c.args.caught in
+    let vars = map var_of c.args.locals.now.items in
+    let left = c.args.turns.now.left in
+    settled (declare_run s run (into_of c.in-Declare.into) (option_map expr_of c.in-Declare.value) vars left) _ _ c.run_declare.result _ _ c.run_declare.ensures.gives (comes_declare s run caught vars left c.args.at c.args.kind.now c.in-Declare.into c.in-Declare.value c.in-Declare.is)
+
+pub statements::run_kind-returns-in-Assign-clause-gives : goal.statements::run_kind-returns-in-Assign-clause-gives
+statements::run_kind-returns-in-Assign-clause-gives g t c =
+    let s = setting_of g.C.CellView.content c.args.setting.now in
+    let run = run_function s c.args.nest in
+    let caught = option_copied c.args.caught in
+    let vars = map var_of c.args.locals.now.items in
+    let left = c.args.turns.now.left in
+    settled (assign_run s run c.in-Assign.target.path.items (expr_of c.in-Assign.value) vars left) _ _ c.run_assign.result _ _ c.run_assign.ensures.gives (comes_assign s run caught vars left c.args.at c.args.kind.now c.in-Assign.target c.in-Assign.value c.in-Assign.is)
+
+pub statements::run_kind-returns-in-Modify-clause-gives : goal.statements::run_kind-returns-in-Modify-clause-gives
+statements::run_kind-returns-in-Modify-clause-gives g t c =
+    let s = setting_of g.C.CellView.content c.args.setting.now in
+    let run = run_function s c.args.nest in
+    let caught = option_copied c.args.caught in
+    let vars = map var_of c.args.locals.now.items in
+    let left = c.args.turns.now.left in
+    settled (modify_run s run c.in-Modify.target.path.items (change_of c.in-Modify.change) vars left) _ _ c.run_modify.result _ _ c.run_modify.ensures.gives (comes_modify s run caught vars left c.args.at c.args.kind.now c.in-Modify.target c.in-Modify.change c.in-Modify.is)
+
+pub statements::run_kind-returns-in-Call-clause-gives : goal.statements::run_kind-returns-in-Call-clause-gives
+statements::run_kind-returns-in-Call-clause-gives g t c =
+    let s = setting_of g.C.CellView.content c.args.setting.now in
+    let run = run_function s c.args.nest in
+    let caught = option_copied c.args.caught in
+    let vars = map var_of c.args.locals.now.items in
+    let left = c.args.turns.now.left in
+    settled (call_run s run c.in-Call.target.path.items (exprs_of c.in-Call.args.items) vars left) _ _ c.run_call.result _ _ (subst (λ (es : List Expr). Ran (call_run s run c.in-Call.target.path.items (exprs_of es) vars left) c.run_call.result (map var_of c.run_call.new.locals.items) c.run_call.new.turns.left) c.deref.ensures.value c.run_call.ensures.gives) (comes_call s run caught vars left c.args.at c.args.kind.now c.in-Call.target c.in-Call.args c.in-Call.is)
+
+pub statements::run_kind-returns-in-Break-clause-gives : goal.statements::run_kind-returns-in-Break-clause-gives
+statements::run_kind-returns-in-Break-clause-gives g t c =
+    let s = setting_of g.C.CellView.content c.args.setting.now in
+    let run = run_function s c.args.nest in
+    let caught = option_copied c.args.caught in
+    let vars = map var_of c.args.locals.now.items in
+    let left = c.args.turns.now.left in
+    ends_break s run caught vars left c.args.at c.args.kind.now c.in-Break.is
+
+pub statements::run_kind-returns-in-Continue-clause-gives : goal.statements::run_kind-returns-in-Continue-clause-gives
+statements::run_kind-returns-in-Continue-clause-gives g t c =
+    let s = setting_of g.C.CellView.content c.args.setting.now in
+    let run = run_function s c.args.nest in
+    let caught = option_copied c.args.caught in
+    let vars = map var_of c.args.locals.now.items in
+    let left = c.args.turns.now.left in
+    ends_continue s run caught vars left c.args.at c.args.kind.now c.in-Continue.is
+
+pub statements::run_kind-returns-in-Choose-clause-gives : goal.statements::run_kind-returns-in-Choose-clause-gives
+statements::run_kind-returns-in-Choose-clause-gives g t c =
+    let s = setting_of g.C.CellView.content c.args.setting.now in
+    let run = run_function s c.args.nest in
+    let caught = option_copied c.args.caught in
+    let vars = map var_of c.args.locals.now.items in
+    let left = c.args.turns.now.left in
+    ends_choose s run caught vars left c.args.at c.args.kind.now c.in-Choose.field-0 c.in-Choose.is
+
+pub statements::run_kind-returns-in-Wait-clause-gives : goal.statements::run_kind-returns-in-Wait-clause-gives
+statements::run_kind-returns-in-Wait-clause-gives g t c =
+    let s = setting_of g.C.CellView.content c.args.setting.now in
+    let run = run_function s c.args.nest in
+    let caught = option_copied c.args.caught in
+    let vars = map var_of c.args.locals.now.items in
+    let left = c.args.turns.now.left in
+    ends_wait s run caught vars left c.args.at c.args.kind.now c.in-Wait.field-0 c.in-Wait.is
 
 pub statements::run_loop-returns-in_err-run_turn-clause-gives : goal.statements::run_loop-returns-in_err-run_turn-clause-gives
 statements::run_loop-returns-in_err-run_turn-clause-gives g t c =
