@@ -169,5 +169,16 @@ pub seven : (old s1 s2 s3 s4 s5 s6 s7 a b c d e f g : List ℕ) → s1 ≡ old +
     → s7 ≡ old ++ (a ++ b ++ c ++ d ++ e ++ f ++ g)
 seven old s1 s2 s3 s4 s5 s6 s7 a b c d e f g e1 e2 e3 e4 e5 e6 e7 = rw (e7, e6, e5, e4, e3, e2, e1) (simp append_assoc refl)
 
-pub actor_result : (old s1 s2 s3 a b c : List ℕ) → s1 ≡ old ++ a → s2 ≡ s1 ++ b → s3 ≡ s2 ++ c → s3 ≡ old ++ (a ++ b ++ c)
-actor_result old s1 s2 s3 a b c e1 e2 e3 = rw (e3, e2, e1) (simp append_assoc refl)
+pub one_by_one : (old s1 s2 s3 a b c : List ℕ) → s1 ≡ old ++ a → s2 ≡ s1 ++ b → s3 ≡ s2 ++ c → s3 ≡ old ++ (a ++ b ++ c)
+one_by_one old s1 s2 s3 a b c e1 e2 e3 = rw (e3, e2, e1) (simp append_assoc refl)
+
+-- the texts of operands with what stands between them
+pub method_text : (old s1 s2 e f n a b : List ℕ) → s1 ≡ old ++ (e ++ codes "." ++ n) → e ≡ f → s2 ≡ s1 ++ codes "(" ++ a ++ codes ")" → a ≡ b → s2 ≡ old ++ (f ++ codes "." ++ n ++ codes "(" ++ b ++ codes ")")
+method_text old s1 s2 e f n a b e1 ef e2 ab = rw (e2, e1, ef, ab) (simp append_assoc refl)
+
+spaced : (b s g d : List ℕ) → b ++ (s ++ g ++ s ++ d) ≡ b ++ s ++ g ++ s ++ d
+spaced b s g d = simp append_assoc refl
+
+pub binary_text : (old s1 s2 a b g c d : List ℕ) → s1 ≡ old ++ a → a ≡ b → s2 ≡ s1 ++ (codes " " ++ g ++ codes " " ++ c) → c ≡ d → s2 ≡ old ++ (b ++ codes " " ++ g ++ codes " " ++ d)
+binary_text old s1 s2 a b g c d e1 ab e2 cd =
+    rw (e2, e1, ab, cd) (append_assoc old b (codes " " ++ g ++ codes " " ++ d) ∙ ap (λ l. old ++ l) (spaced b (codes " ") g d))

@@ -424,7 +424,6 @@ impl Source {
 
     /// Statements, each on a line at this level.
     #[cycle(stmt)]
-    #[tactic(auto, using(crate::proofs::Texts::body_step, crate::proofs::Texts::body_end))]
     pub fn put_body(&mut self, level: usize, body: &[Stmt]) -> Result<(), NoMemory>
         ensures { IfOk result (λ _. self.new ≡ self.old ++ body_text level (body_of body.now)) }
     {
@@ -556,7 +555,6 @@ impl Source {
     }
 
     #[cycle(stmt)]
-    #[tactic(auto, using(crate::proofs::Texts::branches_step, crate::proofs::Texts::branches_end))]
     fn put_whens(&mut self, level: usize, branches: &[When]) -> Result<(), NoMemory>
         ensures { IfOk result (λ _. self.new
             ≡ self.old ++ branches_text level (branches_of branches.now)) }
