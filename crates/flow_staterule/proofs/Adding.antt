@@ -21,6 +21,11 @@ use Rattle.flow_staterule.specs.declared.uses.Finder.{Finder}
 use Rattle.flow_staterule.specs.Uses.{Variable, behind, expr_uses, exprs_uses}
 use Rattle.flow_staterule.specs.View.{in_force, Extends, Finds, found, in_branches, known_behind}
 
+-- what is added in two parts
+pub two_added : (old mid new a b c d : List Use) → mid ≡ old ++ a → a ≡ c → new ≡ mid ++ b → b ≡ d → new ≡ old ++ (c ++ d)
+two_added old mid new a b c d first ac second bd =
+    second ∙ ap (λ l. l ++ b) (first ∙ ap (λ l. old ++ l) ac) ∙ append_assoc old c b ∙ ap (λ l. old ++ (c ++ l)) bd
+
 pub exprs_next : (vs : List Variable) (p : Point) (es : List Expr) (i : ℕ) (e : Expr) (us new whole : List Use) → i < length es → e ≡ get_or es i e
     → new ≡ us ++ expr_uses vs p (expr_of e) → us ++ exprs_uses vs p (exprs_of (drop i es)) ≡ whole → new ++ exprs_uses vs p (exprs_of (drop (i + 1) es)) ≡ whole
 exprs_next vs p es i e us new whole lt got is inv =

@@ -73,7 +73,6 @@ pub fn add_expr(
 }
 
 /// Adds the uses in expressions one after another.
-#[tactic(auto, using(crate::proofs::Adding::exprs_next, crate::proofs::Adding::exprs_end))]
 #[cycle(mentions)]
 pub fn add_exprs(
     variables: &Variables<'_>,

@@ -19,7 +19,6 @@ pub fn wait_places(alloc: Global, stmts: &[Stmt]) -> Result<Vec<Place>, NoMemory
     Ok(places)
 }
 
-#[tactic(auto, using(crate::proofs::Places::body_next, crate::proofs::Places::body_end))]
 #[cycle(waits)]
 fn list_body(places: &mut Vec<Place>, stmts: &[Stmt]) -> Result<(), NoMemory>
     ensures { IfOk result (λ _. places.new.items
@@ -110,7 +109,6 @@ fn list_part(places: &mut Vec<Place>, part: &Option<Box<Stmt>>) -> Result<(), No
     }
 }
 
-#[tactic(auto, using(crate::proofs::Places::branches_next, crate::proofs::Places::branches_end))]
 #[cycle(waits)]
 fn list_branches(places: &mut Vec<Place>, branches: &[When]) -> Result<(), NoMemory>
     ensures { IfOk result (λ _. places.new.items

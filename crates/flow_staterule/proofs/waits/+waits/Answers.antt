@@ -1,4 +1,4 @@
-use Rattle.std.proofs.Common.{◌≡◌, List, [], ◌∷◌, ◌++◌, refl, ap, sym, ◌∙◌, append_assoc, append-nil}
+use Rattle.std.proofs.Common.{◌≡◌, List, [], ◌∷◌, ◌++◌, refl, ap, sym, ◌∙◌, append_assoc, append-nil, arith}
 use Rattle.std.specs.declared.alloc.Global.{Global}
 use Rattle.std.specs.declared.vec.Vec.{Vec}
 use Rattle.std.specs.declared.option.Option.{Option}
@@ -9,10 +9,11 @@ use Rattle.flow_tree.specs.declared.stmt.Stmt.{Stmt}
 use Rattle.flow_tree.specs.declared.stmt.When.{When}
 use Rattle.flow_tree.specs.declared.stmt.StmtKind.TheVariants as kind
 use Rattle.flow_tree.specs.View.{expr_of}
-use Rattle.flow_tree.specs.StmtView.{stmt_of, body_of, branches_of, else_of}
-use Rattle.flow_tree.specs.Body.{Body, IfStmt, IfElseStmt}
+use Rattle.flow_tree.specs.StmtView.{stmt_of, body_of, branches_of, else_of, simple_of}
+use Rattle.flow_tree.specs.Body.{Body, End, IfStmt, IfElseStmt}
 use Rattle.flow_layout.proofs.StmtKinds.{is_break, is_continue, is_if, is_if_else, is_for, is_block, is_while, is_loop, is_return, is_throw, is_try, is_choose, is_declare, is_assign, is_modify, is_call, is_wait}
 use Rattle.flow_staterule.specs.StateRule.{wait_places, branch_places, else_places}
+use Rattle.flow_staterule.proofs.Places.{body_next, body_end, branches_next, branches_end}
 use Rattle.flow_staterule.proofs.waits.+waits.Goals as goal
 
 -- what a statement adds, and then what stands behind it
@@ -115,3 +116,34 @@ pub list_stmt-returns-in_ok-list_branches-in-Choose : goal.list_stmt-returns-in_
 list_stmt-returns-in_ok-list_branches-in-Choose t c =
     choose_parts c.args.stmt.now _ _ _ _ _ _ c.in-Choose.branches.items (λ k. is_choose c.args.stmt.now c.in-Choose.branches k c.in-Choose.is) (λ k. refl) c.in_ok-push-in-Choose.ensures.items
     c.in_ok-list_branches-in-Choose.ensures c.deref-in-Choose.ensures.value
+
+pub list_body-loop-stmt-preserved : goal.list_body-loop-stmt-preserved
+list_body-loop-stmt-preserved t c =
+    body_next c.args.stmts.now c.loop-stmt.stmt-index c.stmt-item.result _ _ _ (omega (arith, c.loop-stmt-test.true)) c.stmt-item.is c.in_ok-list_stmt.ensures c.loop-stmt.invariant
+
+pub list_body-returns : goal.list_body-returns
+list_body-returns t c = body_end c.args.stmts.now c.loop-stmt.stmt-index _ _ (omega (arith, c.loop-stmt-test.false)) c.loop-stmt.invariant
+
+pub list_branches-loop-branch-preserved : goal.list_branches-loop-branch-preserved
+list_branches-loop-branch-preserved t c =
+    branches_next c.args.branches.now c.loop-branch.branch-index c.branch-item.result _ _ _ (omega (arith, c.loop-branch-test.true)) c.branch-item.is c.in_ok-list_branch.ensures c.loop-branch.invariant
+
+pub list_branches-returns : goal.list_branches-returns
+list_branches-returns t c = branches_end c.args.branches.now c.loop-branch.branch-index _ _ (omega (arith, c.loop-branch-test.false)) c.loop-branch.invariant
+
+pub list_else-returns-in-None : goal.list_else-returns-in-None
+list_else-returns-in-None t c =
+    sym (append-nil c.args.places.now.items) ∙ ap (λ o. c.args.places.now.items ++ else_places (else_of o)) (sym c.in-None.is)
+
+pub list_else-returns-in-Some : goal.list_else-returns-in-Some
+list_else-returns-in-Some t c = rw c.in-Some.is (rw c.deref.ensures.value at c.list_body.ensures)
+
+pub list_part-returns-in-None : goal.list_part-returns-in-None
+list_part-returns-in-None t c =
+    sym (append-nil c.args.places.now.items) ∙ ap (λ o. c.args.places.now.items ++ wait_places (simple_of o)) (sym c.in-None.is)
+
+pub list_part-returns-in_ok-list_stmt-in-Some : goal.list_part-returns-in_ok-list_stmt-in-Some
+list_part-returns-in_ok-list_stmt-in-Some t c =
+    sym (append-nil c.list_stmt.new.places.items) ∙ c.in_ok-list_stmt-in-Some.ensures End
+    ∙ ap (λ s. c.args.places.now.items ++ wait_places (stmt_of s End)) c.deref.ensures
+    ∙ ap (λ o. c.args.places.now.items ++ wait_places (simple_of o)) (sym c.in-Some.is)
