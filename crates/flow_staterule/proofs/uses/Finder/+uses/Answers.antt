@@ -1,10 +1,13 @@
-use Rattle.std.proofs.Common.{length, refl, ap, ◌∙◌}
-use Rattle.flow_tree.specs.StmtView.{body_of}
+use Rattle.std.proofs.Common.{◌≡◌, [], ◌++◌, length, take, refl, sym, ap, ap₂, ◌∙◌, arith}
+use Rattle.std.proofs.lemmas.Result.{IfOk-weaker}
+use Rattle.flow_tree.specs.Body.{End}
+use Rattle.flow_tree.specs.StmtView.{stmt_of, body_of, simple_of}
 use Rattle.flow_staterule.specs.Ways.{ways, head}
-use Rattle.flow_staterule.specs.Uses.{behind, left}
-use Rattle.flow_staterule.specs.View.{in_force, in_handler}
-use Rattle.flow_staterule.proofs.Adding.{same_extends}
-use Rattle.flow_staterule.proofs.EachKind.{after_block, after_if, after_while, after_loop, after_break, after_continue, after_return, after_throw, after_try, after_choose, after_declare, after_assign, after_modify, after_call, after_wait}
+use Rattle.flow_staterule.specs.Uses.{uses, declaring, behind, left}
+use Rattle.flow_staterule.specs.View.{in_force, declared_after, found, known_behind, in_handler}
+use Rattle.flow_staterule.proofs.Adding.{same_extends, body_next, body_end, branches_next, branches_end, none_behind, none_found, part_found}
+use Rattle.flow_staterule.proofs.InForce.{take_twice, take_all}
+use Rattle.flow_staterule.proofs.EachKind.{after_block, after_if, after_for, after_while, after_loop, after_break, after_continue, after_return, after_throw, after_try, after_choose, after_declare, after_assign, after_modify, after_call, after_wait}
 use Rattle.flow_staterule.proofs.uses.Finder.+uses.Goals as goal
 
 pub inside-returns-in_ok-scope-in-Block-clause-finds : goal.inside-returns-in_ok-scope-in-Block-clause-finds
@@ -114,3 +117,101 @@ inside-returns-in_ok-choose-in-Choose-clause-keeps t c =
 pub inside-returns-in_ok-expr-in-Assign-clause-keeps : goal.inside-returns-in_ok-expr-in-Assign-clause-keeps
 inside-returns-in_ok-expr-in-Assign-clause-keeps t c =
     same_extends c.args.self.now.variables c.expr-in-Assign.new.self.variables (c.in_ok-expr-in-Assign.ensures.variables)
+
+pub inside-returns-in_ok-scope-in-For-clause-finds : goal.inside-returns-in_ok-scope-in-For-clause-finds
+inside-returns-in_ok-scope-in-For-clause-finds t c =
+    let f = c.args.self.now in
+    let same : c.leave.new.self.list.items ≡ c.args.self.now.variables.list.items =
+    c.leave.ensures
+    ∙ ap₂ (λ n l. take n l) c.count-count.ensures.items (c.in_ok-scope-in-For.ensures.variables ∙ c.in_ok-step-in-For.ensures.variables ∙ c.in_ok-maybe-in-For.ensures.variables)
+    ∙ c.in_ok-begun-in-For.ensures.keeps in
+    after_for f c.part.new.self c.maybe.new.self c.step.new.self c.scope-in-For.new.self (record { variables = c.leave.new.self; uses = c.scope-in-For.new.self.uses })
+    c.args.here c.in_ok-begun-in-For.begun c.round-round-in-For.result.body c.round-round-in-For.result.step c.args.stmt.now c.in-For.init c.in-For.test c.in-For.step c.in-For.body c.in-For.body.items
+    c.in-For.is refl c.in_ok-begun-in-For.ensures.uses c.in_ok-begun-in-For.ensures.behind c.in_ok-begun-in-For.ensures.variables c.round-round-in-For.ensures.body c.round-round-in-For.ensures.step
+    c.in_ok-maybe-in-For.ensures.uses c.in_ok-maybe-in-For.ensures.variables c.in_ok-step-in-For.ensures.uses c.in_ok-step-in-For.ensures.variables c.in_ok-scope-in-For.ensures.uses refl
+    (ap (declared_after []) same)
+
+pub inside-returns-in_ok-scope-in-For-clause-keeps : goal.inside-returns-in_ok-scope-in-For-clause-keeps
+inside-returns-in_ok-scope-in-For-clause-keeps t c =
+    same_extends c.args.self.now.variables c.leave.new.self
+    (c.leave.ensures
+    ∙ ap₂ (λ n l. take n l) c.count-count.ensures.items (c.in_ok-scope-in-For.ensures.variables ∙ c.in_ok-step-in-For.ensures.variables ∙ c.in_ok-maybe-in-For.ensures.variables)
+    ∙ c.in_ok-begun-in-For.ensures.keeps)
+
+pub body-loop-stmt-init : goal.body-loop-stmt-init
+body-loop-stmt-init t c = (refl, take_all c.args.self.now.variables.list.items)
+
+pub body-loop-stmt-preserved : goal.body-loop-stmt-preserved
+body-loop-stmt-preserved t c = (
+  body_next c.loop-stmt.self c.stmt.new.self c.loop-stmt.next c.in_ok-next.next c.args.stmts.now c.loop-stmt.stmt-index c.stmt-item.result _ (omega (arith, c.loop-stmt-test.true)) c.stmt-item.is
+  c.in_ok-next.ensures.finds c.in_ok-next.ensures.behind c.loop-stmt.invariant.0,
+  take_twice c.args.self.now.variables.list.items c.loop-stmt.self.variables.list.items c.stmt.new.self.variables.list.items c.loop-stmt.invariant.1 c.in_ok-next.ensures.keeps,
+)
+
+pub body-returns-clause-uses : goal.body-returns-clause-uses
+body-returns-clause-uses t c = body_end c.loop-stmt.self c.loop-stmt.next c.args.stmts.now c.loop-stmt.stmt-index _ (omega (arith, c.loop-stmt-test.false)) c.loop-stmt.invariant.0
+
+pub body-returns-clause-keeps : goal.body-returns-clause-keeps
+body-returns-clause-keeps t c = c.loop-stmt.invariant.1
+
+pub choose-loop-branch-preserved : goal.choose-loop-branch-preserved
+choose-loop-branch-preserved t c = (
+  branches_next c.loop-branch.self c.branch-self.new.self c.args.here.point c.loop-branch.inner c.in_ok-inner.inner c.args.branches.now c.loop-branch.branch-index c.branch-item.result _ (omega (arith, c.loop-branch-test.true)) c.branch-item.is
+  c.in_ok-inner.ensures.uses c.loop-branch.invariant.0,
+  c.in_ok-inner.ensures.variables ∙ c.loop-branch.invariant.1,
+)
+
+pub choose-returns-clause-uses : goal.choose-returns-clause-uses
+choose-returns-clause-uses t c =
+    branches_end c.loop-branch.self c.args.here.point c.loop-branch.inner c.args.branches.now c.loop-branch.branch-index _ (omega (arith, c.loop-branch-test.false)) c.loop-branch.invariant.0
+
+pub choose-returns-clause-variables : goal.choose-returns-clause-variables
+choose-returns-clause-variables t c = c.loop-branch.invariant.1
+
+pub scope-returns-clause-uses : goal.scope-returns-clause-uses
+scope-returns-clause-uses t c = c.in_ok-body.ensures.uses ∙ ap (λ l. found c.args.self.now c.args.here (body_of l)) c.deref.ensures.value
+
+pub scope-returns-clause-variables : goal.scope-returns-clause-variables
+scope-returns-clause-variables t c = c.leave.ensures ∙ ap (λ n. take n c.body.new.self.variables.list.items) c.count-count.ensures.items ∙ c.in_ok-body.ensures.keeps
+
+pub step-returns-clause-uses : goal.step-returns-clause-uses
+step-returns-clause-uses t c = c.in_ok-part.ensures.uses
+
+pub step-returns-clause-variables : goal.step-returns-clause-variables
+step-returns-clause-variables t c = c.leave.ensures ∙ ap (λ n. take n c.part.new.self.variables.list.items) c.count-count.ensures.items ∙ c.in_ok-part.ensures.keeps
+
+pub handled-returns-clause-uses : goal.handled-returns-clause-uses
+handled-returns-clause-uses t c =
+    c.in_ok-scope.ensures.uses
+    ∙ ap (λ vs. c.args.self.now.uses.items ++ uses c.args.here.looked.0 vs c.args.here.point c.args.here.caught (body_of c.args.handler.now.items)) c.in_ok-declare.ensures.declares
+
+pub handled-returns-clause-variables : goal.handled-returns-clause-variables
+handled-returns-clause-variables t c =
+    c.leave.ensures ∙ ap₂ (λ n l. take n l) c.count-count.ensures.items c.in_ok-scope.ensures.variables ∙ c.in_ok-declare.ensures.keeps
+
+pub part-returns-in-None-clause-behind : goal.part-returns-in-None-clause-behind
+part-returns-in-None-clause-behind t c =
+    let vs = in_force c.args.self.now.variables in
+    none_behind c.args.here vs ∙ ap (λ o. known_behind vs c.args.here (simple_of o)) (sym c.in-None.is)
+
+pub part-returns-in-None-clause-uses : goal.part-returns-in-None-clause-uses
+part-returns-in-None-clause-uses t c =
+    none_found c.args.self.now c.args.here ∙ ap (λ o. found c.args.self.now c.args.here (simple_of o)) (sym c.in-None.is)
+
+pub part-returns-in-Some-clause-uses : goal.part-returns-in-Some-clause-uses
+part-returns-in-Some-clause-uses t c =
+    rw c.in-Some.is
+    (IfOk-weaker c.stmt.result _ _
+    (λ h finds. part_found c.args.self.now c.stmt.new.self c.args.here _ finds ∙ ap (λ s. found c.args.self.now c.args.here (stmt_of s End)) c.deref.ensures)
+    c.stmt.ensures.finds)
+
+pub part-returns-in-Some-clause-behind : goal.part-returns-in-Some-clause-behind
+part-returns-in-Some-clause-behind t c = rw c.in-Some.is (rw c.deref.ensures at c.stmt.ensures.behind)
+
+pub part-returns-in-Some-clause-variables : goal.part-returns-in-Some-clause-variables
+part-returns-in-Some-clause-variables t c =
+    rw c.in-Some.is
+    (IfOk-weaker c.stmt.result _ _ (λ h finds. finds.variables ∙ ap (λ s. declaring (in_force c.args.self.now.variables) (stmt_of s End)) c.deref.ensures) c.stmt.ensures.finds)
+
+pub otherwise-returns-in-Some-clause-uses : goal.otherwise-returns-in-Some-clause-uses
+otherwise-returns-in-Some-clause-uses t c = rw c.in-Some.is c.scope.ensures.uses
