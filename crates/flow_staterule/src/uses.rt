@@ -120,7 +120,6 @@ impl Here {
 
 impl<'a> Finder<'a> {
     /// Statements one after another.
-    #[tactic(auto, using(crate::proofs::Adding::body_next, crate::proofs::Adding::body_end, crate::proofs::InForce::take_twice, crate::proofs::InForce::take_all))]
     #[cycle(uses)]
     fn body(&mut self, here: Here, stmts: &'a [Stmt]) -> Result<(), NoMemory>
         ensures uses { IfOk result (λ _. self.new.uses.items
@@ -175,7 +174,6 @@ impl<'a> Finder<'a> {
     }
 
     /// The uses in a statement, and what it declares.
-    #[tactic(auto, using(crate::proofs::EachKind::after_for, crate::proofs::Adding::same_extends))]
     #[cycle(uses)]
     fn inside(&mut self, here: Here, stmt: &'a Stmt) -> Result<(), NoMemory>
         ensures finds { IfOk result (λ _. Finds self.old self.new here (stmt_of stmt.now)) }
@@ -325,7 +323,6 @@ impl<'a> Finder<'a> {
     }
 
     /// The init of a `for`, where it is there: gives what is known behind it.
-    #[tactic(auto, using(crate::proofs::Adding::none_behind, crate::proofs::Adding::none_found, crate::proofs::Adding::part_found, crate::proofs::InForce::take_all))]
     #[cycle(uses)]
     fn part(&mut self, here: Here, part: &'a Option<Box<Stmt>>) -> Result<Here, NoMemory>
         ensures uses { IfOk result (λ _. self.new.uses.items
@@ -396,7 +393,6 @@ impl<'a> Finder<'a> {
     }
 
     /// A `choose`: the operands of its branches are read before it is left.
-    #[tactic(auto, using(crate::proofs::Adding::branches_next, crate::proofs::Adding::branches_end))]
     #[cycle(uses)]
     fn choose(&mut self, here: Here, branches: &'a [When]) -> Result<(), NoMemory>
         ensures uses { IfOk result (λ _. self.new.uses.items

@@ -144,7 +144,7 @@ body-loop-stmt-init t c = (refl, take_all c.args.self.now.variables.list.items)
 pub body-loop-stmt-preserved : goal.body-loop-stmt-preserved
 body-loop-stmt-preserved t c = (
   body_next c.loop-stmt.self c.stmt.new.self c.loop-stmt.next c.in_ok-next.next c.args.stmts.now c.loop-stmt.stmt-index c.stmt-item.result _ (omega (arith, c.loop-stmt-test.true)) c.stmt-item.is
-  c.in_ok-next.ensures.finds c.in_ok-next.ensures.behind c.loop-stmt.invariant.0,
+      c.in_ok-next.ensures.finds c.in_ok-next.ensures.behind c.loop-stmt.invariant.0,
   take_twice c.args.self.now.variables.list.items c.loop-stmt.self.variables.list.items c.stmt.new.self.variables.list.items c.loop-stmt.invariant.1 c.in_ok-next.ensures.keeps,
 )
 
@@ -157,7 +157,7 @@ body-returns-clause-keeps t c = c.loop-stmt.invariant.1
 pub choose-loop-branch-preserved : goal.choose-loop-branch-preserved
 choose-loop-branch-preserved t c = (
   branches_next c.loop-branch.self c.branch-self.new.self c.args.here.point c.loop-branch.inner c.in_ok-inner.inner c.args.branches.now c.loop-branch.branch-index c.branch-item.result _ (omega (arith, c.loop-branch-test.true)) c.branch-item.is
-  c.in_ok-inner.ensures.uses c.loop-branch.invariant.0,
+      c.in_ok-inner.ensures.uses c.loop-branch.invariant.0,
   c.in_ok-inner.ensures.variables ∙ c.loop-branch.invariant.1,
 )
 
@@ -215,3 +215,28 @@ part-returns-in-Some-clause-variables t c =
 
 pub otherwise-returns-in-Some-clause-uses : goal.otherwise-returns-in-Some-clause-uses
 otherwise-returns-in-Some-clause-uses t c = rw c.in-Some.is c.scope.ensures.uses
+
+pub part-returns-in-None-clause-keeps : goal.part-returns-in-None-clause-keeps
+part-returns-in-None-clause-keeps t c = take_all c.args.self.now.variables.list.items
+
+pub inside-returns-in-Break-clause-keeps : goal.inside-returns-in-Break-clause-keeps
+inside-returns-in-Break-clause-keeps t c = take_all c.args.self.now.variables.list.items
+
+pub inside-returns-in-Continue-clause-keeps : goal.inside-returns-in-Continue-clause-keeps
+inside-returns-in-Continue-clause-keeps t c = take_all c.args.self.now.variables.list.items
+
+pub inside-returns-in_ok-add_change-in-Modify-clause-keeps : goal.inside-returns-in_ok-add_change-in-Modify-clause-keeps
+inside-returns-in_ok-add_change-in-Modify-clause-keeps t c = take_all c.args.self.now.variables.list.items
+
+pub inside-returns-in_ok-add_exprs-in-Call-clause-keeps : goal.inside-returns-in_ok-add_exprs-in-Call-clause-keeps
+inside-returns-in_ok-add_exprs-in-Call-clause-keeps t c = take_all c.args.self.now.variables.list.items
+
+pub inside-returns-in_ok-declare_into-in-Declare-clause-keeps : goal.inside-returns-in_ok-declare_into-in-Declare-clause-keeps
+inside-returns-in_ok-declare_into-in-Declare-clause-keeps t c =
+    ap (λ l. take (length l) c.declare_into.new.self.list.items) (sym c.in_ok-maybe-in-Declare.ensures.variables)
+    ∙ c.in_ok-declare_into-in-Declare.ensures.keeps ∙ c.in_ok-maybe-in-Declare.ensures.variables
+
+pub inside-returns-in_ok-bind-in-Wait-clause-keeps : goal.inside-returns-in_ok-bind-in-Wait-clause-keeps
+inside-returns-in_ok-bind-in-Wait-clause-keeps t c =
+    ap (λ l. take (length l) c.bind.new.self.variables.list.items) (sym c.in_ok-expr-in-Wait.ensures.variables)
+    ∙ c.in_ok-bind-in-Wait.ensures.keeps ∙ c.in_ok-expr-in-Wait.ensures.variables
