@@ -5,9 +5,9 @@ use Rattle.flow_tree.specs.Body.{Body}
 use Rattle.flow_ast.specs.Slots.{body_groups}
 use Rattle.flow_layout.proofs.StmtKinds.{is_block, is_break, is_continue, is_return, is_throw, is_while, is_loop, is_declare, is_assign, is_modify, is_call, is_wait}
 use Rattle.flow_staterule.specs.declared.ways.Ways.{Ways}
-use Rattle.flow_staterule.specs.Ways.{ways, sequence, both, plain, looped}
-use Rattle.flow_staterule.proofs.Passing.{past_two, ways_next, looked_next, ways_end, branch_ways_next, branch_looked_next, branch_ways_end}
-use Rattle.flow_staterule.proofs.EachWay.{waits_while, waits_loop, waits_if, waits_for, waits_try, ways_if, ways_for}
+use Rattle.flow_staterule.specs.Ways.{ways, sequence, both, follow, plain, looped}
+use Rattle.flow_staterule.proofs.Passing.{past_two, ways_next, looked_next, ways_end, looked_end, branch_ways_next, branch_looked_next, branch_ways_end, branch_looked_end}
+use Rattle.flow_staterule.proofs.EachWay.{waits_while, waits_loop, waits_if, waits_for, waits_try, waits_choose, ways_if, ways_for, ways_choose}
 use Rattle.flow_staterule.proofs.ways.Looked.+ways.Goals as goal
 
 -- the ways out of a statement by its kind, and the waits behind one that has none
@@ -157,3 +157,20 @@ pub stmt-returns-in-Wait-clause-ways : goal.stmt-returns-in-Wait-clause-ways
 stmt-returns-in-Wait-clause-ways t c =
     ways_as c.args.stmt.now _ c.args.self.0 _ _ _ _ (λ k. is_wait c.args.stmt.now _ k c.in-Wait.is) (ap (λ l. l.0) c.none_of-in-Wait.ensures.looked ∙ c.past_one-in-Wait.ensures)
     (c.none_of-in-Wait.ensures.ways ∙ c.plain-in-Wait.ensures ∙ ap plain c.waited-in-Wait.ensures) (λ k. refl)
+
+pub stmt-returns-in-Choose-clause-ways : goal.stmt-returns-in-Choose-clause-ways
+stmt-returns-in-Choose-clause-ways t c =
+    ways_choose c.args.stmt.now c.in-Choose.branches c.deref-in-Choose.result.now c.branches-inner.result.ways c.follow.result c.args.self.0 c.past_one.result.0 c.branches-inner.result.looked.0 c.in-Choose.is
+    c.deref-in-Choose.ensures.value c.past_one.ensures c.branches-inner.ensures.ways c.branches-inner.ensures.looked
+    (c.follow.ensures ∙ ap₂ follow c.waited.ensures (c.both-ways.ensures ∙ ap (λ w. both w c.branches-inner.result.ways) c.node-in-Choose.ensures))
+
+pub stmt-returns-in-Choose-clause-looked : goal.stmt-returns-in-Choose-clause-looked
+stmt-returns-in-Choose-clause-looked t c =
+    waits_choose c.args.stmt.now c.in-Choose.branches c.deref-in-Choose.result.now c.args.self.0 c.past_one.result.0 c.branches-inner.result.looked.0 c.in-Choose.is
+    c.deref-in-Choose.ensures.value c.past_one.ensures c.branches-inner.ensures.looked
+
+pub body-returns-clause-looked : goal.body-returns-clause-looked
+body-returns-clause-looked t c = looked_end c.args.stmts.now c.loop-stmt.stmt-index _ _ (omega (arith, c.loop-stmt-test.false)) c.loop-stmt.invariant.1
+
+pub branches-returns-clause-looked : goal.branches-returns-clause-looked
+branches-returns-clause-looked t c = branch_looked_end c.args.branches.now c.loop-branch.branch-index _ _ (omega (arith, c.loop-branch-test.false)) c.loop-branch.invariant.1
