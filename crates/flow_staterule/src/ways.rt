@@ -263,7 +263,6 @@ impl Looked {
     }
 
     /// The ways out of statements, one after another.
-    #[tactic(auto, using(crate::proofs::Passing::ways_next, crate::proofs::Passing::looked_next, crate::proofs::Passing::ways_end, crate::proofs::Passing::looked_end))]
     #[cycle(ways)]
     pub fn body(self, stmts: &[Stmt]) -> Passed
         ensures ways { result.ways ≡ ways self.0 (body_of stmts.now) }
@@ -281,7 +280,6 @@ impl Looked {
     }
 
     /// The ways out of one statement.
-    #[tactic(auto, using(crate::proofs::Passing::past_two, crate::proofs::EachWay::waits_while, crate::proofs::EachWay::waits_loop, crate::proofs::EachWay::waits_try, crate::proofs::EachWay::waits_for, crate::proofs::EachWay::waits_choose, crate::proofs::EachWay::waits_if, crate::proofs::EachWay::ways_if, crate::proofs::EachWay::ways_for, crate::proofs::EachWay::ways_choose))]
     #[cycle(ways)]
     pub fn stmt(self, stmt: &Stmt) -> Passed
         ensures ways { (k : Body) → ways self.0 (stmt_of stmt.now k)
@@ -393,7 +391,6 @@ impl Looked {
     }
 
     /// The branches of a `choose`.
-    #[tactic(auto, using(crate::proofs::Passing::branch_ways_next, crate::proofs::Passing::branch_looked_next, crate::proofs::Passing::branch_ways_end, crate::proofs::Passing::branch_looked_end))]
     #[cycle(ways)]
     fn branches(self, branches: &[When]) -> Passed
         ensures ways { result.ways ≡ branch_ways self.0 (branches_of branches.now) }
