@@ -78,11 +78,11 @@ impl Process {
         ensures done { OnOk result (Printed actor (args_of args) self.old self.new) }
         ensures astray { OnAstray result (print_line actor.0 (arg (args_of args) 0) ≡ None) }
     {
+        self.run_on(actor)?;
         let Some(value) = first(args) else {
             return Err(Fault::Astray);
         };
         let line = print_line(self.alloc, actor, value)?;
-        self.heap.push(Task::Run(actor))?;
         self.tell(line);
         Ok(())
     }

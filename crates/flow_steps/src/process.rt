@@ -84,7 +84,7 @@ impl Process {
     pub(crate) fn tell(&mut self, line: Line)
         ensures { self.new ≡ telling line self.old }
     {
-        self.asked = Some(Call::Line(line));
+        self.ask(Call::Line(line));
     }
 
     /// What the step that was done last asks of the world, if anything.
