@@ -1,5 +1,5 @@
 -- What tasks do.
-use Rattle.std.proofs.Common.{◌≡◌, ℕ, true, false, nat_lt, List, [], ◌∷◌, drop, slice_get, pos, refl, ap, sym, subst, ◌∙◌, Result, OnOk}
+use Rattle.std.proofs.Common.{◌≡◌, ℕ, true, false, nat_lt, List, [], ◌∷◌, drop, slice_get, pos, refl, ap, sym, subst, ◌∙◌, Result, OnOk, if◌then◌else◌}
 use Rattle.std.proofs.lemmas.Option.{same_Some}
 use Rattle.std.proofs.lemmas.Result.{IfOk-weaker}
 use Rattle.std.proofs.lemmas.Bool.{false≢true}
@@ -34,6 +34,7 @@ use Rattle.flow_resolved.specs.declared.expr.Resolved.{Resolved}
 use Rattle.flow_numbered.specs.Numbered.{thing}
 use Rattle.flow_cell.specs.declared.waiter.Waiter.{Waiter}
 use Rattle.flow_frame.specs.declared.held.Held.{Held}
+use Rattle.flow_trace.specs.declared.line.Line.{Line}
 use Rattle.flow_trace.specs.declared.line.Line.TheVariants as line
 use Rattle.flow_cancel.specs.declared.actors.Note.{Note}
 use Rattle.flow_cancel.specs.declared.task.Task.{Task}
@@ -47,7 +48,7 @@ use Rattle.flow_steps.specs.declared.process.Process.{Process}
 use Rattle.flow_steps.specs.declared.process.Next.TheVariants as next
 use Rattle.flow_steps.specs.Doing.{turned, doing, telling}
 use Rattle.flow_steps.specs.Holding.{on_heap, kind_in}
-use Rattle.flow_steps.specs.Bringing.{closed}
+use Rattle.flow_steps.specs.Bringing.{end_line, ended_with, closing, closed}
 use Rattle.flow_steps.specs.Standing.{StandsNow, GoesTo, next_stand, noted, values, lost_from, Assigns}
 use Rattle.flow_steps.specs.Waiting.{BranchOf, TakesBranch, Keeps}
 use Rattle.flow_steps.specs.Stepping.{OnAfter, GoesOn, Runs, IsClose}
@@ -132,6 +133,13 @@ closes_by i o p q is = by (thing p.heap.actors.things i.0) refl is
     by : (n : Option Note) → thing p.heap.actors.things i.0 ≡ n → IsSomeAnd n (λ n. q ≡ closed i o n.result p) → Closes i o p q
     by (Some n) at e = record { note = n; noted = at; closes = e }
     by None at e = absurd e
+
+-- the outcome of an actor goes to its result, and the line is told
+pub closing_by : (i : ActorId) (o : Outcome) (k : Option CellId) (l : Line) (r : Result (Unit {0}) Fault) (p mid ended q : Process) → true ≡ nat_lt 0 p.left → mid ≡ turned p
+    → l ≡ end_line i o → OnOk r (ended ≡ ended_with k o mid) → q ≡ telling l ended → OnOk r (q ≡ closing i o k p)
+closing_by i o k l r p mid ended q t e n is f =
+    IfOk-weaker r _ _ (λ _ d. subst (λ b. q ≡ (if b then telling (end_line i o) (ended_with k o (turned p)) else turned p)) t
+    (f ∙ ap (λ x. telling x ended) n ∙ ap (telling (end_line i o)) (d ∙ ap (ended_with k o) e))) is
 
 -- `main`
 pub main_starts_by : (code : Code) (me : ProcId) (class : ℕ) (args : List Value) (i : ActorId) (k : CellId) (r : Result (Unit {0}) Fault) (p one two three four q : Process)

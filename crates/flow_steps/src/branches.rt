@@ -152,7 +152,6 @@ impl Process {
         self.take_now(stand, branch, cell)
     }
 
-    #[tactic(auto, using(crate::proofs::Waits::branch_taken))]
     // A branch takes what its cell gives, with the line; then the actor leaves its wait.
     fn take_now(&mut self, stand: &Stand<'_>, branch: u32, cell: CellId) -> Result<(), Fault>
         ensures done { OnOk result (BranchTaken stand.now branch cell self.old self.new) }
@@ -218,7 +217,6 @@ impl Process {
         Ok(())
     }
 
-    #[tactic(auto, using(crate::proofs::Done::kept_by))]
     /// The result of an effect is kept as an operand, and the actor, whose task is next, goes on.
     pub(crate) fn keep(&mut self, code: &Code, actor: ActorId, held: Held) -> Result<(), Fault>
         ensures done { OnOk result (IsKept code.now actor held self.old self.new) }
@@ -227,8 +225,7 @@ impl Process {
         self.pop_run(actor)?;
         let stand = self.stand_of(code, actor)?;
         let pace = self.keep_operand(&stand, held)?;
-        self.go_from(code, pace)?;
-        Ok(())
+        self.go_from(code, pace)
     }
 
     // Takes the actor's own task off the stack.
@@ -301,7 +298,7 @@ impl Process {
         self.heap.frames().callbacks(actor).len()
     }
 
-    #[tactic(auto, using(crate::proofs::Waits::one_registered, crate::proofs::Waits::one_refused, crate::proofs::Waits::all_registered))]
+    #[tactic(auto, using(crate::proofs::Waits::all_registered))]
     // All operands wait at their cells in order: false where a stream refuses one.
     fn register_all(&mut self, actor: ActorId) -> Result<bool, Fault>
         ensures done { IfOk result (λ all. Registers (register_all actor.0
@@ -334,7 +331,7 @@ impl Process {
         Ok(())
     }
 
-    #[tactic(auto, using(crate::proofs::Waits::wait_takes, crate::proofs::Waits::wait_refused, crate::proofs::Waits::wait_suspended))]
+    #[tactic(auto, using(crate::proofs::Waits::wait_takes, crate::proofs::Waits::wait_refused))]
     /// All operands are kept. The first that is ready is taken. Otherwise the actor waits for all of them, and its locals
     /// are dropped; where a stream refuses, that is thrown.
     pub(crate) fn wait(&mut self, stand: &Stand<'_>, group: u32) -> Result<(), Fault>

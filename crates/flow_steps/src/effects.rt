@@ -140,7 +140,6 @@ impl Process {
         Ok(cell)
     }
 
-    #[tactic(auto, using(crate::proofs::Evaluating::value_given, crate::proofs::Evaluating::values_break))]
     /// An effect of an actor.
     pub(crate) fn effect<'a>(
         &mut self,
@@ -255,7 +254,6 @@ impl Process {
         Ok(filled)
     }
 
-    #[tactic(auto, using(crate::proofs::Acts::enrols_by))]
     /// An actor of the class at a place is made, with these arguments: its result, its number and its frame.
     pub(crate) fn enrol(
         &mut self,

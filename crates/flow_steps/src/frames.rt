@@ -311,7 +311,6 @@ impl Process {
         self.put_part(code.fields(), actor, aim, value)
     }
 
-    #[tactic(auto, using(crate::proofs::Framing::one_emptied, crate::proofs::Framing::one_taken))]
     /// The values with references that leave these places, each emptied as it is read.
     pub(crate) fn taken(&mut self, actor: ActorId, places: &[u32]) -> Result<Vec<Value>, Fault>
         ensures taken { IfOk result (λ vs. vs.items

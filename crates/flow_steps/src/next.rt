@@ -134,7 +134,6 @@ impl Process {
         }
     }
 
-    #[tactic(auto, using(crate::proofs::Sights::same_sight))]
     // What an actor sees while it evaluates.
     fn sight<'a>(
         &'a self,
@@ -168,7 +167,6 @@ impl Process {
         Ok(Pace::Off)
     }
 
-    #[tactic(auto, using(crate::proofs::Sights::value_seen))]
     /// The value of an expression for an actor.
     pub(crate) fn value(
         &mut self,
@@ -192,7 +190,6 @@ impl Process {
         value
     }
 
-    #[tactic(auto, using(crate::proofs::Sights::truth_seen))]
     /// The truth value of an expression for an actor.
     pub(crate) fn truth(
         &mut self,
@@ -216,7 +213,6 @@ impl Process {
         value
     }
 
-    #[tactic(auto, using(crate::proofs::Sights::values_seen))]
     /// The values of arguments for an actor.
     pub(crate) fn values(
         &mut self,
@@ -276,7 +272,7 @@ impl Process {
         }
     }
 
-    #[tactic(auto, using(crate::proofs::Stepped::steps_by, crate::proofs::Going::step_behind))]
+    #[tactic(auto, using(crate::proofs::Going::step_behind))]
     // An actor takes its next step, by its instruction.
     fn take_step<'a>(&mut self, code: &Code, stand: &Stand<'a>) -> Result<Pace<'a>, Fault>
         ensures done { IfOk result (λ pace. StepsOn code.now stand.now self.old pace self.new) }
@@ -356,7 +352,6 @@ impl Process {
         Ok(Pace::Off)
     }
 
-    #[tactic(auto, using(crate::proofs::Evaluating::value_given, crate::proofs::Evaluating::value_breaks))]
     // An assignment: the value is put in place, what stood there is dropped, and the next instruction follows.
     fn set_aim<'a>(
         &mut self,
@@ -378,7 +373,6 @@ impl Process {
         }
     }
 
-    #[tactic(auto, using(crate::proofs::Stepped::set_by))]
     // That, with the value known.
     fn set_value<'a>(
         &mut self,
@@ -396,7 +390,6 @@ impl Process {
         self.on_after(stand.next()?, old)
     }
 
-    #[tactic(auto, using(crate::proofs::Stepped::new_by))]
     // A new cell for a place of a promise's type.
     fn new_promise<'a>(
         &mut self,
@@ -407,13 +400,13 @@ impl Process {
         ensures done { IfOk result (λ pace. IsNew stand.now place kind self.old pace self.new) }
         ensures astray { OnAstray result (NoPlace stand.now.actor.0 place self.old.heap) }
     {
+        let next = stand.next()?;
         let cell = self.new_cell(kind)?;
         self.hold(kind, cell)?;
         let old = self.put(stand.actor, place, Some(Value::Ref(kind, cell)))?;
-        self.on_after(stand.next()?, old)
+        self.on_after(next, old)
     }
 
-    #[tactic(auto, using(crate::proofs::Evaluating::value_given, crate::proofs::Evaluating::values_break))]
     // A call statement without a base: a predefined one, or a function of the program, whose value is forgotten.
     fn act<'a>(
         &mut self,
@@ -457,7 +450,7 @@ impl Process {
         }
     }
 
-    #[tactic(auto, using(crate::proofs::Evaluating::value_given, crate::proofs::Evaluating::value_breaks, crate::proofs::Going::more_strays))]
+    #[tactic(auto, using(crate::proofs::Going::more_strays))]
     // A method of the reference at which an actor aims.
     fn method<'a>(
         &mut self,
@@ -519,7 +512,6 @@ impl Process {
         }
     }
 
-    #[tactic(auto, using(crate::proofs::Evaluating::function_done, crate::proofs::Evaluating::value_breaks))]
     fn call_function<'a>(
         &mut self,
         code: &Code,
@@ -560,7 +552,6 @@ impl Process {
         value
     }
 
-    #[tactic(auto, using(crate::proofs::Stepped::goes_at))]
     fn last<'a>(&mut self, code: &Code, stand: &Stand<'a>, last: &Last) -> Result<Pace<'a>, Fault>
         ensures done { IfOk result (λ pace. Ends code.now stand.now last.now self.old pace
             self.new) }
@@ -591,7 +582,6 @@ impl Process {
         Ok(Pace::Off)
     }
 
-    #[tactic(auto, using(crate::proofs::Evaluating::value_given, crate::proofs::Evaluating::value_breaks))]
     // The error that an expression gives is thrown.
     fn throw_value<'a>(
         &mut self,
@@ -627,7 +617,6 @@ impl Process {
         }
     }
 
-    #[tactic(auto, using(crate::proofs::Evaluating::test_done, crate::proofs::Stepped::goes_at, crate::proofs::Evaluating::truth_breaks))]
     fn test<'a>(
         &mut self,
         code: &Code,
@@ -650,7 +639,6 @@ impl Process {
         }
     }
 
-    #[tactic(auto, using(crate::proofs::Stepped::operand_asked, crate::proofs::Stepped::operands_kept))]
     // The next operand of a wait is asked for; when all are kept, the actor waits.
     fn choose<'a>(&mut self, code: &Code, stand: &Stand<'a>, number: u32) -> Result<Pace<'a>, Fault>
         ensures done { IfOk result (λ pace. IsChoose code.now stand.now number self.old pace
@@ -691,7 +679,6 @@ impl Process {
         }
     }
 
-    #[tactic(auto, using(crate::proofs::Evaluating::value_given, crate::proofs::Evaluating::value_breaks))]
     // An operand that is the value of an expression.
     fn value_operand<'a>(
         &mut self,
@@ -731,7 +718,6 @@ impl Process {
         self.keep_operand(stand, Held { callback, cell })
     }
 
-    #[tactic(auto, using(crate::proofs::Evaluating::value_given, crate::proofs::Evaluating::value_breaks))]
     // The actor ends with a value; everything leaves its variables.
     fn finish_with<'a>(
         &mut self,

@@ -124,7 +124,6 @@ impl Process {
         }
     }
 
-    #[tactic(auto, using(crate::proofs::Done::value_given))]
     // The value goes to the branch that was taken, and the actor goes on there.
     fn give_value(
         &mut self,
@@ -141,8 +140,7 @@ impl Process {
         let branch = branch_at(&stand, branch)?;
         let old = self.bind(actor, branch, value)?;
         let pace = self.on_after(stand.at(branch.block, 0)?, old)?;
-        self.go_from(code, pace)?;
-        Ok(())
+        self.go_from(code, pace)
     }
 
     // The value of a branch goes into its place. Gives what is to be dropped: what the place held, or the value where there is
@@ -165,7 +163,6 @@ impl Process {
         }
     }
 
-    #[tactic(auto, using(crate::proofs::Done::stored_by))]
     // The result of an effect goes into the place of the instruction.
     fn store(&mut self, code: &Code, actor: ActorId, value: Value) -> Result<(), Fault>
         ensures done { OnOk result (Stored code.now actor value self.old self.new) }
@@ -194,7 +191,6 @@ impl Process {
         Ok(())
     }
 
-    #[tactic(auto, using(crate::proofs::Done::raised_by))]
     // The line; then the operands that are kept are dropped in order, and the values that leave the variables; then the
     // handler begins, or the actor ends.
     fn raise(&mut self, code: &Code, actor: ActorId, error: ErrorCode) -> Result<(), Fault>
@@ -303,7 +299,7 @@ impl Process {
         self.heap.streams().waiter(cell)
     }
 
-    #[tactic(auto, using(crate::proofs::Done::fires_by, crate::proofs::TasksAmiss::nothing_to_fire, crate::proofs::TasksAmiss::fires_amiss_by))]
+    #[tactic(auto, using(crate::proofs::Done::fires_by, crate::proofs::TasksAmiss::nothing_to_fire))]
     // The oldest waiter takes its branch, and the fire goes on after it. It ends, without a turn, where no waiter is left
     // or, on a stream, neither element nor end.
     fn fire(&mut self, code: &Code, cell: CellId) -> Result<(), Fault>
@@ -332,7 +328,6 @@ impl Process {
         self.take(&stand, branch, cell)
     }
 
-    #[tactic(auto, using(crate::proofs::Holding::closed_by))]
     // The actor is gone: a turn and the line; then its result is set, where a future refers to it, and otherwise the cell
     // goes and the value is dropped.
     fn close(&mut self, actor: ActorId, outcome: Outcome) -> Result<(), Fault>
@@ -341,10 +336,10 @@ impl Process {
         ensures astray { OnAstray result (ClosesAmiss actor.0 self.old.heap) }
     {
         let cell = self.forget(actor)?;
-        self.close_result(actor, cell, outcome)?;
-        Ok(())
+        self.close_result(actor, cell, outcome)
     }
 
+    #[tactic(auto, using(crate::proofs::Done::closing_by))]
     // A turn and the line of an actor's end, and its outcome goes to its result.
     fn close_result(
         &mut self,
@@ -359,9 +354,9 @@ impl Process {
             return Ok(());
         }
         let line = end_line(actor, &outcome);
-        self.end_with(cell, outcome)?;
+        let ended = self.end_with(cell, outcome);
         self.tell(line);
-        Ok(())
+        ended
     }
 
     // The outcome of an actor goes to its result, where it has one that a future refers to; otherwise it is dropped.

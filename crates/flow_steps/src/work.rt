@@ -47,7 +47,7 @@ impl Process {
         ensures done { OnOk result (self.new ≡ doing (Throw actor error) self.old) }
         ensures astray { OnAstray result ⊥ }
     {
-        Ok(self.heap.push(Task::Throw(actor, error))?)
+        self.push(Task::Throw(actor, error))
     }
 
     /// An actor takes its next step after all that comes on top.
@@ -55,7 +55,7 @@ impl Process {
         ensures done { OnOk result (self.new ≡ doing (Run actor) self.old) }
         ensures astray { OnAstray result ⊥ }
     {
-        Ok(self.heap.push(Task::Run(actor))?)
+        self.push(Task::Run(actor))
     }
 
     #[tactic(auto, using(crate::proofs::Holding::cell_counted))]
@@ -101,7 +101,7 @@ impl Process {
         }
     }
 
-    #[tactic(auto, using(crate::proofs::Holding::fields_step, crate::proofs::Holding::fields_end))]
+    #[tactic(auto, using(crate::proofs::Holding::fields_end))]
     /// A value is stored: its references count.
     pub(crate) fn hold_value(&mut self, value: &Value) -> Result<(), Fault>
         ensures done { OnOk result (self.new ≡ on_heap (hold_all (value_refs value.now)) self.old) }
@@ -263,7 +263,6 @@ impl Process {
         }
     }
 
-    #[tactic(auto, using(crate::proofs::Holding::given_all))]
     /// The result of an effect goes where it belongs, and the actor goes on after that.
     pub fn gives(&mut self, actor: ActorId, goal: Goal, value: Value) -> Result<(), Fault>
         ensures done { OnOk result (Gives goal actor value self.old self.new) }
@@ -273,8 +272,7 @@ impl Process {
         self.hold_value(&value)?;
         self.run_on(actor)?;
         let task = self.giving(actor, goal, value)?;
-        self.push(task)?;
-        Ok(())
+        self.push(task)
     }
 
     /// A reference counts no more, and what that leads to is done.

@@ -1,7 +1,13 @@
 use Rattle.std.proofs.Common.{rules}
+use Rattle.std.proofs.lemmas.Result.{on_ok_weaker}
 use Rattle.flow_steps.specs.AmissTasks.{KeptAmiss, not_next, its_next, nowhere, standing, keeps_amiss, goes_after}
-use Rattle.flow_steps.proofs.Holding.{strays_weaker}
+use Rattle.flow_steps.proofs.Holding.{strays_weaker, astray_weaker}
+use Rattle.flow_steps.proofs.Done.{kept_by}
 use Rattle.flow_steps.proofs.process.Process.keep.Goals as goal
+
+pub returns-clause-done : goal.returns-clause-done
+returns-clause-done c =
+    on_ok_weaker c.go_from.result (kept_by _ _ _ _ _ _ _ _ _ c.in_ok-pop_run.ensures.done c.in_ok-stand.ensures.done c.in_ok-pace.ensures.done) c.go_from.ensures.done
 
 pub returns-in_err-pop_run-clause-astray : goal.returns-in_err-pop_run-clause-astray
 returns-in_err-pop_run-clause-astray c =
@@ -22,10 +28,9 @@ returns-in_err-pace-clause-astray c =
     c.in_err-pace.ensures.astray in
     search (rules, h)
 
-pub returns-in_err-go_from-clause-astray : goal.returns-in_err-go_from-clause-astray
-returns-in_err-go_from-clause-astray c =
-    let h = strays_weaker c.in_err-go_from.field-0.0 _ (KeptAmiss c.args.code.now c.args.actor c.args.held c.args.self.now)
+pub returns-clause-astray : goal.returns-clause-astray
+returns-clause-astray c =
+    astray_weaker c.go_from.result _ _
     (λ m. its_next c.pop_run.new.self c.in_ok-pop_run.ensures.done
     (standing c.in_ok-stand.stand c.in_ok-stand.ensures.done (goes_after c.in_ok-pace.pace c.keep_operand.new.self c.in_ok-pace.ensures.done m)))
-    c.in_err-go_from.ensures.astray in
-    search (rules, h)
+    c.go_from.ensures.astray

@@ -4,7 +4,13 @@ use Rattle.flow_steps.specs.declared.frames.Stand.{Stand}
 use Rattle.flow_steps.specs.Straying.{OnAstray, FrameMissing, NoPlace}
 use Rattle.flow_steps.proofs.Going.{new_holds, new_puts, new_after}
 use Rattle.flow_steps.proofs.Holding.{strays_weaker, astray_weaker}
+use Rattle.flow_steps.proofs.Stepped.{new_by}
 use Rattle.flow_steps.proofs.process.Process.new_promise.Goals as goal
+
+pub returns-clause-done : goal.returns-clause-done
+returns-clause-done c =
+    new_by _ _ _ _ _ c.in_ok-old.old _ _ _ _ _ _ c.in_ok-cell.ensures.number c.in_ok-cell.ensures.made c.in_ok-hold.ensures.done c.in_ok-old.ensures.changed
+    c.in_ok-old.ensures.held c.in_ok-next.ensures.done c.on_after.ensures.done
 
 pub returns-in_err-hold-clause-astray : goal.returns-in_err-hold-clause-astray
 returns-in_err-hold-clause-astray c =

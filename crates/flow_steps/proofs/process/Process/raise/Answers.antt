@@ -1,7 +1,11 @@
 use Rattle.std.proofs.Common.{rules}
 use Rattle.flow_steps.specs.AmissTasks.{RaisedAmiss, nowhere, standing}
 use Rattle.flow_steps.proofs.Holding.{strays_weaker}
+use Rattle.flow_steps.proofs.Done.{raised_by}
 use Rattle.flow_steps.proofs.process.Process.raise.Goals as goal
+
+pub returns-clause-done : goal.returns-clause-done
+returns-clause-done c = raised_by _ _ _ _ _ _ _ c.in_ok-stand.ensures.done c.in_ok-leave_by.ensures.done c.tell.ensures
 
 pub returns-in_err-stand-clause-astray : goal.returns-in_err-stand-clause-astray
 returns-in_err-stand-clause-astray c =

@@ -4,7 +4,12 @@ use Rattle.flow_steps.specs.Straying.{OnAstray, FrameMissing}
 use Rattle.flow_steps.specs.AmissSteps.{SetAmiss}
 use Rattle.flow_steps.proofs.Going.{set_aims, set_after}
 use Rattle.flow_steps.proofs.Holding.{strays_weaker, astray_weaker}
+use Rattle.flow_steps.proofs.Stepped.{set_by}
 use Rattle.flow_steps.proofs.process.Process.set_value.Goals as goal
+
+pub returns-clause-done : goal.returns-clause-done
+returns-clause-done c =
+    set_by _ _ _ _ _ c.in_ok-old.old _ _ _ _ _ c.in_ok-hold_value.ensures.done c.in_ok-old.ensures.done c.in_ok-next.ensures.done c.on_after.ensures.done
 
 pub returns-in_err-old-clause-astray : goal.returns-in_err-old-clause-astray
 returns-in_err-old-clause-astray c =

@@ -2,7 +2,13 @@ use Rattle.std.proofs.Common.{rules, sym}
 use Rattle.flow_steps.specs.AmissTasks.{StoredAmiss, nowhere, standing, no_instruction, no_effect_at, aims_nowhere}
 use Rattle.flow_steps.proofs.Holding.{strays_weaker}
 use Rattle.flow_steps.proofs.TasksAmiss.{stored_nowhere}
+use Rattle.flow_steps.proofs.Done.{stored_by}
 use Rattle.flow_steps.proofs.process.Process.store.Goals as goal
+
+pub returns-clause-done : goal.returns-clause-done
+returns-clause-done c =
+    stored_by _ _ _ _ _ _ _ _ _ _ _ c.in_ok-stand.ensures.done c.in-Some.ensures c.in_ok-aim.ensures.done c.in_ok-old.ensures.done c.in_ok-drop_old.ensures.done
+    c.in_ok-go_on.ensures.done
 
 pub returns-in_err-stand-clause-astray : goal.returns-in_err-stand-clause-astray
 returns-in_err-stand-clause-astray c =
