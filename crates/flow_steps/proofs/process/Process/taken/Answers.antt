@@ -1,9 +1,11 @@
-use Rattle.std.proofs.Common.{rules, ◌+◌, ◌++◌, get_or, ap, ◌∙◌}
+use Rattle.std.proofs.Common.{rules, ◌≤◌, ◌+◌, ◌++◌, length, get_or, ap, sym, ◌∙◌, arith}
+use Rattle.std.proofs.lemmas.List.{append-nil, drop_all}
 use Rattle.std.specs.declared.option.Option.{Option}
 use Rattle.std.specs.declared.option.Option.TheVariants.{None}
 use Rattle.flow_value.specs.declared.value.Value.{Value}
+use Rattle.flow_cancel.specs.Heap.{HeapTree}
 use Rattle.flow_steps.specs.declared.process.Process.{Process}
-use Rattle.flow_steps.specs.Standing.{place_held, place_put, referring}
+use Rattle.flow_steps.specs.Standing.{place_held, place_put, places_taken, places_emptied, referring}
 use Rattle.flow_steps.proofs.Framing.{emptied_after, taken_after, one_emptied, one_taken}
 use Rattle.flow_steps.proofs.Holding.{strays_weaker, kept_but_heap}
 use Rattle.flow_steps.proofs.Before.{place_missing, missing_place_step}
@@ -35,3 +37,20 @@ returns-in_err-old-clause-astray c =
     (place_missing c.args.actor.0 c.args.places.now c.loop-place.place-index 0 c.loop-place.self.heap _ c.loop-place-test.true c.loop-place.invariant.3)
     c.in_err-old.ensures.astray in
     search (rules, h)
+
+pub returns-clause-taken : goal.returns-clause-taken
+returns-clause-taken c =
+    let ns = c.args.places.now in
+    let k = c.loop-place.place-index in
+    let vs = c.loop-place.values.items in
+    let done : length ns ≤ k = omega (arith, c.loop-place-test.false) in
+    sym (append-nil vs) ∙ ap (λ l. vs ++ places_taken c.args.actor.0 l c.loop-place.self.heap) (sym (drop_all k ns done)) ∙ c.loop-place.invariant.2
+
+pub returns-clause-emptied : goal.returns-clause-emptied
+returns-clause-emptied c =
+    let ns = c.args.places.now in
+    let k = c.loop-place.place-index in
+    let done : length ns ≤ k = omega (arith, c.loop-place-test.false) in
+    c.loop-place.invariant.0
+    ∙ ap (λ (h : HeapTree). record c.args.self.now { heap = h })
+    (ap (λ l. places_emptied c.args.actor.0 l c.loop-place.self.heap) (sym (drop_all k ns done)) ∙ c.loop-place.invariant.1)
