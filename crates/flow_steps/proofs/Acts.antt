@@ -1,5 +1,6 @@
 -- Effects, actors that are called, and call statements.
 use Rattle.std.proofs.Common.{◌≡◌, ℕ, ℤ, true, false, nat_lt, List, [], ◌∷◌, ◌++◌, length, map, set, slice_get, refl, ap, sym, subst, ◌∙◌, Result, OnOk}
+use Rattle.std.proofs.lemmas.Option.{same_Some}
 use Rattle.std.proofs.lemmas.Result.{IfOk-weaker}
 use Rattle.std.specs.declared.option.Option.{Option}
 use Rattle.std.specs.declared.option.Option.TheVariants.{Some}
@@ -102,6 +103,12 @@ told_by code class of i name p q at n e = record { of = of; at = sym at; told = 
 pub printed_by : (i : ActorId) (args : List ValueTree) (l : Line) (p one q : Process) → print_line i.0 (arg args 0) ≡ Some l
     → one ≡ doing (task.Run i) p → q ≡ telling l one → Printed i args p q
 printed_by i args l p one q e f g = record { line = l; prints = e; told = g ∙ ap (telling l) f }
+
+pub first_printed : (i : ActorId) (vs : List Value) (v : Value) (l : Line) (p one q : Process) → Some v ≡ slice_get vs 0 → print_line i.0 (value_of v) ≡ Some l
+    → one ≡ doing (task.Run i) p → q ≡ telling l one → Printed i (map value_of vs) p q
+first_printed i [] v l p one q at e f g = cc (at)
+first_printed i (u ∷ us) v l p one q at e f g =
+    printed_by i (map value_of (u ∷ us)) l p one q (ap (λ x. print_line i.0 (value_of x)) (sym (same_Some v u at)) ∙ e) f g
 
 pub message_by : (i : ActorId) (args : List ValueTree) (c : Call) (p q : Process) → IsMessage i args c → q ≡ asking c p → MessageAsked i args p q
 message_by i args c p q m e = record { message = c; is_message = m; asks = e }

@@ -72,7 +72,7 @@ fn send_to(alloc: Global, actor: ActorId, args: Vec<Value>) -> Result<Call, Faul
 }
 
 impl Process {
-    #[tactic(auto, using(crate::proofs::Acts::printed_by, crate::proofs::Amiss::nothing_printed))]
+    #[tactic(auto, using(crate::proofs::Amiss::nothing_printed))]
     // A value is printed.
     fn print(&mut self, actor: ActorId, args: Vec<Value>) -> Result<(), Fault>
         ensures done { OnOk result (Printed actor (args_of args) self.old self.new) }
