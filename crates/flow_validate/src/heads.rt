@@ -82,16 +82,16 @@ fn slots_known(names: &Names<'_>, slots: &[Slot]) -> bool
     true
 }
 
-// What names these declarations take, and the predefined record's.
-fn names_taken<'a>(alloc: Global, decls: &'a [Decl]) -> Result<IndexSet<&'a [u8]>, NoMemory>
-    ensures { IfOk result (λ s. AreTaken (texts_of s) (map decl_of decls.now)) }
+// Takes the names of these declarations, and the predefined record's.
+fn take_names<'a>(taken: &mut IndexSet<&'a [u8]>, decls: &'a [Decl]) -> Result<(), NoMemory>
+    requires empty { texts_of taken.old ≡ [] }
+    ensures { IfOk result (λ _. AreTaken (texts_of taken.new) (map decl_of decls.now)) }
 {
-    let mut taken: IndexSet<&[u8]> = IndexSet::new(alloc);
     taken.insert(b"Packet".as_slice())?;
     for decl in decls {
         taken.insert(name_of(decl))?;
     }
-    Ok(taken)
+    Ok(())
 }
 
 // A name is not predefined, and none of those that are taken.
@@ -115,6 +115,28 @@ fn head_kept(names: &Names<'_>, taken: &IndexSet<&[u8]>, class: &Class) -> bool
     slots_known(names, &class.slots) && types_known(names, &class.locals)
 }
 
+// The place of the first class whose head doesn't stand, where names are taken one class after another.
+fn first_broken<'a>(
+    names: &Names<'_>,
+    taken: &mut IndexSet<&'a [u8]>,
+    decls: &'a [Decl],
+    classes: &'a [Class],
+) -> Result<Option<u32>, NoMemory>
+    requires empty { texts_of taken.old ≡ [] }
+    requires few { length classes.now < 2 ^ 32 }
+    ensures { IfOk result (λ o. o ≡ first_head (known_by names.now) (map decl_of decls.now) 0
+        (map class_of classes.now)) }
+{
+    take_names(taken, decls)?;
+    for (place, class) in classes.iter().enumerate() {
+        if !head_kept(names, taken, class) {
+            return Ok(Some(place as u32));
+        }
+        taken.insert(class.name.bytes())?;
+    }
+    Ok(None)
+}
+
 /// The place, from 0, of the first class whose head doesn't stand behind these declarations.
 pub fn broken_head<'a>(
     alloc: Global,
@@ -126,12 +148,6 @@ pub fn broken_head<'a>(
     ensures { IfOk result (λ o. o ≡ first_head (known_by names.now) (map decl_of decls.now) 0
         (map class_of classes.now)) }
 {
-    let mut taken = names_taken(alloc, decls)?;
-    for (place, class) in classes.iter().enumerate() {
-        if !head_kept(names, &taken, class) {
-            return Ok(Some(place as u32));
-        }
-        taken.insert(class.name.bytes())?;
-    }
-    Ok(None)
+    let mut taken: IndexSet<&[u8]> = IndexSet::new(alloc);
+    first_broken(names, &mut taken, decls, classes)
 }

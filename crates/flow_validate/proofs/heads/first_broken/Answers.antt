@@ -7,7 +7,7 @@ use Rattle.flow_class.specs.View.{class_of}
 use Rattle.flow_valid.specs.Heads.{head_of, first_head}
 use Rattle.flow_validate.proofs.Taken.{taken_more}
 use Rattle.flow_validate.proofs.FirstHead.{before, first_found, first_more, before_more}
-use Rattle.flow_validate.proofs.heads.broken_head.Goals as goal
+use Rattle.flow_validate.proofs.heads.first_broken.Goals as goal
 
 pub returns-then-not-head_kept : goal.returns-then-not-head_kept
 returns-then-not-head_kept c =

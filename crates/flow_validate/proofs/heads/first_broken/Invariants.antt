@@ -5,7 +5,7 @@ use Rattle.flow_rules.specs.WalkView.{texts_of}
 use Rattle.flow_class.specs.View.{class_of}
 use Rattle.flow_valid.specs.Heads.{head_of, first_head}
 use Rattle.flow_validate.specs.Apart.{AreTaken}
-use Rattle.flow_validate.proofs.heads.broken_head.Given as goal
+use Rattle.flow_validate.proofs.heads.first_broken.Given as goal
 
 abbrev pub invariant-loop-place : goal.invariant-loop-place
 invariant-loop-place l = record {

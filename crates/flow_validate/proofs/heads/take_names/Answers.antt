@@ -1,5 +1,5 @@
 use Rattle.flow_validate.proofs.Taken.{taken_step}
-use Rattle.flow_validate.proofs.heads.names_taken.Goals as goal
+use Rattle.flow_validate.proofs.heads.take_names.Goals as goal
 
 pub loop-decl-preserved : goal.loop-decl-preserved
 loop-decl-preserved c =
