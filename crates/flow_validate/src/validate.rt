@@ -10,7 +10,7 @@ ghost use Rattle.flow_valid.specs.Heads.{plain_decls};
 ghost use Rattle.flow_validate.specs.Sizes.{HasFewPlaces, AreFew};
 ghost use Rattle.flow_validate.specs.PlaceNames.{AreEnough, AreEnoughFor};
 ghost use Rattle.flow_valid.specs.Named.{names_exist};
-ghost use Rattle.flow_valid.specs.Validity.{IsValid, broken_rule};
+ghost use Rattle.flow_valid.specs.Validity.{IsValid, broken_rule, types_fit};
 ghost use Rattle.flow_validate.specs.Gathered.{AreParts, IsReady};
 ghost use Rattle.flow_validate.specs.Verdicts.{ClassTold, Told, Sees, AreHeadsKept, AreSoundClasses};
 
@@ -29,6 +29,27 @@ use flow_rules::program::is_main;
 use flow_tree::decl::{Decl, Param};
 use flow_valid::program::ClassProgram;
 use std::alloc::Global;
+
+// Whether the types of a class fit, where its places are variables by their names.
+fn is_typed<'a>(
+    alloc: Global,
+    names: &Names<'a>,
+    places: &'a PlaceNames,
+    class: &'a Class,
+) -> Result<bool, NoMemory>
+    requires few { HasFewPlaces (class_of class.now) }
+    requires places { AreEnough places.now.slots.items places.now.locals.items
+        (class_of class.now) }
+    ensures { (r : RawTree) → Sees r names.now
+        → IfOk result (λ b. b ≡ types_fit r (class_of class.now)) }
+{
+    let setting = Setting {
+        names,
+        vars: variables(alloc, places, class)?,
+        plain: false,
+    };
+    Ok(types_fit(class, &setting))
+}
 
 // The first of the rules V3 to V7 that a class breaks.
 fn broken_rule<'a>(
@@ -56,12 +77,7 @@ fn broken_rule<'a>(
     if !catchers_kept(alloc, class)? {
         return Ok(Some(6));
     }
-    let setting = Setting {
-        names,
-        vars: variables(alloc, places, class)?,
-        plain: false,
-    };
-    if !types_fit(class, &setting) {
+    if !is_typed(alloc, names, places, class)? {
         return Ok(Some(7));
     }
     Ok(None)
