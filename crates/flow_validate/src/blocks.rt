@@ -1,6 +1,6 @@
 // The rules V4 to V6: where blocks lead, which groups are chosen, and what a catch part names.
 
-ghost use Rattle.std.specs.Prelude.{◌≡◌, map, nat_eq, IfOk};
+ghost use Rattle.std.specs.Prelude.{◌≡◌, [], map, nat_eq, IfOk};
 ghost use Rattle.std.specs.List.{list_all};
 ghost use Rattle.std.specs.Option.{option_map};
 ghost use Rattle.flow_tree.specs.Tree.{ErrorType};
@@ -102,11 +102,11 @@ pub fn groups_chosen(alloc: Global, class: &Class) -> Result<bool, NoMemory>
     Ok(are_all_one(&counts))
 }
 
-// Whether no number stands twice.
-fn are_distinct(alloc: Global, numbers: &[u32]) -> Result<bool, NoMemory>
+// Whether no number stands twice: each is put among those behind it.
+fn put_distinct(behind: &mut IndexSet<u32>, numbers: &[u32]) -> Result<bool, NoMemory>
+    requires empty { behind.old.keys ≡ [] }
     ensures { IfOk result (λ b. b ≡ distinct numbers.now) }
 {
-    let mut behind: IndexSet<u32> = IndexSet::new(alloc);
     let mut at = numbers.len();
     while at > 0 {
         at -= 1;
@@ -116,6 +116,14 @@ fn are_distinct(alloc: Global, numbers: &[u32]) -> Result<bool, NoMemory>
         behind.insert(numbers[at])?;
     }
     Ok(true)
+}
+
+// Whether no number stands twice.
+fn are_distinct(alloc: Global, numbers: &[u32]) -> Result<bool, NoMemory>
+    ensures { IfOk result (λ b. b ≡ distinct numbers.now) }
+{
+    let mut behind: IndexSet<u32> = IndexSet::new(alloc);
+    put_distinct(&mut behind, numbers)
 }
 
 // The error of a catch part goes into a local for errors.

@@ -306,6 +306,22 @@ fn add_locals<'a>(vars: &mut Vars<'a>, names: &'a [Name], locals: &'a [Ty]) -> R
     Ok(())
 }
 
+// The places of a class become variables by their names.
+fn add_places<'a>(
+    vars: &mut Vars<'a>,
+    names: &'a PlaceNames,
+    class: &'a Class,
+) -> Result<(), NoMemory>
+    requires empty { vars_of vars.old ≡ [] }
+    requires few { HasFewPlaces (class_of class.now) }
+    requires enough { AreEnough names.now.slots.items names.now.locals.items (class_of class.now) }
+    ensures { IfOk result (λ _. vars_of vars.new
+        ≡ slot_rows 0 (class_of class.now).slots ++ local_rows 0 (class_of class.now).locals) }
+{
+    add_slots(vars, &names.slots, &class.slots)?;
+    add_locals(vars, &names.locals, &class.locals)
+}
+
 /// The places of a class as variables by their names.
 pub fn variables<'a>(
     alloc: Global,
@@ -319,8 +335,7 @@ pub fn variables<'a>(
 {
     let count = class.slots.len() + class.locals.len();
     let mut vars: Vars<'a> = IndexMap::with_capacity(alloc, count)?;
-    add_slots(&mut vars, &names.slots, &class.slots)?;
-    add_locals(&mut vars, &names.locals, &class.locals)?;
+    add_places(&mut vars, names, class)?;
     Ok(vars)
 }
 

@@ -1,7 +1,7 @@
 use Rattle.std.proofs.Common.{◌≡◌, ◌≤◌, ℕ, drop, nat_eq, true, length}
 use Rattle.std.specs.List.{list_any}
 use Rattle.flow_valid.specs.Validity.{distinct}
-use Rattle.flow_validate.proofs.blocks.are_distinct.Given as goal
+use Rattle.flow_validate.proofs.blocks.put_distinct.Given as goal
 
 abbrev pub invariant-loop-at : goal.invariant-loop-at
 invariant-loop-at l =

@@ -1,7 +1,7 @@
 use Rattle.std.proofs.Common.{◌≡◌, ◌<◌, ◌-◌, suc, nat_eq, drop, length, get_or, sym, ap, ◌∙◌, arith}
 use Rattle.std.specs.List.{list_any}
 use Rattle.flow_validate.proofs.Leading.{not_distinct}
-use Rattle.flow_validate.proofs.blocks.are_distinct.Goals as goal
+use Rattle.flow_validate.proofs.blocks.put_distinct.Goals as goal
 
 pub returns-then-contains : goal.returns-then-contains
 returns-then-contains c =
