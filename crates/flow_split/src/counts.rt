@@ -4,8 +4,8 @@ ghost use Rattle.std.specs.Prelude.{◌≡◌, ◌+◌, ◌<◌, ◌^◌, true, 
 ghost use Rattle.std.specs.Option.{option_map};
 ghost use Rattle.flow_tree.specs.View.{expr_of};
 ghost use Rattle.flow_tree.specs.Body.{Body, Branches, End};
-ghost use Rattle.flow_tree.specs.StmtView.{into_of, stmt_of, body_of, branch_of, branches_of, simple_of, else_of};
-ghost use Rattle.flow_split.specs.Counts.{blocks_in, locals_in, branch_blocks, branch_local_count, local_count, into_count, exit_blocks, test_blocks, begin_blocks, rest_blocks, ends_with, else_blocks, else_locals};
+ghost use Rattle.flow_tree.specs.StmtView.{into_of, stmt_of, body_of, branch_of, branches_of, simple_of};
+ghost use Rattle.flow_split.specs.Counts.{blocks_in, locals_in, branch_blocks, branch_local_count, local_count, into_count, exit_blocks, test_blocks, begin_blocks, rest_blocks, ends_with};
 
 use flow_base::memory::NoMemory;
 use flow_tree::expr::Expr;
@@ -130,6 +130,7 @@ pub fn maybe_size(into: &Option<Into>) -> u32
 
 /// The blocks that statements take beyond the one in which they begin, and their locals. `tried` says
 /// whether a try body is between them and their loop.
+#[tactic(auto, using(crate::proofs::Weights::stmt_below))]
 #[cycle(size)]
 pub fn body_size(tried: bool, body: &[Stmt]) -> Result<Size, NoMemory>
     ensures blocks { IfOk result (λ n. n.blocks ≡ blocks_in tried (body_of body.now)) }
@@ -152,27 +153,20 @@ fn stmt_size(tried: bool, stmt: &Stmt) -> Result<Size, NoMemory>
         ≡ n.locals + locals_in k) }
 {
     match &stmt.kind {
-        StmtKind::Block(body) => Ok(body_with(tried, body, 1, 0)?),
-        StmtKind::If(_, body, otherwise) => {
-            let size = body_with(tried, body, 2, 0)?;
-            Ok(size.and(else_size(tried, otherwise)?)?)
-        }
-        StmtKind::While(_, body) => Ok(body_with(false, body, 3, 0)?),
-        StmtKind::For(init, test, step, body) => {
-            let parts = part_size(tried, init)?.and(part_size(tried, step)?)?;
-            let size = parts.and(body_with(false, body, 3, 0)?)?;
-            Ok(size.with(test_size(test), 0)?)
-        }
-        StmtKind::Loop(body) => Ok(body_with(false, body, 2, 0)?),
+        StmtKind::Block(body) => body_with(tried, body, 1, 0),
+        StmtKind::If(_, body, otherwise) => match otherwise {
+            None => body_with(tried, body, 2, 0),
+            Some(other) => if_else_size(tried, body, other),
+        },
+        StmtKind::While(_, body) => body_with(false, body, 3, 0),
+        StmtKind::For(init, test, step, body) => for_size(tried, init, test, step, body),
+        StmtKind::Loop(body) => body_with(false, body, 2, 0),
         StmtKind::Break => Ok(exit_size(tried)),
         StmtKind::Continue => Ok(exit_size(tried)),
         StmtKind::Return(_) => Ok(Size::none()),
         StmtKind::Throw(_) => Ok(Size::none()),
-        StmtKind::Try(body, _, _, handler) => {
-            let size = body_with(true, body, 3, 1)?;
-            Ok(size.and(body_size(tried, handler)?)?)
-        }
-        StmtKind::Choose(branches) => Ok(choose_size(tried, branches)?),
+        StmtKind::Try(body, _, _, handler) => try_size(tried, body, handler),
+        StmtKind::Choose(branches) => choose_size(tried, branches),
         StmtKind::Declare(into, _) => Ok(Size {
             blocks: 0,
             locals: into_size(into),
@@ -185,6 +179,55 @@ fn stmt_size(tried: bool, stmt: &Stmt) -> Result<Size, NoMemory>
             locals: maybe_size(&waiting.into),
         }),
     }
+}
+
+// An `if` with an `else`, with the blocks of its body, of that of its `else` and behind it.
+#[cycle(size)]
+fn if_else_size(tried: bool, body: &[Stmt], other: &[Stmt]) -> Result<Size, NoMemory>
+    ensures blocks { IfOk result (λ n. n.blocks
+        ≡ blocks_in tried (body_of body.now) + 3 + blocks_in tried (body_of other.now)) }
+    ensures locals { IfOk result (λ n. n.locals
+        ≡ locals_in (body_of body.now) + locals_in (body_of other.now)) }
+{
+    let size = body_with(tried, body, 3, 0)?;
+    let more = body_size(tried, other)?;
+    size.and(more)
+}
+
+// A `for`, with the blocks of its body, of its step and behind it.
+#[cycle(size)]
+fn for_size(
+    tried: bool,
+    init: &Option<Box<Stmt>>,
+    test: &Option<Expr>,
+    step: &Option<Box<Stmt>>,
+    body: &[Stmt],
+) -> Result<Size, NoMemory>
+    ensures blocks { IfOk result (λ n. n.blocks
+        ≡ blocks_in tried (simple_of init.now) + blocks_in tried (simple_of step.now)
+        + (blocks_in false (body_of body.now) + 3) + test_blocks (option_map expr_of test.now)) }
+    ensures locals { IfOk result (λ n. n.locals ≡ locals_in (simple_of init.now)
+        + locals_in (simple_of step.now) + locals_in (body_of body.now)) }
+{
+    let first = part_size(tried, init)?;
+    let last = part_size(tried, step)?;
+    let inner = body_with(false, body, 3, 0)?;
+    let parts = first.and(last)?;
+    let size = parts.and(inner)?;
+    size.with(test_size(test), 0)
+}
+
+// A `try`, with the blocks of its body, of its handler and behind it, and the local of the error.
+#[cycle(size)]
+fn try_size(tried: bool, body: &[Stmt], handler: &[Stmt]) -> Result<Size, NoMemory>
+    ensures blocks { IfOk result (λ n. n.blocks
+        ≡ blocks_in true (body_of body.now) + 3 + blocks_in tried (body_of handler.now)) }
+    ensures locals { IfOk result (λ n. n.locals
+        ≡ locals_in (body_of body.now) + 1 + locals_in (body_of handler.now)) }
+{
+    let size = body_with(true, body, 3, 1)?;
+    let other = body_size(tried, handler)?;
+    size.and(other)
 }
 
 // A body, with so many blocks and locals more.
@@ -209,6 +252,7 @@ fn choose_size(tried: bool, branches: &[When]) -> Result<Size, NoMemory>
 }
 
 /// The blocks and locals of the branches of a `choose`.
+#[tactic(auto, using(crate::proofs::Weights::branch_below))]
 #[cycle(size)]
 pub fn branches_size(tried: bool, branches: &[When]) -> Result<Size, NoMemory>
     ensures blocks { IfOk result (λ n. n.blocks ≡ branch_blocks tried (branches_of branches.now)) }
@@ -231,18 +275,6 @@ pub fn branch_size(tried: bool, branch: &When) -> Result<Size, NoMemory>
 {
     let size = body_size(tried, &branch.body)?;
     size.with(1, maybe_size(&branch.waiting.into))
-}
-
-// The body of an `else`, with the block in which it begins.
-#[cycle(size)]
-fn else_size(tried: bool, otherwise: &Option<Vec<Stmt>>) -> Result<Size, NoMemory>
-    ensures blocks { IfOk result (λ n. n.blocks ≡ else_blocks tried (else_of otherwise.now)) }
-    ensures locals { IfOk result (λ n. n.locals ≡ else_locals (else_of otherwise.now)) }
-{
-    match otherwise {
-        None => Ok(Size::none()),
-        Some(body) => body_size(tried, body)?.with(1, 0),
-    }
 }
 
 /// The blocks and locals of a part of a `for`.
