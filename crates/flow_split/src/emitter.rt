@@ -188,12 +188,19 @@ impl Emitter {
         }
     }
 
-    /// The block at hand ends so.
-    pub fn close(&mut self, around: &Around, last: Last) -> Result<(), NoMemory>
-        ensures { OnOk result (emitted self.new
-            ≡ closed (around_of around.now) (last_of last) (emitted self.old)) }
+    // The block at hand ends so, with this catch part.
+    fn push_block(&mut self, catcher: Option<Catcher>, last: Last) -> Result<(), NoMemory>
+        ensures { OnOk result (emitted self.new ≡ record (emitted self.old) {
+          blocks = (emitted self.old).blocks ++ record {
+            catcher = option_map catcher_of catcher;
+            body = (emitted self.old).body;
+            last = last_of last;
+          } ∷ [];
+          is_open = false;
+          acts = false;
+          body = [];
+        }) }
     {
-        let catcher = self.caught(around)?;
         let body = std::mem::replace(&mut self.body, Vec::new(self.alloc));
         self.blocks.push(Block {
             catcher,
@@ -203,6 +210,21 @@ impl Emitter {
         self.is_open = false;
         self.acts = false;
         Ok(())
+    }
+
+    /// The block at hand ends so.
+    pub fn close(&mut self, around: &Around, last: Last) -> Result<(), NoMemory>
+        ensures { OnOk result (emitted self.new
+            ≡ closed (around_of around.now) (last_of last) (emitted self.old)) }
+    {
+        match self.caught(around) {
+            Ok(catcher) => self.push_block(catcher, last),
+            Err(error) => {
+                // By a call: else the drop is written out here, form by form.
+                drop(last);
+                Err(error)
+            }
+        }
     }
 
     /// The block at hand ends with a statement.
