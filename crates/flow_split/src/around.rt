@@ -43,7 +43,7 @@ pub struct Looped {
 
 /// What is around a body: its exit; the handler of its errors and the number of scopes within that
 /// try body; its loop; and the variable of the catch around.
-#[derive(Clone, Copy)]
+#[derive(Drop)]
 pub struct Around<'a> {
     pub exit: Exit,
     pub handler: Option<Handler>,

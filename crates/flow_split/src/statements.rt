@@ -6,7 +6,7 @@ ghost use Rattle.flow_base.specs.declared.place.Place.{Place};
 ghost use Rattle.flow_tree.specs.View.{expr_of};
 ghost use Rattle.flow_tree.specs.Body.{BlockStmt, IfStmt, IfElseStmt, WhileStmt, ForStmt, LoopStmt, TryStmt, ChooseStmt, WaitStmt};
 ghost use Rattle.flow_tree.specs.StmtView.{waiting_of, stmt_of, body_of, branches_of, branch_of, simple_of};
-ghost use Rattle.flow_class.specs.Classes.{ReturnLast, ThrowLast};
+ghost use Rattle.flow_class.specs.Classes.{ReturnLast, TestLast, ThrowLast};
 ghost use Rattle.std.specs.declared.option.Option.TheVariants.{None};
 ghost use Rattle.flow_class.specs.Scopes.{over};
 ghost use Rattle.flow_class.specs.View.{callback_of};
@@ -200,6 +200,24 @@ impl Emitter {
         self.close_with(around, Last::Throw(value))
     }
 
+    // A test that ends the block at hand, and where each answer goes on.
+    fn close_test(
+        &mut self,
+        context: &Context,
+        around: &Around,
+        test: &Expr,
+        main: u32,
+        other: u32,
+    ) -> Result<(), NoMemory>
+        ensures { OnOk result (emitted self.new
+            ≡ closed (around_of around.now)
+            (TestLast (over (slots_in context.now) self.old.scopes (expr_of test.now)) main other)
+            (acted [] (emitted self.old))) }
+    {
+        let test = context.over(&self.scopes, test)?;
+        self.close_with(around, Last::Test(test, main, other))
+    }
+
     // A body as a scope of its own, in the block at hand.
     #[cycle(lower)]
     fn put_scope(
@@ -368,8 +386,7 @@ impl Emitter {
     {
         let main = self.block()?;
         let join = past_body(main, around.looped.tried, body)?;
-        let test = context.over(&self.scopes, test)?;
-        self.close_with(around, Last::Test(test, main, join))?;
+        self.close_test(context, around, test, main, join)?;
         let inner = around.scope(Exit::Scope(Jump::Goto(join)))?;
         self.begin();
         self.put_scope(context, &inner, body)?;
@@ -395,8 +412,7 @@ impl Emitter {
         let main = self.block()?;
         let otherwise = past_body(main, around.looped.tried, body)?;
         let join = past_body(otherwise, around.looped.tried, other)?;
-        let test = context.over(&self.scopes, test)?;
-        self.close_with(around, Last::Test(test, main, otherwise))?;
+        self.close_test(context, around, test, main, otherwise)?;
         let inner = around.scope(Exit::Scope(Jump::Goto(join)))?;
         self.begin();
         self.put_scope(context, &inner, body)?;
@@ -447,8 +463,7 @@ impl Emitter {
         let out = past_body(main, false, body)?;
         self.close(around, Last::Pass(head))?;
         self.begin();
-        let test = context.over(&self.scopes, test)?;
-        self.close_with(around, Last::Test(test, main, out))?;
+        self.close_test(context, around, test, main, out)?;
         let inner = around.pass(1, Jump::Pass(head), out)?;
         self.begin();
         self.put_scope(context, &inner, body)?;
@@ -473,8 +488,7 @@ impl Emitter {
         match test {
             None => Ok(()),
             Some(test) => {
-                let test = context.over(&self.scopes, test)?;
-                self.close_with(around, Last::Test(test, main, out))?;
+                self.close_test(context, around, test, main, out)?;
                 self.begin();
                 Ok(())
             }

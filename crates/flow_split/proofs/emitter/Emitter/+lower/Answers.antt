@@ -1,4 +1,4 @@
-use Rattle.std.proofs.Common.{◌≡◌, arith, ap, ◌∙◌}
+use Rattle.std.proofs.Common.{◌≡◌, refl, arith, ap, ◌∙◌}
 use Rattle.std.proofs.lemmas.Result.{on_ok_weaker}
 use Rattle.flow_tree.specs.declared.stmt.StmtKind.TheVariants as kind
 use Rattle.std.specs.Option.{option_map}
@@ -33,13 +33,13 @@ put_block-returns t c at =
 pub put_if-returns : goal.put_if-returns
 put_if-returns t c at =
     if_emits _ _ _ _ _ _ _ _ _ at _ _ _ _ _ c.requires c.in_ok-main.ensures (omega (arith, c.in_ok-join.ensures, c.in_ok-main.ensures))
-    c.in_ok-test.ensures c.in_ok-close_with.ensures c.begin.ensures c.in_ok-inner.ensures c.in_ok-put_scope.ensures c.begin-2.ensures
+    refl c.in_ok-close_test.ensures c.begin.ensures c.in_ok-inner.ensures c.in_ok-put_scope.ensures c.begin-2.ensures
 
 pub put_if_else-returns : goal.put_if_else-returns
 put_if_else-returns t c at =
     if_else_emits _ _ _ _ _ _ _ _ _ _ _ at _ _ _ _ _ _ _ c.requires c.in_ok-main.ensures (omega (arith, c.in_ok-otherwise.ensures, c.in_ok-main.ensures))
     (omega (arith, c.in_ok-join.ensures, c.in_ok-otherwise.ensures, c.in_ok-main.ensures))
-    c.in_ok-test.ensures c.in_ok-close_with.ensures c.begin.ensures c.in_ok-inner.ensures c.in_ok-put_scope.ensures c.begin-2.ensures c.in_ok-put_scope-2.ensures c.begin-3.ensures
+    refl c.in_ok-close_test.ensures c.begin.ensures c.in_ok-inner.ensures c.in_ok-put_scope.ensures c.begin-2.ensures c.in_ok-put_scope-2.ensures c.begin-3.ensures
 
 pub put_loop-returns : goal.put_loop-returns
 put_loop-returns t c at =
@@ -50,7 +50,7 @@ pub put_while-returns : goal.put_while-returns
 put_while-returns t c at =
     while_emits _ _ _ _ _ _ _ _ _ _ _ at _ _ _ _ _ _ c.requires c.in_ok-head.ensures (omega (arith, c.in_ok-main.ensures, c.in_ok-head.ensures))
     (omega (arith, c.in_ok-out.ensures, c.in_ok-main.ensures, c.in_ok-head.ensures))
-    (c.in_ok-test.ensures ∙ ap (λ d. over (slots_in c.args.context.now) d.scopes (expr_of c.args.test.now)) (c.begin.ensures ∙ ap opened c.in_ok-close.ensures)) c.in_ok-close.ensures c.begin.ensures c.in_ok-close_with.ensures c.begin-2.ensures c.in_ok-inner.ensures c.in_ok-put_scope.ensures c.begin-3.ensures
+    (ap (λ d. over (slots_in c.args.context.now) d.scopes (expr_of c.args.test.now)) (c.begin.ensures ∙ ap opened c.in_ok-close.ensures)) c.in_ok-close.ensures c.begin.ensures c.in_ok-close_test.ensures c.begin-2.ensures c.in_ok-inner.ensures c.in_ok-put_scope.ensures c.begin-3.ensures
 
 pub put_try-returns : goal.put_try-returns
 put_try-returns t c at catch =
