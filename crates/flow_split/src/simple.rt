@@ -9,6 +9,7 @@ ghost use Rattle.flow_class.specs.Classes.{ActInstr};
 ghost use Rattle.flow_class.specs.View.{instr_of};
 ghost use Rattle.flow_class.specs.Scopes.{ident_over, over, over_all, path_over, act_over};
 ghost use Rattle.flow_meaning.specs.Items.{change, path_from};
+ghost use Rattle.flow_choose.specs.Places.{ident_at};
 ghost use Rattle.flow_split.specs.Contexts.{names_in, slots_in};
 ghost use Rattle.flow_split.specs.Lowered.{first_value, new_at, first_at, assigned, changed, declares, change_over};
 ghost use Rattle.flow_split.specs.Emitting.{emitted, acted, declaring};
@@ -51,6 +52,14 @@ fn single(alloc: Global, name: Ident) -> Result<Target, NoMemory>
     let mut path = Vec::new(alloc);
     path.push(name)?;
     Ok(Target { path })
+}
+
+// The path of a variable in this place.
+fn target_at(alloc: Global, place: Option<Slotted>, name: &Ident) -> Result<Target, NoMemory>
+    ensures { IfOk result (λ t. t.path.items ≡ ident_at place name.now ∷ []) }
+{
+    let name = var_ident(alloc, place, name)?;
+    single(alloc, name)
 }
 
 // A field of a value.
@@ -151,11 +160,14 @@ impl Emitter {
             (emitted self.old)) }
     {
         match first_value(self.alloc, &into.ty)? {
-            Some(value) => {
-                let name = var_ident(self.alloc, place, &into.name)?;
-                let target = single(self.alloc, name)?;
-                self.act(Instr::Set(target, value))
-            }
+            Some(value) => match target_at(self.alloc, place, &into.name) {
+                Ok(target) => self.act(Instr::Set(target, value)),
+                Err(error) => {
+                    // By a call: else the drop is written out here, form by form.
+                    drop(value);
+                    Err(error)
+                }
+            },
             None => self.put_new(place),
         }
     }
