@@ -153,12 +153,3 @@ begin_blocks false = 1
 abbrev pub rest_blocks : (goes_on : Bool) → (tried : Bool) → Body → ℕ
 rest_blocks true t k = blocks_in t k
 rest_blocks false t k = behind k (blocks_in t k)
-
--- the blocks and locals of the body of an `else`, with the block in which it begins
-abbrev pub else_blocks : (tried : Bool) → Option Body → ℕ
-else_blocks t None = 0
-else_blocks t (Some b) = suc (blocks_in t b)
-
-abbrev pub else_locals : Option Body → ℕ
-else_locals None = 0
-else_locals (Some b) = locals_in b
