@@ -32,7 +32,7 @@ fn tokens(alloc: Global, text: &str) -> Result<Tokens, SourceFault> {
     Ok(tokens)
 }
 
-// What tokens are read as.
+/// What tokens are read as.
 pub trait Tree: Sized {
     // The tree of the greatest depth with which tokens begin, and up to which token it goes.
     fn parsed(alloc: Global, tokens: &Tokens, depth: u32) -> Result<(Self, usize), SourceFault>;
@@ -112,7 +112,7 @@ fn end<T: Tree + Drop>(alloc: Global, text: &str, depth: u32) -> Result<usize, S
     end_of::<T>(alloc, &tokens, depth)
 }
 
-// Whether a text at this depth is read up to this token.
+/// Whether a text at this depth is read up to this token.
 pub fn accepts<T: Tree + Drop>(alloc: Global, text: &str, depth: u32, to: usize) -> bool {
     matches!(end::<T>(alloc, text, depth), Ok(found) if found == to)
 }
@@ -125,18 +125,18 @@ fn is_refusal(found: Result<usize, SourceFault>, (rule, column): (Rule, u32)) ->
     }
 }
 
-// Whether a text at this depth is refused by this rule at the token of this number.
+/// Whether a text at this depth is refused by this rule at the token of this number.
 pub fn refuses<T: Tree + Drop>(alloc: Global, text: &str, depth: u32, wanted: (Rule, u32)) -> bool {
     is_refusal(end::<T>(alloc, text, depth), wanted)
 }
 
-// A text, its depth, and the tree as which it is read, up to which token.
+/// A text, its depth, and the tree as which it is read, up to which token.
 pub type Read = (&'static str, u32, (&'static str, usize));
 
-// A text, its depth, and the rule by which it is refused, at which token.
+/// A text, its depth, and the rule by which it is refused, at which token.
 pub type Refused = (&'static str, u32, (Rule, u32));
 
-// The first text that isn't read as it is to be.
+/// The first text that isn't read as it is to be.
 pub fn first_misread<T: Tree + Drop>(alloc: Global, rows: &[Read]) -> Option<&'static str> {
     for (text, depth, wanted) in rows {
         if !reads::<T>(alloc, *text, *depth, *wanted) {
@@ -146,7 +146,7 @@ pub fn first_misread<T: Tree + Drop>(alloc: Global, rows: &[Read]) -> Option<&'s
     None
 }
 
-// The first text that isn't refused as it is to be.
+/// The first text that isn't refused as it is to be.
 pub fn first_unrefused<T: Tree + Drop>(alloc: Global, rows: &[Refused]) -> Option<&'static str> {
     for (text, depth, wanted) in rows {
         if !refuses::<T>(alloc, *text, *depth, *wanted) {

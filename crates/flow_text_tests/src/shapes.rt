@@ -27,7 +27,7 @@ fn put(text: &str, out: &mut String) -> Result<(), NoMemory> {
     Ok(())
 }
 
-// The tree of an expression: an operand by its first letter, a node by its sign and its parts.
+/// The tree of an expression: an operand by its first letter, a node by its sign and its parts.
 #[cycle(shape)]
 pub fn shape(expr: &Expr, out: &mut String) -> Result<(), NoMemory> {
     match expr {
@@ -76,7 +76,7 @@ fn shapes(exprs: &[Expr], out: &mut String) -> Result<(), NoMemory> {
     Ok(())
 }
 
-// The tree of a type: its name, and what stands in its brackets.
+/// The tree of a type: its name, and what stands in its brackets.
 #[cycle(type_shape)]
 pub fn type_shape(ty: &Ty, out: &mut String) -> Result<(), NoMemory> {
     match ty {
