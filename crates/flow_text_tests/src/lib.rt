@@ -21,6 +21,4 @@ mod shapes;
 #[cfg(test)]
 mod tokens;
 #[cfg(test)]
-mod trees;
-#[cfg(test)]
 mod types;

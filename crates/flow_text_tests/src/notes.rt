@@ -44,9 +44,9 @@ fn notes(alloc: Global, answer: &str, world: &[u8], wanted: &[u8]) -> Result<boo
 }
 
 fn first_wrong_note(alloc: Global) -> Result<Option<&'static str>, NoMemory> {
-    for (answer, wanted) in NOTES {
-        if !notes(alloc, answer, b"", wanted)? {
-            return Ok(Some(answer));
+    for (answer, wanted) in &NOTES {
+        if !notes(alloc, *answer, b"", *wanted)? {
+            return Ok(Some(*answer));
         }
     }
     Ok(None)
@@ -88,9 +88,9 @@ const WORLD_NOTES: [(&str, &[u8]); 8] = [
 ];
 
 fn first_wrong_world_note(alloc: Global) -> Result<Option<&'static str>, NoMemory> {
-    for (answer, wanted) in WORLD_NOTES {
-        if !notes(alloc, answer, WORLD, wanted)? {
-            return Ok(Some(answer));
+    for (answer, wanted) in &WORLD_NOTES {
+        if !notes(alloc, *answer, WORLD, *wanted)? {
+            return Ok(Some(*answer));
         }
     }
     Ok(None)

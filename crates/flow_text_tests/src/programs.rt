@@ -1,34 +1,13 @@
 // Texts and what they are read as. A function that owns tokens or a program has one end, since it is dropped at every end.
 
+use crate::reading::tokens;
 use flow_base::memory::NoMemory;
-use flow_lex::lex::lex;
 use flow_parse::parse::parse;
 use flow_tree::decl::{Decl, Program};
 use flow_tree::fault::{Rule, SourceFault};
 use flow_tree::stmt::StmtKind;
 use flow_tree::token::Tokens;
 use std::alloc::Global;
-
-// Leaves the first tokens; the column of each is its number from 0.
-fn cut(tokens: &mut Tokens, count: usize) {
-    tokens.spots.truncate(count);
-    let mut column = 0;
-    for spot in &mut tokens.spots {
-        spot.at.column = column;
-        column = column.saturating_add(1);
-    }
-    tokens.end.column = column;
-}
-
-// The first tokens of a text.
-fn tokens(alloc: Global, text: &str, count: usize) -> Result<Tokens, SourceFault> {
-    if text.len() > 1_000_000 {
-        return Err(SourceFault::OutOfMemory);
-    }
-    let mut tokens = lex(alloc, text.as_bytes())?;
-    cut(&mut tokens, count);
-    Ok(tokens)
-}
 
 // Why the program of the first tokens of a text is refused: `None` where it is accepted.
 fn fault(alloc: Global, text: &str, count: usize) -> Option<SourceFault> {
@@ -117,9 +96,9 @@ const WHOLE: [(&str, &[u32]); 9] = [
 ];
 
 fn first_miscut(alloc: Global) -> Option<&'static str> {
-    for (text, whole) in WHOLE {
-        if !cuts(alloc, text, whole) {
-            return Some(text);
+    for (text, whole) in &WHOLE {
+        if !cuts(alloc, *text, *whole) {
+            return Some(*text);
         }
     }
     None
@@ -276,9 +255,9 @@ const WRONG: [(&str, u32); 48] = [
 ];
 
 fn first_unrefused(alloc: Global) -> Option<&'static str> {
-    for (text, token) in WRONG {
-        if !refuses(alloc, text, Rule::S(5), token) {
-            return Some(text);
+    for (text, token) in &WRONG {
+        if !refuses(alloc, *text, Rule::S(5), *token) {
+            return Some(*text);
         }
     }
     None

@@ -12,8 +12,17 @@ use flow_tree::token::Tokens;
 use flow_tree::ty::Ty;
 use std::alloc::Global;
 
-// The column of each token is its number from 0.
-fn number(tokens: &mut Tokens) {
+/// The tokens of a text of a length that the lexer takes.
+pub fn lexed(alloc: Global, text: &[u8]) -> Result<Tokens, SourceFault> {
+    if text.len() > 4_294_967_294 {
+        return Err(SourceFault::OutOfMemory);
+    }
+    lex(alloc, text)
+}
+
+// Leaves the first tokens; the column of each is its number from 0.
+fn cut(tokens: &mut Tokens, count: usize) {
+    tokens.spots.truncate(count);
     let mut column = 0;
     for spot in &mut tokens.spots {
         spot.at.column = column;
@@ -22,13 +31,10 @@ fn number(tokens: &mut Tokens) {
     tokens.end.column = column;
 }
 
-// The tokens of a text.
-fn tokens(alloc: Global, text: &str) -> Result<Tokens, SourceFault> {
-    if text.len() > 1_000_000 {
-        return Err(SourceFault::OutOfMemory);
-    }
-    let mut tokens = lex(alloc, text.as_bytes())?;
-    number(&mut tokens);
+/// The first tokens of a text, so many at most; the column of each is its number from 0.
+pub fn tokens(alloc: Global, text: &str, count: usize) -> Result<Tokens, SourceFault> {
+    let mut tokens = lexed(alloc, text.as_bytes())?;
+    cut(&mut tokens, count);
     Ok(tokens)
 }
 
@@ -88,7 +94,7 @@ fn is_read<T: Tree + Drop>(
     depth: u32,
     wanted: (&str, usize),
 ) -> Result<bool, SourceFault> {
-    let tokens = tokens(alloc, text)?;
+    let tokens = tokens(alloc, text, usize::MAX)?;
     are_read::<T>(alloc, &tokens, depth, wanted)
 }
 
@@ -108,7 +114,7 @@ fn end_of<T: Tree + Drop>(
 
 // Up to which token a text at this depth is read.
 fn end<T: Tree + Drop>(alloc: Global, text: &str, depth: u32) -> Result<usize, SourceFault> {
-    let tokens = tokens(alloc, text)?;
+    let tokens = tokens(alloc, text, usize::MAX)?;
     end_of::<T>(alloc, &tokens, depth)
 }
 

@@ -1,7 +1,7 @@
 // Tests of flow_lex: texts, and what they are read as.
 
+use crate::reading::lexed;
 use flow_base::memory::NoMemory;
-use flow_lex::lex::lex;
 use flow_tree::fault::{Rule, SourceFault};
 use flow_tree::token::{Sign, Spot, Token, Tokens, Word};
 use std::alloc::Global;
@@ -205,14 +205,6 @@ fn both_have(alloc: Global, tokens: &Tokens, wanted: &str) -> Result<bool, NoMem
     Ok(are_tokens(alloc, tokens, wanted)? && copy_has(alloc, tokens, wanted)?)
 }
 
-// The tokens of a text of a length that the lexer takes.
-fn lexed(alloc: Global, text: &[u8]) -> Result<Tokens, SourceFault> {
-    if text.len() > 4_294_967_294 {
-        return Err(SourceFault::OutOfMemory);
-    }
-    lex(alloc, text)
-}
-
 // Whether a text has these tokens, and a copy of them too.
 fn reads(alloc: Global, text: &[u8], wanted: &str) -> Result<bool, NoMemory> {
     let read = lexed(alloc, text);
@@ -223,9 +215,9 @@ fn reads(alloc: Global, text: &[u8], wanted: &str) -> Result<bool, NoMemory> {
 }
 
 fn first_misread(alloc: Global) -> Result<Option<&'static [u8]>, NoMemory> {
-    for (text, wanted) in READ {
-        if !reads(alloc, text, wanted)? {
-            return Ok(Some(text));
+    for (text, wanted) in &READ {
+        if !reads(alloc, *text, *wanted)? {
+            return Ok(Some(*text));
         }
     }
     Ok(None)
@@ -252,9 +244,9 @@ fn refuses(alloc: Global, text: &[u8], number: u8, line: u32, column: u32) -> bo
 }
 
 fn first_unrefused(alloc: Global) -> Option<&'static [u8]> {
-    for (text, number, line, column) in REFUSED {
-        if !refuses(alloc, text, number, line, column) {
-            return Some(text);
+    for (text, number, line, column) in &REFUSED {
+        if !refuses(alloc, *text, *number, *line, *column) {
+            return Some(*text);
         }
     }
     None
