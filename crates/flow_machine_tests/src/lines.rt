@@ -88,21 +88,24 @@ impl Host for Lines {
     }
 }
 
-// The code of classes.
-fn coded(alloc: Global, compiled: Result<ClassProgram, CompileFault>) -> Result<Code, Fail> {
-    let Ok(classes) = compiled else {
-        return Err(Fail::from("no classes"));
-    };
-    Ok(Code::new(alloc, classes)?)
+fn made(compiled: Result<ClassProgram, CompileFault>) -> Result<ClassProgram, Fail> {
+    match compiled {
+        Ok(classes) => Ok(classes),
+        Err(_) => Err(Fail::from("no classes")),
+    }
 }
 
-// The code of a program that the front accepts.
-pub(crate) fn code(alloc: Global, text: &[u8]) -> Result<Code, Fail> {
+/// The classes of a program that the front accepts.
+pub(crate) fn classes(alloc: Global, text: &[u8]) -> Result<ClassProgram, Fail> {
     let Ok(sound) = front(alloc, text) else {
         return Err(Fail::from("no program"));
     };
-    let compiled = compile(alloc, &sound);
-    coded(alloc, compiled)
+    made(compile(alloc, &sound))
+}
+
+/// The code of a program that the front accepts.
+pub(crate) fn code(alloc: Global, text: &[u8]) -> Result<Code, Fail> {
+    Ok(Code::new(alloc, classes(alloc, text)?)?)
 }
 
 // Lines as text.

@@ -1,5 +1,5 @@
+use crate::lines::classes;
 use flow_base::mem_sink::MemSink;
-use flow_compile::{compile, front};
 use flow_machine::host::RunFault;
 use flow_run::{Ending, write_trace};
 use flow_valid::program::ClassProgram;
@@ -7,31 +7,41 @@ use flow_worldfile::read_world;
 use std::alloc::Global;
 use std::test::Fail;
 
-// The classes of a program that the front accepts.
-fn classes(alloc: Global, text: &[u8]) -> Result<ClassProgram, Fail> {
-    let Ok(sound) = front(alloc, text) else {
-        return Err(Fail::from("no program"));
-    };
-    let Ok(classes) = compile(alloc, &sound) else {
-        return Err(Fail::from("no classes"));
-    };
-    Ok(classes)
+// `main` returns at once.
+const RETURNING: &[u8] = b"ACTOR Future<Void> main(int p) { return Void(); }";
+
+/// How a run ends, or why it breaks off.
+type Ended = Result<Ending, RunFault>;
+
+fn written_by(
+    alloc: Global,
+    classes: ClassProgram,
+    world: &[u8],
+    with_frames: bool,
+    out: &mut MemSink,
+) -> Result<Ended, Fail> {
+    match read_world(alloc, world) {
+        Ok(world) => Ok(write_trace(alloc, classes, world, with_frames, out)),
+        Err(_) => Err(Fail::from("no world")),
+    }
 }
 
-// `main` returns at once.
-fn returning(alloc: Global) -> Result<ClassProgram, Fail> {
-    classes(alloc, b"ACTOR Future<Void> main(int p) { return Void(); }")
+// The trace of the program in the world of a text.
+fn written(
+    alloc: Global,
+    world: &[u8],
+    with_frames: bool,
+    out: &mut MemSink,
+) -> Result<Ended, Fail> {
+    written_by(alloc, classes(alloc, RETURNING)?, world, with_frames, out)
 }
 
 #[test]
 fn a_bound_of_no_events(rt: HostRuntime) -> Result<(), Fail> {
     let alloc = rt.alloc();
-    let Ok(world) = read_world(alloc, b"events 0\n") else {
-        return Err(Fail::from("no world"));
-    };
     let mut sink = MemSink::new(alloc, Vec::new(alloc));
-    let ending = write_trace(alloc, returning(alloc)?, world, true, &mut sink)?;
-    assert!(rt; ending == Ending::Bound);
+    let ended = written(alloc, b"events 0\n", true, &mut sink)?;
+    assert!(rt; ended == Ok(Ending::Bound));
     assert_eq!(rt; sink.bytes(), b"trace 1\nend bound\n".as_slice());
     Ok(())
 }
@@ -39,12 +49,9 @@ fn a_bound_of_no_events(rt: HostRuntime) -> Result<(), Fail> {
 #[test]
 fn lines_go_out_as_they_are_made(rt: HostRuntime) -> Result<(), Fail> {
     let alloc = rt.alloc();
-    let Ok(world) = read_world(alloc, b"at 0 kill 0\n") else {
-        return Err(Fail::from("no world"));
-    };
     let mut sink = MemSink::new(alloc, vec![in alloc; 3]?);
-    let answer = write_trace(alloc, returning(alloc)?, world, false, &mut sink);
-    assert!(rt; answer == Err(RunFault::Failed));
+    let ended = written(alloc, b"at 0 kill 0\n", false, &mut sink)?;
+    assert!(rt; ended == Err(RunFault::Failed));
     assert_eq!(rt; sink.bytes(), b"trace 1\nevent 1 0 kill 0\n".as_slice());
     Ok(())
 }

@@ -117,9 +117,9 @@ fn is_read_back(alloc: Global, printed: &mut LineBuf, bytes: &[u8]) -> bool {
 }
 
 fn first_unread(alloc: Global, printed: &mut LineBuf) -> Option<&'static [u8]> {
-    for line in LINES {
-        if !is_read_back(alloc, printed, line) {
-            return Some(line);
+    for line in &LINES {
+        if !is_read_back(alloc, printed, *line) {
+            return Some(*line);
         }
     }
     None
@@ -141,9 +141,9 @@ fn is_no_line(alloc: Global, bytes: &[u8]) -> bool {
 }
 
 fn first_read(alloc: Global) -> Option<&'static [u8]> {
-    for line in NO_LINES {
-        if !is_no_line(alloc, line) {
-            return Some(line);
+    for line in &NO_LINES {
+        if !is_no_line(alloc, *line) {
+            return Some(*line);
         }
     }
     None

@@ -92,9 +92,9 @@ fn is_refused(alloc: Global, text: &str, wanted: WorldFault) -> bool {
 }
 
 fn first_unrefused(alloc: Global) -> Option<&'static str> {
-    for (text, fault) in REFUSED {
-        if !is_refused(alloc, text, fault) {
-            return Some(text);
+    for (text, fault) in &REFUSED {
+        if !is_refused(alloc, *text, *fault) {
+            return Some(*text);
         }
     }
     None
@@ -110,9 +110,9 @@ fn is_accepted(alloc: Global, text: &str) -> bool {
 }
 
 fn first_refused(alloc: Global) -> Option<&'static str> {
-    for text in ACCEPTED {
-        if !is_accepted(alloc, text) {
-            return Some(text);
+    for text in &ACCEPTED {
+        if !is_accepted(alloc, *text) {
+            return Some(*text);
         }
     }
     None

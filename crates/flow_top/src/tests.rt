@@ -105,8 +105,8 @@ fn several_texts_and_blanks_of_all_kinds(rt: HostRuntime) -> Result<(), AllocErr
 #[test]
 fn runs_the_examples(rt: HostRuntime) -> Result<(), AllocError> {
     let alloc = rt.alloc();
-    for (program, world, trace, status) in RUNS {
-        assert!(rt; runs_in(alloc, &["run", "p", "w"], program, world, status, trace)?);
+    for (program, world, trace, status) in &RUNS {
+        assert!(rt; runs_in(alloc, &["run", "p", "w"], *program, *world, *status, *trace)?);
     }
     Ok(())
 }
@@ -114,8 +114,8 @@ fn runs_the_examples(rt: HostRuntime) -> Result<(), AllocError> {
 #[test]
 fn runs_the_tour(rt: HostRuntime) -> Result<(), AllocError> {
     let alloc = rt.alloc();
-    for (program, world, trace, status) in TOUR_RUNS {
-        assert!(rt; runs_in(alloc, &["run", "p", "w"], program, world, status, trace)?);
+    for (program, world, trace, status) in &TOUR_RUNS {
+        assert!(rt; runs_in(alloc, &["run", "p", "w"], *program, *world, *status, *trace)?);
     }
     Ok(())
 }
@@ -147,8 +147,8 @@ fn checks(alloc: Global, program: &[u8], status: u8, text: &[u8]) -> Result<bool
 fn checks_programs(rt: HostRuntime) -> Result<(), AllocError> {
     let alloc = rt.alloc();
     assert!(rt; checks(alloc, HELLO, 0, b"ok\n")?);
-    for (program, _, _, _) in RUNS {
-        assert!(rt; checks(alloc, program, 0, b"ok\n")?);
+    for (program, _, _, _) in &RUNS {
+        assert!(rt; checks(alloc, *program, 0, b"ok\n")?);
     }
     Ok(())
 }
@@ -196,27 +196,19 @@ fn limit_of_weight(rt: HostRuntime) -> Result<(), AllocError> {
     Ok(())
 }
 
+const WORLD_REFUSALS: [(&[u8], &[u8]); 4] = [
+    (b"sead 4\n", b"refused W1 at line 1\n"),
+    (b"loss 1001\n", b"refused W2 at line 1\n"),
+    (b"processes 2\nprocesses 2\n", b"refused W3 at line 2\n"),
+    (b"at 5 kill 1\n", b"refused W4 at line 1\n"),
+];
+
 #[test]
 fn refuses_worlds(rt: HostRuntime) -> Result<(), AllocError> {
     let alloc = rt.alloc();
     let words = ["run", "p", "w"];
-    let refusals = [
-        (b"sead 4\n".as_slice(), b"refused W1 at line 1\n".as_slice()),
-        (
-            b"loss 1001\n".as_slice(),
-            b"refused W2 at line 1\n".as_slice(),
-        ),
-        (
-            b"processes 2\nprocesses 2\n".as_slice(),
-            b"refused W3 at line 2\n".as_slice(),
-        ),
-        (
-            b"at 5 kill 1\n".as_slice(),
-            b"refused W4 at line 1\n".as_slice(),
-        ),
-    ];
-    for (world, line) in refusals {
-        assert!(rt; runs_in(alloc, &words, HELLO, world, 3, line)?);
+    for (world, line) in &WORLD_REFUSALS {
+        assert!(rt; runs_in(alloc, &words, HELLO, *world, 3, *line)?);
     }
     let bound = b"trace 1\nend bound\n";
     assert!(rt; runs_in(alloc, &words, HELLO, b"events 0\n", 0, bound)?);
@@ -265,10 +257,10 @@ fn on_one_line(alloc: Global, text: &[u8]) -> Result<Vec<u8>, AllocError> {
 #[test]
 fn formats_the_examples(rt: HostRuntime) -> Result<(), AllocError> {
     let alloc = rt.alloc();
-    for text in EXAMPLES {
-        assert!(rt; formats(alloc, text, 0, text)?);
-        let line = on_one_line(alloc, text)?;
-        assert!(rt; formats(alloc, &line, 0, text)?);
+    for text in &EXAMPLES {
+        assert!(rt; formats(alloc, *text, 0, *text)?);
+        let line = on_one_line(alloc, *text)?;
+        assert!(rt; formats(alloc, &line, 0, *text)?);
     }
     Ok(())
 }
@@ -285,41 +277,30 @@ fn joined(alloc: Global, front: &[u8], inside: &[u8], back: &[u8]) -> Result<Vec
 #[test]
 fn formats_small_programs(rt: HostRuntime) -> Result<(), AllocError> {
     let alloc = rt.alloc();
-    for (inside, lines) in INSIDES {
-        let program = joined(alloc, b"int f() { ", inside, b"\n}")?;
-        let text = joined(alloc, b"int f() {\n", lines, b"}\n")?;
+    for (inside, lines) in &INSIDES {
+        let program = joined(alloc, b"int f() { ", *inside, b"\n}")?;
+        let text = joined(alloc, b"int f() {\n", *lines, b"}\n")?;
         assert!(rt; formats(alloc, &program, 0, &text)?);
     }
     Ok(())
 }
 
+const REFUSALS: [(&[u8], &[u8]); 8] = [
+    (b"#include", b"refused S1 at 1:1\n"),
+    (b"\"abc", b"refused S2 at 1:1\n"),
+    (b"/* x", b"refused S3 at 1:1\n"),
+    (b"9223372036854775808", b"refused S4 at 1:1\n"),
+    (b"ACTOR main", b"refused S5 at 1:7\n"),
+    (b"int f() {\n}\n x", b"refused S5 at 3:3\n"),
+    (b"int f() {\n  x y z; @", b"refused S1 at 2:10\n"),
+    (b"int f() {\n  x y z;", b"refused S5 at 2:7\n"),
+];
+
 #[test]
 fn both_commands_tell_a_refusal(rt: HostRuntime) -> Result<(), AllocError> {
     let alloc = rt.alloc();
-    let refusals = [
-        (b"#include".as_slice(), b"refused S1 at 1:1\n".as_slice()),
-        (b"\"abc".as_slice(), b"refused S2 at 1:1\n".as_slice()),
-        (b"/* x".as_slice(), b"refused S3 at 1:1\n".as_slice()),
-        (
-            b"9223372036854775808".as_slice(),
-            b"refused S4 at 1:1\n".as_slice(),
-        ),
-        (b"ACTOR main".as_slice(), b"refused S5 at 1:7\n".as_slice()),
-        (
-            b"int f() {\n}\n x".as_slice(),
-            b"refused S5 at 3:3\n".as_slice(),
-        ),
-        (
-            b"int f() {\n  x y z; @".as_slice(),
-            b"refused S1 at 2:10\n".as_slice(),
-        ),
-        (
-            b"int f() {\n  x y z;".as_slice(),
-            b"refused S5 at 2:7\n".as_slice(),
-        ),
-    ];
-    for (program, line) in refusals {
-        assert!(rt; both(alloc, program, 1, line)?);
+    for (program, line) in &REFUSALS {
+        assert!(rt; both(alloc, *program, 1, *line)?);
     }
     Ok(())
 }
@@ -413,25 +394,31 @@ fn says_usage(alloc: Global, texts: &[&str]) -> Result<bool, AllocError> {
     answers(alloc, texts, HELLO, 2, b"usage\n")
 }
 
+const OTHER_WORDS: [&[&str]; 16] = [
+    &[],
+    &["run"],
+    &["run", "p"],
+    &["run", "p", "w", "w"],
+    &["run", "-p", "w"],
+    &["run", "p", "-"],
+    &["run", "p", "--frames"],
+    &["format"],
+    &["format", "-p"],
+    &["format", "p", "w"],
+    &["check", "p", "w"],
+    &["run", "p", "w", "--frame"],
+    &["run", "p", "w", "--frames", "--frames"],
+    &["walk", "p"],
+    &["walk", "p", "w"],
+    &["--help"],
+];
+
 #[test]
 fn other_words_are_usage(rt: HostRuntime) -> Result<(), AllocError> {
     let alloc = rt.alloc();
-    assert!(rt; says_usage(alloc, &[])?);
-    assert!(rt; says_usage(alloc, &["run"])?);
-    assert!(rt; says_usage(alloc, &["run", "p"])?);
-    assert!(rt; says_usage(alloc, &["run", "p", "w", "w"])?);
-    assert!(rt; says_usage(alloc, &["run", "-p", "w"])?);
-    assert!(rt; says_usage(alloc, &["run", "p", "-"])?);
-    assert!(rt; says_usage(alloc, &["run", "p", "--frames"])?);
-    assert!(rt; says_usage(alloc, &["format"])?);
-    assert!(rt; says_usage(alloc, &["format", "-p"])?);
-    assert!(rt; says_usage(alloc, &["format", "p", "w"])?);
-    assert!(rt; says_usage(alloc, &["check", "p", "w"])?);
-    assert!(rt; says_usage(alloc, &["run", "p", "w", "--frame"])?);
-    assert!(rt; says_usage(alloc, &["run", "p", "w", "--frames", "--frames"])?);
-    assert!(rt; says_usage(alloc, &["walk", "p"])?);
-    assert!(rt; says_usage(alloc, &["walk", "p", "w"])?);
-    assert!(rt; says_usage(alloc, &["--help"])?);
+    for words in &OTHER_WORDS {
+        assert!(rt; says_usage(alloc, *words)?);
+    }
     Ok(())
 }
 
