@@ -11,13 +11,11 @@ mod references;
 mod statements;
 mod texts;
 
-use flow_ast::expr::{Expr, Op};
-use flow_ast::ty::Ident;
+use crate::reading::read;
+use flow_ast::expr::Expr;
 use flow_base::ids::CellId;
 use flow_base::memory::NoMemory;
 use flow_base::name::{Name, is_name};
-use flow_base::place::Place;
-use flow_base::text::Text;
 use flow_eval::cells::CellView;
 use flow_eval::evaluate::{Setting, Turns, evaluate};
 use flow_eval::stop::Halt;
@@ -25,27 +23,9 @@ use flow_eval::variables::{Var, VarList, Vars};
 use flow_value::value::{Kind, Outcome, Value};
 use std::alloc::Global;
 
-const START: Place = Place {
-    line: 1,
-    column: 1,
-    byte: 0,
-};
-
 const LEAST: i64 = i64::MIN;
 
 const GREATEST: i64 = i64::MAX;
-
-// An operand or an argument.
-#[derive(Clone, Copy)]
-enum Arg {
-    Int(i64),
-    Bool(bool),
-    Text(&'static [u8]),
-    Void,
-    Error(i64),
-    Var(&'static [u8]),
-    Call(&'static [u8]),
-}
 
 // What is wanted.
 #[derive(Clone, Copy)]
@@ -83,78 +63,6 @@ fn comes_to(outcome: &Result<Value, Halt>, want: Want) -> bool {
     }
 }
 
-// A name; no test has a word that is none.
-fn name(alloc: Global, word: &[u8]) -> Result<Name, NoMemory> {
-    if !is_name(word) {
-        return Err(NoMemory);
-    }
-    Name::new(alloc, word)
-}
-
-fn ident(alloc: Global, word: &[u8]) -> Result<Ident, NoMemory> {
-    Ok(Ident {
-        name: name(alloc, word)?,
-        at: START,
-    })
-}
-
-fn text(alloc: Global, bytes: &[u8]) -> Result<Text, NoMemory> {
-    if bytes.len() > Text::LIMIT {
-        return Err(NoMemory);
-    }
-    Text::new(alloc, bytes)
-}
-
-fn var(alloc: Global, word: &[u8]) -> Result<Expr, NoMemory> {
-    Ok(Expr::Var(ident(alloc, word)?))
-}
-
-fn one(alloc: Global, arg: Expr) -> Result<Vec<Expr>, NoMemory> {
-    let mut args = Vec::new(alloc);
-    args.push(arg)?;
-    Ok(args)
-}
-
-fn text_expr(alloc: Global, bytes: &[u8]) -> Result<Expr, NoMemory> {
-    Ok(Expr::Text(text(alloc, bytes)?))
-}
-
-fn call_expr(alloc: Global, word: &[u8], args: Vec<Expr>) -> Result<Expr, NoMemory> {
-    Ok(Expr::Call(ident(alloc, word)?, args))
-}
-
-fn error_expr(alloc: Global, n: i64) -> Result<Expr, NoMemory> {
-    call_expr(alloc, b"error", one(alloc, Expr::Int(n))?)
-}
-
-fn method_expr(alloc: Global, of: Expr, word: &[u8], args: Vec<Expr>) -> Result<Expr, NoMemory> {
-    Ok(Expr::Method(Box::new(alloc, of)?, ident(alloc, word)?, args))
-}
-
-fn arg_expr(alloc: Global, given: Arg) -> Result<Expr, NoMemory> {
-    match given {
-        Arg::Int(n) => Ok(Expr::Int(n)),
-        Arg::Bool(b) => Ok(Expr::Bool(b)),
-        Arg::Text(bytes) => text_expr(alloc, bytes),
-        Arg::Void => Ok(Expr::VoidValue),
-        Arg::Error(n) => error_expr(alloc, n),
-        Arg::Var(word) => var(alloc, word),
-        Arg::Call(word) => call_expr(alloc, word, Vec::new(alloc)),
-    }
-}
-
-fn arg_exprs(alloc: Global, list: &[Arg]) -> Result<Vec<Expr>, NoMemory> {
-    let mut args = Vec::new(alloc);
-    for arg in list {
-        args.push(arg_expr(alloc, *arg)?)?;
-    }
-    Ok(args)
-}
-
-fn binary(alloc: Global, op: Op, left: Expr, right: Expr) -> Result<Expr, NoMemory> {
-    Ok(Expr::Binary(op, Box::new(alloc, left)?, Box::new(alloc, right)?))
-}
-
 // Every cell holds the same, or is not set.
 #[derive(Drop)]
 struct Every {
@@ -167,6 +75,19 @@ impl CellView for Every {
     fn seen(&self, _cell: CellId) -> Option<&Outcome> {
         self.outcome.as_ref()
     }
+}
+
+fn unset() -> Every {
+    Every { outcome: None }
+}
+
+// A variable; no test has a word that is no name.
+fn one_var(alloc: Global, word: &[u8], value: Value) -> Result<Vec<Var>, NoMemory> {
+    if !is_name(word) {
+        return Err(NoMemory);
+    }
+    let name = Name::new(alloc, word)?;
+    Ok(vec![in alloc; Var { name, value }]?)
 }
 
 // The value of an expression over these variables and cells, with no functions and no turns.
@@ -188,25 +109,49 @@ fn value(alloc: Global, expr: &Expr, vars: &[Var], view: &Every) -> Result<Value
     )
 }
 
-// Whether that is what is wanted.
 fn is_value(alloc: Global, expr: &Expr, vars: &[Var], view: &Every, want: Want) -> bool {
     comes_to(&value(alloc, expr, vars, view), want)
 }
 
-fn unset() -> Every {
-    Every { outcome: None }
+// Whether a text is an expression that comes to what is wanted over these variables and cells.
+fn comes_over(alloc: Global, text: &str, vars: &[Var], view: &Every, want: Want) -> bool {
+    let expr = read::<Expr>(alloc, text);
+    match &expr {
+        Some(expr) => is_value(alloc, expr, vars, view, want),
+        None => false,
+    }
 }
 
-// Whether an expression over no variables and no set cell comes to what is wanted.
-fn comes_alone(alloc: Global, expr: &Expr, want: Want) -> bool {
-    is_value(alloc, expr, &[], &unset(), want)
+// An expression, and what it comes to.
+type Row = (&'static str, Want);
+
+// The first expression that comes to something else, or isn't read.
+fn first_wrong_over(
+    alloc: Global,
+    vars: &[Var],
+    view: &Every,
+    rows: &[Row],
+) -> Option<&'static str> {
+    for (text, want) in rows {
+        if !comes_over(alloc, *text, vars, view, *want) {
+            return Some(*text);
+        }
+    }
+    None
 }
 
-fn one_var(alloc: Global, word: &[u8], value: Value) -> Result<Vec<Var>, NoMemory> {
-    let mut vars = Vec::new(alloc);
-    vars.push(Var {
-        name: name(alloc, word)?,
-        value,
-    })?;
-    Ok(vars)
+// The same over one variable and no set cell.
+fn first_wrong_with(
+    alloc: Global,
+    word: &[u8],
+    value: Value,
+    rows: &[Row],
+) -> Result<Option<&'static str>, NoMemory> {
+    let vars = one_var(alloc, word, value)?;
+    Ok(first_wrong_over(alloc, &vars, &unset(), rows))
+}
+
+// The same over a variable `least`.
+fn first_wrong(alloc: Global, rows: &[Row]) -> Result<Option<&'static str>, NoMemory> {
+    first_wrong_with(alloc, b"least", Value::Int(LEAST), rows)
 }

@@ -1,42 +1,43 @@
 // Methods of references.
 
-use super::{Every, Want, is_value, method_expr, one_var, unset, var};
-use flow_ast::expr::Expr;
+use super::{Every, Want, comes_over, one_var, unset};
 use flow_base::ids::{CellId, ErrorCode};
 use flow_base::memory::NoMemory;
 use flow_value::value::{Kind, Outcome, Value};
 use std::alloc::Global;
 
-// A method of a reference, and what it comes to where the cell isn't set, holds 5, and holds 1004.
-const REFERENCES: [(Kind, &[u8], [Want; 3]); 10] = [
+// A reference `r`, an expression, and what it comes to where the cell isn't set, holds 5, and holds 1004.
+type Row = (Kind, &'static str, [Want; 3]);
+
+const REFERENCES: [Row; 10] = [
     (
         Kind::Future,
-        b"isReady",
+        "r.isReady()",
         [Want::Bool(false), Want::Bool(true), Want::Bool(true)],
     ),
     (
         Kind::Future,
-        b"isError",
+        "r.isError()",
         [Want::Bool(false), Want::Bool(false), Want::Bool(true)],
     ),
     (
         Kind::Future,
-        b"get",
+        "r.get()",
         [Want::Throws(9006), Want::Int(5), Want::Throws(1004)],
     ),
     (
         Kind::Future,
-        b"isSet",
+        "r.isSet()",
         [Want::NoMeaning, Want::NoMeaning, Want::NoMeaning],
     ),
     (
         Kind::Promise,
-        b"isSet",
+        "r.isSet()",
         [Want::Bool(false), Want::Bool(true), Want::Bool(true)],
     ),
     (
         Kind::Promise,
-        b"getFuture",
+        "r.getFuture()",
         [
             Want::Ref(Kind::Future, 3),
             Want::Ref(Kind::Future, 3),
@@ -45,12 +46,12 @@ const REFERENCES: [(Kind, &[u8], [Want; 3]); 10] = [
     ),
     (
         Kind::Promise,
-        b"get",
+        "r.get()",
         [Want::NoMeaning, Want::NoMeaning, Want::NoMeaning],
     ),
     (
         Kind::PromiseStream,
-        b"getFuture",
+        "r.getFuture()",
         [
             Want::Ref(Kind::FutureStream, 3),
             Want::Ref(Kind::FutureStream, 3),
@@ -59,32 +60,15 @@ const REFERENCES: [(Kind, &[u8], [Want; 3]); 10] = [
     ),
     (
         Kind::PromiseStream,
-        b"isSet",
+        "r.isSet()",
         [Want::NoMeaning, Want::NoMeaning, Want::NoMeaning],
     ),
     (
         Kind::FutureStream,
-        b"getFuture",
+        "r.getFuture()",
         [Want::NoMeaning, Want::NoMeaning, Want::NoMeaning],
     ),
 ];
-
-// A method without arguments of a variable that holds a reference.
-fn reference_method(alloc: Global, word: &[u8]) -> Result<Expr, NoMemory> {
-    method_expr(alloc, var(alloc, b"r")?, word, Vec::new(alloc))
-}
-
-// Whether a method of a reference comes to what is wanted where the cells hold this.
-fn comes_at(
-    alloc: Global,
-    (kind, word): (Kind, &[u8]),
-    view: &Every,
-    want: Want,
-) -> Result<bool, NoMemory> {
-    let vars = one_var(alloc, b"r", Value::Ref(kind, CellId(3)))?;
-    let expr = reference_method(alloc, word)?;
-    Ok(is_value(alloc, &expr, &vars, view, want))
-}
 
 fn good() -> Every {
     Every {
@@ -98,7 +82,18 @@ fn bad() -> Every {
     }
 }
 
-fn refers(alloc: Global, of: (Kind, &[u8]), wants: [Want; 3]) -> Result<bool, NoMemory> {
+// Whether an expression over a reference comes to what is wanted where the cells hold this.
+fn comes_at(
+    alloc: Global,
+    (kind, text): (Kind, &str),
+    view: &Every,
+    want: Want,
+) -> Result<bool, NoMemory> {
+    let vars = one_var(alloc, b"r", Value::Ref(kind, CellId(3)))?;
+    Ok(comes_over(alloc, text, &vars, view, want))
+}
+
+fn refers(alloc: Global, of: (Kind, &str), wants: [Want; 3]) -> Result<bool, NoMemory> {
     Ok(
         comes_at(alloc, of, &unset(), wants[0])?
             && comes_at(alloc, of, &good(), wants[1])?
@@ -106,10 +101,10 @@ fn refers(alloc: Global, of: (Kind, &[u8]), wants: [Want; 3]) -> Result<bool, No
     )
 }
 
-fn first_wrong_reference(alloc: Global) -> Result<Option<(Kind, &'static [u8])>, NoMemory> {
-    for (kind, word, wants) in REFERENCES {
-        if !refers(alloc, (kind, word), wants)? {
-            return Ok(Some((kind, word)));
+fn first_wrong_reference(alloc: Global) -> Result<Option<(Kind, &'static str)>, NoMemory> {
+    for (kind, text, wants) in REFERENCES {
+        if !refers(alloc, (kind, text), wants)? {
+            return Ok(Some((kind, text)));
         }
     }
     Ok(None)
