@@ -16,57 +16,50 @@ ACTOR Future<int> run() { }
 int last(int n, string t, Error e, Pair q, Packet k, Future<int> f, Promise<Void> p, PromiseStream<bool> s) { }
 ";
 
-/// An expression, and its type where it has one.
-type Row = (&'static str, Option<&'static str>);
-
-const TYPES: [Row; 41] = [
-    // names
-    ("Void()", Some("Void")),
-    ("t", Some("string")),
-    ("error_code_timed_out", Some("int")),
-    ("missing", None),
-    // calls of what is predefined
-    ("to_string(1)", Some("string")),
-    ("to_string(\"t\")", None),
-    ("to_string()", None),
-    ("to_int(\"t\")", Some("int")),
-    ("now()", Some("int")),
-    ("timed_out()", Some("Error")),
-    ("delay(1)", Some("Future<Void>")),
-    ("run()", Some("Future<int>")),
-    ("trace(1)", None),
-    // what is declared
-    ("twice(1)", Some("string")),
-    ("twice(1, 2)", None),
-    ("n()", None),
-    ("q", Some("Pair")),
-    ("Pair(1, s.getFuture())", None),
-    ("Packet(1, 2, \"t\")", Some("Packet")),
-    // fields and methods
-    ("q.a", Some("int")),
-    ("q.port", None),
-    ("k.text", Some("string")),
-    ("n.a", None),
-    ("e.code()", Some("int")),
-    ("t.substr(0, 1)", Some("string")),
-    ("t.substr(0)", None),
-    ("n.size()", None),
-    ("f.get()", Some("int")),
-    ("p.getFuture()", Some("Future<Void>")),
-    ("s.getFuture()", Some("FutureStream<bool>")),
-    ("p.send(Void())", None),
-    // operators
-    ("!true", Some("bool")),
-    ("-true", None),
-    ("1 && 1", None),
-    ("\"t\" + \"t\"", Some("string")),
-    ("\"t\" + 1", None),
-    ("\"t\" - \"t\"", None),
-    ("\"t\" < \"t\"", Some("bool")),
-    ("true < false", None),
-    ("true == false", Some("bool")),
-    ("e == e", None),
-];
+/// A line each: an expression, and its type, if it has one.
+const TYPES: &str = "\
+Void() : Void
+t : string
+error_code_timed_out : int
+missing : none
+to_string(1) : string
+to_string(\"t\") : none
+to_string() : none
+to_int(\"t\") : int
+now() : int
+timed_out() : Error
+delay(1) : Future<Void>
+run() : Future<int>
+trace(1) : none
+twice(1) : string
+twice(1, 2) : none
+n() : none
+q : Pair
+Pair(1, s.getFuture()) : none
+Packet(1, 2, \"t\") : Packet
+q.a : int
+q.port : none
+k.text : string
+n.a : none
+e.code() : int
+t.substr(0, 1) : string
+t.substr(0) : none
+n.size() : none
+f.get() : int
+p.getFuture() : Future<Void>
+s.getFuture() : FutureStream<bool>
+p.send(Void()) : none
+!true : bool
+-true : none
+1 && 1 : none
+\"t\" + \"t\" : string
+\"t\" + 1 : none
+\"t\" - \"t\" : none
+\"t\" < \"t\" : bool
+true < false : none
+true == false : bool
+e == e : none
+";
 
 fn is_type(alloc: Global, found: &Ty, text: &str) -> bool {
     let wanted = read::<Ty>(alloc, text);
@@ -76,30 +69,19 @@ fn is_type(alloc: Global, found: &Ty, text: &str) -> bool {
     }
 }
 
-fn is_wanted(alloc: Global, found: &ExprType, wanted: Option<&str>) -> bool {
-    match (found, wanted) {
-        (ExprType::Is(ty), Some(text)) => is_type(alloc, ty, text),
-        (ExprType::None, None) => true,
-        _ => false,
+fn is_wanted(alloc: Global, found: &ExprType, wanted: &str) -> bool {
+    match found {
+        ExprType::Is(ty) => is_type(alloc, ty, wanted),
+        ExprType::None => wanted == "none",
     }
 }
 
-fn has_type(
-    alloc: Global,
-    scope: &Scope,
-    expr: &Expr,
-    wanted: Option<&str>,
-) -> Result<bool, NoMemory> {
+fn has_type(alloc: Global, scope: &Scope, expr: &Expr, wanted: &str) -> Result<bool, NoMemory> {
     let found = type_expr(alloc, expr, scope)?;
     Ok(is_wanted(alloc, &found, wanted))
 }
 
-fn is_typed(
-    alloc: Global,
-    scope: &Scope,
-    text: &str,
-    wanted: Option<&str>,
-) -> Result<bool, NoMemory> {
+fn is_typed(alloc: Global, scope: &Scope, text: &str, wanted: &str) -> Result<bool, NoMemory> {
     let expr = read::<Expr>(alloc, text);
     match &expr {
         Some(expr) => has_type(alloc, scope, expr, wanted),
@@ -107,15 +89,18 @@ fn is_typed(
     }
 }
 
-// The first expression that has another type, or isn't read.
-fn first_wrong(
+// The first line of a table whose expression has another type, or isn't read.
+fn first_wrong<'a>(
     alloc: Global,
     scope: &Scope,
-    rows: &[Row],
-) -> Result<Option<&'static str>, NoMemory> {
-    for (text, wanted) in rows {
-        if !is_typed(alloc, scope, *text, *wanted)? {
-            return Ok(Some(*text));
+    table: &'a str,
+) -> Result<Option<&'a str>, NoMemory> {
+    for line in table.lines() {
+        let Some((text, wanted)) = line.split_once(" : ") else {
+            return Ok(Some(line));
+        };
+        if !is_typed(alloc, scope, text, wanted)? {
+            return Ok(Some(line));
         }
     }
     Ok(None)
@@ -128,28 +113,23 @@ fn take_variables(scope: &mut Scope) {
     }
 }
 
-fn first_wrong_in(
+fn first_wrong_in<'a>(
     alloc: Global,
     scope: &mut Scope,
-    rows: &[Row],
-) -> Result<Option<&'static str>, NoMemory> {
+    table: &'a str,
+) -> Result<Option<&'a str>, NoMemory> {
     add_declared(alloc, PROGRAM, scope)?;
     take_variables(scope);
-    first_wrong(alloc, scope, rows)
+    first_wrong(alloc, scope, table)
 }
 
-fn first_wrong_alone(alloc: Global, rows: &[Row]) -> Result<Option<&'static str>, NoMemory> {
+fn first_mistyped(alloc: Global, table: &str) -> Result<Option<&str>, NoMemory> {
     let mut scope = empty(alloc);
-    first_wrong_in(alloc, &mut scope, rows)
-}
-
-// A table is named where nothing else is done, since each step over it has all of its rows before it.
-fn first_mistyped(alloc: Global) -> Result<Option<&'static str>, NoMemory> {
-    first_wrong_alone(alloc, &TYPES)
+    first_wrong_in(alloc, &mut scope, table)
 }
 
 #[test]
 fn expressions_have_types(rt: HostRuntime) -> Result<(), NoMemory> {
-    assert_eq!(rt; first_mistyped(rt.alloc())?, None);
+    assert_eq!(rt; first_mistyped(rt.alloc(), TYPES)?, None);
     Ok(())
 }

@@ -1,94 +1,85 @@
 // Calls of what is predefined, methods of values, and the fields of a packet.
 
-use super::{GREATEST, LEAST, Row, Want, first_wrong};
+use super::first_wrong;
 use flow_base::memory::NoMemory;
-use std::alloc::Global;
 
-const CALLS: [Row; 35] = [
-    ("to_string(0)", Want::Text(b"0")),
-    ("to_string(least)", Want::Text(b"-9223372036854775808")),
-    (
-        "to_string(9223372036854775807)",
-        Want::Text(b"9223372036854775807"),
-    ),
-    ("to_string(true)", Want::NoMeaning),
-    ("to_int(\"0\")", Want::Int(0)),
-    ("to_int(\"-0\")", Want::Int(0)),
-    ("to_int(\"007\")", Want::Int(7)),
-    ("to_int(\"9223372036854775807\")", Want::Int(GREATEST)),
-    ("to_int(\"9223372036854775808\")", Want::Throws(9007)),
-    ("to_int(\"-9223372036854775808\")", Want::Int(LEAST)),
-    ("to_int(\"-9223372036854775809\")", Want::Throws(9007)),
-    ("to_int(\"99999999999999999999999999\")", Want::Throws(9007)),
-    ("to_int(\"\")", Want::Throws(9007)),
-    ("to_int(\"-\")", Want::Throws(9007)),
-    ("to_int(\"+1\")", Want::Throws(9007)),
-    ("to_int(\" 1\")", Want::Throws(9007)),
-    ("to_int(\"1 \")", Want::Throws(9007)),
-    ("to_int(\"--1\")", Want::Throws(9007)),
-    ("to_int(1)", Want::NoMeaning),
-    ("now()", Want::Int(17)),
-    ("end_of_stream()", Want::Error(1)),
-    ("timed_out()", Want::Error(1004)),
-    ("broken_promise()", Want::Error(1100)),
-    ("operation_cancelled()", Want::Error(1101)),
-    ("actor_cancelled()", Want::Error(1101)),
-    ("error(0)", Want::Error(0)),
-    ("error(65535)", Want::Error(65535)),
-    ("error(65536)", Want::Throws(9007)),
-    ("error(-1)", Want::Throws(9007)),
-    ("error(Void())", Want::NoMeaning),
-    ("to_int(\"x\", error(-1))", Want::Throws(9007)),
-    // effects and statement calls are no expressions here
-    ("randomInt(0, 1)", Want::NoMeaning),
-    ("delay(1)", Want::NoMeaning),
-    ("trace(1)", Want::NoMeaning),
-    ("absent()", Want::NoMeaning),
-];
+const CALLS: &str = "\
+to_string(0) => \"0\"
+to_string(least) => \"-9223372036854775808\"
+to_string(9223372036854775807) => \"9223372036854775807\"
+to_string(true) => no meaning
+to_int(\"0\") => 0
+to_int(\"-0\") => 0
+to_int(\"007\") => 7
+to_int(\"9223372036854775807\") => 9223372036854775807
+to_int(\"9223372036854775808\") => throws 9007
+to_int(\"-9223372036854775808\") => -9223372036854775808
+to_int(\"-9223372036854775809\") => throws 9007
+to_int(\"99999999999999999999999999\") => throws 9007
+to_int(\"\") => throws 9007
+to_int(\"-\") => throws 9007
+to_int(\"+1\") => throws 9007
+to_int(\" 1\") => throws 9007
+to_int(\"1 \") => throws 9007
+to_int(\"--1\") => throws 9007
+to_int(1) => no meaning
+now() => 17
+end_of_stream() => error 1
+timed_out() => error 1004
+broken_promise() => error 1100
+operation_cancelled() => error 1101
+actor_cancelled() => error 1101
+error(0) => error 0
+error(65535) => error 65535
+error(65536) => throws 9007
+error(-1) => throws 9007
+error(Void()) => no meaning
+to_int(\"x\", error(-1)) => throws 9007
+";
 
-// The first row that comes to something else.
-fn first_wrong_call(alloc: Global) -> Result<Option<&'static str>, NoMemory> {
-    first_wrong(alloc, &CALLS)
-}
+// Effects and statement calls are no expressions here.
+const NO_EXPRESSIONS: &str = "\
+randomInt(0, 1) => no meaning
+delay(1) => no meaning
+trace(1) => no meaning
+absent() => no meaning
+";
 
 #[test]
 fn predefined_calls(rt: HostRuntime) -> Result<(), NoMemory> {
-    assert_eq!(rt; first_wrong_call(rt.alloc())?, None);
+    let alloc = rt.alloc();
+    assert_eq!(rt; first_wrong(alloc, CALLS)?, None);
+    assert_eq!(rt; first_wrong(alloc, NO_EXPRESSIONS)?, None);
     Ok(())
 }
 
-const MEMBERS: [Row; 22] = [
-    ("timed_out().code()", Want::Int(1004)),
-    ("error(65535).code()", Want::Int(65535)),
-    ("error(65536).code()", Want::Throws(9007)),
-    ("\"\".size()", Want::Int(0)),
-    ("\"abc\".size()", Want::Int(3)),
-    ("\"abc\".substr(0, 2)", Want::Text(b"ab")),
-    ("\"abc\".substr(1, 1)", Want::Text(b"b")),
-    ("\"abc\".substr(1, 5)", Want::Text(b"bc")),
-    ("\"abc\".substr(0, 9223372036854775807)", Want::Text(b"abc")),
-    ("\"abc\".substr(3, 1)", Want::Text(b"")),
-    ("\"abc\".substr(4, 0)", Want::Throws(9007)),
-    ("\"abc\".substr(-1, 1)", Want::Throws(9007)),
-    ("\"abc\".substr(0, -1)", Want::Throws(9007)),
-    ("\"abc\".substr(0, \"\")", Want::NoMeaning),
-    ("\"abc\".code()", Want::NoMeaning),
-    ("1.size()", Want::NoMeaning),
-    ("\"abc\".absent()", Want::NoMeaning),
-    ("absent().size()", Want::NoMeaning),
-    // the fields of a packet
-    ("Packet(1, 2, \"x\").from", Want::Int(1)),
-    ("Packet(1, 2, \"x\").port", Want::Int(2)),
-    ("Packet(1, 2, \"x\").text", Want::Text(b"x")),
-    ("Packet(1, 2, \"x\").absent", Want::NoMeaning),
-];
-
-fn first_wrong_member(alloc: Global) -> Result<Option<&'static str>, NoMemory> {
-    first_wrong(alloc, &MEMBERS)
-}
+const MEMBERS: &str = "\
+timed_out().code() => 1004
+error(65535).code() => 65535
+error(65536).code() => throws 9007
+\"\".size() => 0
+\"abc\".size() => 3
+\"abc\".substr(0, 2) => \"ab\"
+\"abc\".substr(1, 1) => \"b\"
+\"abc\".substr(1, 5) => \"bc\"
+\"abc\".substr(0, 9223372036854775807) => \"abc\"
+\"abc\".substr(3, 1) => \"\"
+\"abc\".substr(4, 0) => throws 9007
+\"abc\".substr(-1, 1) => throws 9007
+\"abc\".substr(0, -1) => throws 9007
+\"abc\".substr(0, \"\") => no meaning
+\"abc\".code() => no meaning
+1.size() => no meaning
+\"abc\".absent() => no meaning
+absent().size() => no meaning
+Packet(1, 2, \"x\").from => 1
+Packet(1, 2, \"x\").port => 2
+Packet(1, 2, \"x\").text => \"x\"
+Packet(1, 2, \"x\").absent => no meaning
+";
 
 #[test]
 fn members_of_values(rt: HostRuntime) -> Result<(), NoMemory> {
-    assert_eq!(rt; first_wrong_member(rt.alloc())?, None);
+    assert_eq!(rt; first_wrong(rt.alloc(), MEMBERS)?, None);
     Ok(())
 }
