@@ -3,6 +3,7 @@
 use super::first_wrong;
 use flow_base::memory::NoMemory;
 
+// In the last six two second operands aren't evaluated, and the first error stops, whatever the second operand is.
 const OPERATORS: &str = "\
 9223372036854775807 + 0 => 9223372036854775807
 9223372036854775807 + 1 => throws 9001
@@ -63,10 +64,6 @@ error_code_operation_cancelled - error_code_actor_cancelled => 0
 -9223372036854775807 => -9223372036854775807
 !true => false
 (Void()) => Void()
-";
-
-// Two second operands that aren't evaluated; and the first error stops, whatever the second operand is.
-const ORDER: &str = "\
 true || error(65536) => true
 false && error(65536) => false
 false || error(65536) => throws 9007
@@ -77,8 +74,6 @@ absent + error(-1) => no meaning
 
 #[test]
 fn operators_at_their_edges(rt: HostRuntime) -> Result<(), NoMemory> {
-    let alloc = rt.alloc();
-    assert_eq!(rt; first_wrong(alloc, OPERATORS)?, None);
-    assert_eq!(rt; first_wrong(alloc, ORDER)?, None);
+    assert_eq!(rt; first_wrong(rt.alloc(), OPERATORS)?, None);
     Ok(())
 }

@@ -47,10 +47,14 @@ source.getFuture() => no meaning
 #[test]
 fn methods_of_references(rt: HostRuntime) -> Result<(), NoMemory> {
     let alloc = rt.alloc();
-    let five = Some(Outcome::Value(Value::Int(5)));
-    let error = Some(Outcome::Error(ErrorCode(1004)));
     assert_eq!(rt; first_wrong(alloc, UNSET)?, None);
-    assert_eq!(rt; first_wrong_where(alloc, five, HOLDS_FIVE)?, None);
-    assert_eq!(rt; first_wrong_where(alloc, error, HOLDS_AN_ERROR)?, None);
+    assert_eq!(rt;
+        first_wrong_where(alloc, Some(Outcome::Value(Value::Int(5))), HOLDS_FIVE)?,
+        None
+    );
+    assert_eq!(rt;
+        first_wrong_where(alloc, Some(Outcome::Error(ErrorCode(1004))), HOLDS_AN_ERROR)?,
+        None
+    );
     Ok(())
 }
