@@ -1,4 +1,4 @@
-// Expressions over no variables or over one, with what they come to.
+// Expressions over variables, with what they come to: tables of a line each, the expression and what is wanted.
 
 ghost use Rattle.std.specs.Prelude.{◌≡◌};
 ghost use Rattle.std.specs.Option.{option_map, option_copied};
@@ -11,13 +11,11 @@ mod references;
 mod statements;
 mod texts;
 
-use flow_ast::expr::{Expr, Op};
-use flow_ast::ty::Ident;
+use crate::reading::read;
+use flow_ast::expr::Expr;
 use flow_base::ids::CellId;
 use flow_base::memory::NoMemory;
 use flow_base::name::{Name, is_name};
-use flow_base::place::Place;
-use flow_base::text::Text;
 use flow_eval::cells::CellView;
 use flow_eval::evaluate::{Setting, Turns, evaluate};
 use flow_eval::stop::Halt;
@@ -25,134 +23,53 @@ use flow_eval::variables::{Var, VarList, Vars};
 use flow_value::value::{Kind, Outcome, Value};
 use std::alloc::Global;
 
-const START: Place = Place {
-    line: 1,
-    column: 1,
-    byte: 0,
-};
-
-const LEAST: i64 = i64::MIN;
-
-const GREATEST: i64 = i64::MAX;
-
-// An operand or an argument.
-#[derive(Clone, Copy)]
-enum Arg {
-    Int(i64),
-    Bool(bool),
-    Text(&'static [u8]),
-    Void,
-    Error(i64),
-    Var(&'static [u8]),
-    Call(&'static [u8]),
-}
-
-// What is wanted.
-#[derive(Clone, Copy)]
-enum Want {
-    Int(i64),
-    Bool(bool),
-    Text(&'static [u8]),
-    Void,
-    Error(u16),
-    Ref(Kind, u64),
-    Throws(u16),
-    Spent,
-    NoMeaning,
-}
-
-fn is_wanted(value: &Value, want: Want) -> bool {
-    match want {
-        Want::Int(n) => matches!(value, Value::Int(m) if *m == n),
-        Want::Bool(b) => matches!(value, Value::Bool(c) if *c == b),
-        Want::Text(bytes) => matches!(value, Value::Text(text) if text.bytes() == bytes),
-        Want::Void => matches!(value, Value::Void),
-        Want::Error(n) => matches!(value, Value::Error(code) if code.0 == n),
-        Want::Ref(kind, n) => matches!(value, Value::Ref(k, cell) if *k == kind && cell.0 == n),
-        Want::Throws(_) | Want::Spent | Want::NoMeaning => false,
+// Whether a text is this word and this number behind it.
+fn is_numbered(text: &str, word: &str, n: u64) -> bool {
+    match text.strip_prefix(word) {
+        Some(digits) => matches!(digits.parse::<u64>(), Ok(m) if m == n),
+        None => false,
     }
 }
 
-fn comes_to(outcome: &Result<Value, Halt>, want: Want) -> bool {
+// Whether a text is these bytes in quotation marks.
+fn is_quoted(text: &str, bytes: &[u8]) -> bool {
+    match text.strip_prefix('"') {
+        Some(rest) => matches!(rest.strip_suffix('"'), Some(inner) if inner.as_bytes() == bytes),
+        None => false,
+    }
+}
+
+fn kind_word(kind: Kind) -> &'static str {
+    match kind {
+        Kind::Promise => "Promise ",
+        Kind::Future => "Future ",
+        Kind::PromiseStream => "PromiseStream ",
+        Kind::FutureStream => "FutureStream ",
+    }
+}
+
+fn is_wanted(value: &Value, wanted: &str) -> bool {
+    match value {
+        Value::Int(n) => matches!(wanted.parse::<i64>(), Ok(m) if m == *n),
+        Value::Bool(true) => wanted == "true",
+        Value::Bool(false) => wanted == "false",
+        Value::Text(text) => is_quoted(wanted, text.bytes()),
+        Value::Void => wanted == "Void()",
+        Value::Error(code) => is_numbered(wanted, "error ", u64::from(code.0)),
+        Value::Struct(_) => false,
+        Value::Ref(kind, cell) => is_numbered(wanted, kind_word(*kind), cell.0),
+    }
+}
+
+// Whether that is what is wanted: a value, `throws` and an error, `spent`, or `no meaning`.
+fn comes_to(outcome: &Result<Value, Halt>, wanted: &str) -> bool {
     match outcome {
-        Ok(value) => is_wanted(value, want),
-        Err(Halt::Thrown(code)) => matches!(want, Want::Throws(n) if n == code.0),
-        Err(Halt::Spent) => matches!(want, Want::Spent),
-        Err(Halt::NoMeaning) => matches!(want, Want::NoMeaning),
+        Ok(value) => is_wanted(value, wanted),
+        Err(Halt::Thrown(code)) => is_numbered(wanted, "throws ", u64::from(code.0)),
+        Err(Halt::Spent) => wanted == "spent",
+        Err(Halt::NoMeaning) => wanted == "no meaning",
         Err(Halt::OutOfMemory) => false,
     }
-}
-
-// A name; no test has a word that is none.
-fn name(alloc: Global, word: &[u8]) -> Result<Name, NoMemory> {
-    if !is_name(word) {
-        return Err(NoMemory);
-    }
-    Name::new(alloc, word)
-}
-
-fn ident(alloc: Global, word: &[u8]) -> Result<Ident, NoMemory> {
-    Ok(Ident {
-        name: name(alloc, word)?,
-        at: START,
-    })
-}
-
-fn text(alloc: Global, bytes: &[u8]) -> Result<Text, NoMemory> {
-    if bytes.len() > Text::LIMIT {
-        return Err(NoMemory);
-    }
-    Text::new(alloc, bytes)
-}
-
-fn var(alloc: Global, word: &[u8]) -> Result<Expr, NoMemory> {
-    Ok(Expr::Var(ident(alloc, word)?))
-}
-
-fn one(alloc: Global, arg: Expr) -> Result<Vec<Expr>, NoMemory> {
-    let mut args = Vec::new(alloc);
-    args.push(arg)?;
-    Ok(args)
-}
-
-fn text_expr(alloc: Global, bytes: &[u8]) -> Result<Expr, NoMemory> {
-    Ok(Expr::Text(text(alloc, bytes)?))
-}
-
-fn call_expr(alloc: Global, word: &[u8], args: Vec<Expr>) -> Result<Expr, NoMemory> {
-    Ok(Expr::Call(ident(alloc, word)?, args))
-}
-
-fn error_expr(alloc: Global, n: i64) -> Result<Expr, NoMemory> {
-    call_expr(alloc, b"error", one(alloc, Expr::Int(n))?)
-}
-
-fn method_expr(alloc: Global, of: Expr, word: &[u8], args: Vec<Expr>) -> Result<Expr, NoMemory> {
-    Ok(Expr::Method(Box::new(alloc, of)?, ident(alloc, word)?, args))
-}
-
-fn arg_expr(alloc: Global, given: Arg) -> Result<Expr, NoMemory> {
-    match given {
-        Arg::Int(n) => Ok(Expr::Int(n)),
-        Arg::Bool(b) => Ok(Expr::Bool(b)),
-        Arg::Text(bytes) => text_expr(alloc, bytes),
-        Arg::Void => Ok(Expr::VoidValue),
-        Arg::Error(n) => error_expr(alloc, n),
-        Arg::Var(word) => var(alloc, word),
-        Arg::Call(word) => call_expr(alloc, word, Vec::new(alloc)),
-    }
-}
-
-fn arg_exprs(alloc: Global, list: &[Arg]) -> Result<Vec<Expr>, NoMemory> {
-    let mut args = Vec::new(alloc);
-    for arg in list {
-        args.push(arg_expr(alloc, *arg)?)?;
-    }
-    Ok(args)
-}
-
-fn binary(alloc: Global, op: Op, left: Expr, right: Expr) -> Result<Expr, NoMemory> {
-    Ok(Expr::Binary(op, Box::new(alloc, left)?, Box::new(alloc, right)?))
 }
 
 // Every cell holds the same, or is not set.
@@ -188,25 +105,93 @@ fn value(alloc: Global, expr: &Expr, vars: &[Var], view: &Every) -> Result<Value
     )
 }
 
-// Whether that is what is wanted.
-fn is_value(alloc: Global, expr: &Expr, vars: &[Var], view: &Every, want: Want) -> bool {
-    comes_to(&value(alloc, expr, vars, view), want)
+fn is_value(alloc: Global, expr: &Expr, vars: &[Var], view: &Every, wanted: &str) -> bool {
+    comes_to(&value(alloc, expr, vars, view), wanted)
 }
 
-fn unset() -> Every {
-    Every { outcome: None }
+// Whether a text is an expression that comes to what is wanted over these variables and cells.
+fn comes_over(alloc: Global, text: &str, vars: &[Var], view: &Every, wanted: &str) -> bool {
+    let expr = read::<Expr>(alloc, text);
+    match &expr {
+        Some(expr) => is_value(alloc, expr, vars, view, wanted),
+        None => false,
+    }
 }
 
-// Whether an expression over no variables and no set cell comes to what is wanted.
-fn comes_alone(alloc: Global, expr: &Expr, want: Want) -> bool {
-    is_value(alloc, expr, &[], &unset(), want)
+// The first line of a table whose expression comes to something else, or isn't read.
+fn first_wrong_over<'a>(
+    alloc: Global,
+    vars: &[Var],
+    view: &Every,
+    table: &'a str,
+) -> Option<&'a str> {
+    for line in table.lines() {
+        let Some((text, wanted)) = line.split_once(" => ") else {
+            return Some(line);
+        };
+        if !comes_over(alloc, text, vars, view, wanted) {
+            return Some(line);
+        }
+    }
+    None
 }
 
-fn one_var(alloc: Global, word: &[u8], value: Value) -> Result<Vec<Var>, NoMemory> {
+// One more variable; no test has a word that is no name.
+fn add_var(alloc: Global, vars: &mut Vec<Var>, word: &[u8], value: Value) -> Result<(), NoMemory> {
+    if !is_name(word) {
+        return Err(NoMemory);
+    }
+    let name = Name::new(alloc, word)?;
+    vars.push(Var { name, value })?;
+    Ok(())
+}
+
+// The least number, and a reference of each kind.
+fn add_variables(alloc: Global, vars: &mut Vec<Var>) -> Result<(), NoMemory> {
+    add_var(alloc, vars, b"least", Value::Int(i64::MIN))?;
+    add_var(
+        alloc,
+        vars,
+        b"promise",
+        Value::Ref(Kind::Promise, CellId(3)),
+    )?;
+    add_var(alloc, vars, b"future", Value::Ref(Kind::Future, CellId(3)))?;
+    add_var(
+        alloc,
+        vars,
+        b"stream",
+        Value::Ref(Kind::PromiseStream, CellId(3)),
+    )?;
+    add_var(
+        alloc,
+        vars,
+        b"source",
+        Value::Ref(Kind::FutureStream, CellId(3)),
+    )
+}
+
+fn first_wrong_in<'a>(
+    alloc: Global,
+    vars: &mut Vec<Var>,
+    view: &Every,
+    table: &'a str,
+) -> Result<Option<&'a str>, NoMemory> {
+    add_variables(alloc, vars)?;
+    Ok(first_wrong_over(alloc, vars, view, table))
+}
+
+// The first wrong line of a table where each cell holds this.
+fn first_wrong_where(
+    alloc: Global,
+    outcome: Option<Outcome>,
+    table: &str,
+) -> Result<Option<&str>, NoMemory> {
+    let view = Every { outcome };
     let mut vars = Vec::new(alloc);
-    vars.push(Var {
-        name: name(alloc, word)?,
-        value,
-    })?;
-    Ok(vars)
+    first_wrong_in(alloc, &mut vars, &view, table)
+}
+
+// The first wrong line of a table where no cell is set.
+fn first_wrong(alloc: Global, table: &str) -> Result<Option<&str>, NoMemory> {
+    first_wrong_where(alloc, None, table)
 }

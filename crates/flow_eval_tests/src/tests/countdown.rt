@@ -91,9 +91,7 @@ fn if_stmt(test: Expr, then: Vec<Stmt>) -> Stmt
 fn zero(alloc: Global) -> Result<Vec<Stmt>, NoMemory>
     ensures { IfOk result (λ v. body_of v.items ≡ ReturnStmt start (IntExpr (pos 0)) End) }
 {
-    let mut stmts = Vec::new(alloc);
-    stmts.push(returned(Expr::Int(0)))?;
-    Ok(stmts)
+    Ok(vec![in alloc; returned(Expr::Int(0))]?)
 }
 
 fn zero_first(alloc: Global) -> Result<Stmt, NoMemory>
@@ -101,8 +99,7 @@ fn zero_first(alloc: Global) -> Result<Stmt, NoMemory>
         ≡ IfStmt start (BinaryExpr Eq n zero) (ReturnStmt start zero End) k) }
 {
     let test = with_int(alloc, Op::Eq, variable(alloc)?, 0)?;
-    let then = zero(alloc)?;
-    Ok(if_stmt(test, then))
+    Ok(if_stmt(test, zero(alloc)?))
 }
 
 fn one_more(alloc: Global) -> Result<Expr, NoMemory>
@@ -126,12 +123,8 @@ fn params(alloc: Global) -> Result<Vec<Param>, NoMemory>
     ensures { IfOk result (λ v. map param_of v.items
         ≡ record { ty = IntType; name = word (codes "n") } ∷ []) }
 {
-    let mut params = Vec::new(alloc);
-    params.push(Param {
-        ty: Ty::Int,
-        name: word(alloc, b"n")?,
-    })?;
-    Ok(params)
+    let name = word(alloc, b"n")?;
+    Ok(vec![in alloc; Param { ty: Ty::Int, name }]?)
 }
 
 fn countdown(alloc: Global) -> Result<FunctionDecl, NoMemory>
@@ -151,31 +144,25 @@ fn program(alloc: Global) -> Result<Plain, NoMemory>
     ensures { IfOk result (λ p. (p.records.items ≡ [])
         × (map function_of p.functions.items ≡ countdown ∷ [])) }
 {
-    let mut functions = Vec::new(alloc);
-    functions.push(countdown(alloc)?)?;
+    let function = countdown(alloc)?;
     Ok(Plain {
         records: Vec::new(alloc),
-        functions,
+        functions: vec![in alloc; function]?,
     })
 }
 
 fn int_arg(alloc: Global, m: i64) -> Result<Vec<Value>, NoMemory>
     ensures { IfOk result (λ v. map value_of v.items ≡ IntValue m ∷ []) }
 {
-    let mut args = Vec::new(alloc);
-    args.push(Value::Int(m))?;
-    Ok(args)
+    Ok(vec![in alloc; Value::Int(m)]?)
 }
 
 fn int_var(alloc: Global, m: i64) -> Result<Vec<Var>, NoMemory>
     ensures { IfOk result (λ v. map var_of v.items ≡ (codes "n", IntValue m) ∷ []) }
 {
-    let mut vars = Vec::new(alloc);
-    vars.push(Var {
-        name: Name::new(alloc, b"n")?,
-        value: Value::Int(m),
-    })?;
-    Ok(vars)
+    let name = Name::new(alloc, b"n")?;
+    let value = Value::Int(m);
+    Ok(vec![in alloc; Var { name, value }]?)
 }
 
 #[tactic(auto, using(flow_eval::proofs::Examples::countdown_called))]
