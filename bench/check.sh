@@ -6,7 +6,7 @@
 # Usage: bench/check.sh [COMMAND], after `./flow build`; COMMAND runs in its place.
 set -e
 top=$(cd "$(dirname "$0")/.." && pwd)
-command=${1:-$top/crates/flow_top/out/flow_top}
+command=${1:-$top/crates/flow_prog/out/flow_prog}
 work=$(mktemp -d)
 trap 'rm -r "$work"' EXIT
 

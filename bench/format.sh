@@ -36,10 +36,10 @@ for name in mixed comments deep; do
     best=
     for _ in 1 2 3 4 5; do
         start=$(date +%s%N)
-        "$top/crates/flow_top/out/flow_top" format "$work/$name.flow" >"$work/out"
+        "$top/crates/flow_prog/out/flow_prog" format "$work/$name.flow" >"$work/out"
         took=$((($(date +%s%N) - start) / 1000))
         if [ -z "$best" ] || [ "$took" -lt "$best" ]; then best=$took; fi
     done
-    peak=$(/usr/bin/time -f %M "$top/crates/flow_top/out/flow_top" format "$work/$name.flow" 2>&1 >/dev/null)
+    peak=$(/usr/bin/time -f %M "$top/crates/flow_prog/out/flow_prog" format "$work/$name.flow" 2>&1 >/dev/null)
     echo "$name: $(wc -c <"$work/$name.flow") bytes to $(wc -c <"$work/out") in $best microseconds, $peak KiB at most"
 done

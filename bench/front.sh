@@ -22,7 +22,7 @@ for name in prints mixed; do
     best=
     for _ in 1 2 3 4 5; do
         start=$(date +%s%N)
-        "$top/crates/flow_top/out/flow_top" run "$work/$name.flow" "$work/world" >"$work/out" || true
+        "$top/crates/flow_prog/out/flow_prog" run "$work/$name.flow" "$work/world" >"$work/out" || true
         took=$((($(date +%s%N) - start) / 1000))
         if [ -z "$best" ] || [ "$took" -lt "$best" ]; then best=$took; fi
     done

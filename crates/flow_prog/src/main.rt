@@ -1,24 +1,12 @@
 //! flow: one command line over real files and standard output.
 #![tactic(auto)]
 
-mod command;
-#[cfg(test)]
-mod copies;
-mod decide;
-mod outcome;
 mod real;
-mod report;
-#[cfg(test)]
-mod samples;
-#[cfg(test)]
-mod tests;
-mod top;
-#[cfg(test)]
-mod traces;
 
 use crate::real::{RealFiles, StandardOutput};
 use flow_base::sink::Sink;
 use flow_refusal::note;
+use flow_top::flow_main;
 use std::io::Write;
 use std::process::ExitCode;
 use std::{env, io};
@@ -60,7 +48,7 @@ fn main(rt: HostRuntime) -> ExitCode {
         Ok(words) => {
             let mut files = RealFiles::new(&rt);
             let mut out = StandardOutput::new(&rt);
-            let status = top::flow_main(rt.alloc(), &words, &mut files, &mut out);
+            let status = flow_main(rt.alloc(), &words, &mut files, &mut out);
             // What was gathered before a fault goes out too; the status tells of the fault already.
             let _ = out.flush();
             if is_noted(status) {

@@ -5,10 +5,10 @@ use crate::samples::{
     EXAMPLES, INSIDES, LOCAL_ACROSS_LOOP, LOCAL_ACROSS_WAIT, REQUEST_SERVER,
     SECOND_OPERAND_CLASSES, SECOND_OPERAND_NEVER_STARTS, STOP_CANCELS_IN_ORDER,
 };
-use crate::top::flow_main;
 use crate::traces::{RUNS, STOP_CANCELS_IN_ORDER_TRACE, STOP_CANCELS_IN_ORDER_WORLD, TOUR_RUNS};
 use flow_base::mem_files::MemFiles;
 use flow_base::mem_sink::MemSink;
+use flow_top::flow_main;
 use flow_tree::limits::PROGRAM_BYTES;
 use std::alloc::{AllocError, Global};
 
